@@ -1,0 +1,13 @@
+pub mod Held
+pub mod Object
+pub mod Values
+pub mod Slots
+pub mod Settling
+pub mod Asking
+pub mod Polling
+pub mod Semaphore
+pub mod Lock
+pub mod Gate
+pub mod Barrier
+pub mod Tickets
+pub mod Run
