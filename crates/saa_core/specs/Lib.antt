@@ -2,6 +2,8 @@ pub mod Held
 pub mod Object
 pub mod Values
 pub mod Slots
+pub mod LineParts
+pub mod SlotStates
 pub mod Settling
 pub mod Asking
 pub mod Polling
@@ -10,4 +12,6 @@ pub mod Lock
 pub mod Gate
 pub mod Barrier
 pub mod Tickets
+pub mod CoreParts
 pub mod Run
+pub mod Laws

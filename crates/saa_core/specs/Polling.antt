@@ -1,5 +1,5 @@
 -- Polling a name for its answer, and dropping what a name is registered for.
-use Rattle.std.specs.Prelude.{◌≡◌, ℕ, ◌+◌, Bool, true, false, List, [], ◌∷◌, Option, Some, None, Result, Ok, Err, if◌then◌else◌, ◌==◌}
+use Rattle.std.specs.Prelude.{◌≡◌, ℕ, ◌+◌, Bool, true, false, not, List, [], ◌∷◌, Option, Some, None, Result, Ok, Err, if◌then◌else◌, ◌==◌}
 use Rattle.saa_core.specs.declared.request.Request.{Request}
 use Rattle.saa_core.specs.declared.request.Request.TheVariants.{Permits}
 use Rattle.saa_core.specs.declared.ticket.How.{How}
@@ -14,10 +14,8 @@ use Rattle.saa_core.specs.Values.{granted_value, spurious_value}
 -- whether a name that was registered as sync, or not, may be polled in this way; a try has no wrong mode
 abbrev pub is_right_mode : How → Bool → Bool
 is_right_mode Try is_sync = true
-is_right_mode Sync true = true
-is_right_mode Sync false = false
-is_right_mode Async true = false
-is_right_mode Async false = true
+is_right_mode Sync is_sync = is_sync
+is_right_mode Async is_sync = not is_sync
 
 -- a poll in the right mode: a name that waits isn't ready, and an answer is consumed, after which the name is idle
 abbrev pub consumed_of : Object → ℕ → Entry → After (Result ℕ Error)
@@ -86,3 +84,7 @@ dropped_of s name (Answered value request is_sync slotted) =
 
 abbrev pub dropped : Object → ℕ → Object
 dropped s name = dropped_of s name (entry_at s.book name)
+
+-- a poll whose answer is read as a primitive reads it
+abbrev pub read_as : {V : Type 0} → (Result ℕ Error → V) → After (Result ℕ Error) → After V
+read_as value after = record { state = after.state; reply = value after.reply }

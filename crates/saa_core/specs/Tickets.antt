@@ -1,17 +1,16 @@
 -- A core and the tickets that are registered in it, seen together as the object: the name of a ticket is its
 -- place in a list of tickets. The contract of every core call is said over any such list.
-use Rattle.std.specs.Prelude.{◌≡◌, ℕ, suc, ◌+◌, ◌-◌, ◌≤◌, ◌<◌, Bool, true, false, ◌&&◌, if◌then◌else◌, ◌==◌, List, [], ◌∷◌, map, Option, Some, None, is_some, slice_get, slice_set}
+use Rattle.std.specs.Prelude.{◌≡◌, ℕ, suc, ◌+◌, ◌-◌, ◌≤◌, ◌<◌, Bool, true, false, ◌&&◌, if◌then◌else◌, ◌==◌, List, [], ◌∷◌, map, Option, Some, None, is_some, Result, Ok, Err, slice_get, slice_set}
 use Rattle.saa_core.specs.declared.request.Request.{Request}
+use Rattle.saa_core.specs.declared.ticket.Registration.{Registration}
+use Rattle.saa_core.specs.declared.ticket.Registration.TheVariants.{Unregistered, AtOnce, InSlot}
+use Rattle.saa_core.specs.declared.ticket.Full.{Full}
+use Rattle.saa_core.specs.declared.ticket.Error.{Error}
+use Rattle.saa_core.specs.declared.ticket.Error.TheVariants.{NotRegistered}
 use Rattle.saa_core.specs.Held.{Held}
 use Rattle.saa_core.specs.Object.{Object, After, Entry, Idle, Waiting, Answered, Waiter, one_if, times}
+use Rattle.saa_core.specs.Polling.{dropped}
 use Rattle.saa_core.specs.Slots.{Slots, answer_in, held_slots, held_times, room_of}
-
--- What contracts see of a ticket: it is idle, or was answered as it was registered, or has a slot.
--- Beside it stand what it asked and whether it was registered as sync
-pub data Registration : Type 0 where
-  Unregistered : Registration
-  AtOnce : (value : ℕ) (request : Request) (is_sync : Bool) → Registration
-  InSlot : (slot : ℕ) (request : Request) (is_sync : Bool) → Registration
 
 -- what contracts see of a core: what it holds, and its line
 pub record Core : Type 0 where
@@ -105,3 +104,24 @@ abbrev pub IsForeign : Slots → Registration → Type 0
 IsForeign slots Unregistered = ⊥
 IsForeign slots (AtOnce value request is_sync) = ⊥
 IsForeign slots (InSlot slot request is_sync) = held_times slots slot ≡ 0
+
+-- the error of a poll's answer, if it is one
+abbrev pub fault_of : {V : Type 0} → Result V Error → Option Error
+fault_of (Ok value) = None
+fault_of (Err error) = Some error
+
+-- whether a registration was answered true
+abbrev pub is_yes : Result Bool Full → Bool
+is_yes (Ok is_registered) = is_registered
+is_yes (Err full) = false
+
+-- A poll that answered with this error, or with none, in the ticket's own terms: the ticket is registered afterwards
+-- exactly where it was before and the poll had an error; then it is unchanged; and an idle ticket isn't registered
+pub record Polled (old new : Registration) (fault : Option Error) : Type 0 where
+  pub registered : is_busy new ≡ (is_busy old && is_some fault)
+  pub idle : is_busy old ≡ false → fault ≡ Some NotRegistered
+  pub same : is_some fault ≡ true → new ≡ old
+
+-- dropping a name as a step of the object
+abbrev pub dropping : Object → ℕ → After (Unit {0})
+dropping s name = record { state = dropped s name; reply = tt }

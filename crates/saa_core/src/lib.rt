@@ -7,8 +7,12 @@
 
 pub mod barrier;
 pub mod bench;
+pub mod equality;
 pub mod gate;
+pub mod laws;
+pub mod line;
 pub mod lock;
 pub mod request;
 pub mod semaphore;
 pub mod ticket;
+mod wakes;

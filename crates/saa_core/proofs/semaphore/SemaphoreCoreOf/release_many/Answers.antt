@@ -1,0 +1,12 @@
+use Rattle.std.proofs.Common.{◌≡◌, true, false, ap, subst, ◌∙◌, sym, arith}
+use Rattle.saa_core.specs.declared.request.Request.TheVariants.{Permits}
+use Rattle.saa_core.specs.Held.{OfSemaphore, less}
+use Rattle.saa_core.specs.Polling.{given_back}
+use Rattle.saa_core.specs.Tickets.{Core, Calls}
+use Rattle.saa_core.specs.CoreParts.{core_given_of}
+use Rattle.saa_core.proofs.Asks.{permits_release}
+use Rattle.saa_core.proofs.semaphore.SemaphoreCoreOf.release_many.Goals as goal
+
+pub returns-clause-calls : goal.returns-clause-calls
+returns-clause-calls g c =
+    rw (c.give_back.ensures.given, ← c.self.view_is) (permits_release g.row.MAX c.self.inside.out c.self.inside.line c.args.count c.self.invariant.sound (omega arith) (omega arith))

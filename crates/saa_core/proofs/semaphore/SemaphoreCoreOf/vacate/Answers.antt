@@ -1,0 +1,15 @@
+use Rattle.std.proofs.Common.{sym, subst}
+use Rattle.saa_core.specs.CoreParts.{IsCoreSettled}
+use Rattle.saa_core.proofs.SettlingSteps.{settled-settled}
+use Rattle.saa_core.proofs.semaphore.SemaphoreCoreOf.vacate.Goals as goal
+
+pub invariant_of-self-then-leave : goal.invariant_of-self-then-leave
+invariant_of-self-then-leave g c = record {
+  bounded = c.settle-self-inside.ensures.bounded;
+  narrow = c.self.invariant.narrow;
+  sound = c.settle-self-inside.ensures.sound;
+  settled = subst (λ k. IsCoreSettled k) (sym c.settle-self-inside.ensures.settled) (settled-settled _);
+}
+
+pub returns-then-leave-clause-settled : goal.returns-then-leave-clause-settled
+returns-then-leave-clause-settled g c = subst (λ k. IsCoreSettled k) (sym c.settle-self-inside.ensures.settled) (settled-settled _)

@@ -1,0 +1,11 @@
+use Rattle.std.proofs.Common.{◌-◌}
+use Rattle.saa_core.specs.Held.{OfSemaphore}
+use Rattle.saa_core.proofs.Asks.{idle-belong, made-object}
+use Rattle.saa_core.proofs.semaphore.SemaphoreCoreOf.with_permits.Goals as goal
+
+pub returns-clause-idle_tickets : goal.returns-clause-idle_tickets
+returns-clause-idle_tickets g c = λ names. idle-belong c.in_ok-line.line names
+
+pub returns-clause-object : goal.returns-clause-object
+returns-clause-object g c = λ names.
+    rw (c.in_ok-line.ensures.made, c.min.ensures) (made-object _ c.args.room names)
