@@ -1,15 +1,14 @@
 -- Asking, releasing and dropping of a core that grants what fits, case by case, seen as steps of the object.
-use Rattle.std.proofs.Common.{◌≡◌, ◌⊎◌, ℕ, suc, zero, ◌+◌, ◌-◌, ◌<◌, ◌≤◌, Bool, true, false, not, ◌&&◌, ◌||◌, cond, ◌==◌, List, [], ◌∷◌, ◌++◌, length, Option, Some, None, is_some, Result, Ok, Err, slice_get, slice_set, nat_lt, replicate, refl, sym, ap, subst, ◌∙◌, arith, inl, inr, nat_le}
+use Rattle.std.proofs.Common.{◌≡◌, ℕ, suc, zero, ◌-◌, ◌<◌, ◌≤◌, Bool, true, false, not, ◌&&◌, ◌||◌, cond, ◌==◌, List, [], ◌∷◌, length, Option, Some, None, is_some, Ok, Err, slice_get, slice_set, nat_lt, replicate, refl, sym, ap, subst, ◌∙◌, arith, inl, inr, nat_le}
 use Rattle.std.proofs.lemmas.List.{length-replicate}
 use Rattle.std.proofs.lemmas.Bool.Decides.{nat_tests}
 use Rattle.saa_core.specs.declared.request.Request.{Request}
-use Rattle.saa_core.specs.declared.ticket.Full.{Full}
 use Rattle.saa_core.specs.declared.ticket.Registration.{Registration}
 use Rattle.saa_core.specs.declared.ticket.Registration.TheVariants.{Unregistered, AtOnce, InSlot}
 use Rattle.saa_core.specs.Held.{Held, OfSemaphore, fits, plus, less, asks_too_much}
-use Rattle.saa_core.specs.Object.{Object, After, Entry, Idle, Waiting, Answered, Waiter, entry_at, with_entry, used, is_nobody, times, without, newly_made, one_if}
+use Rattle.saa_core.specs.Object.{Object, After, Entry, Idle, Waiting, Answered, Waiter, entry_at, with_entry, used, is_nobody, times, newly_made, one_if}
 use Rattle.saa_core.specs.Settling.{settled}
-use Rattle.saa_core.specs.Asking.{tried, registered, registered_of, granted_at_once, answer_at_once, answer_in as answer_of_kind, is_granted_at_once, is_idle, joined}
+use Rattle.saa_core.specs.Asking.{registered, registered_of, granted_at_once, answer_at_once, answer_in as answer_of_kind, is_granted_at_once, is_idle}
 use Rattle.saa_core.specs.Polling.{given_back, given_back_of, is_for_nothing, dropped, dropped_of, left_of, undone_of}
 use Rattle.saa_core.specs.Slots.{Slots, answer_in, answer_count, held_slots, held_times, room_of, empty_slots, IsSound}
 use Rattle.saa_core.specs.Tickets.{Core, Acts, Calls, Belong, object_of, entry_of, slot_entry, owners, slotted_count, named, entries, is_busy, dropping}
@@ -58,10 +57,10 @@ not_not false = refl
 pub register_refused : (c : Core) (t : Registration) (r : Request) (m : Bool) → (is_busy t || asks_too_much c.held r) ≡ true → Acts c c t t (λ s name. registered s name r m) (Ok false)
 register_refused c t r m refused = acts_unchanged c t _ _ (λ ts name here b.
     registered-by (object_of c ts) name r m true _ _
-        (ap (λ e. not (is_idle e) || asks_too_much c.held r) (entry-at c.slots.answers ts name t here)
-         ∙ ap (λ b. not b || asks_too_much c.held r) (is_idle-entry c.slots.answers t)
-         ∙ ap (λ b. b || asks_too_much c.held r) (not_not (is_busy t)) ∙ refused)
-        refl refl)
+    (ap (λ e. not (is_idle e) || asks_too_much c.held r) (entry-at c.slots.answers ts name t here)
+    ∙ ap (λ b. not b || asks_too_much c.held r) (is_idle-entry c.slots.answers t)
+    ∙ ap (λ b. b || asks_too_much c.held r) (not_not (is_busy t)) ∙ refused)
+    refl refl)
 
 -- what an idle ticket that doesn't ask too much gives to decide by
 idle_asks : (c : Core) (ts : List Registration) (name : ℕ) (r : Request) → slice_get ts name ≡ Some Unregistered → asks_too_much c.held r ≡ false → (not (is_idle (entry_at (object_of c ts).book name)) || asks_too_much c.held r) ≡ false
@@ -79,14 +78,17 @@ semaphore_grants bound out = record { answers = λ s r. refl; left = λ s. refl;
 -- a registration that is granted at once
 pub register_granted : (h : Held) (slots : Slots) (r : Request) (m : Bool) → Grants h → asks_too_much h r ≡ false → takes_now (record { held = h; slots = slots }) r ≡ true
     → Acts (record { held = h; slots = slots }) (record { held = plus h r; slots = slots }) Unregistered (AtOnce 0 r m) (λ s name. registered s name r m) (Ok true)
-register_granted h slots r m grants fine takes = record { acts = λ ts name here b.
-    let c : Core = record { held = h; slots = slots } in
-    let s : Object = object_of c ts in
-    let answer : answer_at_once s r ≡ Some (after 0 (object_of (record { held = plus h r; slots = slots }) ts)) =
-        grants.answers s r ∙ ap (λ b. cond b (Some (after 0 (object_of (record { held = plus h r; slots = slots }) ts))) None) (granted-object c ts r ∙ takes) in
-    ( registered-by s name r m false _ _ (idle_asks c ts name r here fine) answer refl
-      ∙ ap (after (Ok true)) (sym (own-object (plus h r) slots ts name Unregistered (AtOnce 0 r m) here refl refl))
-    , own-belong slots ts name Unregistered (AtOnce 0 r m) here refl refl b ) }
+register_granted h slots r m grants fine takes = record {
+  acts = λ ts name here b.
+      let c : Core = record { held = h; slots = slots } in
+      let s : Object = object_of c ts in
+      let answer : answer_at_once s r ≡ Some (after 0 (object_of (record { held = plus h r; slots = slots }) ts)) =
+      grants.answers s r ∙ ap (λ b. cond b (Some (after 0 (object_of (record { held = plus h r; slots = slots }) ts))) None) (granted-object c ts r ∙ takes) in (
+        registered-by s name r m false _ _ (idle_asks c ts name r here fine) answer refl
+            ∙ ap (after (Ok true)) (sym (own-object (plus h r) slots ts name Unregistered (AtOnce 0 r m) here refl refl)),
+        own-belong slots ts name Unregistered (AtOnce 0 r m) here refl refl b,
+      );
+}
 
 -- one that isn't, has no answer at once
 no_answer_at_once : (c : Core) (ts : List Registration) (r : Request) → Grants c.held → takes_now c r ≡ false → answer_at_once (object_of c ts) r ≡ None
@@ -98,7 +100,7 @@ pub register_full : (c : Core) (r : Request) (m : Bool) → Grants c.held → as
     → Acts c c Unregistered Unregistered (λ s name. registered s name r m) (Err (record {}))
 register_full c r m grants fine waits full = acts_unchanged c Unregistered _ _ (λ ts name here b.
     registered-by (object_of c ts) name r m false None true (idle_asks c ts name r here fine) (no_answer_at_once c ts r grants waits)
-        (ap (λ n. n == room_of c.slots) (used-object c ts b ∙ full) ∙ number_same (room_of c.slots)))
+    (ap (λ n. n == room_of c.slots) (used-object c ts b ∙ full) ∙ number_same (room_of c.slots)))
 
 -- different numbers fail the test
 apart_number : (m n : ℕ) → (m ≡ n → ⊥) → m == n ≡ false
@@ -108,13 +110,16 @@ apart_number m n h = grind (arith, nat_tests)
 pub register_joined : (h : Held) (slots : Slots) (slot : ℕ) (r : Request) (m : Bool) → Grants h → asks_too_much h r ≡ false → takes_now (record { held = h; slots = slots }) r ≡ false
     → (held_slots slots ≡ room_of slots → ⊥) → held_times slots slot ≡ 0
     → Acts (record { held = h; slots = slots }) (record { held = h; slots = slots_joined slots slot r }) Unregistered (InSlot slot r m) (λ s name. registered s name r m) (Ok true)
-register_joined h slots slot r m grants fine waits room fresh = record { acts = λ ts name here b.
-    let c : Core = record { held = h; slots = slots } in
-    let s : Object = object_of c ts in
-    let place : (used s == s.room) ≡ false = ap (λ n. n == room_of slots) (used-object c ts b) ∙ apart_number (held_slots slots) (room_of slots) room in
-    ( registered-by s name r m false None false (idle_asks c ts name r here fine) (no_answer_at_once c ts r grants waits) place
-      ∙ ap (after (Ok true)) (sym (join-object h slots ts name Unregistered slot r m here refl fresh b))
-    , join-belong slots ts name Unregistered slot r m here refl b ) }
+register_joined h slots slot r m grants fine waits room fresh = record {
+  acts = λ ts name here b.
+      let c : Core = record { held = h; slots = slots } in
+      let s : Object = object_of c ts in
+      let place : (used s == s.room) ≡ false = ap (λ n. n == room_of slots) (used-object c ts b) ∙ apart_number (held_slots slots) (room_of slots) room in (
+        registered-by s name r m false None false (idle_asks c ts name r here fine) (no_answer_at_once c ts r grants waits) place
+            ∙ ap (after (Ok true)) (sym (join-object h slots ts name Unregistered slot r m here refl fresh b)),
+        join-belong slots ts name Unregistered slot r m here refl b,
+      );
+}
 
 -- Releasing
 
@@ -153,12 +158,15 @@ given_some rest = refl
 
 -- a release
 pub release_calls : (c : Core) (r : Request) (answer : Bool) → IsSound c.slots → given_answer (is_for_nothing r) (less c.held r) ≡ answer → Calls c (core_given c r) (λ s. given_back s r) answer
-release_calls c r answer sound is = record { calls = λ ts b.
-    let s : Object = object_of c ts in
-    ( same_after (given_back s r) (object_of (core_given c r) ts) answer
-        (given-object c ts r (is_for_nothing r) (less c.held r) sound b)
-        (given_reply s (is_for_nothing r) (less c.held r) ∙ is)
-    , given-belong c ts r (is_for_nothing r) (less c.held r) sound b ) }
+release_calls c r answer sound is = record {
+  calls = λ ts b.
+      let s : Object = object_of c ts in (
+        same_after (given_back s r) (object_of (core_given c r) ts) answer
+            (given-object c ts r (is_for_nothing r) (less c.held r) sound b)
+            (given_reply s (is_for_nothing r) (less c.held r) ∙ is),
+        given-belong c ts r (is_for_nothing r) (less c.held r) sound b,
+      );
+}
 
 -- a release of permits that are out
 pub permits_given : (bound out count : ℕ) → 0 < count → count ≤ out → (is_for_nothing (Permits count) ≡ false) × (less (OfSemaphore bound out) (Permits count) ≡ Some (OfSemaphore bound (out - count)))
@@ -174,9 +182,9 @@ permits_release bound out slots count sound some within =
     let c : Core = record { held = OfSemaphore bound out; slots = slots } in
     let parts = permits_given bound out count some within in
     let core : core_given c (Permits count) ≡ core_settled (record { held = OfSemaphore bound (out - count); slots = slots }) =
-        ap (λ b. core_given_of c b (less c.held (Permits count))) parts.0 ∙ ap (λ x. core_given_of c false x) parts.1 in
+    ap (λ b. core_given_of c b (less c.held (Permits count))) parts.0 ∙ ap (λ x. core_given_of c false x) parts.1 in
     let answer : given_answer (is_for_nothing (Permits count)) (less c.held (Permits count)) ≡ true =
-        ap (λ b. given_answer b (less c.held (Permits count))) parts.0 ∙ ap (λ x. given_answer false x) parts.1 ∙ given_some (OfSemaphore bound (out - count)) in
+    ap (λ b. given_answer b (less c.held (Permits count))) parts.0 ∙ ap (λ x. given_answer false x) parts.1 ∙ given_some (OfSemaphore bound (out - count)) in
     subst (λ k. Calls c k (λ s. given_back s (Permits count)) true) core (release_calls c (Permits count) true sound answer)
 
 -- Dropping
@@ -206,48 +214,59 @@ undone-object h slots ts v r s grants sound b is =
 undone-belong : (c : Core) (ts : List Registration) (v : ℕ) (r : Request) → IsSound c.slots → Belong c.slots ts → Belong (core_undone c v r).slots ts
 undone-belong c ts v r sound b =
     elim (bool_cases (v == 0)) [
-      inl e ↦ rw e (given-belong c ts r (is_for_nothing r) (less c.held r) sound b)
-    | inr e ↦ rw e b
+      | inl e ↦ rw e (given-belong c ts r (is_for_nothing r) (less c.held r) sound b)
+      | inr e ↦ rw e b
     ]
 
 -- a ticket that was answered at once
 pub cancel_at_once : (h : Held) (slots : Slots) (v : ℕ) (r : Request) (m : Bool) → Grants h → IsSound slots
     → Acts (record { held = h; slots = slots }) (core_undone (record { held = h; slots = slots }) v r) (AtOnce v r m) Unregistered dropping tt
-cancel_at_once h slots v r m grants sound = record { acts = λ ts name here b.
-    let c : Core = record { held = h; slots = slots } in
-    let rest : Belong slots (slice_set ts name Unregistered) = own-belong slots ts name (AtOnce v r m) Unregistered here refl refl b in
-    ( ap (after tt) (dropped-by (object_of c ts) name (Answered v r m false) (entry-at slots.answers ts name (AtOnce v r m) here)
-        ∙ undone-object h slots (slice_set ts name Unregistered) v r (with_entry (object_of c ts) name Idle) grants sound rest (sym (own-object h slots ts name (AtOnce v r m) Unregistered here refl refl)))
-    , undone-belong c (slice_set ts name Unregistered) v r sound rest ) }
+cancel_at_once h slots v r m grants sound = record {
+  acts = λ ts name here b.
+      let c : Core = record { held = h; slots = slots } in
+      let rest : Belong slots (slice_set ts name Unregistered) = own-belong slots ts name (AtOnce v r m) Unregistered here refl refl b in (
+        ap (after tt) (dropped-by (object_of c ts) name (Answered v r m false) (entry-at slots.answers ts name (AtOnce v r m) here)
+            ∙ undone-object h slots (slice_set ts name Unregistered) v r (with_entry (object_of c ts) name Idle) grants sound rest (sym (own-object h slots ts name (AtOnce v r m) Unregistered here refl refl))),
+        undone-belong c (slice_set ts name Unregistered) v r sound rest,
+      );
+}
 
 -- a ticket that was answered out of the line
 pub cancel_answered : (h : Held) (slots : Slots) (slot v : ℕ) (r : Request) (m : Bool) → Grants h → IsSound slots → IsSound (slots_taken slots slot) → answer_in slots.answers slot ≡ Some v
     → Acts (record { held = h; slots = slots }) (core_undone (record { held = h; slots = slots_taken slots slot }) v r) (InSlot slot r m) Unregistered dropping tt
-cancel_answered h slots slot v r m grants sound after_sound there = record { acts = λ ts name here b.
-    let c : Core = record { held = h; slots = slots } in
-    let taken : Core = record { held = h; slots = slots_taken slots slot } in
-    let rest : Belong (slots_taken slots slot) (slice_set ts name Unregistered) = take-belong slots ts name slot v r m here there b in
-    ( ap (after tt) (dropped-by (object_of c ts) name (Answered v r m true) (entry-at slots.answers ts name (InSlot slot r m) here ∙ ap (λ x. slot_entry x r m) there)
-        ∙ undone-object h (slots_taken slots slot) (slice_set ts name Unregistered) v r (with_entry (object_of c ts) name Idle) grants after_sound rest (sym (take-object h slots ts name slot v r m here there sound b)))
-    , undone-belong taken (slice_set ts name Unregistered) v r after_sound rest ) }
+cancel_answered h slots slot v r m grants sound after_sound there = record {
+  acts = λ ts name here b.
+      let c : Core = record { held = h; slots = slots } in
+      let taken : Core = record { held = h; slots = slots_taken slots slot } in
+      let rest : Belong (slots_taken slots slot) (slice_set ts name Unregistered) = take-belong slots ts name slot v r m here there b in (
+        ap (after tt) (dropped-by (object_of c ts) name (Answered v r m true) (entry-at slots.answers ts name (InSlot slot r m) here ∙ ap (λ x. slot_entry x r m) there)
+            ∙ undone-object h (slots_taken slots slot) (slice_set ts name Unregistered) v r (with_entry (object_of c ts) name Idle) grants after_sound rest (sym (take-object h slots ts name slot v r m here there sound b))),
+        undone-belong taken (slice_set ts name Unregistered) v r after_sound rest,
+      );
+}
 
 -- a ticket that waits
 pub cancel_waiting : (h : Held) (slots : Slots) (slot : ℕ) (r : Request) (m : Bool) → Grants h → IsSound slots → IsSound (slots_left slots slot) → answer_in slots.answers slot ≡ None → 0 < times slot slots.line
     → Acts (record { held = h; slots = slots }) (core_settled (record { held = h; slots = slots_left slots slot })) (InSlot slot r m) Unregistered dropping tt
-cancel_waiting h slots slot r m grants sound after_sound none waits = record { acts = λ ts name here b.
-    let c : Core = record { held = h; slots = slots } in
-    let left : Core = record { held = h; slots = slots_left slots slot } in
-    let rest : Belong (slots_left slots slot) (slice_set ts name Unregistered) = leave-belong slots ts name slot r m here waits sound b in
-    ( ap (after tt) (dropped-by (object_of c ts) name (Waiting r m) (entry-at slots.answers ts name (InSlot slot r m) here ∙ ap (λ x. slot_entry x r m) none)
-        ∙ grants.left _
-        ∙ ap settled (sym (leave-object h slots ts name slot r m here waits sound b))
-        ∙ settled-object left (slice_set ts name Unregistered) after_sound rest)
-    , settled-belong left (slice_set ts name Unregistered) after_sound rest ) }
+cancel_waiting h slots slot r m grants sound after_sound none waits = record {
+  acts = λ ts name here b.
+      let c : Core = record { held = h; slots = slots } in
+      let left : Core = record { held = h; slots = slots_left slots slot } in
+      let rest : Belong (slots_left slots slot) (slice_set ts name Unregistered) = leave-belong slots ts name slot r m here waits sound b in (
+        ap (after tt) (dropped-by (object_of c ts) name (Waiting r m) (entry-at slots.answers ts name (InSlot slot r m) here ∙ ap (λ x. slot_entry x r m) none)
+            ∙ grants.left _
+            ∙ ap settled (sym (leave-object h slots ts name slot r m here waits sound b))
+            ∙ settled-object left (slice_set ts name Unregistered) after_sound rest),
+        settled-belong left (slice_set ts name Unregistered) after_sound rest,
+      );
+}
 
 -- a ticket whose slot isn't held doesn't belong to the core
 pub cancel_foreign : (c new : Core) (slot : ℕ) (r : Request) (m : Bool) → held_times c.slots slot ≡ 0 → Acts c new (InSlot slot r m) Unregistered dropping tt
-cancel_foreign c new slot r m free = record { acts = λ ts name here b.
-    absurd (omega (arith, owner-here ts name (InSlot slot r m) slot here (number_same slot), b.owned slot)) }
+cancel_foreign c new slot r m free = record {
+  acts = λ ts name here b.
+      absurd (omega (arith, owner-here ts name (InSlot slot r m) slot here (number_same slot), b.owned slot));
+}
 
 -- what remains when an answer is taken is sound
 taken-sound : (slots : Slots) (slot v : ℕ) → IsSound slots → answer_in slots.answers slot ≡ Some v → IsSound (slots_taken slots slot)

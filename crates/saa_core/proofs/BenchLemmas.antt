@@ -1,8 +1,8 @@
 -- A bench's tickets and its book.
-use Rattle.std.proofs.Common.{◌≡◌, ℕ, suc, ◌<◌, Bool, not, List, [], ◌∷◌, length, Option, Some, slice_get, slice_set, get_or, refl, sym, ap, ◌∙◌, arith}
+use Rattle.std.proofs.Common.{◌≡◌, ℕ, suc, not, List, [], ◌∷◌, length, Option, Some, slice_get, slice_set, refl, sym, ap, ◌∙◌}
 use Rattle.std.proofs.Math.ListN.{length-set}
 use Rattle.saa_core.specs.declared.ticket.Registration.{Registration}
-use Rattle.saa_core.specs.Object.{Entry, entry_at}
+use Rattle.saa_core.specs.Object.{entry_at}
 use Rattle.saa_core.specs.Asking.{is_idle}
 use Rattle.saa_core.specs.Tickets.{entries, is_busy}
 use Rattle.saa_core.proofs.Naming.{entry-at}

@@ -1,11 +1,10 @@
 -- How often a slot is held, and how many slots are held, as the line and the answers change.
-use Rattle.std.proofs.Common.{◌≡◌, ◌≢◌, ◌⊎◌, ℕ, suc, zero, ◌+◌, ◌-◌, ◌<◌, ◌≤◌, Bool, true, false, cond, ◌==◌, List, [], ◌∷◌, ◌++◌, length, take, drop, get_or, Option, Some, None, is_some, slice_get, slice_set, nat_lt, replicate, refl, sym, ap, subst, ◌∙◌, arith, inl, inr}
+use Rattle.std.proofs.Common.{◌≡◌, ◌≢◌, ℕ, suc, zero, ◌+◌, ◌<◌, ◌≤◌, Bool, true, false, ◌==◌, List, [], ◌∷◌, ◌++◌, length, take, drop, get_or, Option, Some, None, is_some, slice_set, nat_lt, refl, sym, ap, ◌∙◌, arith, inl, inr}
 use Rattle.std.proofs.lemmas.Bool.Decides.{nat_tests}
 use Rattle.std.proofs.lemmas.List.{get_or-set_same, get_or-set_other}
 use Rattle.std.proofs.Math.ListN.{length-set}
-use Rattle.saa_core.specs.declared.request.Request.{Request}
 use Rattle.saa_core.specs.Object.{Waiter, one_if, times, without}
-use Rattle.saa_core.specs.Slots.{Slots, answer_in, answer_count, answered_slots, held_slots, held_times, room_of, IsSound}
+use Rattle.saa_core.specs.Slots.{Slots, answer_in, answer_count, answered_slots, held_times, room_of, IsSound}
 use Rattle.saa_core.proofs.Naming.{bool_cases, same_number, other_number}
 
 -- one name is equal to itself
@@ -38,8 +37,8 @@ one_if-le false = omega arith
 pub held-below : (slots : Slots) → IsSound slots → (slot : ℕ) → 0 < held_times slots slot → slot < room_of slots
 held-below slots sound slot held =
     elim (bool_cases (nat_lt slot (room_of slots))) [
-      inl e ↦ grind (arith, nat_tests)
-    | inr e ↦ absurd (omega (arith, sound.each slot, ap one_if e))
+      | inl e ↦ grind (arith, nat_tests)
+      | inr e ↦ absurd (omega (arith, sound.each slot, ap one_if e))
     ]
 
 -- no slot is held twice
@@ -87,28 +86,32 @@ some_answer (Some v) h = (v, refl)
 pub unanswered-first : (w : Waiter) (ws : List Waiter) (answers : List (Option ℕ)) → AreUnanswered (w ∷ ws) answers → (w.0 < length answers) × (answer_in answers w.0 ≡ None)
 unanswered-first w ws answers un =
     let here : one_if (w.0 == w.0) ≡ 1 = ap one_if (number_same w.0) in
-    let most = un.each w.0 in
-    (elim (bool_cases (nat_lt w.0 (length answers))) [
-      inl e ↦ grind (arith, nat_tests)
-    | inr e ↦ absurd (omega (arith, ap one_if e))
-    ], no_answer (answer_in answers w.0) (omega (arith, one_if-le (nat_lt w.0 (length answers)))))
+    let most = un.each w.0 in (
+      elim (bool_cases (nat_lt w.0 (length answers))) [
+        | inl e ↦ grind (arith, nat_tests)
+        | inr e ↦ absurd (omega (arith, ap one_if e))
+      ],
+      no_answer (answer_in answers w.0) (omega (arith, one_if-le (nat_lt w.0 (length answers)))),
+    )
 
 -- the others are as they were, once the first is answered
 pub unanswered-rest : (v : ℕ) (w : Waiter) (ws : List Waiter) (answers : List (Option ℕ)) → AreUnanswered (w ∷ ws) answers → AreUnanswered ws (slice_set answers w.0 (Some v))
-unanswered-rest v w ws answers un = record { each = λ slot.
-    let first = unanswered-first w ws answers un in
-    let room : length (slice_set answers w.0 (Some v)) ≡ length answers = length-set answers w.0 (Some v) in
-    elim (bool_cases (w.0 == slot)) [
-      inl e ↦
-        let same : w.0 ≡ slot = same_number w.0 slot e in
-        let here : answer_in (slice_set answers w.0 (Some v)) slot ≡ Some v = ap (λ k. get_or (slice_set answers w.0 (Some v)) k None) (sym same) ∙ get_or-set_same answers w.0 (Some v) None first.0 in
-        let below : nat_lt slot (length (slice_set answers w.0 (Some v))) ≡ true = below_true slot (length (slice_set answers w.0 (Some v))) (omega (arith, first.0)) in
-        omega (arith, un.each slot, ap one_if e, ap (λ x. one_if (is_some x)) here, ap one_if below, one_if-le (nat_lt slot (length answers)))
-    | inr e ↦
-        let apart : slot ≢ w.0 = λ same. other_number w.0 slot e (sym same) in
-        let here : answer_in (slice_set answers w.0 (Some v)) slot ≡ answer_in answers slot = get_or-set_other answers w.0 slot (Some v) None apart in
-        omega (arith, un.each slot, ap one_if e, ap (λ x. one_if (is_some x)) here, ap (λ n. one_if (nat_lt slot n)) room)
-    ] }
+unanswered-rest v w ws answers un = record {
+  each = λ slot.
+      let first = unanswered-first w ws answers un in
+      let room : length (slice_set answers w.0 (Some v)) ≡ length answers = length-set answers w.0 (Some v) in
+      elim (bool_cases (w.0 == slot)) [
+        | inl e ↦
+            let same : w.0 ≡ slot = same_number w.0 slot e in
+            let here : answer_in (slice_set answers w.0 (Some v)) slot ≡ Some v = ap (λ k. get_or (slice_set answers w.0 (Some v)) k None) (sym same) ∙ get_or-set_same answers w.0 (Some v) None first.0 in
+            let below : nat_lt slot (length (slice_set answers w.0 (Some v))) ≡ true = below_true slot (length (slice_set answers w.0 (Some v))) (omega (arith, first.0)) in
+            omega (arith, un.each slot, ap one_if e, ap (λ x. one_if (is_some x)) here, ap one_if below, one_if-le (nat_lt slot (length answers)))
+        | inr e ↦
+            let apart : slot ≢ w.0 = λ same. other_number w.0 slot e (sym same) in
+            let here : answer_in (slice_set answers w.0 (Some v)) slot ≡ answer_in answers slot = get_or-set_other answers w.0 slot (Some v) None apart in
+            omega (arith, un.each slot, ap one_if e, ap (λ x. one_if (is_some x)) here, ap (λ n. one_if (nat_lt slot n)) room)
+      ];
+}
 
 -- as many answers more as were given
 pub answer_count-answered : (v : ℕ) (ws : List Waiter) (answers : List (Option ℕ)) → AreUnanswered ws answers → answer_count (answered_slots v ws answers) ≡ answer_count answers + length ws
@@ -124,15 +127,15 @@ held-answered v (w ∷ ws) answers slot un =
     let first = unanswered-first w ws answers un in
     let rest = held-answered v ws (slice_set answers w.0 (Some v)) slot (unanswered-rest v w ws answers un) in
     elim (bool_cases (w.0 == slot)) [
-      inl e ↦
-        let same : w.0 ≡ slot = same_number w.0 slot e in
-        let here : answer_in (slice_set answers w.0 (Some v)) slot ≡ Some v = ap (λ k. get_or (slice_set answers w.0 (Some v)) k None) (sym same) ∙ get_or-set_same answers w.0 (Some v) None first.0 in
-        let before : answer_in answers slot ≡ None = ap (λ k. get_or answers k None) (sym same) ∙ first.1 in
-        omega (arith, rest, ap one_if e, ap (λ x. one_if (is_some x)) here, ap (λ x. one_if (is_some x)) before)
-    | inr e ↦
-        let apart : slot ≢ w.0 = λ same. other_number w.0 slot e (sym same) in
-        let here : answer_in (slice_set answers w.0 (Some v)) slot ≡ answer_in answers slot = get_or-set_other answers w.0 slot (Some v) None apart in
-        omega (arith, rest, ap one_if e, ap (λ x. one_if (is_some x)) here)
+      | inl e ↦
+          let same : w.0 ≡ slot = same_number w.0 slot e in
+          let here : answer_in (slice_set answers w.0 (Some v)) slot ≡ Some v = ap (λ k. get_or (slice_set answers w.0 (Some v)) k None) (sym same) ∙ get_or-set_same answers w.0 (Some v) None first.0 in
+          let before : answer_in answers slot ≡ None = ap (λ k. get_or answers k None) (sym same) ∙ first.1 in
+          omega (arith, rest, ap one_if e, ap (λ x. one_if (is_some x)) here, ap (λ x. one_if (is_some x)) before)
+      | inr e ↦
+          let apart : slot ≢ w.0 = λ same. other_number w.0 slot e (sym same) in
+          let here : answer_in (slice_set answers w.0 (Some v)) slot ≡ answer_in answers slot = get_or-set_other answers w.0 slot (Some v) None apart in
+          omega (arith, rest, ap one_if e, ap (λ x. one_if (is_some x)) here)
     ]
 
 -- a front and the rest are the line
@@ -150,8 +153,8 @@ pub length-without : (slot : ℕ) (line : List Waiter) → length (without slot 
 length-without slot [] = omega arith
 length-without slot (w ∷ line) =
     elim (bool_cases (w.0 == slot)) [
-      inl e ↦ rw e (omega (arith, length-without slot line, ap one_if e))
-    | inr e ↦ rw e (omega (arith, length-without slot line, ap one_if e))
+      | inl e ↦ rw e (omega (arith, length-without slot line, ap one_if e))
+      | inr e ↦ rw e (omega (arith, length-without slot line, ap one_if e))
     ]
 
 -- it is there no more
@@ -159,8 +162,8 @@ pub times-without_same : (slot : ℕ) (line : List Waiter) → times slot (witho
 times-without_same slot [] = refl
 times-without_same slot (w ∷ line) =
     elim (bool_cases (w.0 == slot)) [
-      inl e ↦ rw e (times-without_same slot line)
-    | inr e ↦ rw e (rw e (omega (arith, times-without_same slot line)))
+      | inl e ↦ rw e (times-without_same slot line)
+      | inr e ↦ rw e (rw e (omega (arith, times-without_same slot line)))
     ]
 
 -- and all others are there as before
@@ -168,9 +171,9 @@ pub times-without_other : (slot other : ℕ) (line : List Waiter) → slot ≢ o
 times-without_other slot other [] apart = refl
 times-without_other slot other (w ∷ line) apart =
     elim (bool_cases (w.0 == slot)) [
-      inl e ↦
-        let same : w.0 ≡ slot = same_number w.0 slot e in
-        let differ : w.0 == other ≡ false = number_other w.0 other (λ h. apart (sym same ∙ h)) in
-        rw e (omega (arith, times-without_other slot other line apart, ap one_if differ))
-    | inr e ↦ rw e (omega (arith, times-without_other slot other line apart))
+      | inl e ↦
+          let same : w.0 ≡ slot = same_number w.0 slot e in
+          let differ : w.0 == other ≡ false = number_other w.0 other (λ h. apart (sym same ∙ h)) in
+          rw e (omega (arith, times-without_other slot other line apart, ap one_if differ))
+      | inr e ↦ rw e (omega (arith, times-without_other slot other line apart))
     ]

@@ -1,5 +1,5 @@
 -- Lemmas on how a line keeps its slots: what each of its steps keeps.
-use Rattle.std.proofs.Common.{◌≡◌, ℕ, suc, zero, ◌+◌, ◌≤◌, ◌<◌, ◌≢◌, Bool, true, false, List, [], ◌∷◌, ◌++◌, length, Some, None, Option, is_some, replicate, get_or, set, take, drop, nat_lt, ◌==◌, refl, sym, ap, ◌∙◌, add-one, arith, inl, inr, ◌⊎◌, slice_get}
+use Rattle.std.proofs.Common.{◌≡◌, ℕ, suc, zero, ◌+◌, ◌≤◌, ◌<◌, ◌≢◌, Bool, true, false, List, [], ◌∷◌, ◌++◌, length, Some, None, Option, is_some, replicate, get_or, set, take, drop, nat_lt, ◌==◌, refl, sym, ap, ◌∙◌, add-one, arith, inl, inr, slice_get}
 use Rattle.std.specs.List.{remove}
 use Rattle.std.proofs.Math.Seq.{take-suc}
 use Rattle.std.proofs.lemmas.Bool.{cases_Bool}
@@ -7,7 +7,7 @@ use Rattle.std.proofs.lemmas.Bool.Decides.{nat_tests}
 use Rattle.std.proofs.lemmas.List.{length-set, length_push, length-replicate}
 use Rattle.saa_core.specs.declared.request.Request.{Request}
 use Rattle.saa_core.specs.Object.{Waiter, one_if, times, without}
-use Rattle.saa_core.specs.Slots.{Slots, room_of, answer_in, answer_count, held_slots, held_times, IsSound, answered_slots, empty_slots}
+use Rattle.saa_core.specs.Slots.{Slots, room_of, answer_in, answer_count, held_times, IsSound, answered_slots, empty_slots}
 use Rattle.saa_core.specs.LineParts.{count_of, mark_of, IsLine}
 use Rattle.saa_core.proofs.WakesLemmas.{one_if-bounded, count_of-push, get_or-set_cases, mark_of-replicate}
 
@@ -15,10 +15,10 @@ use Rattle.saa_core.proofs.WakesLemmas.{one_if-bounded, count_of-push, get_or-se
 pub one_if-nat_lt : (a b : ℕ) → 0 < one_if (nat_lt a b) → a < b
 one_if-nat_lt a b counts =
     elim (cases_Bool (nat_lt a b)) [
-      inl below ↦ grind (arith, nat_tests)
-    | inr above ↦
-        let none : one_if (nat_lt a b) ≡ 0 = ap one_if above in
-        absurd (omega (arith, none))
+      | inl below ↦ grind (arith, nat_tests)
+      | inr above ↦
+          let none : one_if (nat_lt a b) ≡ 0 = ap one_if above in
+          absurd (omega (arith, none))
     ]
 
 -- a slot is itself
@@ -37,10 +37,10 @@ pub without-absent : (slot : ℕ) (line : List Waiter) → times slot line ≡ 0
 without-absent slot [] absent = refl
 without-absent slot (first ∷ rest) absent =
     elim (cases_Bool (first.0 == slot)) [
-      inl same ↦
-        let test : one_if (first.0 == slot) ≡ 1 = ap one_if same in
-        absurd (omega (arith, test))
-    | inr apart ↦ rw apart (ap (λ (ws : List Waiter). first ∷ ws) (without-absent slot rest (omega arith)))
+      | inl same ↦
+          let test : one_if (first.0 == slot) ≡ 1 = ap one_if same in
+          absurd (omega (arith, test))
+      | inr apart ↦ rw apart (ap (λ (ws : List Waiter). first ∷ ws) (without-absent slot rest (omega arith)))
     ]
 
 -- a slot isn't in the line without it
@@ -48,10 +48,10 @@ pub times-without : (slot : ℕ) (line : List Waiter) → times slot (without sl
 times-without slot [] = refl
 times-without slot (first ∷ rest) =
     elim (cases_Bool (first.0 == slot)) [
-      inl same ↦ rw same (times-without slot rest)
-    | inr apart ↦
-        let test : one_if (first.0 == slot) ≡ 0 = ap one_if apart in
-        rw apart (omega (arith, test, times-without slot rest))
+      | inl same ↦ rw same (times-without slot rest)
+      | inr apart ↦
+          let test : one_if (first.0 == slot) ≡ 0 = ap one_if apart in
+          rw apart (omega (arith, test, times-without slot rest))
     ]
 
 -- the other slots stand as often in the line without one
@@ -59,12 +59,12 @@ pub times-without_other : (slot other : ℕ) (line : List Waiter) → slot ≢ o
 times-without_other slot other [] differ = refl
 times-without_other slot other (first ∷ rest) differ =
     elim (cases_Bool (first.0 == slot)) [
-      inl same ↦
-        let at_slot : first.0 ≡ slot = grind (arith, nat_tests) in
-        let apart : first.0 == other ≡ false = grind (arith, nat_tests) in
-        let test : one_if (first.0 == other) ≡ 0 = ap one_if apart in
-        rw same (omega (arith, test, times-without_other slot other rest differ))
-    | inr apart ↦ rw apart (ap (λ (n : ℕ). one_if (first.0 == other) + n) (times-without_other slot other rest differ))
+      | inl same ↦
+          let at_slot : first.0 ≡ slot = grind (arith, nat_tests) in
+          let apart : first.0 == other ≡ false = grind (arith, nat_tests) in
+          let test : one_if (first.0 == other) ≡ 0 = ap one_if apart in
+          rw same (omega (arith, test, times-without_other slot other rest differ))
+      | inr apart ↦ rw apart (ap (λ (n : ℕ). one_if (first.0 == other) + n) (times-without_other slot other rest differ))
     ]
 
 -- the line without a slot is shorter by as often as it stood there
@@ -72,14 +72,14 @@ pub length-without : (slot : ℕ) (line : List Waiter) → length (without slot 
 length-without slot [] = refl
 length-without slot (first ∷ rest) =
     elim (cases_Bool (first.0 == slot)) [
-      inl same ↦
-        let test : one_if (first.0 == slot) ≡ 1 = ap one_if same in
-        let moved : length (without slot (first ∷ rest)) ≡ length (without slot rest) = rw same refl in
-        omega (arith, test, moved, length-without slot rest)
-    | inr apart ↦
-        let test : one_if (first.0 == slot) ≡ 0 = ap one_if apart in
-        let moved : length (without slot (first ∷ rest)) ≡ length (first ∷ without slot rest) = rw apart refl in
-        omega (arith, test, moved, length-without slot rest)
+      | inl same ↦
+          let test : one_if (first.0 == slot) ≡ 1 = ap one_if same in
+          let moved : length (without slot (first ∷ rest)) ≡ length (without slot rest) = rw same refl in
+          omega (arith, test, moved, length-without slot rest)
+      | inr apart ↦
+          let test : one_if (first.0 == slot) ≡ 0 = ap one_if apart in
+          let moved : length (without slot (first ∷ rest)) ≡ length (first ∷ without slot rest) = rw apart refl in
+          omega (arith, test, moved, length-without slot rest)
     ]
 
 -- who stands at a place of the line stands in the line
@@ -101,12 +101,12 @@ remove-without slot (first ∷ rest) zero waiter at_place is once =
     rw test (sym (without-absent slot rest (omega (arith, one))))
 remove-without slot (first ∷ rest) (suc place) waiter at_place is once =
     elim (cases_Bool (first.0 == slot)) [
-      inl same ↦
-        let one : one_if (first.0 == slot) ≡ 1 = ap one_if same in
-        absurd (omega (arith, one, times-at slot rest place waiter at_place is))
-    | inr apart ↦
-        let none : one_if (first.0 == slot) ≡ 0 = ap one_if apart in
-        rw apart (ap (λ (ws : List Waiter). first ∷ ws) (remove-without slot rest place waiter at_place is (omega (arith, none))))
+      | inl same ↦
+          let one : one_if (first.0 == slot) ≡ 1 = ap one_if same in
+          absurd (omega (arith, one, times-at slot rest place waiter at_place is))
+      | inr apart ↦
+          let none : one_if (first.0 == slot) ≡ 0 = ap one_if apart in
+          rw apart (ap (λ (ws : List Waiter). first ∷ ws) (remove-without slot rest place waiter at_place is (omega (arith, none))))
     ]
 
 -- writing an answer changes how many there are by that one
@@ -142,9 +142,10 @@ IsLine-free slots free rest waiting slot is h =
     let counts : count_of slot free ≡ count_of slot (rest ++ slot ∷ []) = ap (count_of slot) is in
     let bound : one_if (nat_lt slot (room_of slots)) ≤ 1 = one_if-bounded (nat_lt slot (room_of slots)) in
     let push = count_of-push slot rest slot in
-    let one = one_if-same slot in
-    (omega (arith, counts, bound, push, one, h.each slot),
-     IsLine-within slots free waiting slot h (omega (arith, counts, push, one)))
+    let one = one_if-same slot in (
+      omega (arith, counts, bound, push, one, h.each slot),
+      IsLine-within slots free waiting slot h (omega (arith, counts, push, one)),
+    )
 
 -- the last free slot joins the line
 pub IsLine-joined : (line : List Waiter) (answers : List (Option ℕ)) (free rest : List ℕ) (waiting : List Bool) (slot : ℕ) (request : Request)
@@ -160,18 +161,18 @@ IsLine-joined line answers free rest waiting slot request is h =
       total = omega (arith, frees, length_push rest slot, length_push line (slot, request), h.total);
       small = h.small;
       marked = λ q.
-        elim (get_or-set_cases waiting slot true false q within) [
-          inl same ↦
-            let now : one_if (mark_of (set waiting slot true) q) ≡ 1 = ap one_if same.2 in
-            let test : one_if (slot == q) ≡ 1 = ap one_if same.0 in
-            let none : times q line ≡ times slot line = ap (λ (n : ℕ). times n line) (sym same.1) in
-            omega (arith, now, test, none, was.0, times-push q line (slot, request))
-        | inr apart ↦
-            let now : one_if (mark_of (set waiting slot true) q) ≡ one_if (mark_of waiting q) = ap one_if apart.2 in
-            let test : one_if (slot == q) ≡ 0 = ap one_if apart.0 in
-            omega (arith, now, test, h.marked q, times-push q line (slot, request))
-        ];
-      marks = length-set waiting slot true ∙ h.marks
+          elim (get_or-set_cases waiting slot true false q within) [
+            | inl same ↦
+                let now : one_if (mark_of (set waiting slot true) q) ≡ 1 = ap one_if same.2 in
+                let test : one_if (slot == q) ≡ 1 = ap one_if same.0 in
+                let none : times q line ≡ times slot line = ap (λ (n : ℕ). times n line) (sym same.1) in
+                omega (arith, now, test, none, was.0, times-push q line (slot, request))
+            | inr apart ↦
+                let now : one_if (mark_of (set waiting slot true) q) ≡ one_if (mark_of waiting q) = ap one_if apart.2 in
+                let test : one_if (slot == q) ≡ 0 = ap one_if apart.0 in
+                omega (arith, now, test, h.marked q, times-push q line (slot, request))
+          ];
+      marks = length-set waiting slot true ∙ h.marks;
     }
 
 -- the oldest is answered, and leaves the line
@@ -186,35 +187,35 @@ IsLine-answered line rest answers free waiting slot value request is h =
     let lines : length line ≡ length ((slot, request) ∷ rest) = ap length is in
     record {
       each = λ q.
-        let bound : one_if (nat_lt q (length answers)) ≤ 1 = one_if-bounded (nat_lt q (length answers)) in
-        let room : one_if (nat_lt q (length (set answers slot (Some value)))) ≡ one_if (nat_lt q (length answers)) = ap (λ (n : ℕ). one_if (nat_lt q n)) size in
-        elim (get_or-set_cases answers slot (Some value) None q within) [
-          inl same ↦
-            let now : one_if (is_some (answer_in (set answers slot (Some value)) q)) ≡ 1 = ap (λ (a : Option ℕ). one_if (is_some a)) same.2 in
-            let test : one_if (slot == q) ≡ 1 = ap one_if same.0 in
-            omega (arith, bound, room, now, test, counts q, h.each q)
-        | inr apart ↦
-            let now : one_if (is_some (answer_in (set answers slot (Some value)) q)) ≡ one_if (is_some (answer_in answers q)) = ap (λ (a : Option ℕ). one_if (is_some a)) apart.2 in
-            let test : one_if (slot == q) ≡ 0 = ap one_if apart.0 in
-            omega (arith, room, now, test, counts q, h.each q)
-        ];
+          let bound : one_if (nat_lt q (length answers)) ≤ 1 = one_if-bounded (nat_lt q (length answers)) in
+          let room : one_if (nat_lt q (length (set answers slot (Some value)))) ≡ one_if (nat_lt q (length answers)) = ap (λ (n : ℕ). one_if (nat_lt q n)) size in
+          elim (get_or-set_cases answers slot (Some value) None q within) [
+            | inl same ↦
+                let now : one_if (is_some (answer_in (set answers slot (Some value)) q)) ≡ 1 = ap (λ (a : Option ℕ). one_if (is_some a)) same.2 in
+                let test : one_if (slot == q) ≡ 1 = ap one_if same.0 in
+                omega (arith, bound, room, now, test, counts q, h.each q)
+            | inr apart ↦
+                let now : one_if (is_some (answer_in (set answers slot (Some value)) q)) ≡ one_if (is_some (answer_in answers q)) = ap (λ (a : Option ℕ). one_if (is_some a)) apart.2 in
+                let test : one_if (slot == q) ≡ 0 = ap one_if apart.0 in
+                omega (arith, room, now, test, counts q, h.each q)
+          ];
       total =
-        let bound : one_if (nat_lt slot (length answers)) ≤ 1 = one_if-bounded (nat_lt slot (length answers)) in
-        omega (arith, bound, size, lines, counts slot, one_if-same slot, answer_count-set answers slot (Some value) within, h.each slot, h.total);
+          let bound : one_if (nat_lt slot (length answers)) ≤ 1 = one_if-bounded (nat_lt slot (length answers)) in
+          omega (arith, bound, size, lines, counts slot, one_if-same slot, answer_count-set answers slot (Some value) within, h.each slot, h.total);
       small = omega (arith, size, h.small);
       marked = λ q.
-        let bound : one_if (mark_of waiting q) ≤ 1 = one_if-bounded (mark_of waiting q) in
-        elim (get_or-set_cases waiting slot false false q in_marks) [
-          inl same ↦
-            let now : one_if (mark_of (set waiting slot false) q) ≡ 0 = ap one_if same.2 in
-            let test : one_if (slot == q) ≡ 1 = ap one_if same.0 in
-            omega (arith, bound, now, test, counts q, h.marked q)
-        | inr apart ↦
-            let now : one_if (mark_of (set waiting slot false) q) ≡ one_if (mark_of waiting q) = ap one_if apart.2 in
-            let test : one_if (slot == q) ≡ 0 = ap one_if apart.0 in
-            omega (arith, now, test, counts q, h.marked q)
-        ];
-      marks = omega (arith, size, length-set waiting slot false, h.marks)
+          let bound : one_if (mark_of waiting q) ≤ 1 = one_if-bounded (mark_of waiting q) in
+          elim (get_or-set_cases waiting slot false false q in_marks) [
+            | inl same ↦
+                let now : one_if (mark_of (set waiting slot false) q) ≡ 0 = ap one_if same.2 in
+                let test : one_if (slot == q) ≡ 1 = ap one_if same.0 in
+                omega (arith, bound, now, test, counts q, h.marked q)
+            | inr apart ↦
+                let now : one_if (mark_of (set waiting slot false) q) ≡ one_if (mark_of waiting q) = ap one_if apart.2 in
+                let test : one_if (slot == q) ≡ 0 = ap one_if apart.0 in
+                omega (arith, now, test, counts q, h.marked q)
+          ];
+      marks = omega (arith, size, length-set waiting slot false, h.marks);
     }
 
 -- a slot that waits leaves the line, and is free
@@ -226,29 +227,29 @@ IsLine-left line answers free waiting slot once h =
     let in_marks : slot < length waiting = omega (arith, within, h.marks) in
     record {
       each = λ q.
-        elim (get_or-set_cases waiting slot false false q in_marks) [
-          inl same ↦
-            let test : one_if (slot == q) ≡ 1 = ap one_if same.0 in
-            let was : times q line ≡ 1 = ap (λ (n : ℕ). times n line) (sym same.1) ∙ once in
-            let now : times q (without slot line) ≡ 0 = ap (λ (n : ℕ). times n (without slot line)) (sym same.1) ∙ times-without slot line in
-            omega (arith, test, was, now, count_of-push q free slot, h.each q)
-        | inr apart ↦
-            let test : one_if (slot == q) ≡ 0 = ap one_if apart.0 in
-            omega (arith, test, count_of-push q free slot, times-without_other slot q line apart.1, h.each q)
-        ];
+          elim (get_or-set_cases waiting slot false false q in_marks) [
+            | inl same ↦
+                let test : one_if (slot == q) ≡ 1 = ap one_if same.0 in
+                let was : times q line ≡ 1 = ap (λ (n : ℕ). times n line) (sym same.1) ∙ once in
+                let now : times q (without slot line) ≡ 0 = ap (λ (n : ℕ). times n (without slot line)) (sym same.1) ∙ times-without slot line in
+                omega (arith, test, was, now, count_of-push q free slot, h.each q)
+            | inr apart ↦
+                let test : one_if (slot == q) ≡ 0 = ap one_if apart.0 in
+                omega (arith, test, count_of-push q free slot, times-without_other slot q line apart.1, h.each q)
+          ];
       total = omega (arith, once, length_push free slot, length-without slot line, h.total);
       small = h.small;
       marked = λ q.
-        elim (get_or-set_cases waiting slot false false q in_marks) [
-          inl same ↦
-            let now : one_if (mark_of (set waiting slot false) q) ≡ 0 = ap one_if same.2 in
-            let gone : times q (without slot line) ≡ 0 = ap (λ (n : ℕ). times n (without slot line)) (sym same.1) ∙ times-without slot line in
-            omega (arith, now, gone)
-        | inr apart ↦
-            let now : one_if (mark_of (set waiting slot false) q) ≡ one_if (mark_of waiting q) = ap one_if apart.2 in
-            omega (arith, now, times-without_other slot q line apart.1, h.marked q)
-        ];
-      marks = length-set waiting slot false ∙ h.marks
+          elim (get_or-set_cases waiting slot false false q in_marks) [
+            | inl same ↦
+                let now : one_if (mark_of (set waiting slot false) q) ≡ 0 = ap one_if same.2 in
+                let gone : times q (without slot line) ≡ 0 = ap (λ (n : ℕ). times n (without slot line)) (sym same.1) ∙ times-without slot line in
+                omega (arith, now, gone)
+            | inr apart ↦
+                let now : one_if (mark_of (set waiting slot false) q) ≡ one_if (mark_of waiting q) = ap one_if apart.2 in
+                omega (arith, now, times-without_other slot q line apart.1, h.marked q)
+          ];
+      marks = length-set waiting slot false ∙ h.marks;
     }
 
 -- the answer of a slot is taken, and the slot is free
@@ -261,22 +262,22 @@ IsLine-taken line answers free waiting slot value there h =
     let size = length-set answers slot None in
     record {
       each = λ q.
-        let room : one_if (nat_lt q (length (set answers slot None))) ≡ one_if (nat_lt q (length answers)) = ap (λ (n : ℕ). one_if (nat_lt q n)) size in
-        elim (get_or-set_cases answers slot None None q within) [
-          inl same ↦
-            let now : one_if (is_some (answer_in (set answers slot None) q)) ≡ 0 = ap (λ (a : Option ℕ). one_if (is_some a)) same.2 in
-            let test : one_if (slot == q) ≡ 1 = ap one_if same.0 in
-            let was : one_if (is_some (answer_in answers q)) ≡ 1 = ap (λ (n : ℕ). one_if (is_some (answer_in answers n))) (sym same.1) ∙ some in
-            omega (arith, room, now, test, was, count_of-push q free slot, h.each q)
-        | inr apart ↦
-            let now : one_if (is_some (answer_in (set answers slot None) q)) ≡ one_if (is_some (answer_in answers q)) = ap (λ (a : Option ℕ). one_if (is_some a)) apart.2 in
-            let test : one_if (slot == q) ≡ 0 = ap one_if apart.0 in
-            omega (arith, room, now, test, count_of-push q free slot, h.each q)
-        ];
+          let room : one_if (nat_lt q (length (set answers slot None))) ≡ one_if (nat_lt q (length answers)) = ap (λ (n : ℕ). one_if (nat_lt q n)) size in
+          elim (get_or-set_cases answers slot None None q within) [
+            | inl same ↦
+                let now : one_if (is_some (answer_in (set answers slot None) q)) ≡ 0 = ap (λ (a : Option ℕ). one_if (is_some a)) same.2 in
+                let test : one_if (slot == q) ≡ 1 = ap one_if same.0 in
+                let was : one_if (is_some (answer_in answers q)) ≡ 1 = ap (λ (n : ℕ). one_if (is_some (answer_in answers n))) (sym same.1) ∙ some in
+                omega (arith, room, now, test, was, count_of-push q free slot, h.each q)
+            | inr apart ↦
+                let now : one_if (is_some (answer_in (set answers slot None) q)) ≡ one_if (is_some (answer_in answers q)) = ap (λ (a : Option ℕ). one_if (is_some a)) apart.2 in
+                let test : one_if (slot == q) ≡ 0 = ap one_if apart.0 in
+                omega (arith, room, now, test, count_of-push q free slot, h.each q)
+          ];
       total = omega (arith, some, size, length_push free slot, answer_count-set answers slot None within, h.total);
       small = omega (arith, size, h.small);
       marked = λ q. h.marked q;
-      marks = omega (arith, size, h.marks)
+      marks = omega (arith, size, h.marks);
     }
 
 -- in a new line every slot is free
@@ -287,15 +288,15 @@ IsLine-made room free small counts frees =
     let size : length (replicate room unanswered) ≡ room = length-replicate room unanswered in
     record {
       each = λ q.
-        let none : one_if (is_some (answer_in (replicate room unanswered) q)) ≡ 0 = ap (λ (a : Option ℕ). one_if (is_some a)) (answer_in-replicate room q) in
-        let below : one_if (nat_lt q (length (replicate room unanswered))) ≡ one_if (nat_lt q room) = ap (λ (n : ℕ). one_if (nat_lt q n)) size in
-        omega (arith, none, below, counts q);
+          let none : one_if (is_some (answer_in (replicate room unanswered) q)) ≡ 0 = ap (λ (a : Option ℕ). one_if (is_some a)) (answer_in-replicate room q) in
+          let below : one_if (nat_lt q (length (replicate room unanswered))) ≡ one_if (nat_lt q room) = ap (λ (n : ℕ). one_if (nat_lt q n)) size in
+          omega (arith, none, below, counts q);
       total = omega (arith, size, frees, answer_count-replicate room);
       small = omega (arith, size, small);
       marked = λ q.
-        let none : one_if (mark_of (replicate room false) q) ≡ 0 = ap one_if (mark_of-replicate room q) in
-        omega (arith, none);
-      marks = omega (arith, size, length-replicate room false)
+          let none : one_if (mark_of (replicate room false) q) ≡ 0 = ap one_if (mark_of-replicate room q) in
+          omega (arith, none);
+      marks = omega (arith, size, length-replicate room false);
     }
 
 -- a slot that waits stands once in the line
@@ -318,7 +319,7 @@ IsLine-not_free slots free waiting slot value there h =
 -- to answer the oldest and then the j after it is to answer one more than j
 pub answered-step : (value j : ℕ) (line : List Waiter) (answers : List (Option ℕ)) → j < length line
     → (j ≤ length (drop 1 line)) × (drop j (drop 1 line) ≡ drop (suc j) line)
-      × (answered_slots value (take j (drop 1 line)) (answered_slots value (take 1 line) answers) ≡ answered_slots value (take (suc j) line) answers)
+    × (answered_slots value (take j (drop 1 line)) (answered_slots value (take 1 line) answers) ≡ answered_slots value (take (suc j) line) answers)
 answered-step value j [] answers within = absurd (omega arith)
 answered-step value j (first ∷ rest) answers within = (omega arith, refl, refl)
 
@@ -326,19 +327,19 @@ answered-step value j (first ∷ rest) answers within = (omega arith, refl, refl
 pub one_if-nat_lt-next : (a b : ℕ) → one_if (nat_lt a (b + 1)) ≡ one_if (nat_lt a b) + one_if (b == a)
 one_if-nat_lt-next a b =
     elim (cases_Bool (nat_lt a b)) [
-      inl below ↦
-        let next : nat_lt a (b + 1) ≡ true = grind (arith, nat_tests) in
-        let apart : b == a ≡ false = grind (arith, nat_tests) in
-        rw (below, next, apart) refl
-    | inr above ↦
-        elim (cases_Bool (b == a)) [
-          inl same ↦
-            let next : nat_lt a (b + 1) ≡ true = grind (arith, nat_tests) in
-            rw (above, next, same) refl
-        | inr apart ↦
-            let next : nat_lt a (b + 1) ≡ false = grind (arith, nat_tests) in
-            rw (above, next, apart) refl
-        ]
+      | inl below ↦
+          let next : nat_lt a (b + 1) ≡ true = grind (arith, nat_tests) in
+          let apart : b == a ≡ false = grind (arith, nat_tests) in
+          rw (below, next, apart) refl
+      | inr above ↦
+          elim (cases_Bool (b == a)) [
+            | inl same ↦
+                let next : nat_lt a (b + 1) ≡ true = grind (arith, nat_tests) in
+                rw (above, next, same) refl
+            | inr apart ↦
+                let next : nat_lt a (b + 1) ≡ false = grind (arith, nat_tests) in
+                rw (above, next, apart) refl
+          ]
     ]
 
 -- a slot that isn't among the first waiters, nor the next of them, isn't among one more
@@ -347,5 +348,5 @@ times-more slot line place waiter within is differ passed =
     let apart : waiter.0 == slot ≡ false = grind (arith, nat_tests) in
     let none : one_if (waiter.0 == slot) ≡ 0 = ap one_if apart in
     let next : take (place + 1) line ≡ take place line ++ waiter ∷ [] =
-        ap (λ (n : ℕ). take n line) (add-one place) ∙ take-suc line place waiter within ∙ ap (λ (w : Waiter). take place line ++ w ∷ []) (sym is) in
+    ap (λ (n : ℕ). take n line) (add-one place) ∙ take-suc line place waiter within ∙ ap (λ (w : Waiter). take place line ++ w ∷ []) (sym is) in
     ap (times slot) next ∙ times-push slot (take place line) waiter ∙ omega (arith, none, passed)

@@ -1,12 +1,12 @@
 -- A core and its tickets seen as the object, part by part: the book, the line with names, and the counts.
-use Rattle.std.proofs.Common.{◌≡◌, ◌≢◌, ◌⊎◌, ℕ, suc, zero, ◌+◌, ◌-◌, ◌<◌, ◌≤◌, Bool, true, false, cond, ◌==◌, List, [], ◌∷◌, ◌++◌, length, take, drop, get_or, Option, Some, None, is_some, slice_get, slice_set, nat_lt, refl, sym, ap, subst, ◌∙◌, arith, inl, inr}
+use Rattle.std.proofs.Common.{◌≡◌, ◌≢◌, ◌⊎◌, ℕ, suc, zero, ◌+◌, ◌<◌, ◌≤◌, Bool, true, false, cond, ◌==◌, List, [], ◌∷◌, ◌++◌, length, take, drop, get_or, Option, Some, None, slice_get, slice_set, refl, sym, ap, ◌∙◌, arith, inl, inr}
 use Rattle.std.proofs.lemmas.Bool.Decides.{nat_tests}
 use Rattle.std.proofs.lemmas.List.{get_or-set_same, get_or-set_other}
 use Rattle.saa_core.specs.declared.request.Request.{Request}
 use Rattle.saa_core.specs.Held.{Held, fits, plus}
-use Rattle.saa_core.specs.Object.{Object, Entry, Idle, Waiting, Answered, Waiter, entry_at, one_if, times, without}
-use Rattle.saa_core.specs.Slots.{Slots, answer_in, answer_count, answered_slots, held_slots, held_times, room_of, IsSound}
-use Rattle.saa_core.specs.Settling.{fitting_front, plus_all, answered_in, answered_entry}
+use Rattle.saa_core.specs.Object.{Idle, Answered, Waiter, entry_at, one_if, times}
+use Rattle.saa_core.specs.Slots.{answer_in}
+use Rattle.saa_core.specs.Settling.{fitting_front, plus_all, answered_entry}
 use Rattle.saa_core.specs.declared.ticket.Registration.{Registration}
 use Rattle.saa_core.specs.declared.ticket.Registration.TheVariants.{Unregistered, AtOnce, InSlot}
 use Rattle.saa_core.specs.Tickets.{has_slot, is_slotted, owners, slotted_count, name_of, named, entry_of, slot_entry, entries}
@@ -51,11 +51,11 @@ pub entries-other : (answers : List (Option ℕ)) (ts : List Registration) (slot
 entries-other answers [] slot a h = refl
 entries-other answers (t ∷ ts) slot a h =
     elim (bool_cases (has_slot t slot)) [
-      inl e ↦ absurd (omega (arith, ap one_if e))
-    | inr e ↦
-        let head : entry_of (slice_set answers slot a) t ≡ entry_of answers t = entry_of-other answers t slot a e in
-        let rest : entries (slice_set answers slot a) ts ≡ entries answers ts = entries-other answers ts slot a (omega (arith, ap one_if e)) in
-        cc
+      | inl e ↦ absurd (omega (arith, ap one_if e))
+      | inr e ↦
+          let head : entry_of (slice_set answers slot a) t ≡ entry_of answers t = entry_of-other answers t slot a e in
+          let rest : entries (slice_set answers slot a) ts ≡ entries answers ts = entries-other answers ts slot a (omega (arith, ap one_if e)) in
+          cc
     ]
 
 -- the ticket of a slot that is answered
@@ -74,14 +74,14 @@ entries-answer v answers (AtOnce w r m ∷ ts) slot few within none =
     ap (λ es. Answered w r m false ∷ es) (entries-answer v answers ts slot (omega arith) within none)
 entries-answer v answers (InSlot own r m ∷ ts) slot few within none =
     elim (bool_cases (own == slot)) [
-      inl e ↦
-        let head : entry_of (slice_set answers slot (Some v)) (InSlot own r m) ≡ answered_entry v (entry_of answers (InSlot own r m)) = entry_of-answer v answers own slot r m (same_number own slot e) within none in
-        let rest : entries (slice_set answers slot (Some v)) ts ≡ entries answers ts = entries-other answers ts slot (Some v) (omega (arith, ap one_if e)) in
-        rw e (ap (λ x. x ∷ entries (slice_set answers slot (Some v)) ts) head ∙ ap (λ es. answered_entry v (entry_of answers (InSlot own r m)) ∷ es) rest)
-    | inr e ↦
-        let head : entry_of (slice_set answers slot (Some v)) (InSlot own r m) ≡ entry_of answers (InSlot own r m) = entry_of-other answers (InSlot own r m) slot (Some v) e in
-        let rest = entries-answer v answers ts slot (omega (arith, ap one_if e)) within none in
-        rw e (ap (λ x. x ∷ entries (slice_set answers slot (Some v)) ts) head ∙ ap (λ es. entry_of answers (InSlot own r m) ∷ es) rest)
+      | inl e ↦
+          let head : entry_of (slice_set answers slot (Some v)) (InSlot own r m) ≡ answered_entry v (entry_of answers (InSlot own r m)) = entry_of-answer v answers own slot r m (same_number own slot e) within none in
+          let rest : entries (slice_set answers slot (Some v)) ts ≡ entries answers ts = entries-other answers ts slot (Some v) (omega (arith, ap one_if e)) in
+          rw e (ap (λ x. x ∷ entries (slice_set answers slot (Some v)) ts) head ∙ ap (λ es. answered_entry v (entry_of answers (InSlot own r m)) ∷ es) rest)
+      | inr e ↦
+          let head : entry_of (slice_set answers slot (Some v)) (InSlot own r m) ≡ entry_of answers (InSlot own r m) = entry_of-other answers (InSlot own r m) slot (Some v) e in
+          let rest = entries-answer v answers ts slot (omega (arith, ap one_if e)) within none in
+          rw e (ap (λ x. x ∷ entries (slice_set answers slot (Some v)) ts) head ∙ ap (λ es. entry_of answers (InSlot own r m) ∷ es) rest)
     ]
 
 -- The line
@@ -168,8 +168,8 @@ name_of-own (x ∷ ts) zero t slot here has few =
     ap (λ b. cond b 0 (suc (name_of ts slot))) (ap (λ t. has_slot t slot) is_old ∙ has)
 name_of-own (x ∷ ts) (suc name) t slot here has few =
     elim (bool_cases (has_slot x slot)) [
-      inl e ↦ absurd (omega (arith, ap one_if e, owner-here ts name t slot here has))
-    | inr e ↦ ap (λ b. cond b 0 (suc (name_of ts slot))) e ∙ ap suc (name_of-own ts name t slot here has (omega (arith, ap one_if e)))
+      | inl e ↦ absurd (omega (arith, ap one_if e, owner-here ts name t slot here has))
+      | inr e ↦ ap (λ b. cond b 0 (suc (name_of ts slot))) e ∙ ap suc (name_of-own ts name t slot here has (omega (arith, ap one_if e)))
     ]
 
 -- a slot whose name is a ticket's place is that ticket's
@@ -178,13 +178,13 @@ name_of-found [] name t slot here is = cc
 name_of-found (x ∷ ts) zero t slot here is =
     let is_old : x ≡ t = cc in
     elim (bool_cases (has_slot x slot)) [
-      inl e ↦ sym (ap (λ t. has_slot t slot) is_old) ∙ e
-    | inr e ↦ let no_place : suc (name_of ts slot) ≡ 0 = sym (ap (λ b. cond b 0 (suc (name_of ts slot))) e) ∙ is in absurd (omega arith)
+      | inl e ↦ sym (ap (λ t. has_slot t slot) is_old) ∙ e
+      | inr e ↦ let no_place : suc (name_of ts slot) ≡ 0 = sym (ap (λ b. cond b 0 (suc (name_of ts slot))) e) ∙ is in absurd (omega arith)
     ]
 name_of-found (x ∷ ts) (suc name) t slot here is =
     elim (bool_cases (has_slot x slot)) [
-      inl e ↦ let no_place : 0 ≡ suc name = sym (ap (λ b. cond b 0 (suc (name_of ts slot))) e) ∙ is in absurd (omega arith)
-    | inr e ↦
-        let place : suc (name_of ts slot) ≡ suc name = sym (ap (λ b. cond b 0 (suc (name_of ts slot))) e) ∙ is in
-        name_of-found ts name t slot here (omega arith)
+      | inl e ↦ let no_place : 0 ≡ suc name = sym (ap (λ b. cond b 0 (suc (name_of ts slot))) e) ∙ is in absurd (omega arith)
+      | inr e ↦
+          let place : suc (name_of ts slot) ≡ suc name = sym (ap (λ b. cond b 0 (suc (name_of ts slot))) e) ∙ is in
+          name_of-found ts name t slot here (omega arith)
     ]

@@ -1,12 +1,12 @@
 -- Settling of a core, one grant at a time, and what is settled afterwards.
-use Rattle.std.proofs.Common.{◌≡◌, ◌⊎◌, ℕ, suc, zero, ◌+◌, ◌-◌, ◌<◌, ◌≤◌, Bool, true, false, cond, List, [], ◌∷◌, ◌++◌, length, take, drop, Option, Some, None, slice_set, nat_le, refl, sym, ap, subst, ◌∙◌, arith, inl, inr}
+use Rattle.std.proofs.Common.{◌≡◌, ℕ, suc, ◌+◌, ◌-◌, ◌<◌, ◌≤◌, true, false, cond, List, [], ◌∷◌, length, take, drop, Option, Some, None, slice_set, nat_le, refl, sym, ap, ◌∙◌, arith, inl, inr}
 use Rattle.std.proofs.lemmas.Bool.Decides.{nat_tests}
 use Rattle.saa_core.specs.declared.request.Request.{Request}
 use Rattle.saa_core.specs.declared.request.Request.TheVariants.{Exclusive, Shared, WaitExclusive, WaitShared, Permits, Enter, Arrive}
 use Rattle.saa_core.specs.Held.{Held, OfSemaphore, fits, plus}
 use Rattle.saa_core.specs.Object.{Waiter}
 use Rattle.saa_core.specs.Settling.{fitting_front, plus_all}
-use Rattle.saa_core.specs.Slots.{Slots, answered_slots}
+use Rattle.saa_core.specs.Slots.{Slots}
 use Rattle.saa_core.specs.Tickets.{Core}
 use Rattle.saa_core.specs.CoreParts.{core_granted, core_settled, slots_answered, fitting_permits, oldest_fitting, IsCoreSettled}
 use Rattle.saa_core.proofs.Naming.{bool_cases}
@@ -19,19 +19,19 @@ settled-none c none = ap (λ k. core_granted k c) none
 -- granting the oldest waiter is the first grant of settling
 pub settled-first : (h : Held) (w : Waiter) (ws : List Waiter) (answers : List (Option ℕ)) → fits h w.1 ≡ true
     → core_settled (record { held = plus h w.1; slots = record { line = ws; answers = slice_set answers w.0 (Some 0) } })
-      ≡ core_settled (record { held = h; slots = record { line = w ∷ ws; answers = answers } })
+    ≡ core_settled (record { held = h; slots = record { line = w ∷ ws; answers = answers } })
 unfolding core_settled
 settled-first h w ws answers e =
     sym (ap (λ k. core_granted k (record { held = h; slots = record { line = w ∷ ws; answers = answers } }))
-        (ap (λ b. cond b (suc (fitting_front (plus h w.1) ws)) 0) e))
+    (ap (λ b. cond b (suc (fitting_front (plus h w.1) ws)) 0) e))
 
 -- nobody in front fits once the fitting front is granted
 pub front-settled : (h : Held) (line : List Waiter) → fitting_front (plus_all h (take (fitting_front h line) line)) (drop (fitting_front h line) line) ≡ 0
 front-settled h [] = refl
 front-settled h (w ∷ line) =
     elim (bool_cases (fits h w.1)) [
-      inl e ↦ rw e (front-settled (plus h w.1) line)
-    | inr e ↦ rw e (rw e refl)
+      | inl e ↦ rw e (front-settled (plus h w.1) line)
+      | inr e ↦ rw e (rw e refl)
     ]
 
 -- a core that settled is settled
@@ -51,13 +51,13 @@ permits_fit_by max out Enter n below found = cc
 permits_fit_by max out Arrive n below found = cc
 permits_fit_by max out (Permits m) n below found =
     elim (bool_cases (nat_le m (max - out))) [
-      inl e ↦
-        let same : Some m ≡ Some n = sym (ap (λ b. cond b (Some m) None) e) ∙ found in
-        let fit : nat_le (out + m) max ≡ true = grind (arith, nat_tests) in
-        (cc, fit)
-    | inr e ↦
-        let none : None ≡ Some n = sym (ap (λ b. cond b (Some m) None) e) ∙ found in
-        absurd (cc)
+      | inl e ↦
+          let same : Some m ≡ Some n = sym (ap (λ b. cond b (Some m) None) e) ∙ found in
+          let fit : nat_le (out + m) max ≡ true = grind (arith, nat_tests) in
+          (cc, fit)
+      | inr e ↦
+          let none : None ≡ Some n = sym (ap (λ b. cond b (Some m) None) e) ∙ found in
+          absurd (cc)
     ]
 
 -- whoever is granted next fits
@@ -74,10 +74,10 @@ permits_stop_by max out Enter below none = refl
 permits_stop_by max out Arrive below none = refl
 permits_stop_by max out (Permits m) below none =
     elim (bool_cases (nat_le m (max - out))) [
-      inl e ↦
-        let same : Some m ≡ None = sym (ap (λ b. cond b (Some m) None) e) ∙ none in
-        absurd (cc)
-    | inr e ↦ grind (arith, nat_tests)
+      | inl e ↦
+          let same : Some m ≡ None = sym (ap (λ b. cond b (Some m) None) e) ∙ none in
+          absurd (cc)
+      | inr e ↦ grind (arith, nat_tests)
     ]
 
 -- where nobody is granted next, the semaphore is settled

@@ -1,21 +1,20 @@
 -- What happens to a core and its tickets, seen as the object. Each change of a line and a ticket that a core
 -- makes is one step here, and none of them knows which primitive it is.
-use Rattle.std.proofs.Common.{◌≡◌, ◌≢◌, ◌⊎◌, ℕ, suc, zero, ◌+◌, ◌-◌, ◌<◌, ◌≤◌, Bool, true, false, cond, ◌==◌, List, [], ◌∷◌, ◌++◌, length, take, drop, get_or, Option, Some, None, is_some, slice_get, slice_set, nat_lt, replicate, refl, sym, ap, subst, ◌∙◌, arith, inl, inr, length-append, length-drop, length-take}
-use Rattle.std.proofs.lemmas.Bool.Decides.{nat_tests}
+use Rattle.std.proofs.Common.{◌≡◌, ◌≢◌, ℕ, suc, zero, ◌+◌, ◌-◌, ◌<◌, ◌≤◌, Bool, true, false, ◌==◌, List, [], ◌∷◌, ◌++◌, length, take, drop, get_or, Option, Some, None, is_some, slice_get, slice_set, refl, sym, ap, ◌∙◌, arith, inl, inr, length-append}
 use Rattle.std.proofs.lemmas.List.{get_or-set_same, get_or-set_other}
 use Rattle.std.proofs.Math.ListN.{length-set}
 use Rattle.saa_core.specs.declared.request.Request.{Request}
-use Rattle.saa_core.specs.Held.{Held, fits, plus}
-use Rattle.saa_core.specs.Object.{Object, Entry, Idle, Waiting, Answered, Waiter, entry_at, with_entry, one_if, times, without, used, slots_in, holds_slot}
+use Rattle.saa_core.specs.Held.{Held}
+use Rattle.saa_core.specs.Object.{Object, Entry, Idle, Waiter, with_entry, one_if, times, without, used, slots_in, holds_slot}
 use Rattle.saa_core.specs.Slots.{Slots, answer_in, answer_count, answered_slots, held_slots, held_times, room_of, IsSound}
-use Rattle.saa_core.specs.Settling.{fitting_front, plus_all, answered_in, answered_entry, granted, settled, all_answered}
+use Rattle.saa_core.specs.Settling.{fitting_front, plus_all, answered_in, granted, settled}
 use Rattle.saa_core.specs.Asking.{joined}
 use Rattle.saa_core.specs.declared.ticket.Registration.{Registration}
 use Rattle.saa_core.specs.declared.ticket.Registration.TheVariants.{Unregistered, AtOnce, InSlot}
 use Rattle.saa_core.specs.Tickets.{has_slot, is_slotted, owners, slotted_count, name_of, named, entry_of, slot_entry, entries, Core, object_of, Belong}
 use Rattle.saa_core.specs.CoreParts.{slots_answered, core_granted, core_settled}
-use Rattle.saa_core.proofs.Naming.{bool_cases, same_number, other_number, entry-at, entries-set, entries-other, entries-answer, named-take, named-drop, named-append, length-named, fitting_front-named, plus_all-named, name_of-set, named-set, owners-set, slotted_count-set, owner-here, name_of-own, name_of-found}
-use Rattle.saa_core.proofs.Counting.{number_same, number_other, times-append, held-below, held-once, answer_count-none, answer-below, AreUnanswered, no_answer, unanswered-first, unanswered-rest, answer_count-answered, held-answered, length-answered_slots, times-take_drop, unanswered-take, length-without, times-without_same, times-without_other}
+use Rattle.saa_core.proofs.Naming.{bool_cases, same_number, other_number, entries-set, entries-other, entries-answer, named-take, named-drop, named-append, fitting_front-named, plus_all-named, name_of-set, named-set, owners-set, slotted_count-set, name_of-own, name_of-found}
+use Rattle.saa_core.proofs.Counting.{number_same, number_other, times-append, held-once, answer_count-none, answer-below, AreUnanswered, no_answer, unanswered-first, unanswered-rest, answer_count-answered, held-answered, length-answered_slots, times-take_drop, unanswered-take, length-without, times-without_same, times-without_other}
 
 -- the object of five parts
 object_from : Held → List Waiter → List Entry → ℕ → ℕ → Object
@@ -74,8 +73,8 @@ join-object h slots ts name old slot r m here before fresh b =
     let owners_new : owners (slice_set ts name new) slot ≤ 1 = omega (arith, owners-set ts name old new slot here, ap one_if (unslotted-has old slot before), ap one_if same_slot, b.owned slot) in
     let own_name : name_of (slice_set ts name new) slot ≡ name = name_of-own (slice_set ts name new) name new slot (slice_get-set ts name old new here) same_slot owners_new in
     let others : named (slice_set ts name new) slots.line ≡ named ts slots.line = named-set ts name old new slots.line here (λ other waits.
-        let apart : slot ≢ other = λ same. (let t : times slot slots.line ≡ times other slots.line = ap (λ k. times k slots.line) same in absurd (omega arith)) in
-        unslotted-has old other before ∙ sym (number_other slot other apart)) in
+    let apart : slot ≢ other = λ same. (let t : times slot slots.line ≡ times other slots.line = ap (λ k. times k slots.line) same in absurd (omega arith)) in
+    unslotted-has old other before ∙ sym (number_other slot other apart)) in
     let none : answer_in slots.answers slot ≡ None = no_answer (answer_in slots.answers slot) (omega arith) in
     same_object _ _ refl
     (named-append (slice_set ts name new) slots.line ((slot, r) ∷ []) ∙ ap (λ l. l ++ (name_of (slice_set ts name new) slot, r) ∷ []) others ∙ ap (λ n. named ts slots.line ++ (n, r) ∷ []) own_name)
@@ -99,15 +98,15 @@ slots_taken slots slot = record { line = slots.line; answers = slice_set slots.a
 pub held-taken : (slots : Slots) (slot v : ℕ) (other : ℕ) → answer_in slots.answers slot ≡ Some v → held_times (slots_taken slots slot) other + one_if (slot == other) ≡ held_times slots other
 held-taken slots slot v other there =
     elim (bool_cases (slot == other)) [
-      inl e ↦
-        let same : slot ≡ other = same_number slot other e in
-        let before : answer_in slots.answers other ≡ Some v = ap (λ k. get_or slots.answers k None) (sym same) ∙ there in
-        let after : answer_in (slice_set slots.answers slot None) other ≡ None = ap (λ k. get_or (slice_set slots.answers slot None) k None) (sym same) ∙ get_or-set_same slots.answers slot None None (answer-below slots.answers slot v there) in
-        omega (arith, ap (λ x. one_if (is_some x)) before, ap (λ x. one_if (is_some x)) after, ap one_if e)
-    | inr e ↦
-        let apart : other ≢ slot = λ same. other_number slot other e (sym same) in
-        let after : answer_in (slice_set slots.answers slot None) other ≡ answer_in slots.answers other = get_or-set_other slots.answers slot other None None apart in
-        omega (arith, ap (λ x. one_if (is_some x)) after, ap one_if e)
+      | inl e ↦
+          let same : slot ≡ other = same_number slot other e in
+          let before : answer_in slots.answers other ≡ Some v = ap (λ k. get_or slots.answers k None) (sym same) ∙ there in
+          let after : answer_in (slice_set slots.answers slot None) other ≡ None = ap (λ k. get_or (slice_set slots.answers slot None) k None) (sym same) ∙ get_or-set_same slots.answers slot None None (answer-below slots.answers slot v there) in
+          omega (arith, ap (λ x. one_if (is_some x)) before, ap (λ x. one_if (is_some x)) after, ap one_if e)
+      | inr e ↦
+          let apart : other ≢ slot = λ same. other_number slot other e (sym same) in
+          let after : answer_in (slice_set slots.answers slot None) other ≡ answer_in slots.answers other = get_or-set_other slots.answers slot other None None apart in
+          omega (arith, ap (λ x. one_if (is_some x)) after, ap one_if e)
     ]
 
 pub take-object : (h : Held) (slots : Slots) (ts : List Registration) (name slot v : ℕ) (r : Request) (m : Bool) → slice_get ts name ≡ Some (InSlot slot r m) → answer_in slots.answers slot ≡ Some v → IsSound slots → Belong slots ts
@@ -120,12 +119,12 @@ take-object h slots ts name slot v r m here there sound b =
     let unowned : owners (slice_set ts name Unregistered) slot ≡ 0 = omega (arith, owners-set ts name old Unregistered slot here, ap one_if same_slot, b.owned slot) in
     same_object _ _ refl
     (named-set ts name old Unregistered slots.line here (λ other waits.
-        let apart : slot ≢ other = λ same. (let t : times slot slots.line ≡ times other slots.line = ap (λ k. times k slots.line) same in absurd (omega arith)) in
-        number_other slot other apart))
+    let apart : slot ≢ other = λ same. (let t : times slot slots.line ≡ times other slots.line = ap (λ k. times k slots.line) same in absurd (omega arith)) in
+    number_other slot other apart))
     (entries-other slots.answers (slice_set ts name Unregistered) slot None unowned ∙ entries-set slots.answers ts name Unregistered)
     (let fewer : answer_count (slice_set slots.answers slot None) + 1 ≡ answer_count slots.answers = answer_count-none slots.answers slot v there in
-     let count : slotted_count (slice_set ts name Unregistered) + 1 ≡ slotted_count ts + 0 = slotted_count-set ts name old Unregistered here in
-     omega (arith, b.few))
+    let count : slotted_count (slice_set ts name Unregistered) + 1 ≡ slotted_count ts + 0 = slotted_count-set ts name old Unregistered here in
+    omega (arith, b.few))
     (length-set slots.answers slot None)
 
 pub take-belong : (slots : Slots) (ts : List Registration) (name slot v : ℕ) (r : Request) (m : Bool) → slice_get ts name ≡ Some (InSlot slot r m) → answer_in slots.answers slot ≡ Some v → Belong slots ts → Belong (slots_taken slots slot) (slice_set ts name Unregistered)
@@ -145,29 +144,29 @@ pub named-without : (ts : List Registration) (name slot : ℕ) (r : Request) (m 
 named-without ts name slot r m [] here few = refl
 named-without ts name slot r m (w ∷ line) here few =
     elim (bool_cases (w.0 == slot)) [
-      inl e ↦
-        let own_name : name_of ts w.0 ≡ name = ap (name_of ts) (same_number w.0 slot e) ∙ name_of-own ts name (InSlot slot r m) slot here (number_same slot) few in
-        let same : name_of ts w.0 == name ≡ true = ap (λ n. n == name) own_name ∙ number_same name in
-        rw (e, same) (named-without ts name slot r m line here few)
-    | inr e ↦
-        let apart : slot ≢ w.0 = λ same. other_number w.0 slot e (sym same) in
-        let differ : name_of ts w.0 ≢ name = λ same. (let has : slot == w.0 ≡ true = name_of-found ts name (InSlot slot r m) w.0 here same in apart (same_number slot w.0 has)) in
-        let other : name_of ts w.0 == name ≡ false = number_other (name_of ts w.0) name differ in
-        let head : name_of (slice_set ts name Unregistered) w.0 ≡ name_of ts w.0 = name_of-set ts name (InSlot slot r m) Unregistered w.0 here (number_other slot w.0 apart) in
-        let rest : named (slice_set ts name Unregistered) (without slot line) ≡ without name (named ts line) = named-without ts name slot r m line here few in
-        rw (e, other) cc
+      | inl e ↦
+          let own_name : name_of ts w.0 ≡ name = ap (name_of ts) (same_number w.0 slot e) ∙ name_of-own ts name (InSlot slot r m) slot here (number_same slot) few in
+          let same : name_of ts w.0 == name ≡ true = ap (λ n. n == name) own_name ∙ number_same name in
+          rw (e, same) (named-without ts name slot r m line here few)
+      | inr e ↦
+          let apart : slot ≢ w.0 = λ same. other_number w.0 slot e (sym same) in
+          let differ : name_of ts w.0 ≢ name = λ same. (let has : slot == w.0 ≡ true = name_of-found ts name (InSlot slot r m) w.0 here same in apart (same_number slot w.0 has)) in
+          let other : name_of ts w.0 == name ≡ false = number_other (name_of ts w.0) name differ in
+          let head : name_of (slice_set ts name Unregistered) w.0 ≡ name_of ts w.0 = name_of-set ts name (InSlot slot r m) Unregistered w.0 here (number_other slot w.0 apart) in
+          let rest : named (slice_set ts name Unregistered) (without slot line) ≡ without name (named ts line) = named-without ts name slot r m line here few in
+          rw (e, other) cc
     ]
 
 -- how often a slot is held once one left that waited
 pub held-left : (slots : Slots) (slot other : ℕ) → held_times slots slot ≤ 1 → 0 < times slot slots.line → held_times (slots_left slots slot) other + one_if (slot == other) ≡ held_times slots other
 held-left slots slot other once waits =
     elim (bool_cases (slot == other)) [
-      inl e ↦
-        let same : slot ≡ other = same_number slot other e in
-        let line : times slot (without slot slots.line) ≡ times other (without slot slots.line) = ap (λ k. times k (without slot slots.line)) same in
-        let before : times slot slots.line ≡ times other slots.line = ap (λ k. times k slots.line) same in
-        omega (arith, times-without_same slot slots.line, ap one_if e)
-    | inr e ↦ omega (arith, times-without_other slot other slots.line (other_number slot other e), ap one_if e)
+      | inl e ↦
+          let same : slot ≡ other = same_number slot other e in
+          let line : times slot (without slot slots.line) ≡ times other (without slot slots.line) = ap (λ k. times k (without slot slots.line)) same in
+          let before : times slot slots.line ≡ times other slots.line = ap (λ k. times k slots.line) same in
+          omega (arith, times-without_same slot slots.line, ap one_if e)
+      | inr e ↦ omega (arith, times-without_other slot other slots.line (other_number slot other e), ap one_if e)
     ]
 
 pub leave-object : (h : Held) (slots : Slots) (ts : List Registration) (name slot : ℕ) (r : Request) (m : Bool) → slice_get ts name ≡ Some (InSlot slot r m) → 0 < times slot slots.line → IsSound slots → Belong slots ts
@@ -178,7 +177,7 @@ leave-object h slots ts name slot r m here waits sound b =
     (named-without ts name slot r m slots.line here (omega (arith, b.owned slot)))
     (entries-set slots.answers ts name Unregistered)
     (let count : slotted_count (slice_set ts name Unregistered) + 1 ≡ slotted_count ts + 0 = slotted_count-set ts name (InSlot slot r m) Unregistered here in
-     omega (arith, length-without slot slots.line, b.few))
+    omega (arith, length-without slot slots.line, b.few))
     refl
 
 pub leave-belong : (slots : Slots) (ts : List Registration) (name slot : ℕ) (r : Request) (m : Bool) → slice_get ts name ≡ Some (InSlot slot r m) → 0 < times slot slots.line → IsSound slots → Belong slots ts → Belong (slots_left slots slot) (slice_set ts name Unregistered)
@@ -220,7 +219,7 @@ front-belong v k slots ts sound b = record {
 
 pub front-object : (h : Held) (v k : ℕ) (slots : Slots) (ts : List Registration) → IsSound slots → Belong slots ts
     → object_of (record { held = h; slots = slots_answered v k slots }) ts
-      ≡ record (object_of (record { held = h; slots = slots }) ts) { line = drop k (named ts slots.line); book = answered_in v (take k (named ts slots.line)) (entries slots.answers ts) }
+    ≡ record (object_of (record { held = h; slots = slots }) ts) { line = drop k (named ts slots.line); book = answered_in v (take k (named ts slots.line)) (entries slots.answers ts) }
 front-object h v k slots ts sound b =
     same_object _ _ refl
     (named-drop ts k slots.line)

@@ -1,8 +1,8 @@
 -- Lemmas on the list of wakes that a line owes, and on marks and counts of slots.
-use Rattle.std.proofs.Common.{◌≡◌, ℕ, suc, zero, ◌+◌, ◌≤◌, ◌<◌, ◌≢◌, Bool, true, false, List, [], ◌∷◌, ◌++◌, length, Some, None, Option, replicate, get_or, set, drop, nat_lt, ◌==◌, refl, sym, ap, ◌∙◌, add-one, arith, inl, inr, ◌⊎◌, slice_get}
+use Rattle.std.proofs.Common.{◌≡◌, ℕ, suc, zero, ◌+◌, ◌≤◌, ◌<◌, ◌≢◌, Bool, true, false, List, [], ◌∷◌, ◌++◌, length, replicate, get_or, set, ◌==◌, refl, sym, ap, ◌∙◌, add-one, arith, inl, inr, ◌⊎◌}
 use Rattle.std.proofs.lemmas.Bool.{cases_Bool}
 use Rattle.std.proofs.lemmas.Bool.Decides.{nat_tests}
-use Rattle.std.proofs.lemmas.List.{get_or-set_same, get_or-set_other, length-set, length_push}
+use Rattle.std.proofs.lemmas.List.{get_or-set_same, get_or-set_other, length_push}
 use Rattle.saa_core.specs.Object.{one_if}
 use Rattle.saa_core.specs.LineParts.{count_of, mark_of, mark_count, IsListed}
 
@@ -58,13 +58,13 @@ pub get_or-set_cases : {X : Type 0} (xs : List X) (place : ℕ) (x d : X) (other
     → ((place == other ≡ true) × (place ≡ other) × (get_or (set xs place x) other d ≡ x)) ⊎ ((place == other ≡ false) × (place ≢ other) × (get_or (set xs place x) other d ≡ get_or xs other d))
 get_or-set_cases {X = X} xs place x d other within =
     elim (cases_Bool (place == other)) [
-      inl same ↦
-        let e : place ≡ other = grind (arith, nat_tests) in
-        let moved = λ (q : ℕ). get_or (set xs place x) q d in
-        inl (same, e, ap moved (sym e) ∙ get_or-set_same xs place x d within)
-    | inr apart ↦
-        let differ : place ≢ other = grind (arith, nat_tests) in
-        inr (apart, differ, get_or-set_other xs place other x d (λ e. differ (sym e)))
+      | inl same ↦
+          let e : place ≡ other = grind (arith, nat_tests) in
+          let moved = λ (q : ℕ). get_or (set xs place x) q d in
+          inl (same, e, ap moved (sym e) ∙ get_or-set_same xs place x d within)
+      | inr apart ↦
+          let differ : place ≢ other = grind (arith, nat_tests) in
+          inr (apart, differ, get_or-set_other xs place other x d (λ e. differ (sym e)))
     ]
 
 -- a slot is listed with its mark
@@ -72,34 +72,34 @@ pub IsListed-push : (slots : List ℕ) (listed : List Bool) (slot : ℕ) → slo
     → IsListed slots listed → IsListed (slots ++ slot ∷ []) (set listed slot true)
 IsListed-push slots listed slot within unset h = record {
   each = λ other.
-    elim (get_or-set_cases listed slot true false other within) [
-      inl same ↦
-        let was : one_if (mark_of listed slot) ≡ 0 = ap one_if unset in
-        let now : one_if (mark_of (set listed slot true) other) ≡ 1 = ap one_if same.2 in
-        let at_other : count_of other slots ≡ count_of slot slots = ap (λ (q : ℕ). count_of q slots) (sym same.1) in
-        let test : one_if (slot == other) ≡ 1 = ap one_if same.0 in
-        omega (arith, was, now, at_other, test, h.each slot, count_of-push other slots slot)
-    | inr apart ↦
-        let now : one_if (mark_of (set listed slot true) other) ≡ one_if (mark_of listed other) = ap one_if apart.2 in
-        let test : one_if (slot == other) ≡ 0 = ap one_if apart.0 in
-        omega (arith, now, test, h.each other, count_of-push other slots slot)
-    ];
+      elim (get_or-set_cases listed slot true false other within) [
+        | inl same ↦
+            let was : one_if (mark_of listed slot) ≡ 0 = ap one_if unset in
+            let now : one_if (mark_of (set listed slot true) other) ≡ 1 = ap one_if same.2 in
+            let at_other : count_of other slots ≡ count_of slot slots = ap (λ (q : ℕ). count_of q slots) (sym same.1) in
+            let test : one_if (slot == other) ≡ 1 = ap one_if same.0 in
+            omega (arith, was, now, at_other, test, h.each slot, count_of-push other slots slot)
+        | inr apart ↦
+            let now : one_if (mark_of (set listed slot true) other) ≡ one_if (mark_of listed other) = ap one_if apart.2 in
+            let test : one_if (slot == other) ≡ 0 = ap one_if apart.0 in
+            omega (arith, now, test, h.each other, count_of-push other slots slot)
+      ];
   total =
-    let was : one_if (mark_of listed slot) ≡ 0 = ap one_if unset in
-    omega (arith, was, h.total, mark_count-set listed slot true within, length_push slots slot)
+      let was : one_if (mark_of listed slot) ≡ 0 = ap one_if unset in
+      omega (arith, was, h.total, mark_count-set listed slot true within, length_push slots slot);
 }
 
 -- the first of the list is within the marks
 pub IsListed-within : (slots rest : List ℕ) (listed : List Bool) (slot : ℕ) → slots ≡ slot ∷ rest → IsListed slots listed → slot < length listed
 IsListed-within slots rest listed slot is h =
     elim (cases_Bool (mark_of listed slot)) [
-      inl marked ↦ mark_of-within listed slot marked
-    | inr unset ↦
-        let at_slot : count_of slot slots ≡ count_of slot (slot ∷ rest) = ap (count_of slot) is in
-        let same : slot == slot ≡ true = grind (arith, nat_tests) in
-        let test : one_if (slot == slot) ≡ 1 = ap one_if same in
-        let none : one_if (mark_of listed slot) ≡ 0 = ap one_if unset in
-        absurd (omega (arith, at_slot, test, none, h.each slot))
+      | inl marked ↦ mark_of-within listed slot marked
+      | inr unset ↦
+          let at_slot : count_of slot slots ≡ count_of slot (slot ∷ rest) = ap (count_of slot) is in
+          let same : slot == slot ≡ true = grind (arith, nat_tests) in
+          let test : one_if (slot == slot) ≡ 1 = ap one_if same in
+          let none : one_if (mark_of listed slot) ≡ 0 = ap one_if unset in
+          absurd (omega (arith, at_slot, test, none, h.each slot))
     ]
 
 -- the first of the list is taken out with its mark
@@ -109,32 +109,32 @@ IsListed-pop slots rest listed slot is h =
     let counts = λ (q : ℕ). let e : count_of q slots ≡ count_of q (slot ∷ rest) = ap (count_of q) is in e in
     record {
       each = λ other.
-        elim (get_or-set_cases listed slot false false other within) [
-          inl same ↦
-            let now : one_if (mark_of (set listed slot false) other) ≡ 0 = ap one_if same.2 in
-            let test : one_if (slot == other) ≡ 1 = ap one_if same.0 in
-            let bound : one_if (mark_of listed other) ≤ 1 = one_if-bounded (mark_of listed other) in
-            omega (arith, now, test, bound, counts other, h.each other)
-        | inr apart ↦
-            let now : one_if (mark_of (set listed slot false) other) ≡ one_if (mark_of listed other) = ap one_if apart.2 in
-            let test : one_if (slot == other) ≡ 0 = ap one_if apart.0 in
-            omega (arith, now, test, counts other, h.each other)
-        ];
+          elim (get_or-set_cases listed slot false false other within) [
+            | inl same ↦
+                let now : one_if (mark_of (set listed slot false) other) ≡ 0 = ap one_if same.2 in
+                let test : one_if (slot == other) ≡ 1 = ap one_if same.0 in
+                let bound : one_if (mark_of listed other) ≤ 1 = one_if-bounded (mark_of listed other) in
+                omega (arith, now, test, bound, counts other, h.each other)
+            | inr apart ↦
+                let now : one_if (mark_of (set listed slot false) other) ≡ one_if (mark_of listed other) = ap one_if apart.2 in
+                let test : one_if (slot == other) ≡ 0 = ap one_if apart.0 in
+                omega (arith, now, test, counts other, h.each other)
+          ];
       total =
-        let same : slot == slot ≡ true = grind (arith, nat_tests) in
-        let test : one_if (slot == slot) ≡ 1 = ap one_if same in
-        let bound : one_if (mark_of listed slot) ≤ 1 = one_if-bounded (mark_of listed slot) in
-        let len : length slots ≡ length (slot ∷ rest) = ap length is in
-        omega (arith, test, bound, len, counts slot, h.each slot, h.total, mark_count-set listed slot false within)
+          let same : slot == slot ≡ true = grind (arith, nat_tests) in
+          let test : one_if (slot == slot) ≡ 1 = ap one_if same in
+          let bound : one_if (mark_of listed slot) ≤ 1 = one_if-bounded (mark_of listed slot) in
+          let len : length slots ≡ length (slot ∷ rest) = ap length is in
+          omega (arith, test, bound, len, counts slot, h.each slot, h.total, mark_count-set listed slot false within);
     }
 
 -- an empty list is that of unset marks
 pub IsListed-none : (listed : List Bool) (room : ℕ) → listed ≡ replicate room false → IsListed [] listed
 IsListed-none listed room is = record {
   each = λ slot.
-    let unset : one_if (mark_of listed slot) ≡ 0 = ap (λ (marks : List Bool). one_if (mark_of marks slot)) is ∙ ap one_if (mark_of-replicate room slot) in
-    sym unset;
-  total = sym (ap mark_count is ∙ mark_count-replicate room)
+      let unset : one_if (mark_of listed slot) ≡ 0 = ap (λ (marks : List Bool). one_if (mark_of marks slot)) is ∙ ap one_if (mark_of-replicate room slot) in
+      sym unset;
+  total = sym (ap mark_count is ∙ mark_count-replicate room);
 }
 
 -- one more at the end of equal ones

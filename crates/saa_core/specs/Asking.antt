@@ -1,5 +1,5 @@
 -- Asking: a try that needs no ticket, and registering a name.
-use Rattle.std.specs.Prelude.{◌≡◌, ℕ, ◌+◌, Bool, true, false, ◌&&◌, ◌||◌, not, List, [], ◌∷◌, ◌++◌, length, Option, Some, None, Result, Ok, Err, if◌then◌else◌, ◌==◌, slice_set}
+use Rattle.std.specs.Prelude.{ℕ, ◌+◌, Bool, true, false, ◌&&◌, ◌||◌, not, [], ◌∷◌, ◌++◌, length, Option, Some, None, Result, Ok, Err, if◌then◌else◌, ◌==◌, slice_set}
 use Rattle.saa_core.specs.declared.gate.State.{State}
 use Rattle.saa_core.specs.declared.gate.State.TheVariants.{Controlled, Sealed, Open}
 use Rattle.saa_core.specs.declared.request.Request.{Request}

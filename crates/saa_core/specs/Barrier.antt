@@ -1,5 +1,5 @@
 -- The barrier object: as many tasks as its size pass together.
-use Rattle.std.specs.Prelude.{◌≡◌, ℕ, ◌-◌, length, min}
+use Rattle.std.specs.Prelude.{ℕ, ◌-◌, length, min}
 use Rattle.saa_core.specs.declared.request.Request.{Request}
 use Rattle.saa_core.specs.declared.request.Request.TheVariants.{Arrive}
 use Rattle.saa_core.specs.declared.barrier.BarrierCall.{BarrierCall}

@@ -1,5 +1,5 @@
 -- The gate object: those who enter a controlled gate wait until they are permitted or rejected.
-use Rattle.std.specs.Prelude.{◌≡◌, ℕ, Bool, true, false, Option, Some, None, Result, Ok, Err, length}
+use Rattle.std.specs.Prelude.{ℕ, Some, None, Ok, Err, length}
 use Rattle.saa_core.specs.declared.request.Request.{Request}
 use Rattle.saa_core.specs.declared.request.Request.TheVariants.{Enter}
 use Rattle.saa_core.specs.declared.gate.State.{State}

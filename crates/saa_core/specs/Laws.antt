@@ -1,6 +1,6 @@
 -- Laws that show that the definitions mean what they should. The functions of the module `laws` have them as
 -- their contracts; nothing else cites them.
-use Rattle.std.specs.Prelude.{◌≡◌, ◌⊎◌, ℕ, ◌+◌, ◌<◌, ◌≤◌, Bool, true, false, IsTrue, List, [], ◌∷◌, length, take, drop, Option, Some, slice_get, Contains}
+use Rattle.std.specs.Prelude.{◌≡◌, ◌⊎◌, ℕ, ◌<◌, ◌≤◌, Bool, true, false, IsTrue, List, [], ◌∷◌, length, take, drop, Some, slice_get, Contains}
 use Rattle.saa_core.specs.declared.request.Request.{Request}
 use Rattle.saa_core.specs.declared.gate.State.{State}
 use Rattle.saa_core.specs.declared.gate.State.TheVariants.{Controlled}

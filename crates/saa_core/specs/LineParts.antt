@@ -1,10 +1,9 @@
 -- How a `Line` keeps its slots, and the wakes that it owes: which of its parts agree.
 -- No user must believe this. It is what the code is proved to keep, so that a call finds a free slot where there is
 -- one, answers who waits without a search, and never needs memory for a wake.
-use Rattle.std.specs.Prelude.{◌≡◌, ℕ, ◌+◌, ◌≤◌, ◌<◌, Bool, true, false, List, [], ◌∷◌, ◌++◌, length, is_some, nat_lt, ◌==◌, if◌then◌else◌, slice_index_or}
-use Rattle.saa_core.specs.declared.request.Request.{Request}
-use Rattle.saa_core.specs.Object.{Waiter, one_if, times}
-use Rattle.saa_core.specs.Slots.{Slots, room_of, answer_in, answer_count, held_slots, held_times}
+use Rattle.std.specs.Prelude.{◌≡◌, ℕ, ◌+◌, ◌<◌, Bool, false, List, [], ◌∷◌, ◌++◌, length, nat_lt, ◌==◌, if◌then◌else◌, slice_index_or}
+use Rattle.saa_core.specs.Object.{one_if, times}
+use Rattle.saa_core.specs.Slots.{Slots, room_of, held_slots, held_times}
 
 -- how often a slot stands in a list of slots
 abbrev pub count_of : ℕ → List ℕ → ℕ

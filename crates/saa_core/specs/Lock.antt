@@ -1,5 +1,5 @@
 -- The lock object: one owner alone, or several that share, and poison.
-use Rattle.std.specs.Prelude.{◌≡◌, ℕ, Bool, true, false, Result, Ok, Err, List, [], ◌∷◌}
+use Rattle.std.specs.Prelude.{ℕ, Bool, true, false, Result, Ok, Err}
 use Rattle.saa_core.specs.declared.request.Request.{Request}
 use Rattle.saa_core.specs.declared.request.Request.TheVariants.{Exclusive as AskExclusive, Shared as AskShared, WaitExclusive as AskWaitExclusive, WaitShared as AskWaitShared}
 use Rattle.saa_core.specs.declared.lock.Mode.{Mode}
@@ -10,7 +10,7 @@ use Rattle.saa_core.specs.declared.lock.LockCall.{LockCall}
 use Rattle.saa_core.specs.declared.lock.LockCall.TheVariants.{TryLock, TryShare, ReleaseLock, ReleaseShare, PoisonLock, ClearPoison, IsFree, IsLocked, IsShared, IsPoisoned}
 use Rattle.saa_core.specs.declared.lock.LockAnswer.{LockAnswer}
 use Rattle.saa_core.specs.declared.lock.LockAnswer.TheVariants.{Bool as SaysBool, Tried}
-use Rattle.saa_core.specs.Held.{Held, OfSemaphore, OfLock, OfGate, OfBarrier, LockState, Free, Exclusive, Shared, Poisoned}
+use Rattle.saa_core.specs.Held.{Held, OfLock, Free, Exclusive, Shared, Poisoned}
 use Rattle.saa_core.specs.Object.{Object, After, newly_made}
 use Rattle.saa_core.specs.Settling.{all_answered}
 use Rattle.saa_core.specs.Asking.{tried}

@@ -1,6 +1,6 @@
 -- A run: commands over numbered names, one after another, with their replies.
 -- It takes what makes a primitive: the request of an ask, what its calls do, and what a poll's value means.
-use Rattle.std.specs.Prelude.{◌≡◌, ℕ, ◌<◌, Bool, List, [], ◌∷◌, Result}
+use Rattle.std.specs.Prelude.{ℕ, ◌<◌, Bool, List, [], ◌∷◌, Result}
 use Rattle.saa_core.specs.declared.request.Request.{Request}
 use Rattle.saa_core.specs.declared.ticket.How.TheVariants.{Try, Sync, Async}
 use Rattle.saa_core.specs.declared.ticket.Error.{Error}

@@ -1,5 +1,5 @@
 -- The semaphore object: permits that are taken and given back.
-use Rattle.std.specs.Prelude.{◌≡◌, ℕ, ◌-◌, Bool, true, false, ◌==◌, nat_lt, min}
+use Rattle.std.specs.Prelude.{ℕ, ◌-◌, Bool, ◌==◌, nat_lt, min}
 use Rattle.saa_core.specs.declared.request.Request.TheVariants.{Permits}
 use Rattle.saa_core.specs.declared.semaphore.SemaphoreCall.{SemaphoreCall}
 use Rattle.saa_core.specs.declared.semaphore.SemaphoreCall.TheVariants.{TryAcquireMany, ReleaseMany, AvailablePermits, IsOpen, IsClosed}

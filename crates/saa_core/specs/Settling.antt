@@ -1,6 +1,5 @@
 -- Answering: the fitting front of a line, settling, and answering all who wait.
-use Rattle.std.specs.Prelude.{◌≡◌, ℕ, suc, ◌+◌, Bool, true, false, List, [], ◌∷◌, take, drop, if◌then◌else◌}
-use Rattle.saa_core.specs.declared.request.Request.{Request}
+use Rattle.std.specs.Prelude.{◌≡◌, ℕ, suc, true, List, [], ◌∷◌, take, drop, if◌then◌else◌}
 use Rattle.saa_core.specs.Held.{Held, fits, plus}
 use Rattle.saa_core.specs.Object.{Object, Entry, Idle, Waiting, Answered, Waiter, entry_at}
 use Rattle.std.specs.Prelude.{slice_set}

@@ -1,6 +1,5 @@
 -- What contracts see of a `Line`: the slots that wait, with what each asks, and the answers that are there.
-use Rattle.std.specs.Prelude.{◌≡◌, ℕ, ◌+◌, ◌≤◌, ◌<◌, Bool, true, false, ◌&&◌, List, [], ◌∷◌, length, Option, Some, None, is_some, nat_lt, slice_index_or, slice_set, replicate}
-use Rattle.saa_core.specs.declared.request.Request.{Request}
+use Rattle.std.specs.Prelude.{ℕ, ◌+◌, ◌≤◌, ◌<◌, List, [], ◌∷◌, length, Option, Some, None, is_some, nat_lt, slice_index_or, slice_set, replicate}
 use Rattle.saa_core.specs.Object.{Waiter, one_if, times}
 
 -- The line, oldest first: a slot and what it asks. The answer of each slot, by its number, where one is there.

@@ -1,6 +1,6 @@
 -- A core and the tickets that are registered in it, seen together as the object: the name of a ticket is its
 -- place in a list of tickets. The contract of every core call is said over any such list.
-use Rattle.std.specs.Prelude.{◌≡◌, ℕ, suc, ◌+◌, ◌-◌, ◌≤◌, ◌<◌, Bool, true, false, ◌&&◌, if◌then◌else◌, ◌==◌, List, [], ◌∷◌, map, Option, Some, None, is_some, Result, Ok, Err, slice_get, slice_set}
+use Rattle.std.specs.Prelude.{◌≡◌, ℕ, suc, ◌+◌, ◌-◌, ◌≤◌, Bool, true, false, ◌&&◌, if◌then◌else◌, ◌==◌, List, [], ◌∷◌, Option, Some, None, is_some, Result, Ok, Err, slice_get, slice_set}
 use Rattle.saa_core.specs.declared.request.Request.{Request}
 use Rattle.saa_core.specs.declared.ticket.Registration.{Registration}
 use Rattle.saa_core.specs.declared.ticket.Registration.TheVariants.{Unregistered, AtOnce, InSlot}
@@ -8,7 +8,7 @@ use Rattle.saa_core.specs.declared.ticket.Full.{Full}
 use Rattle.saa_core.specs.declared.ticket.Error.{Error}
 use Rattle.saa_core.specs.declared.ticket.Error.TheVariants.{NotRegistered}
 use Rattle.saa_core.specs.Held.{Held}
-use Rattle.saa_core.specs.Object.{Object, After, Entry, Idle, Waiting, Answered, Waiter, one_if, times}
+use Rattle.saa_core.specs.Object.{Object, After, Entry, Idle, Waiting, Answered, Waiter, one_if}
 use Rattle.saa_core.specs.Polling.{dropped}
 use Rattle.saa_core.specs.Slots.{Slots, answer_in, held_slots, held_times, room_of}
 
@@ -91,13 +91,13 @@ pub record Belong (slots : Slots) (tickets : List Registration) : Type 0 where
 pub record Acts {A : Type 0} (old new : Core) (ticket_old ticket_new : Registration) (step : Object → ℕ → After A) (reply : A) : Type 0 where
   pub acts : (tickets : List Registration) (name : ℕ) → slice_get tickets name ≡ Some ticket_old → Belong old.slots tickets
       → (◌≡◌ {A = After A} (step (object_of old tickets) name) (record { state = object_of new (slice_set tickets name ticket_new); reply = reply }))
-        × Belong new.slots (slice_set tickets name ticket_new)
+      × Belong new.slots (slice_set tickets name ticket_new)
 
 -- a call without a ticket is this step of the object, with any tickets that belong to the core; and they still belong
 pub record Calls {A : Type 0} (old new : Core) (step : Object → After A) (reply : A) : Type 0 where
   pub calls : (tickets : List Registration) → Belong old.slots tickets
       → (◌≡◌ {A = After A} (step (object_of old tickets)) (record { state = object_of new tickets; reply = reply }))
-        × Belong new.slots tickets
+      × Belong new.slots tickets
 
 -- the ticket's slot isn't held in the core: it was registered elsewhere, or is long gone
 abbrev pub IsForeign : Slots → Registration → Type 0

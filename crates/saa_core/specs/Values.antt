@@ -1,6 +1,6 @@
 -- The numbers: of answers as they are kept until they are consumed, of a gate's states and of its errors,
 -- and what each value means to the poll that consumes it.
-use Rattle.std.specs.Prelude.{◌≡◌, ℕ, ◌+◌, ◌-◌, ◌%◌, Bool, true, false, Result, Ok, Err, if◌then◌else◌, ◌==◌}
+use Rattle.std.specs.Prelude.{ℕ, ◌-◌, ◌%◌, Bool, Result, Ok, Err, if◌then◌else◌, ◌==◌}
 use Rattle.saa_core.specs.declared.gate.State.{State}
 use Rattle.saa_core.specs.declared.gate.State.TheVariants.{Controlled, Sealed as SealedState, Open}
 use Rattle.saa_core.specs.declared.gate.Error.{Error as GateError}

@@ -61,8 +61,11 @@ pub trait Primitive: Drop {
 
     // What contracts see of it, the request of an ask, what a call does to the object, and what a poll's number means.
     ghost core: { Self → Core };
+
     ghost request: { Self.Ask → Request };
+
     ghost step: { Self.Call → Object → After Self.Answer };
+
     ghost value: { Result ℕ Error → Self.Value };
 
     /// Makes a call that needs no ticket.
@@ -129,10 +132,7 @@ impl<P: Primitive> Bench<P> {
         for _pager in 0..pagers {
             tickets.push_reserved(Ticket::new());
         }
-        Ok(Bench {
-            core,
-            tickets,
-        })
+        Ok(Bench { core, tickets })
     }
 
     /// How many pagers there are. Costs O(1).
@@ -158,7 +158,9 @@ impl<P: Primitive> Bench<P> {
     {
         match *command {
             CommandOf::Call(call) => ReplyOf::Answered(self.call(call)),
-            CommandOf::Register(pager, ask, is_sync) => ReplyOf::Registered(self.register(pager, ask, is_sync)),
+            CommandOf::Register(pager, ask, is_sync) => ReplyOf::Registered(self.register(
+                pager, ask, is_sync,
+            )),
             CommandOf::TryPoll(pager) => ReplyOf::Polled(self.poll(pager, How::Try)),
             CommandOf::PollSync(pager) => ReplyOf::Polled(self.poll(pager, How::Sync)),
             CommandOf::PollAsync(pager) => ReplyOf::Polled(self.poll(pager, How::Async)),
@@ -177,6 +179,7 @@ impl<P: Primitive> Bench<P> {
         requires within { All (IsWithin (length self.old.book)) commands.now }
         ensures told { out.new ≡ replies P.request P.step P.value commands.now self.old }
         ensures left { self.new ≡ state_after P.request P.step P.value commands.now self.old }
+        ensures pagers { length self.new.book ≡ length self.old.book }
     {
         for i in 0..commands.len() {
             out[i] = self.do_one(&commands[i]);
@@ -197,7 +200,8 @@ impl<P: Primitive> Bench<P> {
         ensures acts { registered self.old pager (P.request ask) is_sync ≡ record { state = self.new; reply = result } }
         ensures pagers { length self.new.book ≡ length self.old.book }
     {
-        self.core.register(&mut self.tickets[usize::from(pager)], ask, is_sync)
+        self.core
+            .register(&mut self.tickets[usize::from(pager)], ask, is_sync)
     }
 
     // Polls a pager.
@@ -206,7 +210,9 @@ impl<P: Primitive> Bench<P> {
         ensures acts { read_as P.value (polled self.old pager how) ≡ record { state = self.new; reply = result } }
         ensures pagers { length self.new.book ≡ length self.old.book }
     {
-        let answer = self.core.poll_number(&mut self.tickets[usize::from(pager)], how);
+        let answer = self
+            .core
+            .poll_number(&mut self.tickets[usize::from(pager)], how);
         P::value_of(answer)
     }
 
@@ -219,3 +225,6 @@ impl<P: Primitive> Bench<P> {
         self.core.cancel(&mut self.tickets[usize::from(pager)]);
     }
 }
+
+#[cfg(test)]
+mod tests;

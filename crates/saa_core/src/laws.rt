@@ -33,8 +33,7 @@ pub fn settling()
     ensures settled { (s : Object) → StandsSettled (settled s).held (settled s).line }
     ensures in_turn { (held : Held) (line : List Waiter) (ks : List ℕ)
         → GrantsInTurn held line ks → sum ks ≡ fitting_front held line }
-{
-}
+{}
 
 /// Every run of a newly made semaphore leaves it in order.
 ///
@@ -44,8 +43,7 @@ pub fn semaphore_runs()
     ensures { (bound permits room names : ℕ) (commands : List (CommandOf SemaphoreCall ℕ))
         → All (IsWithin names) commands
         → IsSemaphoreInOrder bound (state_after Permits semaphore_step semaphore_value commands (new_semaphore bound permits room names)) }
-{
-}
+{}
 
 /// Every run of a newly made lock leaves it in order, as [`semaphore_runs`] says it of a semaphore.
 ///
@@ -54,21 +52,18 @@ pub fn lock_runs()
     ensures { (room names : ℕ) (commands : List (CommandOf LockCall Mode))
         → All (IsWithin names) commands
         → IsLockInOrder (state_after mode_request lock_step lock_value commands (new_lock room names)) }
-{
-}
+{}
 
 /// Every run of a newly made gate leaves it in order: nobody waits while it isn't controlled.
 pub fn gate_runs()
     ensures { (room names : ℕ) (commands : List (CommandOf GateCall (Unit {0})))
         → All (IsWithin names) commands
         → IsGateInOrder (state_after enter_request gate_step gate_value commands (new_gate room names)) }
-{
-}
+{}
 
 /// Every run of a newly made barrier of any size leaves it in order: it keeps its size, and its round is incomplete.
 pub fn barrier_runs()
     ensures { (size room names : ℕ) (commands : List (CommandOf BarrierCall (Unit {0})))
         → All (IsWithin names) commands
         → IsBarrierInOrder size (state_after arrive_request barrier_step barrier_value commands (newly_made (OfBarrier size) room names)) }
-{
-}
+{}

@@ -40,10 +40,11 @@ impl Model for Line {
     ghost view = { λ l. record { line = l.order.items; answers = l.answers.items } };
 
     ghost invariant = { λ l. record {
-        agrees : IsLine (record { line = l.order.items; answers = l.answers.items }) l.free.items l.waiting.items;
-        order_reserved : length l.answers.items ≤ deque_capacity l.order;
-        free_reserved : length l.answers.items ≤ vec_capacity l.free;
-        wakes_room : l.wakes.room ≡ length l.answers.items } };
+      agrees : IsLine (record { line = l.order.items; answers = l.answers.items }) l.free.items l.waiting.items;
+      order_reserved : length l.answers.items ≤ deque_capacity l.order;
+      free_reserved : length l.answers.items ≤ vec_capacity l.free;
+      wakes_room : l.wakes.room ≡ length l.answers.items;
+    } };
 }
 
 impl Line {
@@ -100,29 +101,29 @@ impl Line {
     }
 
     /// Answers the `k` oldest with 0: they leave the line and hold their slots still. Costs O(`k`).
+    ///
+    /// At least `k` wait, as [`Line::waiting`] says.
     pub fn grant_front(&mut self, k: u16)
         requires { k ≤ length self.old.line }
         ensures granted { self.new ≡ record {
-            line = drop k self.old.line;
-            answers = answered_slots 0 (take k self.old.line) self.old.answers;
+          line = drop k self.old.line;
+          answers = answered_slots 0 (take k self.old.line) self.old.answers;
         } }
         ensures sound { IsSound self.new }
     {
         self.answer_front(k, 0);
-        let _order = &self.order;
     }
 
     /// Answers all who wait with `value`: the line is empty, and they hold their slots still.
     /// Costs O(how many wait).
     pub fn answer_all(&mut self, value: u8)
         ensures answered { self.new ≡ record {
-            line = [];
-            answers = answered_slots value self.old.line self.old.answers;
+          line = [];
+          answers = answered_slots value self.old.line self.old.answers;
         } }
         ensures sound { IsSound self.new }
     {
         self.answer_front(self.waiting(), value);
-        let _order = &self.order;
     }
 
     /// Takes a slot that waits out of the line and frees it. Costs O(how many wait).
@@ -210,22 +211,25 @@ impl Line {
     // Answers the `k` oldest with `value`.
     fn answer_front(&mut self, k: u16, value: u8)
         requires { k ≤ length self.old.line }
-        ensures { self.new ≡ record {
-            line = drop k self.old.line;
-            answers = answered_slots value (take k self.old.line) self.old.answers;
+        ensures answered { self.new ≡ record {
+          line = drop k self.old.line;
+          answers = answered_slots value (take k self.old.line) self.old.answers;
         } }
+        ensures sound { IsSound self.new }
     {
         for _turn in 0..k {
             self.answer_oldest(value);
         }
+        // The proof learns that the parts agree where a part is read.
+        let _order = &self.order;
     }
 
     // Answers the oldest with `value`.
     fn answer_oldest(&mut self, value: u8)
         requires { 0 < length self.old.line }
         ensures { self.new ≡ record {
-            line = drop 1 self.old.line;
-            answers = answered_slots value (take 1 self.old.line) self.old.answers;
+          line = drop 1 self.old.line;
+          answers = answered_slots value (take 1 self.old.line) self.old.answers;
         } }
     {
         let Some((slot, _request)) = self.order.pop_front() else {
@@ -272,8 +276,12 @@ mod tests {
         assert_eq!(rt; (line.room(), line.used(), line.waiting()), (2, 0, 0));
         assert_eq!(rt; line.oldest(), None);
 
-        let first = line.join(Request::Exclusive).ok_or("the first found no slot")?;
-        let second = line.join(Request::Permits(3)).ok_or("the second found no slot")?;
+        let first = line
+            .join(Request::Exclusive)
+            .ok_or("the first found no slot")?;
+        let second = line
+            .join(Request::Permits(3))
+            .ok_or("the second found no slot")?;
         assert_ne!(rt; first, second);
         assert_eq!(rt; line.join(Request::Enter), None);
         assert_eq!(rt; line.oldest(), Some((first, Request::Exclusive)));
@@ -281,13 +289,19 @@ mod tests {
         assert!(rt; line.waits(first) && line.waits(second) && !line.waits(2));
 
         line.grant_front(1);
-        assert_eq!(rt; (line.answer(first), line.answer(second), line.answer(2)), (Some(0), None, None));
+        assert_eq!(rt;
+            (line.answer(first), line.answer(second), line.answer(2)),
+            (Some(0), None, None)
+        );
         assert_eq!(rt; (line.used(), line.waiting()), (2, 1));
         assert_eq!(rt; line.oldest(), Some((second, Request::Permits(3))));
         assert!(rt; !line.leave(first));
         assert!(rt; line.leave(second));
         assert!(rt; !line.leave(second));
-        assert_eq!(rt; (line.take(second), line.take(first), line.take(first)), (None, Some(0), None));
+        assert_eq!(rt;
+            (line.take(second), line.take(first), line.take(first)),
+            (None, Some(0), None)
+        );
         assert_eq!(rt; (line.used(), line.waiting()), (0, 0));
         Ok(())
     }
@@ -300,7 +314,10 @@ mod tests {
         let first = line.join(Request::Enter).ok_or("the first found no slot")?;
         let second = line.join(Request::Enter).ok_or("the second found no slot")?;
         line.answer_all(7);
-        assert_eq!(rt; (line.answer(first), line.answer(second)), (Some(7), Some(7)));
+        assert_eq!(rt;
+            (line.answer(first), line.answer(second)),
+            (Some(7), Some(7))
+        );
 
         // The second slot is taken, held anew and answered anew, while its wake is owed still.
         assert_eq!(rt; line.take(second), Some(7));
@@ -315,7 +332,10 @@ mod tests {
         assert_eq!(rt; line.take(second), Some(9));
         assert_eq!(rt; line.join(Request::Enter), Some(second));
         line.answer_all(4);
-        assert_eq!(rt; (line.next_answered(), line.next_answered()), (Some(second), None));
+        assert_eq!(rt;
+            (line.next_answered(), line.next_answered()),
+            (Some(second), None)
+        );
         Ok(())
     }
 }

@@ -76,10 +76,11 @@ impl<const MAX: usize> Model for SemaphoreCoreOf<MAX> {
     ghost view = { λ core. record { held = OfSemaphore MAX core.out; slots = core.line } };
 
     ghost invariant = { λ core. record {
-        bounded : core.out ≤ MAX;
-        narrow : MAX < 65536;
-        sound : IsSound core.line;
-        settled : fitting_front (OfSemaphore MAX core.out) core.line.line ≡ 0 } };
+      bounded : core.out ≤ MAX;
+      narrow : MAX < 65536;
+      sound : IsSound core.line;
+      settled : fitting_front (OfSemaphore MAX core.out) core.line.line ≡ 0;
+    } };
 }
 
 impl SemaphoreCoreOf<63> {
@@ -209,11 +210,18 @@ impl<const MAX: usize> SemaphoreCoreOf<MAX> {
     /// line, in a slot. `Ok(false)`: the ticket isn't idle, or the count is above the bound; nothing changes.
     /// `Err(Full)`: it would have to wait, and as many slots are held as there is room; nothing changes.
     /// Costs O(1). Rule: docs/DEFINITIONS.md, "Asking".
-    pub fn register(&mut self, ticket: &mut Ticket, count: usize, is_sync: bool) -> Result<bool, Full>
+    pub fn register(
+        &mut self,
+        ticket: &mut Ticket,
+        count: usize,
+        is_sync: bool,
+    ) -> Result<bool, Full>
         ensures acts { Acts self.old self.new ticket.old ticket.new (λ s name. registered s name (Permits count) is_sync) result }
         ensures ticket { is_busy ticket.new ≡ (is_busy ticket.old || is_yes result) }
-        ensures busy { is_busy ticket.old ≡ true → result ≡ Ok false }
-        ensures too_many { MAX < count → result ≡ Ok false }
+        ensures busy { is_busy ticket.old ≡ true
+            → (result ≡ Ok false) × (self.new ≡ self.old) × (ticket.new ≡ ticket.old) }
+        ensures too_many { MAX < count
+            → (result ≡ Ok false) × (self.new ≡ self.old) × (ticket.new ≡ ticket.old) }
         ensures full { IsErr result → held_slots self.old.slots ≡ room_of self.old.slots }
         ensures refused { is_yes result ≡ false → (self.new ≡ self.old) × (ticket.new ≡ ticket.old) }
         ensures settled { IsCoreSettled self.new }
@@ -247,7 +255,8 @@ impl<const MAX: usize> SemaphoreCoreOf<MAX> {
     pub fn poll(&mut self, ticket: &mut Ticket, how: How) -> Result<(), Error>
         ensures acts { Acts self.old self.new ticket.old ticket.new (λ s name. read_as semaphore_value (polled s name how)) result }
         ensures ticket { Polled ticket.old ticket.new (fault_of result) }
-        ensures foreign { IsForeign self.old.slots ticket.old → result ≡ Err NotRegistered }
+        ensures foreign { IsForeign self.old.slots ticket.old
+            → (result ≡ Err NotRegistered) × (self.new ≡ self.old) × (ticket.new ≡ ticket.old) }
         ensures unchanged { OnErr result (self.new ≡ self.old) }
         ensures settled { IsCoreSettled self.new }
     {
@@ -261,7 +270,8 @@ impl<const MAX: usize> SemaphoreCoreOf<MAX> {
     pub fn poll_number(&mut self, ticket: &mut Ticket, how: How) -> Result<u8, Error>
         ensures acts { Acts self.old self.new ticket.old ticket.new (λ s name. polled s name how) result }
         ensures ticket { Polled ticket.old ticket.new (fault_of result) }
-        ensures foreign { IsForeign self.old.slots ticket.old → result ≡ Err NotRegistered }
+        ensures foreign { IsForeign self.old.slots ticket.old
+            → (result ≡ Err NotRegistered) × (self.new ≡ self.old) × (ticket.new ≡ ticket.old) }
         ensures unchanged { OnErr result (self.new ≡ self.old) }
         ensures settled { IsCoreSettled self.new }
     {
@@ -401,7 +411,9 @@ impl<const MAX: usize> Primitive for SemaphoreCoreOf<MAX> {
 
     fn call(&mut self, call: SemaphoreCall) -> SemaphoreAnswer {
         match call {
-            SemaphoreCall::TryAcquireMany(count) => SemaphoreAnswer::Bool(self.try_acquire_many(count)),
+            SemaphoreCall::TryAcquireMany(count) => SemaphoreAnswer::Bool(self.try_acquire_many(
+                count,
+            )),
             SemaphoreCall::ReleaseMany(count) => SemaphoreAnswer::Bool(self.release_many(count)),
             SemaphoreCall::AvailablePermits => SemaphoreAnswer::Number(self.available_permits()),
             SemaphoreCall::IsOpen => SemaphoreAnswer::Bool(self.is_open()),
@@ -437,6 +449,12 @@ impl<const MAX: usize> fmt::Debug for SemaphoreCoreOf<MAX> {
     fn fmt<W: fmt::Write>(&self, f: &mut fmt::Formatter<W>) -> fmt::Result {
         let available = self.available_permits();
         let waiting = self.line.waiting();
-        write!(f, "SemaphoreCore {{ available_permits: {available}, waiting: {waiting} }}")
+        write!(
+            f,
+            "SemaphoreCore {{ available_permits: {available}, waiting: {waiting} }}"
+        )
     }
 }
+
+#[cfg(test)]
+mod tests;

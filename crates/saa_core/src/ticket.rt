@@ -123,7 +123,8 @@ impl Ticket {
         ensures acts { (held : Held) → Acts (record { held = held; slots = line.old }) (record { held = held; slots = line.new })
             self.old self.new (λ s name. polled s name how) result }
         ensures ticket { Polled self.old self.new (fault_of result) }
-        ensures foreign { IsForeign line.old self.old → result ≡ Err NotRegistered }
+        ensures foreign { IsForeign line.old self.old
+            → (result ≡ Err NotRegistered) × (line.new ≡ line.old) × (self.new ≡ self.old) }
         ensures unchanged { OnErr result (line.new ≡ line.old) }
         ensures line { line.new.line ≡ line.old.line }
         ensures sound { IsSound line.new }
@@ -144,13 +145,21 @@ impl Ticket {
     }
 
     // The poll of a ticket that has a slot. A slot that isn't held in this line was registered elsewhere.
-    fn poll_slot(&mut self, line: &mut Line, how: How, slot: u16, _request: Request, is_sync: bool) -> Result<u8, Error>
+    fn poll_slot(
+        &mut self,
+        line: &mut Line,
+        how: How,
+        slot: u16,
+        _request: Request,
+        is_sync: bool,
+    ) -> Result<u8, Error>
         requires sound { IsSound line.old }
         requires registered { self.old ≡ InSlot slot _request is_sync }
         ensures acts { (held : Held) → Acts (record { held = held; slots = line.old }) (record { held = held; slots = line.new })
             self.old self.new (λ s name. polled s name how) result }
         ensures ticket { Polled self.old self.new (fault_of result) }
-        ensures foreign { IsForeign line.old self.old → result ≡ Err NotRegistered }
+        ensures foreign { IsForeign line.old self.old
+            → (result ≡ Err NotRegistered) × (line.new ≡ line.old) × (self.new ≡ self.old) }
         ensures unchanged { OnErr result (line.new ≡ line.old) }
         ensures line { line.new.line ≡ line.old.line }
         ensures sound { IsSound line.new }

@@ -28,8 +28,9 @@ impl Model for Wakes {
     ghost view = { λ w. record { slots = w.order.items; room = length w.listed.items } };
 
     ghost invariant = { λ w. record {
-        agrees : IsListed w.order.items w.listed.items;
-        reserved : length w.listed.items ≤ deque_capacity w.order } };
+      agrees : IsListed w.order.items w.listed.items;
+      reserved : length w.listed.items ≤ deque_capacity w.order;
+    } };
 }
 
 impl Wakes {
@@ -43,10 +44,7 @@ impl Wakes {
         for _slot in 0..room {
             listed.push_reserved(false);
         }
-        Ok(Wakes {
-            order,
-            listed,
-        })
+        Ok(Wakes { order, listed })
     }
 
     /// The wake of a slot is owed, last in the list; a slot that is listed already stays where it is.

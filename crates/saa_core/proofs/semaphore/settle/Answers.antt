@@ -1,4 +1,4 @@
-use Rattle.std.proofs.Common.{◌≡◌, ◌-◌, None, ◌∙◌, sym, arith}
+use Rattle.std.proofs.Common.{◌≡◌, ◌-◌, None, ◌∙◌, sym}
 use Rattle.saa_core.specs.Held.{OfSemaphore}
 use Rattle.saa_core.specs.CoreParts.{oldest_fitting}
 use Rattle.saa_core.proofs.SettlingSteps.{settle-grant, settle-room, settled-none, permits_stop}

@@ -1,5 +1,5 @@
 -- The oldest of what is left is answered, and the rest stays to be answered.
-use Rattle.std.proofs.Common.{◌≡◌, ℕ, suc, ◌-◌, ◌+◌, take, drop, sym, ap, ◌∙◌, arith}
+use Rattle.std.proofs.Common.{◌≡◌, ℕ, suc, ◌-◌, ◌+◌, take, drop, ap, ◌∙◌, arith}
 use Rattle.saa_core.specs.Slots.{answered_slots}
 use Rattle.saa_core.proofs.LineLemmas.{answered-step}
 use Rattle.saa_core.proofs.line.Line.answer_front.Goals as goal

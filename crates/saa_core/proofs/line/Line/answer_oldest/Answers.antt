@@ -1,5 +1,5 @@
 -- The oldest leaves the line as its answer is written; its wake is within the room.
-use Rattle.std.proofs.Common.{◌≡◌, ◌<◌, Some, Option, ℕ, length, ap, ◌∙◌, arith}
+use Rattle.std.proofs.Common.{◌≡◌, Some, Option, ℕ, length, ap, ◌∙◌, arith}
 use Rattle.std.proofs.lemmas.List.{length-set}
 use Rattle.saa_core.specs.LineParts.{OwedWakes}
 use Rattle.saa_core.proofs.LineLemmas.{IsLine-answered, IsLine-oldest}
@@ -10,19 +10,11 @@ index_mut-requires c =
     let within = IsLine-oldest _ _ _ _ _ _ c.in-Some.ensures.items c.self.invariant.agrees in
     omega (arith, within, c.from.ensures, c.self.invariant.agrees.marks)
 
-pub give-requires : goal.give-requires
-give-requires c =
-    let within : c.in-Some.slot < length c.self.inside.answers.items = IsLine-oldest _ _ _ _ _ _ c.in-Some.ensures.items c.self.invariant.agrees in
-    record {
-      within = within;
-      within_wakes = omega (arith, within, c.self.invariant.wakes_room);
-    }
-
 pub invariant_of-self-2 : goal.invariant_of-self-2
 invariant_of-self-2 c =
     let answer : Option ℕ = Some c.args.value in
     let size : length c.give.new.answers.items ≡ length c.self.inside.answers.items =
-        ap length c.give.ensures.given ∙ length-set c.self.inside.answers.items c.in-Some.slot answer in
+    ap length c.give.ensures.given ∙ length-set c.self.inside.answers.items c.in-Some.slot answer in
     let room : c.give.new.wakes.room ≡ c.self.inside.wakes.room = ap (λ (w : OwedWakes). w.room) c.give.ensures.owed in
     record {
       agrees = rw (c.give.ensures.given, c.from.ensures) (IsLine-answered _ _ _ _ _ _ _ _ c.in-Some.ensures.items c.self.invariant.agrees);

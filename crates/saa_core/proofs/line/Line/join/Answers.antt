@@ -1,6 +1,5 @@
 -- The slot is the last free one: it isn't held, and joining moves it from the free slots into the line.
 use Rattle.std.proofs.Common.{arith}
-use Rattle.saa_core.specs.Slots.{Slots, room_of, held_times}
 use Rattle.saa_core.proofs.LineLemmas.{IsLine-free, IsLine-joined, IsSound-from_line}
 use Rattle.saa_core.proofs.line.Line.join.Goals as goal
 
@@ -12,8 +11,8 @@ index_mut-requires c =
 pub invariant_of-self-2 : goal.invariant_of-self-2
 invariant_of-self-2 c = record {
   agrees =
-    rw (c.push_back_reserved.ensures.items, c.from.ensures)
-    (IsLine-joined _ _ _ _ _ _ _ c.in_ok-slot.ensures.items c.self.invariant.agrees);
+      rw (c.push_back_reserved.ensures.items, c.from.ensures)
+      (IsLine-joined _ _ _ _ _ _ _ c.in_ok-slot.ensures.items c.self.invariant.agrees);
   order_reserved = omega (arith, c.push_back_reserved.ensures.capacity, c.self.invariant.order_reserved);
   free_reserved = omega (arith, c.pop.ensures.capacity, c.self.invariant.free_reserved);
   wakes_room = c.self.invariant.wakes_room;

@@ -1,5 +1,5 @@
 -- The slot waits, so it stands once in the line; leaving moves it to the free slots.
-use Rattle.std.proofs.Common.{◌≡◌, ◌<◌, false, nat_lt, ap, arith}
+use Rattle.std.proofs.Common.{◌≡◌, ◌<◌, ap, arith}
 use Rattle.std.proofs.lemmas.Bool.Decides.{nat_tests}
 use Rattle.saa_core.specs.Object.{times}
 use Rattle.saa_core.specs.Slots.{Slots}

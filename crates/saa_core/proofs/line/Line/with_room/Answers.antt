@@ -1,5 +1,5 @@
 -- One more slot is free, with no answer and no mark; in the end all of the room is.
-use Rattle.std.proofs.Common.{◌≡◌, ◌+◌, None, Option, ℕ, false, length, ap, ◌∙◌, arith}
+use Rattle.std.proofs.Common.{◌≡◌, None, Option, ℕ, false, length, ap, ◌∙◌, arith}
 use Rattle.std.proofs.lemmas.List.{length_push, length-replicate}
 use Rattle.saa_core.specs.LineParts.{count_of, OwedWakes}
 use Rattle.saa_core.proofs.WakesLemmas.{count_of-push, replicate-pushed}

@@ -1,4 +1,4 @@
-use Rattle.std.proofs.Common.{◌≡◌, ◌||◌, true, false, nat_lt, ap, ◌∙◌, sym, arith, rules}
+use Rattle.std.proofs.Common.{◌≡◌, true, false, nat_lt, arith, rules}
 use Rattle.std.proofs.lemmas.Bool.Decides.{nat_tests}
 use Rattle.saa_core.specs.declared.request.Request.TheVariants.{Permits}
 use Rattle.saa_core.specs.declared.ticket.Registration.TheVariants.{Unregistered}

@@ -1,9 +1,4 @@
-use Rattle.std.proofs.Common.{◌≡◌, true, false, ap, subst, ◌∙◌, sym, arith}
-use Rattle.saa_core.specs.declared.request.Request.TheVariants.{Permits}
-use Rattle.saa_core.specs.Held.{OfSemaphore, less}
-use Rattle.saa_core.specs.Polling.{given_back}
-use Rattle.saa_core.specs.Tickets.{Core, Calls}
-use Rattle.saa_core.specs.CoreParts.{core_given_of}
+use Rattle.std.proofs.Common.{arith}
 use Rattle.saa_core.proofs.Asks.{permits_release}
 use Rattle.saa_core.proofs.semaphore.SemaphoreCoreOf.release_many.Goals as goal
 

@@ -1,5 +1,3 @@
-use Rattle.std.proofs.Common.{◌-◌}
-use Rattle.saa_core.specs.Held.{OfSemaphore}
 use Rattle.saa_core.proofs.Asks.{idle-belong, made-object}
 use Rattle.saa_core.proofs.semaphore.SemaphoreCoreOf.with_permits.Goals as goal
 

@@ -1,6 +1,5 @@
 use Rattle.std.proofs.Common.{◌≡◌, true, false}
 use Rattle.saa_core.specs.Polling.{is_right_mode}
-use Rattle.saa_core.specs.Tickets.{Core}
 use Rattle.saa_core.proofs.Polls.{poll_idle, poll_wrong_at_once, poll_at_once}
 use Rattle.saa_core.proofs.ticket.Ticket.poll_in.Goals as goal
 

@@ -1,5 +1,5 @@
 -- A slot that isn't marked leaves a place in what is reserved; it is listed with its mark.
-use Rattle.std.proofs.Common.{◌≡◌, ◌<◌, ◌∷◌, true, false, get_or, length, arith, ap}
+use Rattle.std.proofs.Common.{◌≡◌, true, false, get_or, length, arith, ap}
 use Rattle.std.proofs.lemmas.List.{length-set}
 use Rattle.saa_core.specs.LineParts.{OwedWakes}
 use Rattle.saa_core.proofs.WakesLemmas.{IsListed-push, mark_count-below}
@@ -19,8 +19,8 @@ invariant_of-self c =
     let unset : get_or listed c.args.slot false ≡ false = cc in
     record {
       agrees =
-        rw (c.push_back_reserved.ensures.items, c.from-place.ensures)
-        (IsListed-push _ _ _ (omega (arith, room)) unset c.self.invariant.agrees);
+          rw (c.push_back_reserved.ensures.items, c.from-place.ensures)
+          (IsListed-push _ _ _ (omega (arith, room)) unset c.self.invariant.agrees);
       reserved =
-        omega (arith, length-set listed c.from-place.result true, c.self.invariant.reserved, c.push_back_reserved.ensures.capacity);
+          omega (arith, length-set listed c.from-place.result true, c.self.invariant.reserved, c.push_back_reserved.ensures.capacity);
     }

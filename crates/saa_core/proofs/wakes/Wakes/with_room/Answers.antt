@@ -1,5 +1,5 @@
 -- There are as many marks as slots so far, which are fewer than what is reserved; in the end none of them is set.
-use Rattle.std.proofs.Common.{◌≡◌, ◌<◌, ◌≤◌, [], false, length, arith, ap, ◌∙◌}
+use Rattle.std.proofs.Common.{◌≡◌, [], false, length, arith, ap, ◌∙◌}
 use Rattle.std.proofs.lemmas.List.{length-replicate}
 use Rattle.saa_core.proofs.WakesLemmas.{IsListed-none}
 use Rattle.saa_core.proofs.wakes.Wakes.with_room.Goals as goal
