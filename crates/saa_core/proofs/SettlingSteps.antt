@@ -7,8 +7,8 @@ use Rattle.saa_core.specs.Held.{Held, OfSemaphore, fits, plus}
 use Rattle.saa_core.specs.Object.{Waiter}
 use Rattle.saa_core.specs.Settling.{fitting_front, plus_all}
 use Rattle.saa_core.specs.Slots.{Slots}
-use Rattle.saa_core.specs.Tickets.{Core}
-use Rattle.saa_core.specs.CoreParts.{core_granted, core_settled, slots_answered, fitting_permits, oldest_fitting, IsCoreSettled}
+use Rattle.saa_core.specs.Tickets.{IsCoreSettled, Core}
+use Rattle.saa_core.specs.CoreParts.{core_granted, core_settled, slots_answered, fitting_permits, oldest_fitting}
 use Rattle.saa_core.proofs.Naming.{bool_cases}
 
 -- a core whose oldest waiter doesn't fit is settled

@@ -24,10 +24,6 @@ core_granted k core = record { held = plus_all core.held (take k core.slots.line
 unfoldable pub core_settled : Core → Core
 core_settled core = core_granted (fitting_front core.held core.slots.line) core
 
--- whether nobody in front fits
-abbrev pub IsCoreSettled : Core → Type 0
-IsCoreSettled core = fitting_front core.held core.slots.line ≡ 0
-
 -- whether a request is granted at once
 abbrev pub takes_now : Core → Request → Bool
 takes_now core request = is_nobody core.slots.line && fits core.held request

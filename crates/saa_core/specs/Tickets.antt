@@ -9,6 +9,7 @@ use Rattle.saa_core.specs.declared.ticket.Error.{Error}
 use Rattle.saa_core.specs.declared.ticket.Error.TheVariants.{NotRegistered}
 use Rattle.saa_core.specs.Held.{Held}
 use Rattle.saa_core.specs.Object.{Object, After, Entry, Idle, Waiting, Answered, Waiter, one_if}
+use Rattle.saa_core.specs.Settling.{fitting_front}
 use Rattle.saa_core.specs.Polling.{dropped}
 use Rattle.saa_core.specs.Slots.{Slots, answer_in, held_slots, held_times, room_of}
 
@@ -16,6 +17,10 @@ use Rattle.saa_core.specs.Slots.{Slots, answer_in, held_slots, held_times, room_
 pub record Core : Type 0 where
   pub held : Held
   pub slots : Slots
+
+-- a core stands settled where nobody in front fits
+abbrev pub IsCoreSettled : Core → Type 0
+IsCoreSettled core = fitting_front core.held core.slots.line ≡ 0
 
 -- whether a ticket isn't idle
 abbrev pub is_busy : Registration → Bool

@@ -2,6 +2,7 @@
 //!
 //! The core is held to `specs/Semaphore.antt` by every call, with any tickets that are registered in it. The line
 //! keeps who waits, the tickets what they asked; what is out, and when the line settles, stands here.
+//! A line `let _opened = ..` reads a field so that the proof knows there what always holds of the core; it costs nothing.
 
 ghost use Rattle.std.specs.Prelude.{true, false, ◌≡◌, ℕ, ◌+◌, ◌-◌, ◌<◌, ◌≤◌, ◌↔◌, ◌==◌, ◌||◌, [], min, nat_lt, replicate, IsTrue, IfOk, IfSome, OnErr, IsErr, length};
 ghost use Rattle.std.specs.Bool.{OnTrue, OnFalse};
@@ -15,8 +16,8 @@ ghost use Rattle.saa_core.specs.Settling.{fitting_front};
 ghost use Rattle.saa_core.specs.Values.{semaphore_value};
 ghost use Rattle.saa_core.specs.Semaphore.{bound_of, out_of, available, new_semaphore};
 ghost use Rattle.saa_core.specs.Slots.{IsSound, empty_slots, held_slots, room_of};
-ghost use Rattle.saa_core.specs.Tickets.{Acts, Calls, Belong, Polled, IsForeign, dropping, fault_of, is_busy, is_yes, object_of};
-ghost use Rattle.saa_core.specs.CoreParts.{core_granted, core_settled, core_given, core_undone, core_vacated, takes_now, oldest_fitting, IsCoreSettled};
+ghost use Rattle.saa_core.specs.Tickets.{Acts, Calls, Belong, IsCoreSettled, Polled, IsForeign, dropping, fault_of, is_busy, is_yes, object_of};
+ghost use Rattle.saa_core.specs.CoreParts.{core_granted, core_settled, core_given, core_undone, core_vacated, takes_now, oldest_fitting};
 
 use crate::bench::Primitive;
 use crate::line::Line;
@@ -190,18 +191,9 @@ impl<const MAX: usize> SemaphoreCoreOf<MAX> {
         ensures calls { Calls self.old self.new (λ s. given_back s (Permits count)) result }
         ensures answer { IsTrue result ↔ (count ≤ out_of self.old.held) }
         ensures refused { OnFalse result (self.new ≡ self.old) }
-        ensures given { self.new ≡ core_given self.old (Permits count) }
         ensures settled { IsCoreSettled self.new }
     {
-        if count == 0 {
-            let _opened = &self.out;
-            return true;
-        }
-        if count > self.out {
-            return false;
-        }
-        self.give_back(count);
-        true
+        self.take_back(count)
     }
 
     /// Registers an idle ticket for `count` permits, as sync or as async.
@@ -310,6 +302,25 @@ impl<const MAX: usize> SemaphoreCoreOf<MAX> {
         self.line.next_answered()
     }
 
+    // Takes back permits that are out, and settles.
+    fn take_back(&mut self, count: usize) -> bool
+        ensures calls { Calls self.old self.new (λ s. given_back s (Permits count)) result }
+        ensures answer { IsTrue result ↔ (count ≤ out_of self.old.held) }
+        ensures refused { OnFalse result (self.new ≡ self.old) }
+        ensures given { self.new ≡ core_given self.old (Permits count) }
+        ensures settled { IsCoreSettled self.new }
+    {
+        if count == 0 {
+            let _opened = &self.out;
+            return true;
+        }
+        if count > self.out {
+            return false;
+        }
+        self.give_back(count);
+        true
+    }
+
     // Undoes an answer that isn't consumed: permits that were granted are given back.
     fn undo(&mut self, value: u8, request: Request)
         ensures undone { self.new ≡ core_undone self.old value request }
@@ -320,7 +331,7 @@ impl<const MAX: usize> SemaphoreCoreOf<MAX> {
             return;
         }
         if let Request::Permits(count) = request {
-            let _given = self.release_many(usize::from(count));
+            let _given = self.take_back(usize::from(count));
         }
     }
 

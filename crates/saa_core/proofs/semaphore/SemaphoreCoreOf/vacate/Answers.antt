@@ -1,5 +1,5 @@
 use Rattle.std.proofs.Common.{sym, subst}
-use Rattle.saa_core.specs.CoreParts.{IsCoreSettled}
+use Rattle.saa_core.specs.Tickets.{IsCoreSettled}
 use Rattle.saa_core.proofs.SettlingSteps.{settled-settled}
 use Rattle.saa_core.proofs.semaphore.SemaphoreCoreOf.vacate.Goals as goal
 

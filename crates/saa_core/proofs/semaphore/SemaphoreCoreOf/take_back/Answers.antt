@@ -1,6 +1,6 @@
 use Rattle.std.proofs.Common.{arith}
 use Rattle.saa_core.proofs.Asks.{permits_release}
-use Rattle.saa_core.proofs.semaphore.SemaphoreCoreOf.release_many.Goals as goal
+use Rattle.saa_core.proofs.semaphore.SemaphoreCoreOf.take_back.Goals as goal
 
 pub returns-clause-calls : goal.returns-clause-calls
 returns-clause-calls g c =

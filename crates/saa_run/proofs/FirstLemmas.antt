@@ -1,0 +1,158 @@
+-- The first line of a script, and its end.
+use Rattle.std.proofs.Common.{◌≡◌, ◌<◌, ℕ, ◌⊎◌, inl, inr, true, List, [], ◌∷◌, ◌++◌, length, Option, Some, None, sym, ap, subst, ◌∙◌, refl, append-nil, arith}
+use Rattle.std.specs.Prelude.{IsSome, nat_lt}
+use Rattle.std.proofs.lemmas.Bool.Decides.{nat_tests}
+use Rattle.std.specs.Io.KnownBytes.{Consumes, IsAtEnd}
+use Rattle.std.proofs.KnownBytes.{Appends-nil, Appends-trans, Appends-kept}
+use Rattle.saa_run.specs.declared.command.FirstLine.{FirstLine}
+use Rattle.saa_run.specs.declared.command.FirstLine.TheVariants.{Semaphore}
+use Rattle.saa_run.specs.declared.ended.Ended.{Ended}
+use Rattle.saa_run.specs.declared.ended.Ended.TheVariants.{Done, BadLine, NoMemory, Failed}
+use Rattle.saa_run.specs.Language.{first_line_of}
+use Rattle.saa_run.specs.Transfer.{IsBeginning, IsUnbroken}
+use Rattle.saa_run.specs.Text.{Answer, text, with_front, bad_line, bad_first, on_bytes, answer_behind, answer_from, answer_in, answer_of, good_front}
+use Rattle.saa_run.specs.Outcome.{Runs, Scripts, Finishes, no_memory}
+use Rattle.saa_run.specs.Steps.{no_lines, IsBadAt, EndsLine, AnswersLine}
+use Rattle.saa_run.proofs.StepLemmas.{step-newline, step-last, step-last-ended, step-long, IsBeginning-nil}
+use Rattle.saa_run.proofs.BehindLemmas.{runs-behind}
+
+-- a first line that means nothing is bad
+IsBadAt-first : (line : List ℕ) → first_line_of line ≡ None → IsBadAt 1 answer_in line
+IsBadAt-first line none = λ others. ap (λ first. answer_behind first others) none
+
+-- no line of more than 80 bytes is a first line
+first-long : (line : List ℕ) → 80 < length line → first_line_of line ≡ None
+unfolding first_line_of
+first-long line long = let test : nat_lt 80 (length line) ≡ true = grind (arith, nat_tests) in rw test refl
+
+-- the empty line is no first line
+first-empty : first_line_of [] ≡ None
+unfolding first_line_of
+first-empty = refl
+
+-- a bad line that was told is a line that was answered
+answers-bad : (here next : List (List ℕ) → Answer) (number : ℕ) (line : List ℕ) (held holds : Option (List ℕ)) (ended : Ended) → IsBadAt number here line → EndsLine ended held holds (bad_line number)
+    → AnswersLine (Some ended) here next number line held holds
+answers-bad here next number line held holds BadLine bad told = (told, bad)
+answers-bad here next number line held holds Failed bad told = (told.0, told.2, λ others. subst (λ answer. IsBeginning told.0 (text answer)) (sym (bad others)) told.1)
+answers-bad here next number line held holds Done bad told = absurd told
+answers-bad here next number line held holds NoMemory bad told = absurd told
+
+-- an empty input: line 1 is bad
+empty-bad : (ended : Ended) (read : List ℕ) (old new held holds : Option (List ℕ)) → Consumes old new read → read ≡ [] → IsAtEnd new → EndsLine ended held holds (bad_line 1) → Runs ended answer_of old new held holds
+empty-bad BadLine read old new held holds consumes empty end told =
+    let said : answer_of read ≡ bad_first = ap answer_of empty in
+    record { read = read; sent = bad_line 1; consumes = consumes; appends = told; end = (sym (ap text said), subst (λ answer. IsSome answer.bad) (sym said) refl, inl end) }
+empty-bad Failed read old new held holds consumes empty end told =
+    let said : answer_of read ≡ bad_first = ap answer_of empty in
+    record { read = read; sent = told.0; consumes = consumes; appends = told.2; end = subst (λ answer. IsBeginning told.0 (text answer)) (sym said) told.1 }
+empty-bad Done read old new held holds consumes empty end told = absurd told
+empty-bad NoMemory read old new held holds consumes empty end told = absurd told
+
+-- behind a good first line there is no answer where no line is left
+behind-none : (first : FirstLine) → answer_behind (Some first) [] ≡ no_lines
+unfolding answer_from good_front
+behind-none (Semaphore permits room) = refl
+
+-- what a good first line leaves to answer
+first-good : (line : List ℕ) (first : FirstLine) → first_line_of line ≡ Some first → (others : List (List ℕ)) → answer_in (line ∷ others) ≡ with_front [] (answer_behind (Some first) others)
+first-good line first good others = ap (λ found. answer_behind found others) good
+
+-- a line has a byte or none
+some_or_none : (line : List ℕ) → (line ≡ []) ⊎ (0 < length line)
+some_or_none [] = inl refl
+some_or_none (b ∷ bs) = inr (omega arith)
+
+-- a good first line has a byte
+first-some : (line : List ℕ) (first : FirstLine) → first_line_of line ≡ Some first → 0 < length line
+first-some [] first good = let none = first-empty in cc
+first-some (b ∷ bs) first good = omega arith
+
+module _ (line read : List ℕ) (old new : Option (List ℕ)) (consumes : Consumes old new read) (unbroken : IsUnbroken line) where
+  -- a first line that ended with a newline and is bad
+  pub first-newline-bad : (ended : Ended) (held holds : Option (List ℕ)) → read ≡ line ++ 10 ∷ [] → None ≡ first_line_of line → EndsLine ended held holds (bad_line 1) → Runs ended answer_of old new held holds
+  first-newline-bad ended held holds cut none told =
+      step-newline answer_in answer_in 1 line read old new held holds consumes unbroken (Some ended) cut
+      (answers-bad answer_in answer_in 1 line held holds ended (IsBadAt-first line (sym none)) told)
+
+  -- a first line that the input ends with and that is bad
+  pub first-last-bad : (ended : Ended) (held holds : Option (List ℕ)) → read ≡ line → IsAtEnd new → None ≡ first_line_of line → EndsLine ended held holds (bad_line 1) → Runs ended answer_of old new held holds
+  first-last-bad ended held holds cut end none told = elim (some_or_none line) [
+    | inl empty ↦ empty-bad ended read old new held holds consumes (cut ∙ empty) end told
+    | inr some ↦ step-last-ended answer_in answer_in 1 line read old new held holds consumes unbroken ended cut some end
+        (answers-bad answer_in answer_in 1 line held holds ended (IsBadAt-first line (sym none)) told)
+  ]
+
+  -- a first line that is too long
+  pub first-long-bad : (ended : Ended) (held holds : Option (List ℕ)) → read ≡ line → 80 < length line → EndsLine ended held holds (bad_line 1) → Runs ended answer_of old new held holds
+  first-long-bad ended held holds cut long told =
+      step-long answer_in answer_in 1 line read old new held holds consumes unbroken ended cut long (λ longer is_long. IsBadAt-first longer (first-long longer is_long)) told
+
+  -- a good first line that the input ends with
+  pub first-last-good : (first : FirstLine) (held : Option (List ℕ)) → read ≡ line → IsAtEnd new → Some first ≡ first_line_of line → Runs Done answer_of old new held held
+  first-last-good first held cut end good =
+      step-last answer_in (answer_behind (Some first)) 1 line read old new held held consumes unbroken cut (first-some line first (sym good)) end (behind-none first)
+      ([], Appends-nil held, first-good line first (sym good))
+
+  -- a good first line, and the run behind it
+  pub first-newline-good : (first : FirstLine) (ended : Ended) (last held holds : Option (List ℕ)) → read ≡ line ++ 10 ∷ [] → Some first ≡ first_line_of line
+      → Runs ended (on_bytes (answer_behind (Some first))) new last held holds → Runs ended answer_of old last held holds
+  first-newline-good first ended last held holds cut good behind =
+      runs-behind ended answer_of (on_bytes (answer_behind (Some first))) old new last held held holds
+      (step-newline answer_in (answer_behind (Some first)) 1 line read old new held held consumes unbroken None cut ([], Appends-nil held, first-good line first (sym good))) behind
+
+-- a text is a beginning of itself
+whole : (bytes : List ℕ) → IsBeginning bytes bytes
+whole bytes = ([], sym (append-nil bytes))
+
+-- a run that ended and was finished is a script
+pub scripts : (ended : Ended) (status : ℕ) (old new held mid holds : Option (List ℕ)) → Runs ended answer_of old new held mid → Finishes ended status mid holds → Scripts status old new held holds
+scripts Done status old new held mid holds runs (keeps, inl is) = record {
+  read = runs.read;
+  sent = runs.sent;
+  consumes = runs.consumes;
+  appends = Appends-kept held mid holds runs.sent runs.appends keeps;
+  outcome = inl (is, runs.end);
+}
+scripts Done status old new held mid holds runs (keeps, inr is) = record {
+  read = runs.read;
+  sent = runs.sent;
+  consumes = runs.consumes;
+  appends = Appends-kept held mid holds runs.sent runs.appends keeps;
+  outcome = inr (inr (inr (is, (runs.sent, [], subst (IsBeginning runs.sent) runs.end.0 (whole runs.sent), IsBeginning-nil no_memory, sym (append-nil runs.sent)))));
+}
+scripts BadLine status old new held mid holds runs (keeps, inl is) = record {
+  read = runs.read;
+  sent = runs.sent;
+  consumes = runs.consumes;
+  appends = Appends-kept held mid holds runs.sent runs.appends keeps;
+  outcome = inr (inl (is, runs.end));
+}
+scripts BadLine status old new held mid holds runs (keeps, inr is) = record {
+  read = runs.read;
+  sent = runs.sent;
+  consumes = runs.consumes;
+  appends = Appends-kept held mid holds runs.sent runs.appends keeps;
+  outcome = inr (inr (inr (is, (runs.sent, [], subst (IsBeginning runs.sent) runs.end.0 (whole runs.sent), IsBeginning-nil no_memory, sym (append-nil runs.sent)))));
+}
+scripts NoMemory status old new held mid holds runs (inl (is, appends)) = record {
+  read = runs.read;
+  sent = runs.sent ++ no_memory;
+  consumes = runs.consumes;
+  appends = Appends-trans held mid holds runs.sent no_memory runs.appends appends;
+  outcome = inr (inr (inl (is, (runs.sent, runs.end, refl))));
+}
+scripts NoMemory status old new held mid holds runs (inr (is, part)) = record {
+  read = runs.read;
+  sent = runs.sent ++ part.0;
+  consumes = runs.consumes;
+  appends = Appends-trans held mid holds runs.sent part.0 runs.appends part.2;
+  outcome = inr (inr (inr (is, (runs.sent, part.0, runs.end, part.1, refl))));
+}
+scripts Failed status old new held mid holds runs (keeps, is) = record {
+  read = runs.read;
+  sent = runs.sent;
+  consumes = runs.consumes;
+  appends = Appends-kept held mid holds runs.sent runs.appends keeps;
+  outcome = inr (inr (inr (is, (runs.sent, [], runs.end, IsBeginning-nil no_memory, sym (append-nil runs.sent)))));
+}

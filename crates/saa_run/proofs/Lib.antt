@@ -1,0 +1,9 @@
+pub mod AnswerLemmas
+pub mod BehindLemmas
+pub mod FieldLemmas
+pub mod FirstLemmas
+pub mod LineLemmas
+pub mod RunLemmas
+pub mod SpellingLemmas
+pub mod StepLemmas
+pub mod TransferLemmas

@@ -1,0 +1,11 @@
+pub mod AnswerLaws
+pub mod Fields
+pub mod Language
+pub mod Outcome
+pub mod Replies
+pub mod Said
+pub mod Spelling
+pub mod Steps
+pub mod Text
+pub mod Transfer
+pub mod Wants

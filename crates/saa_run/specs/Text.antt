@@ -1,0 +1,98 @@
+-- The text of an input: the replies to its longest front of good lines, one a line, and the first bad line.
+use Rattle.std.specs.Prelude.{ℕ, ◌+◌, List, [], ◌∷◌, ◌++◌, length, Option, Some, None, nat_lt, ◌==◌, if◌then◌else◌, codes, decimal}
+use Rattle.std.specs.Option.{option_map_or}
+use Rattle.std.specs.List.{onto_first}
+use Rattle.saa_core.specs.Object.{Object, After}
+use Rattle.saa_core.specs.Held.{max_permits}
+use Rattle.saa_core.specs.Semaphore.{new_semaphore}
+use Rattle.saa_run.specs.declared.command.FirstLine.{FirstLine}
+use Rattle.saa_run.specs.declared.command.FirstLine.TheVariants.{Semaphore}
+use Rattle.saa_core.specs.declared.bench.CommandOf.{CommandOf}
+use Rattle.saa_run.specs.declared.command.ScriptLine.{ScriptLine}
+use Rattle.saa_run.specs.declared.command.ScriptLine.TheVariants.{Do, Registered}
+use Rattle.saa_run.specs.Language.{first_line_of, semaphore_line_of}
+use Rattle.saa_run.specs.Replies.{semaphore_does}
+
+-- the lines of an input: each ends with a newline, which the last may lack
+abbrev pub lines_of : List ℕ → List (List ℕ)
+lines_of [] = []
+lines_of (b ∷ bs) = if b == 10 then ([] ∷ lines_of bs) else onto_first b (lines_of bs)
+
+-- the answer to an input: the replies, each with its newline, and the number of the first bad line if there is one
+pub record Answer : Type 0 where
+  pub replies : List ℕ
+  pub bad : Option ℕ
+
+-- what is said of a bad line, by its number
+abbrev pub bad_line : ℕ → List ℕ
+bad_line number = codes "bad line " ++ decimal number ++ 10 ∷ []
+
+-- an answer as it is written
+abbrev pub text : Answer → List ℕ
+text answer = answer.replies ++ option_map_or bad_line answer.bad []
+
+-- a reply on a line of its own
+abbrev pub reply_line : List ℕ → List ℕ
+reply_line words = words ++ 10 ∷ []
+
+-- the longest front of good lines, each as what it means; a line is good where it means something
+unfoldable pub good_front : {L : Type 0} → (List ℕ → Option L) → List (List ℕ) → List L
+good_front meaning [] = []
+good_front meaning (line ∷ lines) = option_map_or (λ good. good ∷ good_front meaning lines) (meaning line) []
+
+-- the replies to such lines, one after another, from a state
+abbrev pub replies_to : {L : Type 0} → (L → Object → After (List ℕ)) → Object → List L → List ℕ
+replies_to does s [] = []
+replies_to does s (line ∷ lines) = reply_line (does line s).reply ++ replies_to does (does line s).state lines
+
+-- the state that such lines leave
+abbrev pub state_behind : {L : Type 0} → (L → Object → After (List ℕ)) → Object → List L → Object
+state_behind does s [] = s
+state_behind does s (line ∷ lines) = state_behind does (does line s).state lines
+
+-- the commands among such lines; a question after a pager is none
+abbrev pub commands_in : {C K : Type 0} → List (ScriptLine C K) → List (CommandOf C K)
+commands_in [] = []
+commands_in (Do command ∷ lines) = command ∷ commands_in lines
+commands_in (Registered pager ∷ lines) = commands_in lines
+
+-- the number of the line behind a front of good ones, if there is one: it is bad
+abbrev pub bad_behind : ℕ → ℕ → ℕ → Option ℕ
+bad_behind number good all = if nat_lt good all then Some (number + good) else None
+
+-- the answer to lines of which the first has this number, from a state
+unfoldable pub answer_from : {L : Type 0} → (List ℕ → Option L) → (L → Object → After (List ℕ)) → ℕ → Object → List (List ℕ) → Answer
+answer_from meaning does number s lines =
+    let good = good_front meaning lines in
+    record { replies = replies_to does s good; bad = bad_behind number (length good) (length lines) }
+
+-- line 1 is bad
+abbrev pub bad_first : Answer
+bad_first = record { replies = []; bad = Some 1 }
+
+-- as many pagers as a line can name
+abbrev pub pagers : ℕ
+pagers = 100
+
+-- the answer to the lines behind line 1, by what line 1 makes
+abbrev pub answer_behind : Option FirstLine → List (List ℕ) → Answer
+answer_behind None lines = bad_first
+answer_behind (Some (Semaphore permits room)) lines =
+    answer_from semaphore_line_of semaphore_does 2 (new_semaphore max_permits permits room pagers) lines
+
+-- the answer to the lines of an input; an empty input is a bad line 1
+abbrev pub answer_in : List (List ℕ) → Answer
+answer_in [] = bad_first
+answer_in (first ∷ lines) = answer_behind (first_line_of first) lines
+
+-- what is said of lines, said of the bytes that they stand in
+abbrev pub on_bytes : (List (List ℕ) → Answer) → List ℕ → Answer
+on_bytes said bytes = said (lines_of bytes)
+
+-- the answer to an input
+abbrev pub answer_of : List ℕ → Answer
+answer_of input = on_bytes answer_in input
+
+-- an answer behind replies that came before it
+abbrev pub with_front : List ℕ → Answer → Answer
+with_front front answer = record { replies = front ++ answer.replies; bad = answer.bad }

@@ -1,0 +1,219 @@
+//! The lines of a script: which first line they follow, and which command each of them is.
+//!
+//! Held to `specs/Language.antt`: a line is good exactly where it is a command's spelling, which
+//! `laws` proves. What a command does is left to the primitive's core.
+ghost use Rattle.std.specs.Prelude.{◌≡◌};
+ghost use Rattle.saa_run.specs.Language.{pager_of, room_of, mode_of, lone_line, counted_line, pager_line, registration, semaphore_line_of, semaphore_made, first_line_of, either};
+ghost use Rattle.saa_run.specs.Fields.{number_of};
+
+use crate::fields::{first_field, number};
+use saa_core::bench::CommandOf;
+use saa_core::semaphore::SemaphoreCall;
+
+/// The first line of a script: which primitive is made.
+#[derive(Clone, Copy, Debug)]
+pub enum FirstLine {
+    /// `semaphore P ROOM`: a semaphore that has at most P permits available.
+    Semaphore { permits: usize, room: u16 },
+}
+
+/// A line behind the first, over the calls `C` of a primitive and what its registrations ask, `K`.
+#[derive(Clone, Copy, Debug)]
+pub enum ScriptLine<C, K> {
+    /// A command of the run.
+    Do(CommandOf<C, K>),
+    /// `registered P`: asks whether a pager is registered, and does nothing.
+    Registered(u16),
+}
+
+/// A line behind the first line of a semaphore.
+pub type SemaphoreLine = ScriptLine<SemaphoreCall, usize>;
+
+/// The pager that a field is: 0 to 99.
+#[tactic(auto, unfolding(crate::specs::Language::pager_of))]
+fn pager(field: &[u8]) -> Option<u16>
+    ensures { result ≡ pager_of field.now }
+{
+    match number(field) {
+        Some(n) if n < 100 => Some(n as u16),
+        _ => None,
+    }
+}
+
+/// The room that a field is: at most 65535.
+#[tactic(auto, unfolding(crate::specs::Language::room_of))]
+fn room(field: &[u8]) -> Option<u16>
+    ensures { result ≡ room_of field.now }
+{
+    match number(field) {
+        Some(n) if n < 65536 => Some(n as u16),
+        _ => None,
+    }
+}
+
+/// Whether a field says that a registration is sync, or async.
+#[tactic(auto, unfolding(crate::specs::Language::mode_of))]
+fn mode(field: &[u8]) -> Option<bool>
+    ensures { result ≡ mode_of field.now }
+{
+    match field {
+        b"sync" => Some(true),
+        b"async" => Some(false),
+        _ => None,
+    }
+}
+
+/// A call of a semaphore that is one word.
+#[tactic(auto, unfolding(crate::specs::Language::lone_line))]
+fn lone_word(word: &[u8]) -> Option<SemaphoreLine>
+    ensures { result ≡ lone_line word.now }
+{
+    if word == b"available".as_slice() {
+        return Some(ScriptLine::Do(CommandOf::Call(SemaphoreCall::AvailablePermits)));
+    }
+    if word == b"is_open".as_slice() {
+        return Some(ScriptLine::Do(CommandOf::Call(SemaphoreCall::IsOpen)));
+    }
+    if word == b"is_closed".as_slice() {
+        return Some(ScriptLine::Do(CommandOf::Call(SemaphoreCall::IsClosed)));
+    }
+    None
+}
+
+/// A call of a semaphore that is a word and a number.
+#[tactic(auto, unfolding(crate::specs::Language::counted_line))]
+fn counted_words(word: &[u8], field: &[u8]) -> Option<SemaphoreLine>
+    ensures { result ≡ counted_line word.now field.now }
+{
+    if word == b"try".as_slice() {
+        let count = number(field)? as usize;
+        return Some(ScriptLine::Do(CommandOf::Call(SemaphoreCall::TryAcquireMany(count))));
+    }
+    if word == b"release".as_slice() {
+        let count = number(field)? as usize;
+        return Some(ScriptLine::Do(CommandOf::Call(SemaphoreCall::ReleaseMany(count))));
+    }
+    None
+}
+
+/// A line that is a word and a pager.
+#[tactic(auto, unfolding(crate::specs::Language::pager_line))]
+fn pager_words<C, K>(word: &[u8], field: &[u8]) -> Option<ScriptLine<C, K>>
+    ensures { result ≡ pager_line word.now field.now }
+{
+    if word == b"try_poll".as_slice() {
+        return Some(ScriptLine::Do(CommandOf::TryPoll(pager(field)?)));
+    }
+    if word == b"poll_sync".as_slice() {
+        return Some(ScriptLine::Do(CommandOf::PollSync(pager(field)?)));
+    }
+    if word == b"poll_async".as_slice() {
+        return Some(ScriptLine::Do(CommandOf::PollAsync(pager(field)?)));
+    }
+    if word == b"registered".as_slice() {
+        return Some(ScriptLine::Registered(pager(field)?));
+    }
+    if word == b"drop".as_slice() {
+        return Some(ScriptLine::Do(CommandOf::Drop(pager(field)?)));
+    }
+    None
+}
+
+/// A registration: the word `reg`, a pager, what it asks, and the mode.
+#[tactic(auto, unfolding(crate::specs::Language::registration))]
+fn registration_words<C, K: Copy>(
+    word: &[u8],
+    pager: Option<u16>,
+    ask: Option<K>,
+    is_sync: Option<bool>,
+) -> Option<ScriptLine<C, K>>
+    ensures { result ≡ registration word.now pager ask is_sync }
+{
+    if word == b"reg".as_slice() {
+        return Some(ScriptLine::Do(CommandOf::Register(pager?, ask?, is_sync?)));
+    }
+    None
+}
+
+/// A line of a semaphore that is two fields.
+fn two_words(word: &[u8], field: &[u8]) -> Option<SemaphoreLine>
+    ensures { result ≡ either (counted_line word.now field.now) (pager_line word.now field.now) }
+{
+    match counted_words(word, field) {
+        Some(line) => Some(line),
+        None => pager_words(word, field),
+    }
+}
+
+/// A number as a count of permits.
+fn count(field: &[u8]) -> Option<usize>
+    ensures { result ≡ number_of field.now }
+{
+    match number(field) {
+        Some(n) => Some(n as usize),
+        None => None,
+    }
+}
+
+/// The line of a script that these bytes are, behind the first line of a semaphore.
+#[tactic(auto, using(crate::proofs::FieldLemmas::some_field), unfolding(crate::specs::Language::semaphore_line_of))]
+pub fn parse_semaphore_line(line: &[u8]) -> Option<SemaphoreLine>
+    ensures { result ≡ semaphore_line_of line.now }
+{
+    if line.len() > 80 {
+        return None;
+    }
+    let (word, rest) = first_field(line);
+    let Some(rest) = rest else {
+        return lone_word(word);
+    };
+    let (second, rest) = first_field(rest);
+    let Some(rest) = rest else {
+        return two_words(word, second);
+    };
+    let (third, rest) = first_field(rest);
+    let Some(rest) = rest else {
+        return None;
+    };
+    let (fourth, rest) = first_field(rest);
+    match rest {
+        Some(_) => None,
+        None => registration_words(word, pager(second), count(third), mode(fourth)),
+    }
+}
+
+/// The first line `semaphore P ROOM`.
+#[tactic(auto, unfolding(crate::specs::Language::semaphore_made))]
+fn semaphore_words(word: &[u8], permits: &[u8], room_field: &[u8]) -> Option<FirstLine>
+    ensures { result ≡ semaphore_made word.now (number_of permits.now) (room_of room_field.now) }
+{
+    if word == b"semaphore".as_slice() {
+        let permits = count(permits)?;
+        let room = room(room_field)?;
+        return Some(FirstLine::Semaphore { permits, room });
+    }
+    None
+}
+
+/// The first line of a script that these bytes are.
+#[tactic(auto, using(crate::proofs::FieldLemmas::some_field), unfolding(crate::specs::Language::first_line_of))]
+pub fn parse_first(line: &[u8]) -> Option<FirstLine>
+    ensures { result ≡ first_line_of line.now }
+{
+    if line.len() > 80 {
+        return None;
+    }
+    let (word, rest) = first_field(line);
+    let Some(rest) = rest else {
+        return None;
+    };
+    let (second, rest) = first_field(rest);
+    let Some(rest) = rest else {
+        return None;
+    };
+    let (third, rest) = first_field(rest);
+    match rest {
+        Some(_) => None,
+        None => semaphore_words(word, second, third),
+    }
+}

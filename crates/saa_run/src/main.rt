@@ -1,0 +1,58 @@
+//! The program `saa-run`: reads a script of one primitive and answers its lines.
+//!
+//! The top floor. `transfer` moves bytes, `fields` and `command` read lines, `reply` writes answers,
+//! `steps` answers the lines behind the first one by one, and `run` is the whole, over any reader and
+//! writer. What a command does stands in `saa_core`. `docs/LANGUAGES.md` has the language.
+#![tactic(auto)]
+
+mod command;
+mod ended;
+mod fields;
+mod laws;
+mod reply;
+mod run;
+mod semaphore_script;
+mod steps;
+#[cfg(test)]
+mod tests;
+mod transfer;
+mod wants;
+
+use crate::run::Wanted;
+use std::io::{BufReader, ErrorKind, Write};
+use std::process::ExitCode;
+use std::{env, io};
+
+/// What the arguments ask for; nothing where memory for them was refused.
+///
+/// An argument that is no text is like any other unknown word.
+fn asked(rt: &HostRuntime) -> Option<Wanted> {
+    match env::args(rt) {
+        Err(error) => match error.kind() {
+            ErrorKind::OutOfMemory => None,
+            _ => Some(Wanted::Usage),
+        },
+        Ok(args) => match args.skip(1).collect::<Vec<String>>(rt.alloc()) {
+            Ok(words) => Some(run::wanted(words.as_slice())),
+            Err(_) => None,
+        },
+    }
+}
+
+/// Runs the script on standard input.
+fn script<W: Write>(rt: &HostRuntime, writer: &mut W) -> u8 {
+    match BufReader::new(rt.alloc(), rt.reader()) {
+        Ok(mut reader) => run::script(rt.alloc(), &mut reader, writer),
+        Err(_) => run::no_memory(writer),
+    }
+}
+
+fn main(rt: HostRuntime) -> ExitCode {
+    let mut writer = io::writer(&rt);
+    let status = match asked(&rt) {
+        None => run::no_memory(&mut writer),
+        Some(Wanted::Script) => script(&rt, &mut writer),
+        Some(Wanted::Machine | Wanted::Threads(_) | Wanted::Usage) => run::usage(&mut writer),
+    };
+    ExitCode::from(status)
+}

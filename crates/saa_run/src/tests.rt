@@ -1,0 +1,479 @@
+//! What no contract says: that memory and transfers succeed where they can, and the exact bytes of the
+//! worked rows, which were written down by hand.
+
+use crate::reply::{Said, put_bad_line, put_reply, said_by_semaphore};
+use crate::run::{Wanted, no_memory, script, usage, wanted};
+use crate::transfer::{Cut, LineBytes, put, put_all, read_line};
+use saa_core::bench::ReplyOf;
+use saa_core::semaphore::SemaphoreAnswer;
+use std::alloc::Global;
+use std::io::{self, Read, Write};
+use std::test::Fail;
+
+/// A script, what is written of it, and the status.
+struct Row {
+    input: &'static str,
+    output: &'static str,
+    status: u8,
+}
+
+/// The worked rows, the examples, and bad lines of each kind.
+const ROWS: [Row; 41] = [
+    // A release serves the oldest waiters that fit, one after another.
+    Row {
+        input: "semaphore 63 4\ntry 60\nreg 1 5 sync\nreg 2 1 sync\ntry 1\nrelease 1\navailable\nrelease 1\navailable\npoll_sync 1\npoll_sync 2\nrelease 5\npoll_sync 2\navailable\n",
+        output: "true\ntrue\ntrue\nfalse\ntrue\n4\ntrue\n0\nok\nnot_ready\ntrue\nok\n4\n",
+        status: 0,
+    },
+    // A dropped waiter lets the next be granted.
+    Row {
+        input: "semaphore 63 4\ntry 63\nreg 1 11 sync\nreg 2 9 sync\nrelease 9\navailable\ndrop 1\npoll_sync 2\navailable\n",
+        output: "true\ntrue\ntrue\ntrue\n9\ndropped\nok\n0\n",
+        status: 0,
+    },
+    // An answered slot is still held: examples/first.script.
+    Row {
+        input: "semaphore 63 1\ntry 63\nreg 1 1 sync\nreg 2 1 sync\nrelease 1\nreg 2 1 sync\npoll_sync 1\nreg 2 1 sync\n",
+        output: "true\ntrue\nfull\ntrue\nfull\nok\ntrue\n",
+        status: 0,
+    },
+    // Nobody passes a waiter, not even for 0 permits.
+    Row {
+        input: "semaphore 63 4\ntry 63\nreg 1 1 sync\ntry 0\nreg 2 0 sync\nrelease 0\npoll_sync 2\nrelease 1\npoll_sync 1\npoll_sync 2\navailable\n",
+        output: "true\ntrue\nfalse\ntrue\ntrue\nnot_ready\ntrue\nok\nok\n0\n",
+        status: 0,
+    },
+    // More than 63 permits are never had, asked for or given back.
+    Row {
+        input: "semaphore 100 4\navailable\ntry 64\nreg 1 64 sync\nrelease 64\nrelease 256\navailable\n",
+        output: "63\nfalse\nfalse\nfalse\nfalse\n63\n",
+        status: 0,
+    },
+    // Permits that were withheld may be released.
+    Row {
+        input: "semaphore 0 4\nrelease 1\navailable\ntry 1\nrelease 63\nrelease 1\n",
+        output: "true\n1\ntrue\ntrue\nfalse\n",
+        status: 0,
+    },
+    // A grant that was made at once goes back where it is dropped.
+    Row {
+        input: "semaphore 63 4\ntry 60\nreg 1 3 sync\navailable\ndrop 1\navailable\n",
+        output: "true\ntrue\n0\ndropped\n3\n",
+        status: 0,
+    },
+    // Back pressure: examples/back_pressure.script.
+    Row {
+        input: "semaphore 2 1\nreg 1 1 async\nreg 2 1 async\npoll_async 1\npoll_async 2\nreg 3 1 async\npoll_async 3\nreg 4 1 async\nrelease 1\nreg 4 1 async\npoll_async 3\nreg 4 1 async\nregistered 4\ndrop 4\nregistered 4\nrelease 1\nrelease 1\navailable\n",
+        output: "true\ntrue\nok\nok\ntrue\nnot_ready\nfull\ntrue\nfull\nok\ntrue\ntrue\ndropped\nfalse\ntrue\ntrue\n2\n",
+        status: 0,
+    },
+    // A bad line: examples/bad_line.script.
+    Row {
+        input: "semaphore 3 4\ntry 2\navailable\ntry two\ntry 1\n",
+        output: "true\n1\nbad line 4\n",
+        status: 2,
+    },
+    // Each kind of line and each reply.
+    Row {
+        input: "semaphore 2 1\nis_open\nis_closed\ntry 2\nis_open\nis_closed\navailable\nregistered 99\nreg 99 1 async\nregistered 99\npoll_sync 99\npoll_async 99\ntry_poll 99\nrelease 2\ntry_poll 99\ntry_poll 99\ndrop 99\ntry 999999\nrelease 0\n",
+        output: "true\nfalse\ntrue\nfalse\ntrue\n0\nfalse\ntrue\ntrue\nwrong_mode\nnot_ready\nnot_ready\ntrue\nok\nnot_registered\ndropped\nfalse\ntrue\n",
+        status: 0,
+    },
+    // A pager that is registered is not registered again.
+    Row {
+        input: "semaphore 0 2\nreg 0 1 sync\nreg 0 1 sync\nregistered 0\n",
+        output: "true\nfalse\ntrue\n",
+        status: 0,
+    },
+    // A first line alone.
+    Row {
+        input: "semaphore 63 4\n",
+        output: "",
+        status: 0,
+    },
+    // A first line that no newline ends.
+    Row {
+        input: "semaphore 63 4",
+        output: "",
+        status: 0,
+    },
+    // The largest room.
+    Row {
+        input: "semaphore 63 65535\navailable\n",
+        output: "63\n",
+        status: 0,
+    },
+    // A last line that no newline ends, and that is good.
+    Row {
+        input: "semaphore 63 4\ntry 1",
+        output: "true\n",
+        status: 0,
+    },
+    // One that is bad.
+    Row {
+        input: "semaphore 63 4\ntry 1\ntry",
+        output: "true\nbad line 3\n",
+        status: 2,
+    },
+    // An empty input.
+    Row {
+        input: "",
+        output: "bad line 1\n",
+        status: 2,
+    },
+    // An empty first line.
+    Row {
+        input: "\n",
+        output: "bad line 1\n",
+        status: 2,
+    },
+    // A room of 65536.
+    Row {
+        input: "semaphore 63 65536\n",
+        output: "bad line 1\n",
+        status: 2,
+    },
+    // First lines that are not known yet.
+    Row {
+        input: "lock 4\ntry_lock\n",
+        output: "bad line 1\n",
+        status: 2,
+    },
+    // Another.
+    Row {
+        input: "gate 4\n",
+        output: "bad line 1\n",
+        status: 2,
+    },
+    // Another.
+    Row {
+        input: "barrier 3 4\n",
+        output: "bad line 1\n",
+        status: 2,
+    },
+    // A first line without its room.
+    Row {
+        input: "semaphore 63\n",
+        output: "bad line 1\n",
+        status: 2,
+    },
+    // A first line with a field too many.
+    Row {
+        input: "semaphore 63 4 4\n",
+        output: "bad line 1\n",
+        status: 2,
+    },
+    // Two spaces.
+    Row {
+        input: "semaphore 63 4\ntry  1\n",
+        output: "bad line 2\n",
+        status: 2,
+    },
+    // A space in front.
+    Row {
+        input: "semaphore 63 4\n try 1\n",
+        output: "bad line 2\n",
+        status: 2,
+    },
+    // A space behind.
+    Row {
+        input: "semaphore 63 4\ntry 1 \n",
+        output: "bad line 2\n",
+        status: 2,
+    },
+    // A leading zero.
+    Row {
+        input: "semaphore 63 4\ntry 01\n",
+        output: "bad line 2\n",
+        status: 2,
+    },
+    // A sign.
+    Row {
+        input: "semaphore 63 4\ntry +1\n",
+        output: "bad line 2\n",
+        status: 2,
+    },
+    // Seven digits.
+    Row {
+        input: "semaphore 63 4\ntry 1000000\n",
+        output: "bad line 2\n",
+        status: 2,
+    },
+    // Six digits.
+    Row {
+        input: "semaphore 63 4\ntry 999999\n",
+        output: "false\n",
+        status: 0,
+    },
+    // A carriage return.
+    Row {
+        input: "semaphore 63 4\ntry 1\r\n",
+        output: "bad line 2\n",
+        status: 2,
+    },
+    // 81 bytes.
+    Row {
+        input: "semaphore 63 4\nxxxxxxxxxxxxxxxxxxxxxxxxxxxxxxxxxxxxxxxxxxxxxxxxxxxxxxxxxxxxxxxxxxxxxxxxxxxxxxxxx\n",
+        output: "bad line 2\n",
+        status: 2,
+    },
+    // 81 bytes in the first line.
+    Row {
+        input: "xxxxxxxxxxxxxxxxxxxxxxxxxxxxxxxxxxxxxxxxxxxxxxxxxxxxxxxxxxxxxxxxxxxxxxxxxxxxxxxxx\nsemaphore 63 4\n",
+        output: "bad line 1\n",
+        status: 2,
+    },
+    // An empty line.
+    Row {
+        input: "semaphore 63 4\n\n",
+        output: "bad line 2\n",
+        status: 2,
+    },
+    // An unknown word.
+    Row {
+        input: "semaphore 63 4\nfrob 1\n",
+        output: "bad line 2\n",
+        status: 2,
+    },
+    // A word in capitals.
+    Row {
+        input: "semaphore 63 4\nTRY 1\n",
+        output: "bad line 2\n",
+        status: 2,
+    },
+    // A pager of 100.
+    Row {
+        input: "semaphore 63 4\ntry_poll 100\n",
+        output: "bad line 2\n",
+        status: 2,
+    },
+    // A pager of 99.
+    Row {
+        input: "semaphore 63 4\ntry_poll 99\n",
+        output: "not_registered\n",
+        status: 0,
+    },
+    // A mode that is none.
+    Row {
+        input: "semaphore 63 4\nreg 1 1 both\n",
+        output: "bad line 2\n",
+        status: 2,
+    },
+    // Nothing is read behind a bad line.
+    Row {
+        input: "semaphore 63 4\navailable\nno\navailable\n",
+        output: "63\nbad line 3\n",
+        status: 2,
+    },
+];
+
+/// Runs a script over memory: what it wrote, and its status.
+fn run_over_memory(alloc: Global, input: &str) -> (Vec<u8>, u8) {
+    let mut reader = input.as_bytes();
+    let mut writer = Vec::new(alloc);
+    let status = script(alloc, &mut reader, &mut writer);
+    (writer, status)
+}
+
+#[test]
+fn rows_and_bad_lines(rt: HostRuntime) {
+    for row in &ROWS {
+        let (output, status) = run_over_memory(rt.alloc(), row.input);
+        assert_eq!(rt;
+            output.as_slice(),
+            row.output.as_bytes(),
+            "of {:?}",
+            row.input
+        );
+        assert_eq!(rt; status, row.status, "of {:?}", row.input);
+    }
+}
+
+/// A reader that gives one byte a read, and fails behind the last.
+#[derive(Drop)]
+struct BreakingReader<'a> {
+    left: &'a [u8],
+}
+
+impl Read for BreakingReader<'_> {
+    fn read(&mut self, buf: &mut [u8]) -> io::Result<usize> {
+        if buf.is_empty() {
+            return Ok(0);
+        }
+        match self.left {
+            [] => Err(io::Error::from(io::ErrorKind::Other)),
+            [first, rest @ ..] => {
+                buf[0] = *first;
+                self.left = rest;
+                Ok(1)
+            }
+        }
+    }
+}
+
+/// A writer that takes one byte a write, and fails where its room is used up; its flush may fail too.
+#[derive(Drop)]
+struct NarrowWriter {
+    taken: Vec<u8>,
+    room: usize,
+    flushes: bool,
+}
+
+impl Write for NarrowWriter {
+    fn write(&mut self, buf: &[u8]) -> io::Result<usize> {
+        if self.room == 0 {
+            return Err(io::Error::from(io::ErrorKind::Other));
+        }
+        match buf {
+            [] => Ok(0),
+            [first, ..] => {
+                self.taken.push(*first)?;
+                self.room -= 1;
+                Ok(1)
+            }
+        }
+    }
+
+    fn flush(&mut self) -> io::Result<()> {
+        if self.flushes {
+            Ok(())
+        } else {
+            Err(io::Error::from(io::ErrorKind::Other))
+        }
+    }
+}
+
+/// A writer with this much room.
+fn with_room(alloc: Global, room: usize) -> NarrowWriter {
+    NarrowWriter {
+        taken: Vec::new(alloc),
+        room,
+        flushes: true,
+    }
+}
+
+const INPUT: &str = "semaphore 2 4\ntry 2\navailable\nreg 1 1 sync\n";
+
+const OUTPUT: &str = "true\n0\ntrue\n";
+
+/// A read that fails, behind any number of bytes: no half line is called bad, and what went out is a beginning.
+#[test]
+fn a_read_fails(rt: HostRuntime) {
+    for count in 0..INPUT.len() + 1 {
+        let mut reader = BreakingReader {
+            left: &INPUT.as_bytes()[..count],
+        };
+        let mut writer = Vec::new(rt.alloc());
+        assert_eq!(rt;
+            script(rt.alloc(), &mut reader, &mut writer),
+            4,
+            "behind {count} bytes"
+        );
+        assert!(rt;
+            OUTPUT.as_bytes().starts_with(writer.as_slice()),
+            "behind {count} bytes"
+        );
+        assert!(rt; writer.len() == OUTPUT.len() || count < INPUT.len());
+    }
+}
+
+/// A write that fails, behind any number of bytes.
+#[test]
+fn a_write_fails(rt: HostRuntime) {
+    for room in 0..OUTPUT.len() {
+        let mut reader = INPUT.as_bytes();
+        let mut writer = with_room(rt.alloc(), room);
+        assert_eq!(rt;
+            script(rt.alloc(), &mut reader, &mut writer),
+            4,
+            "behind {room} bytes"
+        );
+        assert_eq!(rt; writer.taken.as_slice(), &OUTPUT.as_bytes()[..room]);
+    }
+    let mut reader = INPUT.as_bytes();
+    let mut writer = with_room(rt.alloc(), OUTPUT.len());
+    assert_eq!(rt; script(rt.alloc(), &mut reader, &mut writer), 0);
+    assert_eq!(rt; writer.taken.as_slice(), OUTPUT.as_bytes());
+}
+
+/// A write of the line that tells of a bad line fails, and so does a flush at the end.
+#[test]
+fn a_last_write_fails(rt: HostRuntime) {
+    let mut reader = "no\n".as_bytes();
+    let mut writer = with_room(rt.alloc(), 3);
+    assert_eq!(rt; script(rt.alloc(), &mut reader, &mut writer), 4);
+    assert_eq!(rt; writer.taken.as_slice(), b"bad".as_slice());
+    let mut reader = INPUT.as_bytes();
+    let mut writer = NarrowWriter {
+        taken: Vec::new(rt.alloc()),
+        room: 100,
+        flushes: false,
+    };
+    assert_eq!(rt; script(rt.alloc(), &mut reader, &mut writer), 4);
+    assert_eq!(rt; writer.taken.as_slice(), OUTPUT.as_bytes());
+}
+
+/// The line that says how the program is used, and what is said of refused memory.
+#[test]
+fn last_words(rt: HostRuntime) {
+    let mut writer = Vec::new(rt.alloc());
+    assert_eq!(rt; usage(&mut writer), 2);
+    assert_eq!(rt;
+        writer.as_slice(),
+        b"usage: saa-run script | machine | threads N\n".as_slice()
+    );
+    let mut writer = Vec::new(rt.alloc());
+    assert_eq!(rt; no_memory(&mut writer), 3);
+    assert_eq!(rt; writer.as_slice(), b"no memory\n".as_slice());
+    let mut writer = with_room(rt.alloc(), 5);
+    assert_eq!(rt; usage(&mut writer), 4);
+    assert_eq!(rt; writer.taken.as_slice(), b"usage".as_slice());
+    let mut writer = with_room(rt.alloc(), 0);
+    assert_eq!(rt; no_memory(&mut writer), 4);
+}
+
+/// Exactly the word `script` asks for a script.
+#[test]
+fn what_is_wanted(rt: HostRuntime) -> Result<(), Fail> {
+    let mut words = Vec::new(rt.alloc());
+    assert_eq!(rt; wanted(words.as_slice()), Wanted::Usage);
+    words.push(String::from_str(rt.alloc(), "script")?)?;
+    assert_eq!(rt; wanted(words.as_slice()), Wanted::Script);
+    words.push(String::from_str(rt.alloc(), "script")?)?;
+    assert_eq!(rt; wanted(words.as_slice()), Wanted::Usage);
+    for other in ["machine", "threads", "Script", "script ", ""] {
+        let mut words = Vec::new(rt.alloc());
+        words.push(String::from_str(rt.alloc(), other)?)?;
+        assert_eq!(rt; wanted(words.as_slice()), Wanted::Usage, "of {other:?}");
+    }
+    Ok(())
+}
+
+/// Each call of `transfer` once.
+#[test]
+fn transfers(rt: HostRuntime) {
+    let mut reader = b"one\ntwo".as_slice();
+    let mut line = LineBytes::new();
+    assert!(rt; matches!(read_line(&mut reader, &mut line), Cut::Newline));
+    assert_eq!(rt; line.as_slice(), b"one".as_slice());
+    assert!(rt; matches!(read_line(&mut reader, &mut line), Cut::End));
+    assert_eq!(rt; line.as_slice(), b"two".as_slice());
+    let mut writer = Vec::new(rt.alloc());
+    assert!(rt; put(&mut writer, b"one").is_ok());
+    assert!(rt; put_all(&mut writer, &[b"two", b"", b"three"]).is_ok());
+    assert_eq!(rt; writer.as_slice(), b"onetwothree".as_slice());
+}
+
+/// Each call of `reply` once.
+#[test]
+fn replies(rt: HostRuntime) {
+    let mut writer = Vec::new(rt.alloc());
+    let said = said_by_semaphore(ReplyOf::Answered(SemaphoreAnswer::Number(63)));
+    assert!(rt; put_reply(&mut writer, said).is_ok());
+    assert!(rt; put_reply(&mut writer, Said::Full).is_ok());
+    assert!(rt; put_bad_line(&mut writer, 18446744073709551615).is_ok());
+    assert_eq!(rt;
+        writer.as_slice(),
+        b"63\nfull\nbad line 18446744073709551615\n".as_slice()
+    );
+}
