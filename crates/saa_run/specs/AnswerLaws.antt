@@ -1,12 +1,15 @@
--- What always holds of the answer to lines. `steps::Speaker` asks for these facts, and its impls name them: so they
--- stand here, though they are lemmas.
-use Rattle.std.proofs.Common.{◌≡◌, ◌<◌, ℕ, ◌+◌, true, List, [], ◌∷◌, length, Option, None, refl, arith}
-use Rattle.std.specs.Prelude.{nat_lt}
-use Rattle.std.proofs.lemmas.Bool.Decides.{nat_tests}
+-- What always holds of the answer to lines. `steps::Speaker` asks for these facts of every speaker, and its impls
+-- name them: so they stand here, though they are lemmas.
+use Rattle.std.proofs.Common.{◌≡◌, ◌<◌, ℕ, ◌+◌, ◌∙◌, List, [], ◌∷◌, length, Option, Some, None, ap, refl, add-zero}
+use Rattle.std.specs.Prelude.{if◌then◌else◌}
+use Rattle.std.specs.Option.{option_map_or}
+use Rattle.std.proofs.lemmas.Bool.{lt-ltb}
+use Rattle.std.proofs.Math.Nat.{zero-lt-suc}
 use Rattle.saa_core.specs.Object.{Object, After}
-use Rattle.saa_run.specs.Language.{semaphore_line_of}
+use Rattle.saa_run.specs.Fields.{fields_of}
+use Rattle.saa_run.specs.Language.{semaphore_line_in, semaphore_line_of}
 use Rattle.saa_run.specs.Replies.{semaphore_does}
-use Rattle.saa_run.specs.Text.{answer_from, good_front}
+use Rattle.saa_run.specs.Text.{Answer, answer_from, good_front, replies_to, bad_behind}
 use Rattle.saa_run.specs.Steps.{no_lines, bad_at, IsBadAt}
 
 module _ {L : Type 0} (meaning : List ℕ → Option L) (does : L → Object → After (List ℕ)) where
@@ -15,15 +18,26 @@ module _ {L : Type 0} (meaning : List ℕ → Option L) (does : L → Object →
   unfolding answer_from good_front
   answer-none number s = refl
 
+  -- the answer to lines, by the good ones in front
+  by_front : ℕ → Object → ℕ → List L → Answer
+  by_front number s all good = record { replies = replies_to does s good; bad = bad_behind number (length good) all }
+
+  -- no replies, and perhaps a bad line
+  only_bad : Option ℕ → Answer
+  only_bad bad = record { replies = []; bad = bad }
+
   -- a bad line ends the answer
   pub answer-bad : (number : ℕ) (s : Object) (line : List ℕ) (lines : List (List ℕ)) → meaning line ≡ None → answer_from meaning does number s (line ∷ lines) ≡ bad_at number
-  unfolding answer_from good_front
-  answer-bad number s line lines means = let none : number + 0 ≡ number = omega arith in let some : nat_lt 0 (length (line ∷ lines)) ≡ true = grind (arith, nat_tests) in rw (means, some, none) refl
+  unfolding answer_from good_front by_front only_bad
+  answer-bad number s line lines means =
+      ap (λ found. by_front number s (length (line ∷ lines)) (option_map_or (λ good. good ∷ good_front meaning lines) found [])) means
+      ∙ ap (λ b. only_bad (if b then Some (number + 0) else None)) (lt-ltb 0 (length (line ∷ lines)) (zero-lt-suc (length lines)))
+      ∙ ap (λ n. only_bad (Some n)) (add-zero number)
 
 -- no line of more than 80 bytes means anything
 pub line-long : (line : List ℕ) → 80 < length line → semaphore_line_of line ≡ None
 unfolding semaphore_line_of
-line-long line long = let test : nat_lt 80 (length line) ≡ true = grind (arith, nat_tests) in rw test refl
+line-long line long = ap (λ b. if b then None else semaphore_line_in (fields_of line)) (lt-ltb 80 (length line) long)
 
 -- a line of more than 80 bytes is bad for a semaphore
 pub semaphore-too_long : (number : ℕ) (s : Object) (line : List ℕ) → 80 < length line → IsBadAt number (answer_from semaphore_line_of semaphore_does number s) line

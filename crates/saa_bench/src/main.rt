@@ -1,0 +1,22 @@
+//! Times the threaded semaphore beside a plain counter under std's `Mutex` and `Condvar`, in one run.
+//!
+//! With the argument `measure` it prints, for 1, 2, 4 and 8 threads, what one acquire with its release costs by each,
+//! and the ratio; with any other arguments only how to run it. What is measured here is proved nowhere. The counter
+//! is unfair: whoever comes first takes what is there.
+#![tactic(auto)]
+
+mod measure;
+mod permits;
+
+use std::{env, io};
+
+fn main(rt: HostRuntime) -> io::Result<()> {
+    let mut is_wanted = false;
+    for word in env::args(&rt)?.skip(1) {
+        is_wanted = word.as_str() == "measure";
+    }
+    if !is_wanted {
+        return println!(rt; "run with: measure");
+    }
+    measure::table(&rt, rt.alloc())
+}

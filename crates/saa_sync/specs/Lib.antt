@@ -1,0 +1,2 @@
+pub mod Pagers
+pub mod Waits

@@ -1,0 +1,167 @@
+//! A pager: a ticket, and where it is registered; and what a primitive must give for its pagers.
+//!
+//! `SyncResult` is what generic code knows of a threaded form. A pager is held to the plain clause of every poll: it
+//! is registered afterwards exactly where it was before and the answer is one of the three errors of a poll.
+
+ghost use Rattle.std.specs.Prelude.{◌≡◌, ℕ, false, Option, Some, None};
+ghost use Rattle.saa_core.specs.declared.ticket.Error.{Error};
+ghost use Rattle.saa_core.specs.declared.ticket.How.TheVariants.{Sync};
+ghost use Rattle.saa_core.specs.declared.ticket.Registration.TheVariants.{Unregistered};
+ghost use Rattle.saa_core.specs.Tickets.{Polled, is_busy};
+ghost use Rattle.saa_sync.specs.Waits.{is_not_ready};
+
+pub use saa_core::ticket::{Error, How, Ticket};
+use std::marker::Model;
+
+/// A primitive that pagers wait at: how its answers read, and how a ticket of it is polled and cancelled.
+pub trait SyncResult: Sized {
+    /// What a poll answers.
+    type Result: Copy + Eq;
+
+    // Which values mean something, what an answer reads as, and which answers are an error of the poll.
+    ghost is_value: { ℕ → Type 0 };
+
+    ghost answer: { ℕ → Option Error → Self.Result };
+
+    ghost fault: { Self.Result → Option Error };
+
+    /// What a poll answers, by the value of an answer, or by the error if there is one; then the value isn't read.
+    ///
+    /// Without an error the value is one that the primitive answers (a condition; each primitive says which).
+    fn to_result(value: u8, pager_error: Option<Error>) -> Self::Result
+        requires { pager_error ≡ None → is_value value }
+        ensures answer { result ≡ answer value pager_error }
+        ensures fault { fault result ≡ pager_error };
+
+    /// Polls a ticket that was registered here.
+    ///
+    /// `How::Sync` waits for the answer; `How::Try` and `How::Async` never sleep for one, and answer `NotReady` where
+    /// it isn't there. `NotRegistered`: the ticket is idle, or was registered elsewhere. `WrongMode`: it was registered
+    /// as async and is polled as sync, or the other way round. These three leave the ticket as it was; every other
+    /// answer leaves it idle. May wait for the lock.
+    fn take(&self, ticket: &mut Ticket, how: How) -> Self::Result
+        ensures polled { Polled ticket.old ticket.new (fault result) }
+        ensures waited { how ≡ Sync → is_not_ready (fault result) ≡ false };
+
+    /// Drops what a ticket is registered for here, and wakes whom that answers; the ticket is idle afterwards.
+    ///
+    /// May wait for the lock. A ticket that was registered elsewhere only becomes idle.
+    fn cancel(&self, ticket: &mut Ticket)
+        ensures { ticket.new ≡ Unregistered };
+}
+
+/// A place in a primitive's line that outlives the call that took it: registered by the primitive's `register_pager`,
+/// then polled.
+///
+/// It borrows the primitive. It can't be copied, and dropping it drops what it is registered for, as
+/// [`Pager::cancel`] does: a waiter leaves the line, and what was granted and not consumed is given back. Contracts
+/// see it as its ticket.
+pub struct Pager<'s, S: SyncResult> {
+    ticket: Ticket,
+    // The primitive, while the ticket is registered.
+    at: Option<&'s S>,
+}
+
+impl<'s, S: SyncResult> Model for Pager<'s, S> {
+    ghost use Rattle.std.specs.Prelude.{◌≡◌, is_some};
+    ghost use Rattle.saa_core.specs.declared.ticket.Registration.{Registration};
+    ghost use Rattle.saa_core.specs.Tickets.{is_busy};
+
+    ghost Value = { Registration };
+
+    ghost view = { λ pager. pager.ticket };
+
+    ghost invariant = { λ pager. is_some pager.at ≡ is_busy pager.ticket };
+}
+
+impl<'s, S: SyncResult> Pager<'s, S> {
+    /// A pager that isn't registered. Takes no lock and no memory, and waits for nobody.
+    pub fn new() -> Pager<'s, S>
+        ensures { result ≡ Unregistered }
+    {
+        Pager {
+            ticket: Ticket::new(),
+            at: None,
+        }
+    }
+
+    /// Whether it is registered: it waits, or its answer isn't consumed yet. Takes no lock and no memory, and waits
+    /// for nobody.
+    pub fn is_registered(&mut self) -> bool
+        ensures answer { result ≡ is_busy self.old }
+        ensures unchanged { self.new ≡ self.old }
+    {
+        self.ticket.is_registered()
+    }
+
+    /// Takes the answer if it is there, whichever way the pager was registered; never sleeps for it.
+    ///
+    /// The primitive's `NotRegistered` where the pager isn't registered, and its `NotReady` where the answer isn't
+    /// there yet; these leave the pager as it was. Any other answer leaves it unregistered. May wait for the lock.
+    pub fn try_poll(&mut self) -> S::Result
+        ensures { Polled self.old self.new (S.fault result) }
+    {
+        self.poll(How::Try)
+    }
+
+    /// Waits for the answer of a pager that was registered as sync.
+    ///
+    /// The primitive's `NotRegistered` where the pager isn't registered, and its `WrongMode` where it was registered as
+    /// async, even with an answer there; these come at once, and leave the pager as it was. Any other answer leaves it
+    /// unregistered.
+    pub fn poll_sync(&mut self) -> S::Result
+        ensures polled { Polled self.old self.new (S.fault result) }
+        ensures waited { is_not_ready (S.fault result) ≡ false }
+    {
+        self.poll(How::Sync)
+    }
+
+    /// Drops what it is registered for, and wakes whom that answers; it is unregistered afterwards and can be used again.
+    ///
+    /// Does nothing where it isn't registered. May wait for the lock. A waiter's drop costs O(how many wait).
+    pub fn cancel(&mut self)
+        ensures { self.new ≡ Unregistered }
+    {
+        if let Some(primitive) = self.at {
+            primitive.cancel(&mut self.ticket);
+            self.at = None;
+        }
+    }
+
+    // Takes over a ticket that was registered at this primitive, or an idle one.
+    pub(crate) fn hold(&mut self, ticket: Ticket, primitive: &'s S)
+        requires { is_busy self.old ≡ false }
+        ensures { self.new ≡ ticket }
+    {
+        self.at = if ticket.is_registered() {
+            Some(primitive)
+        } else {
+            None
+        };
+        self.ticket = ticket;
+    }
+
+    // One poll; an unregistered pager is answered without its primitive.
+    fn poll(&mut self, how: How) -> S::Result
+        ensures polled { Polled self.old self.new (S.fault result) }
+        ensures waited { how ≡ Sync → is_not_ready (S.fault result) ≡ false }
+    {
+        let Some(primitive) = self.at else {
+            return S::to_result(0, Some(Error::NotRegistered));
+        };
+        let answer = primitive.take(&mut self.ticket, how);
+        if !self.ticket.is_registered() {
+            self.at = None;
+        }
+        answer
+    }
+}
+
+impl<S: SyncResult> Drop for Pager<'_, S> {
+    fn drop(self) {
+        let Pager { mut ticket, at } = self;
+        if let Some(primitive) = at {
+            primitive.cancel(&mut ticket);
+        }
+    }
+}

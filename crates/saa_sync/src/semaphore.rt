@@ -1,0 +1,266 @@
+//! The semaphore that threads share: a `SemaphoreCore` in a shell.
+//!
+//! Each call is one lock, one step of the core, and the wakes that the core owes. The steps stand at the end of this
+//! file as functions that are lent the core, and are held to `specs/Semaphore.antt` of `saa_core` through its calls.
+
+ghost use Rattle.std.specs.Prelude.{◌≡◌, ◌↔◌, ◌≤◌, ◌<◌, ◌||◌, ◌==◌, true, false, [], nat_lt, IsTrue, Ok};
+ghost use Rattle.std.specs.Bool.{OnFalse};
+ghost use Rattle.saa_core.specs.declared.request.Request.TheVariants.{Permits};
+ghost use Rattle.saa_core.specs.Asking.{tried};
+ghost use Rattle.saa_core.specs.Polling.{given_back};
+ghost use Rattle.saa_core.specs.Semaphore.{available, bound_of, out_of};
+ghost use Rattle.saa_core.specs.Tickets.{Calls, is_busy, is_yes};
+
+use crate::pager::{Pager, SyncResult};
+use crate::shell::Shell;
+use saa_core::semaphore::SemaphoreCore;
+use saa_core::ticket::{Error, Full, How, Ticket};
+use std::alloc::{AllocError, Global};
+use std::sync::Wait;
+use std::sync::atomic::Ordering;
+
+/// Up to 63 permits that threads share, taken in the order of asking.
+///
+/// A task that must wait joins a line, and the line is served strictly in order: while somebody waits, nobody who asks
+/// later is granted first, 0 permits included. `R` is the leave to wait, as a reference to the runtime. Every call may
+/// wait for the lock, which is held for one short step of the core at a time; all but making take no memory.
+///
+/// Each ticket and pager is used with the semaphore that it was registered in.
+#[derive(Drop)]
+pub struct Semaphore<R: Wait + Drop> {
+    shell: Shell<R, SemaphoreCore>,
+}
+
+impl<R: Wait + Drop> Semaphore<R> {
+    /// The most permits of a semaphore.
+    pub const MAX_PERMITS: usize = SemaphoreCore::MAX_PERMITS;
+
+    /// A semaphore with all its permits available, and room for so many slots of those who wait. Costs O(`room`).
+    ///
+    /// Reserves all the memory that it will ever need; the error comes only where that was refused.
+    pub fn new(rt: R, alloc: Global, room: u16) -> Result<Self, AllocError> {
+        Self::with_permits(rt, alloc, Self::MAX_PERMITS, room)
+    }
+
+    /// A semaphore with at most so many permits available; the others count as out, and may be released.
+    /// A number above [`Self::MAX_PERMITS`] is cut to it. Costs O(`room`).
+    ///
+    /// Reserves all the memory that it will ever need; the error comes only where that was refused.
+    pub fn with_permits(
+        rt: R,
+        alloc: Global,
+        permits: usize,
+        room: u16,
+    ) -> Result<Self, AllocError> {
+        let core = SemaphoreCore::with_permits(alloc, permits, room)?;
+        Ok(Semaphore {
+            shell: Shell::new(rt, alloc, core, room)?,
+        })
+    }
+
+    /// Whether a permit is available. Every ordering acts as the sequentially consistent one; none panics.
+    pub fn is_open(&self, _mo: Ordering) -> bool {
+        tell_open(&self.shell.lock().core)
+    }
+
+    /// Whether no permit is available. Every ordering acts as the sequentially consistent one; none panics.
+    pub fn is_closed(&self, _mo: Ordering) -> bool {
+        tell_closed(&self.shell.lock().core)
+    }
+
+    /// How many permits are available, 0 to 63. Every ordering acts as the sequentially consistent one; none panics.
+    pub fn available_permits(&self, _mo: Ordering) -> usize {
+        count_available(&self.shell.lock().core)
+    }
+
+    /// Takes one permit if nobody waits and one is available; see [`Self::try_acquire_many`].
+    pub fn try_acquire(&self) -> bool {
+        self.try_acquire_many(1)
+    }
+
+    /// Takes `count` permits if nobody waits and they are available; never waits for them. Wakes nobody.
+    ///
+    /// A count above [`Self::MAX_PERMITS`] is never granted. 0 permits are refused too while somebody waits.
+    /// A `false` changes nothing.
+    pub fn try_acquire_many(&self, count: usize) -> bool {
+        take_now(&mut self.shell.lock().core, count)
+    }
+
+    /// Gives one permit back; see [`Self::release_many`].
+    pub fn release(&self) -> bool {
+        self.release_many(1)
+    }
+
+    /// Gives `count` permits back, grants those who wait, oldest first, while they fit, and wakes exactly those.
+    ///
+    /// `false` comes exactly where fewer permits are out, and changes nothing. 0 permits are given back always, and
+    /// change nothing. Each who is granted costs a ring at its seat, which is a system call only where it sleeps, and
+    /// each eight of them one more short lock; where nobody is granted nothing is added.
+    pub fn release_many(&self, count: usize) -> bool {
+        let (answer, first) = {
+            let mut inside = self.shell.lock();
+            let answer = give_back(&mut inside.core, count);
+            (answer, inside.next_wakes())
+        };
+        self.shell.wake(first);
+        answer
+    }
+
+    /// Takes one permit, and waits for it in the line where it must.
+    ///
+    /// `Full`: it would have to wait, and as many slots are held as there is room; nothing is changed. Nothing stays
+    /// registered either way.
+    pub fn acquire_sync(&self) -> Result<(), Full> {
+        // One permit is never too many, so there is a value.
+        let _value = self.shell.acquire(1)?;
+        Ok(())
+    }
+
+    /// Takes `count` permits, all at once, and waits for them in the line where it must.
+    ///
+    /// `Ok(false)` comes at once, exactly where the count is above [`Self::MAX_PERMITS`]. `Full`: it would have to
+    /// wait, and as many slots are held as there is room. Both change nothing. Nothing stays registered either way.
+    pub fn acquire_many_sync(&self, count: usize) -> Result<bool, Full>
+        ensures too_many { 63 < count → result ≡ Ok false }
+    {
+        if is_too_many(count) {
+            return Ok(false);
+        }
+        Ok(self.shell.acquire(count)?.is_some())
+    }
+
+    /// Takes one permit as [`Self::acquire_sync`] does, and calls `begin_wait` where it joins the line.
+    ///
+    /// The callback runs once, after the join and before the wait, with the lock free; it may use this semaphore. It
+    /// doesn't run where the permit is there at once, nor where the room is full.
+    pub fn acquire_sync_with<F: FnOnce() + Drop>(&self, begin_wait: F) -> Result<(), Full>
+        requires { F.pre begin_wait }
+    {
+        let _value = self.shell.acquire_with(1, begin_wait)?;
+        Ok(())
+    }
+
+    /// Takes `count` permits as [`Self::acquire_many_sync`] does, and calls `begin_wait` where it joins the line.
+    ///
+    /// The callback runs once, after the join and before the wait, with the lock free; it may use this semaphore. It
+    /// doesn't run where the answer is there at once, `Ok(false)` among them, nor where the room is full.
+    pub fn acquire_many_sync_with<F: FnOnce() + Drop>(
+        &self,
+        count: usize,
+        begin_wait: F,
+    ) -> Result<bool, Full>
+        requires { F.pre begin_wait }
+        ensures too_many { 63 < count → result ≡ Ok false }
+    {
+        if is_too_many(count) {
+            return Ok(false);
+        }
+        Ok(self.shell.acquire_with(count, begin_wait)?.is_some())
+    }
+
+    /// Registers a pager for `count` permits, to be polled as sync or as async.
+    ///
+    /// `Ok(true)`: it was granted at once, or waits, last in the line. `Ok(false)`: the pager is registered already,
+    /// here or elsewhere, or the count is above [`Self::MAX_PERMITS`]. `Full`: it would have to wait, and as many
+    /// slots are held as there is room. All but `Ok(true)` change nothing.
+    pub fn register_pager<'s>(
+        &'s self,
+        pager: &mut Pager<'s, Self>,
+        count: usize,
+        is_sync: bool,
+    ) -> Result<bool, Full>
+        ensures registered { is_busy pager.new ≡ (is_busy pager.old || is_yes result) }
+        ensures busy { is_busy pager.old ≡ true → result ≡ Ok false }
+        ensures too_many { 63 < count → result ≡ Ok false }
+        ensures unchanged { is_yes result ≡ false → pager.new ≡ pager.old }
+    {
+        if pager.is_registered() || is_too_many(count) {
+            return Ok(false);
+        }
+        let mut ticket = Ticket::new();
+        let is_registered = self.shell.register(&mut ticket, count, is_sync)?;
+        pager.hold(ticket, self);
+        Ok(is_registered)
+    }
+}
+
+impl<R: Wait + Drop> SyncResult for Semaphore<R> {
+    ghost use Rattle.saa_core.specs.Tickets.{fault_of};
+    ghost use Rattle.saa_sync.specs.Pagers.{semaphore_answer};
+
+    type Result = Result<(), Error>;
+
+    ghost is_value = { λ value. Unit {0} };
+
+    ghost answer = { semaphore_answer };
+
+    ghost fault = { λ result. fault_of result };
+
+    /// `Ok(())` for every value, and else the error.
+    fn to_result(_value: u8, pager_error: Option<Error>) -> Result<(), Error> {
+        match pager_error {
+            Some(error) => Err(error),
+            None => Ok(()),
+        }
+    }
+
+    /// `Ok(())`: granted, and the ticket is idle; its slot, if it had one, is free again.
+    fn take(&self, ticket: &mut Ticket, how: How) -> Result<(), Error> {
+        match self.shell.take(ticket, how) {
+            Ok(_granted) => Ok(()),
+            Err(error) => Err(error),
+        }
+    }
+
+    /// A waiter leaves the line, and those behind it are granted while they fit; what was granted and not consumed is
+    /// given back, as by `release_many`. Costs O(how many wait) for a waiter, and a wake for each who is granted.
+    fn cancel(&self, ticket: &mut Ticket) {
+        self.shell.cancel(ticket);
+    }
+}
+
+// Whether a count is above the bound, so that it can never be granted.
+fn is_too_many(count: usize) -> bool
+    ensures { IsTrue result ↔ (63 < count) }
+{
+    count > SemaphoreCore::MAX_PERMITS
+}
+
+// Whether a permit is available, of the core that is lent.
+fn tell_open(core: &SemaphoreCore) -> bool
+    ensures { result ≡ nat_lt (out_of core.now.held) (bound_of core.now.held) }
+{
+    core.is_open()
+}
+
+// Whether no permit is available, of the core that is lent.
+fn tell_closed(core: &SemaphoreCore) -> bool
+    ensures { result ≡ (out_of core.now.held == bound_of core.now.held) }
+{
+    core.is_closed()
+}
+
+// How many permits are available, of the core that is lent.
+fn count_available(core: &SemaphoreCore) -> usize
+    ensures { result ≡ available core.now.held }
+{
+    core.available_permits()
+}
+
+// A try on the core that is lent.
+fn take_now(core: &mut SemaphoreCore, count: usize) -> bool
+    ensures calls { Calls core.old core.new (λ s. tried s (Permits count)) result }
+    ensures answer { IsTrue result ↔ ((core.old.slots.line ≡ []) × (count ≤ available core.old.held)) }
+    ensures refused { OnFalse result (core.new ≡ core.old) }
+{
+    core.try_acquire_many(count)
+}
+
+// A release on the core that is lent.
+fn give_back(core: &mut SemaphoreCore, count: usize) -> bool
+    ensures calls { Calls core.old core.new (λ s. given_back s (Permits count)) result }
+    ensures answer { IsTrue result ↔ (count ≤ out_of core.old.held) }
+    ensures refused { OnFalse result (core.new ≡ core.old) }
+{
+    core.release_many(count)
+}

@@ -1,0 +1,365 @@
+//! One lock round any core, and a seat for each slot of its room: what every threaded form stands on.
+//!
+//! A wait is a registration followed by polls: a task that waits looks at its seat, then yields, and only then sleeps
+//! there. A call that answered somebody wakes exactly those, with the lock free. The methods of `Inside` are lent the
+//! core, and say what they do to it; those of `Shell` only take the lock round one of them, and wake.
+
+ghost use Rattle.std.specs.Prelude.{◌≡◌, ◌||◌, false};
+ghost use Rattle.saa_core.specs.declared.ticket.How.TheVariants.{Sync};
+ghost use Rattle.saa_core.specs.declared.ticket.Registration.TheVariants.{Unregistered};
+ghost use Rattle.saa_core.specs.Asking.{registered};
+ghost use Rattle.saa_core.specs.Polling.{polled};
+ghost use Rattle.saa_core.specs.Tickets.{Acts, Polled, dropping, fault_of, is_busy, is_yes};
+ghost use Rattle.saa_sync.specs.Waits.{begun, has_joined, is_not_ready};
+
+use saa_core::bench::Primitive;
+use saa_core::ticket::{Error, Full, How, Registration, Ticket};
+use std::alloc::{AllocError, Global};
+use std::hint::spin_loop;
+use std::sync::atomic::{AtomicBool, Ordering};
+use std::sync::{Condvar, Mutex, MutexGuard, Wait};
+use std::thread::yield_now;
+
+// How often a task that waits looks at its seat, before it begins to yield.
+const LOOKS: u32 = 500;
+
+// How often it yields after that, before it sleeps.
+const YIELDS: u32 = 500;
+
+// How many wakes are taken out of the core under one lock.
+const BATCH: usize = 8;
+
+// Where the holder of a slot waits.
+#[derive(Drop)]
+struct Seat {
+    // Whether the slot may have been answered since its holder joined.
+    rung: AtomicBool,
+    bell: Condvar,
+}
+
+impl Seat {
+    // A seat at which nobody waits.
+    fn new() -> Seat {
+        Seat {
+            rung: AtomicBool::new(false),
+            bell: Condvar::new(),
+        }
+    }
+
+    // A new holder may wait here from now on.
+    fn reset(&self) {
+        self.rung.store(false, Ordering::SeqCst);
+    }
+
+    // Wakes whoever waits here; makes a system call only where somebody sleeps.
+    fn ring(&self) {
+        self.rung.store(true, Ordering::SeqCst);
+        self.bell.notify_all();
+    }
+
+    // Looks, and then yields, until the seat is rung, or so often that it is time to sleep.
+    fn linger(&self) {
+        for turn in 0..LOOKS + YIELDS {
+            if self.rung.load(Ordering::SeqCst) {
+                return;
+            }
+            if turn < LOOKS {
+                spin_loop();
+            } else {
+                yield_now();
+            }
+        }
+    }
+}
+
+/// Wakes that are owed: whoever waits at these slots' seats has an answer. Filled from the front.
+#[derive(Drop)]
+pub(crate) struct Wakes {
+    slots: [Option<u16>; BATCH],
+}
+
+impl Wakes {
+    // Whether more may be owed than found a place here.
+    fn is_full(&self) -> bool {
+        self.slots[BATCH - 1].is_some()
+    }
+}
+
+/// What stands under the lock.
+#[derive(Drop)]
+pub(crate) struct Inside<P: Primitive> {
+    pub(crate) core: P,
+}
+
+impl<P: Primitive> Inside<P> {
+    /// The oldest wakes that the core owes, taken out of its list.
+    pub(crate) fn next_wakes(&mut self) -> Wakes
+        ensures { P.core self.new.core ≡ P.core self.old.core }
+    {
+        let mut slots = [None; BATCH];
+        for place in 0..BATCH {
+            slots[place] = self.core.next_answered();
+            if slots[place].is_none() {
+                break;
+            }
+        }
+        Wakes { slots }
+    }
+
+    // Registers a ticket.
+    fn register(&mut self, ticket: &mut Ticket, ask: P::Ask, is_sync: bool) -> Result<bool, Full>
+        ensures acts { Acts (P.core self.old.core) (P.core self.new.core) ticket.old ticket.new
+            (λ s name. registered s name (P.request ask) is_sync) result }
+        ensures ticket { is_busy ticket.new ≡ (is_busy ticket.old || is_yes result) }
+    {
+        self.core.register(ticket, ask, is_sync)
+    }
+
+    // Registers an idle ticket as sync, and consumes the answer if that is there at once.
+    fn begin(&mut self, ticket: &mut Ticket, ask: P::Ask) -> Result<Begun, Full>
+        requires { ticket.old ≡ Unregistered }
+        ensures acts { Acts (P.core self.old.core) (P.core self.new.core) ticket.old ticket.new
+            (λ s name. begun s name (P.request ask)) result }
+        ensures ticket { is_busy ticket.new ≡ has_joined result }
+    {
+        if !self.register(ticket, ask, true)? {
+            return Ok(Begun::Refused);
+        }
+        match self.poll(ticket, How::Sync) {
+            Ok(value) => Ok(Begun::Answered(value)),
+            Err(_not_ready) => Ok(Begun::Joined),
+        }
+    }
+
+    // Polls a ticket; doesn't wait.
+    fn poll(&mut self, ticket: &mut Ticket, how: How) -> Result<u8, Error>
+        ensures acts { Acts (P.core self.old.core) (P.core self.new.core) ticket.old ticket.new
+            (λ s name. polled s name how) result }
+        ensures ticket { Polled ticket.old ticket.new (fault_of result) }
+    {
+        self.core.poll_number(ticket, how)
+    }
+
+    // Drops what a ticket is registered for.
+    fn cancel(&mut self, ticket: &mut Ticket)
+        ensures acts { Acts (P.core self.old.core) (P.core self.new.core) ticket.old ticket.new dropping result }
+        ensures idle { ticket.new ≡ Unregistered }
+    {
+        self.core.cancel(ticket);
+    }
+}
+
+/// How a call that may wait began.
+#[derive(Drop)]
+pub(crate) enum Begun {
+    /// The registration is false: nothing is registered.
+    Refused,
+    /// It was answered at once, with this value.
+    Answered(u8),
+    /// It joined the line.
+    Joined,
+}
+
+/// A core that threads share.
+#[derive(Drop)]
+pub(crate) struct Shell<R: Wait + Drop, P: Primitive> {
+    rt: R,
+    lock: Mutex<Inside<P>>,
+    // One for each slot of the room.
+    seats: Vec<Seat>,
+    // For a slot past the room, which no core hands out.
+    spare: Seat,
+}
+
+impl<R: Wait + Drop, P: Primitive> Shell<R, P> {
+    /// The core that is handed in, whose slots are those of so large a room. Costs O(`room`).
+    ///
+    /// Only this takes memory; the error comes only where that was refused, and the core is dropped then.
+    pub(crate) fn new(rt: R, alloc: Global, core: P, room: u16) -> Result<Self, AllocError> {
+        let mut seats = Vec::with_capacity(alloc, usize::from(room))?;
+        for _slot in 0..room {
+            seats.push_reserved(Seat::new());
+        }
+        Ok(Shell {
+            rt,
+            lock: Mutex::new(Inside { core }),
+            seats,
+            spare: Seat::new(),
+        })
+    }
+
+    /// Takes the lock; waits for whoever has it.
+    pub(crate) fn lock(&self) -> MutexGuard<'_, Inside<P>> {
+        self.lock.lock(&self.rt)
+    }
+
+    /// Wakes as the core says, from these wakes on, with the lock free.
+    ///
+    /// None costs nothing. Each costs a ring of its seat, which is a system call only where somebody sleeps there, and
+    /// each [`BATCH`] one short lock, to ask for more.
+    pub(crate) fn wake(&self, first: Wakes) {
+        let mut wakes = first;
+        for _ in self.rt.forever() {
+            self.ring(&wakes);
+            if !wakes.is_full() {
+                return;
+            }
+            wakes = self.lock().next_wakes();
+        }
+    }
+
+    /// Registers a ticket as sync and polls it once, under one lock, and wakes whom that answered.
+    pub(crate) fn begin(&self, ticket: &mut Ticket, ask: P::Ask) -> Result<Begun, Full>
+        requires { ticket.old ≡ Unregistered }
+        ensures { is_busy ticket.new ≡ has_joined result }
+    {
+        let (begun, first) = {
+            let mut inside = self.lock();
+            let begun = inside.begin(ticket, ask);
+            self.take_seat(ticket);
+            (begun, inside.next_wakes())
+        };
+        self.wake(first);
+        begun
+    }
+
+    /// Waits for the answer of a ticket that joined the line, and consumes it.
+    ///
+    /// `None` would be a ticket of another core; its registration is dropped then.
+    pub(crate) fn finish(&self, ticket: &mut Ticket) -> Option<u8>
+        ensures { is_busy ticket.new ≡ false }
+    {
+        match self.wait(ticket) {
+            Ok(value) => Some(value),
+            Err(_error) => {
+                self.cancel(ticket);
+                None
+            }
+        }
+    }
+
+    /// Asks, and waits for the answer if it isn't there at once; nothing stays registered.
+    ///
+    /// `None` where the registration is false. `Full`: it would have to wait, and the room is full.
+    pub(crate) fn acquire(&self, ask: P::Ask) -> Result<Option<u8>, Full> {
+        let mut ticket = Ticket::new();
+        match self.begin(&mut ticket, ask)? {
+            Begun::Refused => Ok(None),
+            Begun::Answered(value) => Ok(Some(value)),
+            Begun::Joined => Ok(self.finish(&mut ticket)),
+        }
+    }
+
+    /// Asks, and where that joins the line calls `begin_wait` and waits, as [`Self::acquire`] does.
+    pub(crate) fn acquire_with<F: FnOnce() + Drop>(
+        &self,
+        ask: P::Ask,
+        begin_wait: F,
+    ) -> Result<Option<u8>, Full>
+        requires { F.pre begin_wait }
+    {
+        let mut ticket = Ticket::new();
+        match self.begin(&mut ticket, ask)? {
+            Begun::Refused => Ok(None),
+            Begun::Answered(value) => Ok(Some(value)),
+            Begun::Joined => {
+                begin_wait();
+                Ok(self.finish(&mut ticket))
+            }
+        }
+    }
+
+    /// Registers a ticket, and wakes whom that answered.
+    pub(crate) fn register(
+        &self,
+        ticket: &mut Ticket,
+        ask: P::Ask,
+        is_sync: bool,
+    ) -> Result<bool, Full>
+        ensures { is_busy ticket.new ≡ (is_busy ticket.old || is_yes result) }
+    {
+        let (answer, first) = {
+            let mut inside = self.lock();
+            let answer = inside.register(ticket, ask, is_sync);
+            self.take_seat(ticket);
+            (answer, inside.next_wakes())
+        };
+        self.wake(first);
+        answer
+    }
+
+    /// Polls a ticket: as sync it waits for the answer, else it answers `NotReady` where that isn't there yet.
+    pub(crate) fn take(&self, ticket: &mut Ticket, how: How) -> Result<u8, Error>
+        ensures polled { Polled ticket.old ticket.new (fault_of result) }
+        ensures waited { how ≡ Sync → is_not_ready (fault_of result) ≡ false }
+    {
+        let answer = self.lock().poll(ticket, how);
+        if matches!(how, How::Sync) && matches!(answer, Err(Error::NotReady)) {
+            return self.wait(ticket);
+        }
+        answer
+    }
+
+    /// Drops what a ticket is registered for, and wakes whom that answered.
+    pub(crate) fn cancel(&self, ticket: &mut Ticket)
+        ensures { ticket.new ≡ Unregistered }
+    {
+        let first = {
+            let mut inside = self.lock();
+            inside.cancel(ticket);
+            inside.next_wakes()
+        };
+        self.wake(first);
+    }
+
+    // Rings the seats of the slots whose wake is owed.
+    fn ring(&self, wakes: &Wakes) {
+        for wake in &wakes.slots {
+            let Some(slot) = wake else {
+                return;
+            };
+            self.seat(*slot).ring();
+        }
+    }
+
+    // The seat of a slot.
+    fn seat(&self, slot: u16) -> &Seat {
+        match self.seats.get(usize::from(slot)) {
+            Some(seat) => seat,
+            None => &self.spare,
+        }
+    }
+
+    // The seat at which a ticket waits, if it has a slot.
+    fn seat_of(&self, ticket: &Ticket) -> Option<&Seat> {
+        match ticket.registration() {
+            Registration::InSlot(slot, _request, _is_sync) => Some(self.seat(slot)),
+            _ => None,
+        }
+    }
+
+    // Makes the seat of a ticket that joined ready for it.
+    fn take_seat(&self, ticket: &Ticket) {
+        if let Some(seat) = self.seat_of(ticket) {
+            seat.reset();
+        }
+    }
+
+    // Waits for the answer of a ticket that was registered as sync. A ticket without a slot has its answer.
+    fn wait(&self, ticket: &mut Ticket) -> Result<u8, Error>
+        ensures polled { Polled ticket.old ticket.new (fault_of result) }
+        ensures waited { is_not_ready (fault_of result) ≡ false }
+    {
+        let seat = self.seat_of(ticket).unwrap_or(&self.spare);
+        seat.linger();
+        let mut inside = self.lock();
+        for _ in self.rt.forever() {
+            match inside.poll(ticket, How::Sync) {
+                Err(Error::NotReady) => {}
+                answer => return answer,
+            }
+            inside = seat.bell.wait(&self.rt, inside);
+        }
+        unreachable!()
+    }
+}

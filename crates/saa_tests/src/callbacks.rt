@@ -1,0 +1,66 @@
+//! When the callback of a waiting call runs. It may release what its own call waits for, so one thread is enough.
+
+use saa_core::ticket::Full;
+use saa_sync::semaphore::Semaphore;
+use std::io;
+use std::sync::atomic::{AtomicU64, Ordering};
+
+#[test]
+fn a_callback_may_use_its_semaphore(rt: HostRuntime) -> io::Result<()> {
+    let semaphore = Semaphore::with_permits(&rt, rt.alloc(), 2, 4)?;
+    let seen = AtomicU64::new(9);
+    let answer = semaphore.acquire_many_sync_with(3, || {
+        seen.store(
+            semaphore.available_permits(Ordering::SeqCst) as u64,
+            Ordering::SeqCst,
+        );
+        semaphore.release();
+    });
+    assert_eq!(rt; answer, Ok(true));
+    assert_eq!(rt; seen.load(Ordering::SeqCst), 2);
+    assert_eq!(rt; semaphore.available_permits(Ordering::SeqCst), 0);
+    Ok(())
+}
+
+#[test]
+fn a_callback_runs_once_where_the_task_joins(rt: HostRuntime) -> io::Result<()> {
+    let semaphore = Semaphore::with_permits(&rt, rt.alloc(), 0, 1)?;
+    let runs = AtomicU64::new(0);
+    let count_and_release = || {
+        runs.fetch_add(1, Ordering::SeqCst);
+        semaphore.release();
+    };
+    assert_eq!(rt; semaphore.acquire_sync_with(count_and_release), Ok(()));
+    assert_eq!(rt; runs.load(Ordering::SeqCst), 1);
+    assert_eq!(rt;
+        semaphore.acquire_many_sync_with(1, count_and_release),
+        Ok(true)
+    );
+    assert_eq!(rt; runs.load(Ordering::SeqCst), 2);
+    Ok(())
+}
+
+#[test]
+fn a_callback_does_not_run_where_nobody_waits(rt: HostRuntime) -> io::Result<()> {
+    let semaphore = Semaphore::with_permits(&rt, rt.alloc(), 3, 0)?;
+    let runs = AtomicU64::new(0);
+    let count = || {
+        runs.fetch_add(1, Ordering::SeqCst);
+    };
+    assert_eq!(rt; semaphore.acquire_sync_with(count), Ok(()), "at once");
+    assert_eq!(rt;
+        semaphore.acquire_many_sync_with(2, count),
+        Ok(true),
+        "at once"
+    );
+    assert_eq!(rt;
+        semaphore.acquire_many_sync_with(64, count),
+        Ok(false),
+        "too many"
+    );
+    assert_eq!(rt; semaphore.acquire_sync_with(count), Err(Full));
+    assert_eq!(rt; semaphore.acquire_many_sync_with(1, count), Err(Full));
+    assert_eq!(rt; runs.load(Ordering::SeqCst), 0);
+    assert_eq!(rt; semaphore.available_permits(Ordering::SeqCst), 0);
+    Ok(())
+}

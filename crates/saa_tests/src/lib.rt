@@ -1,0 +1,13 @@
+//! Tests of what no contract says: that a threaded call reaches its core, that a wait waits, and that it is woken.
+//!
+//! Every test joins its threads, ends by itself, and rests nothing on timing.
+#![tactic(auto)]
+
+#[cfg(test)]
+mod callbacks;
+#[cfg(test)]
+mod pagers;
+#[cfg(test)]
+mod semaphores;
+#[cfg(test)]
+mod threads;

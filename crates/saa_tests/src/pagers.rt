@@ -1,0 +1,82 @@
+//! Pagers at a threaded semaphore, in one thread.
+
+use saa_core::ticket::Full;
+use saa_sync::pager::{Error, How, Pager, SyncResult, Ticket};
+use saa_sync::semaphore::Semaphore;
+use std::io;
+use std::sync::atomic::Ordering;
+
+#[test]
+fn dropping_a_waiting_pager_lets_the_next_be_granted(rt: HostRuntime) -> io::Result<()> {
+    let semaphore = Semaphore::new(&rt, rt.alloc(), 4)?;
+    let mut next = Pager::new();
+    {
+        let mut first = Pager::new();
+        assert!(rt; semaphore.try_acquire_many(60));
+        assert_eq!(rt; semaphore.register_pager(&mut first, 4, true), Ok(true));
+        assert_eq!(rt; semaphore.register_pager(&mut next, 3, true), Ok(true));
+        assert_eq!(rt; next.try_poll(), Err(Error::NotReady));
+    }
+    assert_eq!(rt; next.poll_sync(), Ok(()));
+    assert_eq!(rt; semaphore.available_permits(Ordering::SeqCst), 0);
+    Ok(())
+}
+
+#[test]
+fn dropping_a_granted_pager_returns_its_permits(rt: HostRuntime) -> io::Result<()> {
+    let semaphore = Semaphore::new(&rt, rt.alloc(), 4)?;
+    {
+        let mut pager = Pager::new();
+        assert_eq!(rt; semaphore.register_pager(&mut pager, 11, false), Ok(true));
+        assert_eq!(rt; semaphore.available_permits(Ordering::SeqCst), 52);
+    }
+    assert_eq!(rt; semaphore.available_permits(Ordering::SeqCst), 63);
+    Ok(())
+}
+
+#[test]
+fn a_cancelled_pager_can_be_used_again(rt: HostRuntime) -> io::Result<()> {
+    let semaphore = Semaphore::with_permits(&rt, rt.alloc(), 0, 1)?;
+    let mut pager = Pager::new();
+    let mut other = Pager::new();
+    assert_eq!(rt; semaphore.register_pager(&mut pager, 1, true), Ok(true));
+    assert_eq!(rt; semaphore.register_pager(&mut other, 1, true), Err(Full));
+    pager.cancel();
+    assert!(rt; !pager.is_registered());
+    assert_eq!(rt; pager.poll_sync(), Err(Error::NotRegistered));
+    assert_eq!(rt; semaphore.register_pager(&mut pager, 2, true), Ok(true));
+    assert!(rt; semaphore.release_many(2));
+    assert_eq!(rt; pager.poll_sync(), Ok(()));
+    assert!(rt; semaphore.release_many(61));
+    assert_eq!(rt; semaphore.available_permits(Ordering::SeqCst), 61);
+    Ok(())
+}
+
+#[test]
+fn a_wrong_mode_leaves_the_pager_registered(rt: HostRuntime) -> io::Result<()> {
+    let semaphore = Semaphore::with_permits(&rt, rt.alloc(), 0, 4)?;
+    let mut pager = Pager::new();
+    assert_eq!(rt; pager.try_poll(), Err(Error::NotRegistered));
+    assert_eq!(rt; semaphore.register_pager(&mut pager, 1, false), Ok(true));
+    assert_eq!(rt; semaphore.register_pager(&mut pager, 1, true), Ok(false));
+    assert_eq!(rt; pager.poll_sync(), Err(Error::WrongMode));
+    assert_eq!(rt; pager.try_poll(), Err(Error::NotReady));
+    assert!(rt; semaphore.release());
+    assert_eq!(rt; pager.poll_sync(), Err(Error::WrongMode));
+    assert!(rt; pager.is_registered());
+    assert_eq!(rt; pager.try_poll(), Ok(()));
+    assert!(rt; !pager.is_registered());
+    Ok(())
+}
+
+#[test]
+fn an_idle_ticket_is_not_registered(rt: HostRuntime) -> io::Result<()> {
+    let semaphore = Semaphore::new(&rt, rt.alloc(), 4)?;
+    let mut ticket = Ticket::new();
+    for how in [How::Try, How::Sync, How::Async] {
+        assert_eq!(rt; semaphore.take(&mut ticket, how), Err(Error::NotRegistered));
+    }
+    semaphore.cancel(&mut ticket);
+    assert_eq!(rt; semaphore.available_permits(Ordering::SeqCst), 63);
+    Ok(())
+}

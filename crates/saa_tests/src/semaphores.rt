@@ -1,0 +1,81 @@
+//! The threaded semaphore in one thread: worked rows, and each call once.
+
+use saa_core::ticket::Full;
+use saa_sync::pager::{Error, Pager};
+use saa_sync::semaphore::Semaphore;
+use std::io;
+use std::sync::atomic::Ordering;
+
+#[test]
+fn no_room(rt: HostRuntime) -> io::Result<()> {
+    let semaphore = Semaphore::new(&rt, rt.alloc(), 0)?;
+    assert!(rt; semaphore.try_acquire_many(63));
+    let mut is_run = false;
+    assert_eq!(rt;
+        semaphore.acquire_many_sync_with(1, || is_run = true),
+        Err(Full)
+    );
+    assert!(rt; !is_run);
+    let mut pager = Pager::new();
+    assert_eq!(rt; semaphore.register_pager(&mut pager, 0, true), Ok(true));
+    assert_eq!(rt; pager.poll_sync(), Ok(()));
+    Ok(())
+}
+
+#[test]
+fn permits_that_are_out_from_the_start(rt: HostRuntime) -> io::Result<()> {
+    let semaphore = Semaphore::with_permits(&rt, rt.alloc(), 0, 4)?;
+    assert!(rt; semaphore.release_many(1));
+    assert_eq!(rt; semaphore.available_permits(Ordering::Relaxed), 1);
+    assert!(rt; semaphore.try_acquire_many(1));
+    assert!(rt; semaphore.release_many(63));
+    assert!(rt; !semaphore.release_many(1));
+    Ok(())
+}
+
+#[test]
+fn sixty_two_and_one(rt: HostRuntime) -> io::Result<()> {
+    let semaphore = Semaphore::new(&rt, rt.alloc(), 4)?;
+    assert_eq!(rt; semaphore.acquire_many_sync(62), Ok(true));
+    assert!(rt; semaphore.try_acquire());
+    assert!(rt; !semaphore.try_acquire());
+    assert!(rt; semaphore.release_many(1));
+    assert!(rt; !semaphore.release_many(63));
+    assert!(rt; semaphore.release_many(62));
+    assert_eq!(rt; semaphore.available_permits(Ordering::SeqCst), 63);
+    Ok(())
+}
+
+#[test]
+fn reads_in_every_ordering(rt: HostRuntime) -> io::Result<()> {
+    let semaphore = Semaphore::with_permits(&rt, rt.alloc(), 1, 4)?;
+    let orderings = [
+        Ordering::Relaxed,
+        Ordering::Acquire,
+        Ordering::Release,
+        Ordering::AcqRel,
+        Ordering::SeqCst,
+    ];
+    for mo in orderings {
+        assert!(rt; semaphore.is_open(mo));
+        assert!(rt; !semaphore.is_closed(mo));
+        assert_eq!(rt; semaphore.available_permits(mo), 1);
+        assert_eq!(rt; semaphore.acquire_sync(), Ok(()));
+        assert!(rt; semaphore.is_closed(mo));
+        assert!(rt; !semaphore.is_open(mo));
+        assert!(rt; semaphore.release());
+    }
+    Ok(())
+}
+
+#[test]
+fn too_many_is_false_at_once(rt: HostRuntime) -> io::Result<()> {
+    let semaphore = Semaphore::new(&rt, rt.alloc(), 4)?;
+    let mut pager = Pager::new();
+    assert_eq!(rt; semaphore.acquire_many_sync(64), Ok(false));
+    assert_eq!(rt; semaphore.register_pager(&mut pager, 64, true), Ok(false));
+    assert_eq!(rt; pager.try_poll(), Err(Error::NotRegistered));
+    assert_eq!(rt; semaphore.acquire_many_sync(63), Ok(true));
+    assert!(rt; semaphore.is_closed(Ordering::SeqCst));
+    Ok(())
+}
