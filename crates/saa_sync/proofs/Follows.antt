@@ -1,5 +1,5 @@
 -- Two calls of a core with one ticket, one after the other, as one step of the object.
-use Rattle.std.proofs.Common.{◌≡◌, ℕ, suc, zero, List, [], ◌∷◌, Option, Some, None, Result, Ok, Err, Bool, true, false, slice_get, slice_set, refl, sym, ap, subst, ◌∙◌}
+use Rattle.std.proofs.Common.{◌≡◌, ℕ, suc, zero, List, [], ◌∷◌, Some, Result, Ok, Bool, true, slice_get, slice_set, refl, ap, subst, ◌∙◌}
 use Rattle.saa_core.specs.declared.request.Request.{Request}
 use Rattle.saa_core.specs.declared.ticket.Error.{Error}
 use Rattle.saa_core.specs.declared.ticket.How.TheVariants.{Sync}

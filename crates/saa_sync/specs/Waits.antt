@@ -1,5 +1,5 @@
 -- How a call that may wait begins, and how a wait ends.
-use Rattle.std.specs.Prelude.{◌≡◌, ℕ, Bool, true, false, Option, Some, None, Result, Ok, Err}
+use Rattle.std.specs.Prelude.{ℕ, Bool, true, false, Option, Some, None, Result, Ok, Err}
 use Rattle.saa_core.specs.declared.request.Request.{Request}
 use Rattle.saa_core.specs.declared.ticket.Error.{Error}
 use Rattle.saa_core.specs.declared.ticket.Error.TheVariants.{NotRegistered, WrongMode, NotReady}

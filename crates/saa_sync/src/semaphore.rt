@@ -3,7 +3,7 @@
 //! Each call is one lock, one step of the core, and the wakes that the core owes. The steps stand at the end of this
 //! file as functions that are lent the core, and are held to `specs/Semaphore.antt` of `saa_core` through its calls.
 
-ghost use Rattle.std.specs.Prelude.{◌≡◌, ◌↔◌, ◌≤◌, ◌<◌, ◌||◌, ◌==◌, true, false, [], nat_lt, IsTrue, Ok};
+ghost use Rattle.std.specs.Prelude.{◌≡◌, ◌↔◌, ◌≤◌, ◌<◌, ◌||◌, ◌==◌, true, false, [], nat_lt, IfOk, IsTrue, Ok};
 ghost use Rattle.std.specs.Bool.{OnFalse};
 ghost use Rattle.saa_core.specs.declared.request.Request.TheVariants.{Permits};
 ghost use Rattle.saa_core.specs.Asking.{tried};
@@ -121,12 +121,15 @@ impl<R: Wait + Drop> Semaphore<R> {
     /// `Ok(false)` comes at once, exactly where the count is above [`Self::MAX_PERMITS`]. `Full`: it would have to
     /// wait, and as many slots are held as there is room. Both change nothing. Nothing stays registered either way.
     pub fn acquire_many_sync(&self, count: usize) -> Result<bool, Full>
+        ensures answer { IfOk result (λ is_granted. IsTrue is_granted ↔ (count ≤ 63)) }
         ensures too_many { 63 < count → result ≡ Ok false }
     {
         if is_too_many(count) {
             return Ok(false);
         }
-        Ok(self.shell.acquire(count)?.is_some())
+        // A count within the bound is never refused, so there is a value.
+        let _value = self.shell.acquire(count)?;
+        Ok(true)
     }
 
     /// Takes one permit as [`Self::acquire_sync`] does, and calls `begin_wait` where it joins the line.
@@ -150,12 +153,15 @@ impl<R: Wait + Drop> Semaphore<R> {
         begin_wait: F,
     ) -> Result<bool, Full>
         requires { F.pre begin_wait }
+        ensures answer { IfOk result (λ is_granted. IsTrue is_granted ↔ (count ≤ 63)) }
         ensures too_many { 63 < count → result ≡ Ok false }
     {
         if is_too_many(count) {
             return Ok(false);
         }
-        Ok(self.shell.acquire_with(count, begin_wait)?.is_some())
+        // A count within the bound is never refused, so there is a value.
+        let _value = self.shell.acquire_with(count, begin_wait)?;
+        Ok(true)
     }
 
     /// Registers a pager for `count` permits, to be polled as sync or as async.

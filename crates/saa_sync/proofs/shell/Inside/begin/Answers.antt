@@ -1,4 +1,4 @@
-use Rattle.std.proofs.Common.{rules, ◌≡◌, Bool, true}
+use Rattle.std.proofs.Common.{rules, ◌≡◌, true}
 use Rattle.saa_sync.proofs.Follows.{begun-polled}
 use Rattle.saa_sync.proofs.shell.Inside.begin.Goals as goal
 
