@@ -28,8 +28,8 @@ is_nobody-named ts [] = refl
 is_nobody-named ts (w ∷ line) = refl
 
 -- what is granted at once by the core is by the object
-pub granted-object : (c : Core) (ts : List Registration) (r : Request) → is_granted_at_once (object_of c ts) r ≡ takes_now c r
-granted-object c ts r = ap (λ b. b && fits c.held r) (is_nobody-named ts c.slots.line)
+pub granted_at_once-object : (c : Core) (ts : List Registration) (r : Request) → is_granted_at_once (object_of c ts) r ≡ takes_now c r
+granted_at_once-object c ts r = ap (λ b. b && fits c.held r) (is_nobody-named ts c.slots.line)
 
 -- a registration by what decides it
 registered-by : (s : Object) (name : ℕ) (r : Request) (m is_refused : Bool) (answer : Option (After ℕ)) (is_full : Bool)
@@ -83,7 +83,7 @@ register_granted h slots r m grants fine takes = record {
       let c : Core = record { held = h; slots = slots } in
       let s : Object = object_of c ts in
       let answer : answer_at_once s r ≡ Some (after 0 (object_of (record { held = plus h r; slots = slots }) ts)) =
-      grants.answers s r ∙ ap (λ b. cond b (Some (after 0 (object_of (record { held = plus h r; slots = slots }) ts))) None) (granted-object c ts r ∙ takes) in (
+      grants.answers s r ∙ ap (λ b. cond b (Some (after 0 (object_of (record { held = plus h r; slots = slots }) ts))) None) (granted_at_once-object c ts r ∙ takes) in (
         registered-by s name r m false _ _ (idle_asks c ts name r here fine) answer refl
             ∙ ap (after (Ok true)) (sym (own-object (plus h r) slots ts name Unregistered (AtOnce 0 r m) here refl refl)),
         own-belong slots ts name Unregistered (AtOnce 0 r m) here refl refl b,
@@ -93,7 +93,7 @@ register_granted h slots r m grants fine takes = record {
 -- one that isn't, has no answer at once
 no_answer_at_once : (c : Core) (ts : List Registration) (r : Request) → Grants c.held → takes_now c r ≡ false → answer_at_once (object_of c ts) r ≡ None
 no_answer_at_once c ts r grants waits =
-    grants.answers (object_of c ts) r ∙ ap (λ b. cond b (Some (after 0 (record (object_of c ts) { held = plus c.held r }))) None) (granted-object c ts r ∙ waits)
+    grants.answers (object_of c ts) r ∙ ap (λ b. cond b (Some (after 0 (record (object_of c ts) { held = plus c.held r }))) None) (granted_at_once-object c ts r ∙ waits)
 
 -- a registration that must wait, and finds the room full
 pub register_full : (c : Core) (r : Request) (m : Bool) → Grants c.held → asks_too_much c.held r ≡ false → takes_now c r ≡ false → held_slots c.slots ≡ room_of c.slots

@@ -16,7 +16,7 @@ use Rattle.saa_core.specs.Values.{barrier_value, passed_value, leader_value}
 use Rattle.saa_core.specs.Barrier.{barrier_step, arrive_request}
 use Rattle.saa_core.specs.Run.{IsWithin, state_after}
 use Rattle.saa_core.specs.Laws.{IsBarrierInOrder}
-use Rattle.saa_core.proofs.Order.{length-without}
+use Rattle.saa_core.proofs.Counting.{length-without}
 use Rattle.saa_core.proofs.Kept.{IsInOrder-kept, IsKept-newly_made, IsKept-all_answered, is_waiting-all_answered}
 use Rattle.saa_core.proofs.Commands.{IsRight, IsRightAnswer, KeepsRight, IsRight-state_after, cond_none}
 
@@ -92,7 +92,7 @@ KeepsRight-barrier most names = record {
   joins = λ s name ask right e not_too_much. IsFineBarrier-joined most s s.held (name, arrive_request ask) (arrive_request ask) right.kind e;
   leaves = λ s name right kept.
       IsRight-barrier_left most names (record (with_entry s name Idle) { line = without name s.line }) s.held s.line right.kind
-      (record { kept = kept; kind = IsFineBarrier-fewer most s.held s.line (without name s.line) (length-without s.line name) right.kind });
+      (record { kept = kept; kind = IsFineBarrier-fewer most s.held s.line (without name s.line) (omega (arith, length-without name s.line)) right.kind });
   undoes = λ s asked right. IsRight-barrier_undone most names s s.held s.line asked right.kind right;
 }
 

@@ -11,6 +11,10 @@ use Rattle.saa_core.proofs.Naming.{bool_cases, same_number, other_number}
 pub number_same : (n : ℕ) → n == n ≡ true
 number_same n = grind (arith, nat_tests)
 
+-- and counts once
+pub one_if-same : (n : ℕ) → one_if (n == n) ≡ 1
+one_if-same n = ap one_if (number_same n)
+
 -- different numbers fail the test
 pub number_other : (m n : ℕ) → m ≢ n → m == n ≡ false
 number_other m n h = grind (arith, nat_tests)

@@ -1,5 +1,5 @@
 -- Lemmas on how a line keeps its slots: what each of its steps keeps.
-use Rattle.std.proofs.Common.{◌≡◌, ℕ, suc, zero, ◌+◌, ◌≤◌, ◌<◌, ◌≢◌, Bool, true, false, List, [], ◌∷◌, ◌++◌, length, Some, None, Option, is_some, replicate, get_or, set, take, drop, nat_lt, ◌==◌, refl, sym, ap, ◌∙◌, add-one, arith, inl, inr, slice_get}
+use Rattle.std.proofs.Common.{◌≡◌, ℕ, suc, zero, ◌+◌, ◌≤◌, ◌<◌, Bool, true, false, List, [], ◌∷◌, ◌++◌, length, Some, None, Option, is_some, replicate, get_or, set, take, drop, nat_lt, ◌==◌, refl, sym, ap, ◌∙◌, add-one, arith, inl, inr, slice_get}
 use Rattle.std.specs.List.{remove}
 use Rattle.std.proofs.Math.Seq.{take-suc}
 use Rattle.std.proofs.lemmas.Bool.{cases_Bool}
@@ -10,6 +10,7 @@ use Rattle.saa_core.specs.Object.{Waiter, one_if, times, without}
 use Rattle.saa_core.specs.Slots.{Slots, room_of, answer_in, answer_count, held_times, IsSound, answered_slots, empty_slots}
 use Rattle.saa_core.specs.LineParts.{count_of, mark_of, IsLine}
 use Rattle.saa_core.proofs.WakesLemmas.{one_if-bounded, count_of-push, get_or-set_cases, mark_of-replicate}
+use Rattle.saa_core.proofs.Counting.{one_if-same, times-without_same, times-without_other, length-without}
 
 -- a test that counts holds
 pub one_if-nat_lt : (a b : ℕ) → 0 < one_if (nat_lt a b) → a < b
@@ -20,12 +21,6 @@ one_if-nat_lt a b counts =
           let none : one_if (nat_lt a b) ≡ 0 = ap one_if above in
           absurd (omega (arith, none))
     ]
-
--- a slot is itself
-pub one_if-same : (slot : ℕ) → one_if (slot == slot) ≡ 1
-one_if-same slot =
-    let same : slot == slot ≡ true = grind (arith, nat_tests) in
-    ap one_if same
 
 -- the end of a line counts as its start does
 pub times-push : (slot : ℕ) (line : List Waiter) (last : Waiter) → times slot (line ++ last ∷ []) ≡ times slot line + one_if (last.0 == slot)
@@ -41,45 +36,6 @@ without-absent slot (first ∷ rest) absent =
           let test : one_if (first.0 == slot) ≡ 1 = ap one_if same in
           absurd (omega (arith, test))
       | inr apart ↦ rw apart (ap (λ (ws : List Waiter). first ∷ ws) (without-absent slot rest (omega arith)))
-    ]
-
--- a slot isn't in the line without it
-pub times-without : (slot : ℕ) (line : List Waiter) → times slot (without slot line) ≡ 0
-times-without slot [] = refl
-times-without slot (first ∷ rest) =
-    elim (cases_Bool (first.0 == slot)) [
-      | inl same ↦ rw same (times-without slot rest)
-      | inr apart ↦
-          let test : one_if (first.0 == slot) ≡ 0 = ap one_if apart in
-          rw apart (omega (arith, test, times-without slot rest))
-    ]
-
--- the other slots stand as often in the line without one
-pub times-without_other : (slot other : ℕ) (line : List Waiter) → slot ≢ other → times other (without slot line) ≡ times other line
-times-without_other slot other [] differ = refl
-times-without_other slot other (first ∷ rest) differ =
-    elim (cases_Bool (first.0 == slot)) [
-      | inl same ↦
-          let at_slot : first.0 ≡ slot = grind (arith, nat_tests) in
-          let apart : first.0 == other ≡ false = grind (arith, nat_tests) in
-          let test : one_if (first.0 == other) ≡ 0 = ap one_if apart in
-          rw same (omega (arith, test, times-without_other slot other rest differ))
-      | inr apart ↦ rw apart (ap (λ (n : ℕ). one_if (first.0 == other) + n) (times-without_other slot other rest differ))
-    ]
-
--- the line without a slot is shorter by as often as it stood there
-pub length-without : (slot : ℕ) (line : List Waiter) → length (without slot line) + times slot line ≡ length line
-length-without slot [] = refl
-length-without slot (first ∷ rest) =
-    elim (cases_Bool (first.0 == slot)) [
-      | inl same ↦
-          let test : one_if (first.0 == slot) ≡ 1 = ap one_if same in
-          let moved : length (without slot (first ∷ rest)) ≡ length (without slot rest) = rw same refl in
-          omega (arith, test, moved, length-without slot rest)
-      | inr apart ↦
-          let test : one_if (first.0 == slot) ≡ 0 = ap one_if apart in
-          let moved : length (without slot (first ∷ rest)) ≡ length (first ∷ without slot rest) = rw apart refl in
-          omega (arith, test, moved, length-without slot rest)
     ]
 
 -- who stands at a place of the line stands in the line
@@ -231,7 +187,7 @@ IsLine-left line answers free waiting slot once h =
             | inl same ↦
                 let test : one_if (slot == q) ≡ 1 = ap one_if same.0 in
                 let was : times q line ≡ 1 = ap (λ (n : ℕ). times n line) (sym same.1) ∙ once in
-                let now : times q (without slot line) ≡ 0 = ap (λ (n : ℕ). times n (without slot line)) (sym same.1) ∙ times-without slot line in
+                let now : times q (without slot line) ≡ 0 = ap (λ (n : ℕ). times n (without slot line)) (sym same.1) ∙ times-without_same slot line in
                 omega (arith, test, was, now, count_of-push q free slot, h.each q)
             | inr apart ↦
                 let test : one_if (slot == q) ≡ 0 = ap one_if apart.0 in
@@ -243,7 +199,7 @@ IsLine-left line answers free waiting slot once h =
           elim (get_or-set_cases waiting slot false false q in_marks) [
             | inl same ↦
                 let now : one_if (mark_of (set waiting slot false) q) ≡ 0 = ap one_if same.2 in
-                let gone : times q (without slot line) ≡ 0 = ap (λ (n : ℕ). times n (without slot line)) (sym same.1) ∙ times-without slot line in
+                let gone : times q (without slot line) ≡ 0 = ap (λ (n : ℕ). times n (without slot line)) (sym same.1) ∙ times-without_same slot line in
                 omega (arith, now, gone)
             | inr apart ↦
                 let now : one_if (mark_of (set waiting slot false) q) ≡ one_if (mark_of waiting q) = ap one_if apart.2 in

@@ -1,12 +1,13 @@
 -- The line and the book keep step: what a write to one entry, an answer to the oldest, a leave and a join do to both.
 use Rattle.std.proofs.Common.{◌≡◌, ℕ, zero, suc, ◌+◌, ◌<◌, ◌≤◌, Bool, true, false, eqb, ◌⊎◌, inl, inr, List, [], ◌∷◌, ◌++◌, length, set, take, drop, refl, sym, ap, ◌∙◌, arith, get_or-set_same, get_or-set_other, length-set}
 use Rattle.std.specs.List.{Contains}
-use Rattle.std.proofs.lemmas.Bool.{cases_Bool, cases_eq, cases_lt, eqb-true}
+use Rattle.std.proofs.lemmas.Bool.{cases_Bool, cases_eq, cases_lt}
 use Rattle.std.proofs.lemmas.Bool.Decides.{nat_tests}
 use Rattle.saa_core.specs.declared.request.Request.{Request}
 use Rattle.saa_core.specs.Object.{Entry, Idle, Waiting, Answered, Waiter, entry_at, holds_slot, one_if, slots_in, times, without}
 use Rattle.saa_core.specs.Settling.{answered_entry, answered_in}
 use Rattle.saa_core.specs.Laws.{is_waiting}
+use Rattle.saa_core.proofs.Counting.{one_if-same, times-without_same, times-without_other}
 
 -- a line and a book that keep step: the line holds exactly the names that wait, and beside each what its entry waits for
 pub record IsInStep (line : List Waiter) (book : List Entry) : Type 0 where
@@ -29,11 +30,7 @@ pub one_if-one : (b : Bool) → 0 < one_if b → b ≡ true
 one_if-one true e = refl
 one_if-one false e = absurd (omega arith)
 
--- a name stands in its own place once
-pub one_if-same : (n : ℕ) → one_if (eqb n n) ≡ 1
-one_if-same n = grind (arith, nat_tests)
-
--- and not in another's
+-- a name doesn't stand in another's place
 pub one_if-other : (n m : ℕ) → (n ≡ m → ⊥) → one_if (eqb n m) ≡ 0
 one_if-other n m ne = grind (arith, nat_tests)
 
@@ -205,24 +202,6 @@ IsInStep-written line book name entry before after step = record { once = once; 
           | inr ne ↦ (was.0, entry_at-other book name other entry ne ∙ was.1)
         ]
 
--- a name that leaves stands in the line no more
-pub times-without_same : (line : List Waiter) (name : ℕ) → times name (without name line) ≡ 0
-times-without_same [] name = refl
-times-without_same (waiter ∷ line) name = elim (cases_Bool (eqb waiter.0 name)) [
-  | inl e ↦ rw e (times-without_same line name)
-  | inr e ↦ rw e (omega (arith, times-without_same line name, ap one_if e))
-]
-
--- the others stay
-pub times-without_other : (line : List Waiter) (name other : ℕ) → (other ≡ name → ⊥) → times other (without name line) ≡ times other line
-times-without_other [] name other ne = refl
-times-without_other (waiter ∷ line) name other ne = elim (cases_Bool (eqb waiter.0 name)) [
-  | inl e ↦
-      let same : waiter.0 ≡ name = eqb-true waiter.0 name e in
-      rw e (omega (arith, times-without_other line name other ne, one_if-other waiter.0 other (λ q. ne (sym q ∙ same))))
-  | inr e ↦ rw e (omega (arith, times-without_other line name other ne))
-]
-
 -- what is left in the line was there
 pub Contains-without : (line : List Waiter) (name : ℕ) (waiter : Waiter) → Contains (without name line) waiter → Contains line waiter
 Contains-without [] name waiter in_line = in_line
@@ -234,14 +213,6 @@ Contains-without (first ∷ line) name waiter in_line = elim (cases_Bool (eqb fi
   ]
 ]
 
--- no more stand in the line
-pub length-without : (line : List Waiter) (name : ℕ) → length (without name line) ≤ length line
-length-without [] name = omega arith
-length-without (waiter ∷ line) name = elim (cases_Bool (eqb waiter.0 name)) [
-  | inl e ↦ rw e (omega (arith, length-without line name))
-  | inr e ↦ rw e (omega (arith, length-without line name))
-]
-
 -- a name leaves the line, and is written as one that doesn't wait
 pub IsInStep-without : (line : List Waiter) (book : List Entry) (name : ℕ) (entry : Entry)
     → is_waiting entry ≡ false → IsInStep line book → IsInStep (without name line) (set book name entry)
@@ -249,8 +220,8 @@ IsInStep-without line book name entry after step = record { once = once; same_re
   where
     once : (other : ℕ) → times other (without name line) ≡ one_if (is_waiting (entry_at (set book name entry) other))
     once other = elim (cases_eq other name) [
-      | inl same ↦ rw same (times-without_same line name ∙ sym (ap one_if (is_waiting-written book name entry after)))
-      | inr ne ↦ times-without_other line name other ne ∙ step.once other
+      | inl same ↦ rw same (times-without_same name line ∙ sym (ap one_if (is_waiting-written book name entry after)))
+      | inr ne ↦ times-without_other name other line (λ same. ne (sym same)) ∙ step.once other
           ∙ sym (ap (λ e. one_if (is_waiting e)) (entry_at-other book name other entry ne))
     ]
 
@@ -261,7 +232,7 @@ IsInStep-without line book name entry after step = record { once = once; same_re
         arith,
         times-Contains (without name line) other request in_line,
         ap (λ n. times n (without name line)) same,
-        times-without_same line name,
+        times-without_same name line,
       ))
       | inr ne ↦
           let was = step.same_request other request (Contains-without line name (other, request) in_line) in

@@ -1,6 +1,6 @@
 -- What the private steps of a core do to it, slot by slot. No user must believe this: the public contracts speak of
 -- the object, and the proofs show that these are its steps.
-use Rattle.std.specs.Prelude.{◌≡◌, ℕ, Bool, true, false, ◌&&◌, List, [], ◌∷◌, take, drop, Option, Some, None, nat_le, nat_lt, ◌==◌, slice_set, if◌then◌else◌}
+use Rattle.std.specs.Prelude.{ℕ, Bool, true, false, ◌&&◌, List, [], ◌∷◌, take, drop, Option, Some, None, nat_le, nat_lt, ◌==◌, slice_set, if◌then◌else◌}
 use Rattle.saa_core.specs.declared.request.Request.{Request}
 use Rattle.saa_core.specs.declared.request.Request.TheVariants.{Permits}
 use Rattle.saa_core.specs.Held.{Held, fits, less}

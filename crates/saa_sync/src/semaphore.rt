@@ -95,7 +95,7 @@ impl<R: Wait + Drop> Semaphore<R> {
     ///
     /// `false` comes exactly where fewer permits are out, and changes nothing. 0 permits are given back always, and
     /// change nothing. Each who is granted costs a ring at its seat, which is a system call only where it sleeps, and
-    /// each eight of them one more short lock; where nobody is granted nothing is added.
+    /// each second one of them a short lock more; where nobody is granted nothing is added.
     pub fn release_many(&self, count: usize) -> bool {
         let (answer, first) = {
             let mut inside = self.shell.lock();

@@ -26,9 +26,6 @@ const LOOKS: u32 = 500;
 // How often it yields after that, before it sleeps.
 const YIELDS: u32 = 500;
 
-// How many wakes are taken out of the core under one lock.
-const BATCH: usize = 8;
-
 // Where the holder of a slot waits.
 #[derive(Drop)]
 struct Seat {
@@ -72,17 +69,12 @@ impl Seat {
     }
 }
 
-/// Wakes that are owed: whoever waits at these slots' seats has an answer. Filled from the front.
+/// The wakes that are taken out of the core under one lock: whoever waits at these slots' seats has an answer.
 #[derive(Drop)]
 pub(crate) struct Wakes {
-    slots: [Option<u16>; BATCH],
-}
-
-impl Wakes {
-    // Whether more may be owed than found a place here.
-    fn is_full(&self) -> bool {
-        self.slots[BATCH - 1].is_some()
-    }
+    first: Option<u16>,
+    // Only where there is a first; then more may be owed.
+    second: Option<u16>,
 }
 
 /// What stands under the lock.
@@ -96,14 +88,13 @@ impl<P: Primitive> Inside<P> {
     pub(crate) fn next_wakes(&mut self) -> Wakes
         ensures { P.core self.new.core ≡ P.core self.old.core }
     {
-        let mut slots = [None; BATCH];
-        for place in 0..BATCH {
-            slots[place] = self.core.next_answered();
-            if slots[place].is_none() {
-                break;
-            }
-        }
-        Wakes { slots }
+        let first = self.core.next_answered();
+        let second = if first.is_some() {
+            self.core.next_answered()
+        } else {
+            None
+        };
+        Wakes { first, second }
     }
 
     // Registers a ticket.
@@ -196,14 +187,15 @@ impl<R: Wait + Drop, P: Primitive> Shell<R, P> {
     /// Wakes as the core says, from these wakes on, with the lock free.
     ///
     /// None costs nothing. Each costs a ring of its seat, which is a system call only where somebody sleeps there, and
-    /// each [`BATCH`] one short lock, to ask for more.
+    /// each second one a short lock, to ask for more.
     pub(crate) fn wake(&self, first: Wakes) {
         let mut wakes = first;
         for _ in self.rt.forever() {
-            self.ring(&wakes);
-            if !wakes.is_full() {
+            self.ring(wakes.first);
+            if wakes.second.is_none() {
                 return;
             }
+            self.ring(wakes.second);
             wakes = self.lock().next_wakes();
         }
     }
@@ -312,13 +304,10 @@ impl<R: Wait + Drop, P: Primitive> Shell<R, P> {
         self.wake(first);
     }
 
-    // Rings the seats of the slots whose wake is owed.
-    fn ring(&self, wakes: &Wakes) {
-        for wake in &wakes.slots {
-            let Some(slot) = wake else {
-                return;
-            };
-            self.seat(*slot).ring();
+    // Rings the seat of a slot whose wake is owed, if there is one.
+    fn ring(&self, wake: Option<u16>) {
+        if let Some(slot) = wake {
+            self.seat(slot).ring();
         }
     }
 
