@@ -1,20 +1,14 @@
 -- What the private steps of a core do to it, slot by slot. No user must believe this: the public contracts speak of
 -- the object, and the proofs show that these are its steps.
-use Rattle.std.specs.Prelude.{ℕ, Bool, true, false, ◌&&◌, List, [], ◌∷◌, take, drop, Option, Some, None, nat_le, nat_lt, ◌==◌, slice_set, if◌then◌else◌}
-use Rattle.saa_core.specs.declared.request.Request.{Request}
-use Rattle.saa_core.specs.declared.request.Request.TheVariants.{Permits}
-use Rattle.saa_core.specs.Held.{Held, fits, less}
-use Rattle.saa_core.specs.Object.{Waiter, is_nobody, times, without}
-use Rattle.saa_core.specs.Settling.{fitting_front, plus_all}
-use Rattle.saa_core.specs.Polling.{is_for_nothing}
-use Rattle.saa_core.specs.Values.{granted_value}
-use Rattle.saa_core.specs.Slots.{Slots, answer_in, answered_slots}
-use Rattle.saa_core.specs.Tickets.{Core}
-
--- the line once its k oldest are answered with a value
-abbrev pub slots_answered : ℕ → ℕ → Slots → Slots
-slots_answered value k slots =
-    record { line = drop k slots.line; answers = answered_slots value (take k slots.line) slots.answers }
+use Rattle.std.specs.Prelude.{ℕ, Bool, true, false, ◌&&◌, List, [], ◌∷◌, take, Option, Some, None, nat_lt, ◌==◌, slice_set, if◌then◌else◌}
+use Rattle.saa_object.specs.declared.request.Request.{Request}
+use Rattle.saa_object.specs.Held.{Held, OfSemaphore, OfLock, OfGate, OfBarrier, Poisoned, fits, less}
+use Rattle.saa_object.specs.Object.{Waiter, is_nobody, times, without}
+use Rattle.saa_object.specs.Settling.{fitting_front, plus_all}
+use Rattle.saa_object.specs.Polling.{is_for_nothing}
+use Rattle.saa_object.specs.Values.{granted_value, poisoned_value}
+use Rattle.saa_line.specs.Slots.{answer_in, slots_answered}
+use Rattle.saa_tickets.specs.Tickets.{Core}
 
 -- a core whose k oldest waiters are granted
 abbrev pub core_granted : ℕ → Core → Core
@@ -44,21 +38,28 @@ core_undone core value request = if value == granted_value then core_given core 
 -- a core that a slot leaves, by its answer and whether it waits: an answer is undone, a waiter only leaves
 abbrev pub core_vacated_by : Core → ℕ → Request → Option ℕ → Bool → Core
 core_vacated_by core slot request (Some value) waits =
-    core_undone (record core { slots = record { line = core.slots.line; answers = slice_set core.slots.answers slot None } }) value request
+    core_undone (record core { slots = record core.slots { answers = slice_set core.slots.answers slot None } }) value request
 core_vacated_by core slot request None true =
-    core_settled (record core { slots = record { line = without slot core.slots.line; answers = core.slots.answers } })
+    core_settled (record core { slots = record core.slots { line = without slot core.slots.line } })
 core_vacated_by core slot request None false = core
 
 abbrev pub core_vacated : Core → ℕ → Request → Core
 core_vacated core slot request =
     core_vacated_by core slot request (answer_in core.slots.answers slot) (nat_lt 0 (times slot core.slots.line))
 
--- the permits that a request asks, if so many are available
-abbrev pub fitting_permits : Request → ℕ → Option ℕ
-fitting_permits (Permits count) available = if nat_le count available then Some count else None
-fitting_permits _ available = None
+-- what the oldest waiter asks, if that fits
+abbrev pub oldest_fitting : Held → List Waiter → Option Request
+oldest_fitting held [] = None
+oldest_fitting held (waiter ∷ waiters) = if fits held waiter.1 then Some waiter.1 else None
 
--- what the oldest waiter asks, if so many permits are available
-abbrev pub oldest_fitting : List Waiter → ℕ → Option ℕ
-oldest_fitting [] available = None
-oldest_fitting (waiter ∷ waiters) available = fitting_permits waiter.1 available
+-- what grants that which fits: a semaphore and a lock
+abbrev pub IsGranting : Held → Type 0
+IsGranting (OfSemaphore bound out) = Unit {0}
+IsGranting (OfLock lock) = Unit {0}
+IsGranting (OfGate gate) = ⊥
+IsGranting (OfBarrier size) = ⊥
+
+-- the answer that every registration gets at once, whatever it asks: that of a poisoned lock
+abbrev pub answer_to_all : Held → Option ℕ
+answer_to_all (OfLock Poisoned) = Some poisoned_value
+answer_to_all _ = None

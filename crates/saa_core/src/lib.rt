@@ -1,18 +1,11 @@
-//! The sequential object that every form of `saa` is proved against, and the cores that meet it.
+//! The cores, which are proved to be the sequential object of `saa_object`, and benches that run commands over them.
 //!
-//! `specs/` holds the object: what is held, who waits, what each call answers and leaves.
-//! The modules here hold the code that is proved to be that object. No thread, lock or handle
-//! occurs in this crate; every call returns. `docs/DEFINITIONS.md` reads the object aloud.
+//! No thread, lock or handle occurs in this crate; every call returns. A core is used by one task at a time.
+//! `docs/DEFINITIONS.md` reads the object aloud.
 #![tactic(auto)]
 
-pub mod barrier;
-pub mod bench;
-pub mod equality;
-pub mod gate;
-pub mod laws;
-pub mod line;
+mod granting;
 pub mod lock;
-pub mod request;
 pub mod semaphore;
-pub mod ticket;
-mod wakes;
+
+pub use saa_tickets::{bench, ticket};

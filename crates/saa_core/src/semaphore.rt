@@ -1,55 +1,30 @@
 //! The semaphore: permits that are taken and given back, in the order of asking.
 //!
-//! The core is held to `specs/Semaphore.antt` by every call, with any tickets that are registered in it. The line
-//! keeps who waits, the tickets what they asked; what is out, and when the line settles, stands here.
-//! A line `let _opened = ..` reads a field so that the proof knows there what always holds of the core; it costs nothing.
+//! The core is held to `specs/Semaphore.antt` of `saa_object` by every call, with any tickets that are registered in it.
+//! It is thin: asking, settling and dropping stand in `granting`, and here what is out, and which counts there are.
 
-ghost use Rattle.std.specs.Prelude.{true, false, ◌≡◌, ℕ, ◌+◌, ◌-◌, ◌<◌, ◌≤◌, ◌↔◌, ◌==◌, ◌||◌, [], min, nat_lt, replicate, IsTrue, IfOk, IfSome, OnErr, IsErr, length};
+ghost use Rattle.std.specs.Prelude.{true, false, ◌≡◌, ℕ, ◌+◌, ◌-◌, ◌<◌, ◌≤◌, ◌↔◌, ◌==◌, ◌||◌, [], if◌then◌else◌, min, nat_lt, replicate, slice_get, IsTrue, IsNone, IsOk, IfOk, IfSome, OnErr, IsErr};
 ghost use Rattle.std.specs.Bool.{OnTrue, OnFalse};
-ghost use Rattle.saa_core.specs.declared.request.Request.TheVariants.{Permits};
-ghost use Rattle.saa_core.specs.declared.ticket.Error.TheVariants.{NotRegistered};
-ghost use Rattle.saa_core.specs.declared.ticket.Registration.TheVariants.{Unregistered};
-ghost use Rattle.saa_core.specs.Held.{OfSemaphore};
-ghost use Rattle.saa_core.specs.Asking.{tried, registered};
-ghost use Rattle.saa_core.specs.Polling.{polled, given_back, read_as};
-ghost use Rattle.saa_core.specs.Settling.{fitting_front};
-ghost use Rattle.saa_core.specs.Values.{semaphore_value};
-ghost use Rattle.saa_core.specs.Semaphore.{bound_of, out_of, available, new_semaphore};
-ghost use Rattle.saa_core.specs.Slots.{IsSound, empty_slots, held_slots, room_of};
-ghost use Rattle.saa_core.specs.Tickets.{Acts, Calls, Belong, IsCoreSettled, Polled, IsForeign, dropping, fault_of, is_busy, is_yes, object_of};
-ghost use Rattle.saa_core.specs.CoreParts.{core_granted, core_settled, core_given, core_undone, core_vacated, takes_now, oldest_fitting};
+ghost use Rattle.saa_object.specs.declared.request.Request.TheVariants.{Permits};
+ghost use Rattle.saa_object.specs.declared.polling.Error.TheVariants.{NotRegistered};
+ghost use Rattle.saa_tickets.specs.declared.ticket.Registration.TheVariants.{Unregistered};
+ghost use Rattle.saa_object.specs.Held.{OfSemaphore};
+ghost use Rattle.saa_object.specs.Asking.{tried, registered};
+ghost use Rattle.saa_object.specs.Polling.{polled, given_back, read_as};
+ghost use Rattle.saa_object.specs.Values.{semaphore_value};
+ghost use Rattle.saa_object.specs.Semaphore.{bound_of, out_of, available, new_semaphore};
+ghost use Rattle.saa_line.specs.Slots.{empty_slots, held_slots, room_of, wake_told};
+ghost use Rattle.saa_tickets.specs.Tickets.{Acts, Calls, Belong, IsCoreSettled, Polled, IsForeign, dropping, fault_of, is_busy, is_yes, object_of};
 
-use crate::bench::Primitive;
-use crate::line::Line;
-use crate::request::Request;
-use crate::ticket::{Error, Full, How, Registration, Ticket};
+use crate::granting::{Granting, Needs};
+use saa_line::line::Line;
+use saa_object::request::Request;
+pub use saa_object::semaphore::{SemaphoreAnswer, SemaphoreCall};
+use saa_tickets::bench::Primitive;
+use saa_tickets::ticket::{Error, Full, How, Ticket};
 use std::alloc::{AllocError, Global};
 use std::fmt;
 use std::marker::Model;
-
-/// A call of a semaphore that needs no ticket.
-#[derive(Clone, Copy, Debug, Eq, PartialEq)]
-pub enum SemaphoreCall {
-    /// Takes so many permits if nobody waits and they fit.
-    TryAcquireMany(usize),
-    /// Gives so many permits back.
-    ReleaseMany(usize),
-    /// Asks how many permits are available.
-    AvailablePermits,
-    /// Asks whether a permit is available.
-    IsOpen,
-    /// Asks whether no permit is available.
-    IsClosed,
-}
-
-/// What a call of a semaphore answers.
-#[derive(Clone, Copy, Debug, Eq, PartialEq)]
-pub enum SemaphoreAnswer {
-    /// Of a try, a release, `IsOpen` and `IsClosed`.
-    Bool(bool),
-    /// Of `AvailablePermits`.
-    Number(usize),
-}
 
 /// The core of a semaphore of 63 permits.
 pub type SemaphoreCore = SemaphoreCoreOf<63>;
@@ -60,28 +35,15 @@ pub type SemaphoreCore = SemaphoreCoreOf<63>;
 /// it was registered in. Only making takes memory, and nothing is refused for want of it afterwards.
 #[derive(Drop)]
 pub struct SemaphoreCoreOf<const MAX: usize> {
-    // The permits that are out, at most `MAX`.
-    out: usize,
-    line: Line,
+    core: Granting<PermitsOut<MAX>>,
 }
 
 impl<const MAX: usize> Model for SemaphoreCoreOf<MAX> {
-    ghost use Rattle.std.specs.Prelude.{◌≡◌, ◌≤◌, ◌<◌};
-    ghost use Rattle.saa_core.specs.Held.{OfSemaphore};
-    ghost use Rattle.saa_core.specs.Settling.{fitting_front};
-    ghost use Rattle.saa_core.specs.Slots.{IsSound};
-    ghost use Rattle.saa_core.specs.Tickets.{Core};
+    ghost use Rattle.saa_tickets.specs.Tickets.{Core};
 
     ghost Value = { Core };
 
-    ghost view = { λ core. record { held = OfSemaphore MAX core.out; slots = core.line } };
-
-    ghost invariant = { λ core. record {
-      bounded : core.out ≤ MAX;
-      narrow : MAX < 65536;
-      sound : IsSound core.line;
-      settled : fitting_front (OfSemaphore MAX core.out) core.line.line ≡ 0;
-    } };
+    ghost view = { λ core. core.core };
 }
 
 impl SemaphoreCoreOf<63> {
@@ -92,11 +54,13 @@ impl SemaphoreCoreOf<63> {
 impl<const MAX: usize> SemaphoreCoreOf<MAX> {
     /// A semaphore with all its permits available, and room for so many slots of those who wait. Costs O(`room`).
     ///
-    /// Reserves all the memory that it will ever need; the error comes only where that was refused.
+    /// Reserves all the memory that it will ever need; the error comes only where that was refused, and so never for
+    /// room 0, which takes none.
     pub fn new(alloc: Global, room: u16) -> Result<Self, AllocError>
         requires bound { 0 < MAX }
         requires narrow { MAX < 65536 }
         ensures made { IfOk result (λ core. core ≡ record { held = OfSemaphore MAX 0; slots = empty_slots room }) }
+        ensures no_room { room ≡ 0 → IsOk result }
         ensures idle_tickets { IfOk result (λ core. (names : ℕ) → Belong core.slots (replicate names Unregistered)) }
         ensures object { IfOk result (λ core. (names : ℕ)
             → object_of core (replicate names Unregistered) ≡ new_semaphore MAX MAX room names) }
@@ -107,20 +71,24 @@ impl<const MAX: usize> SemaphoreCoreOf<MAX> {
     /// A semaphore with at most so many permits available; the others count as out, and may be released.
     /// A number above the bound is cut to it. Costs O(`room`).
     ///
-    /// Reserves all the memory that it will ever need; the error comes only where that was refused.
+    /// Reserves all the memory that it will ever need; the error comes only where that was refused, and so never for
+    /// room 0, which takes none.
     pub fn with_permits(alloc: Global, permits: usize, room: u16) -> Result<Self, AllocError>
         requires bound { 0 < MAX }
         requires narrow { MAX < 65536 }
         ensures made { IfOk result (λ core.
             core ≡ record { held = OfSemaphore MAX (MAX - min permits MAX); slots = empty_slots room }) }
+        ensures no_room { room ≡ 0 → IsOk result }
         ensures idle_tickets { IfOk result (λ core. (names : ℕ) → Belong core.slots (replicate names Unregistered)) }
         ensures object { IfOk result (λ core. (names : ℕ)
             → object_of core (replicate names Unregistered) ≡ new_semaphore MAX permits room names) }
     {
         let line = Line::with_room(alloc, room)?;
-        Ok(SemaphoreCoreOf {
+        let needs = PermitsOut {
             out: MAX - permits.min(MAX),
-            line,
+        };
+        Ok(SemaphoreCoreOf {
+            core: Granting::new(needs, line),
         })
     }
 
@@ -128,21 +96,21 @@ impl<const MAX: usize> SemaphoreCoreOf<MAX> {
     pub fn available_permits(&self) -> usize
         ensures { result ≡ available self.now.held }
     {
-        MAX - self.out
+        MAX - self.core.needs().out
     }
 
     /// Whether a permit is available. Costs O(1).
     pub fn is_open(&self) -> bool
         ensures { result ≡ nat_lt (out_of self.now.held) (bound_of self.now.held) }
     {
-        self.out < MAX
+        self.core.needs().out < MAX
     }
 
     /// Whether no permit is available. Costs O(1).
     pub fn is_closed(&self) -> bool
         ensures { result ≡ (out_of self.now.held == bound_of self.now.held) }
     {
-        self.out == MAX
+        self.core.needs().out == MAX
     }
 
     /// Takes one permit if nobody waits and one is available; see [`Self::try_acquire_many`].
@@ -166,11 +134,10 @@ impl<const MAX: usize> SemaphoreCoreOf<MAX> {
         ensures refused { OnFalse result (self.new ≡ self.old) }
         ensures settled { IsCoreSettled self.new }
     {
-        if !self.takes_now(count) {
+        let Some(request) = self.request_of(count) else {
             return false;
-        }
-        self.out += count;
-        true
+        };
+        self.core.try_take(request)
     }
 
     /// Gives one permit back; see [`Self::release_many`].
@@ -193,7 +160,10 @@ impl<const MAX: usize> SemaphoreCoreOf<MAX> {
         ensures refused { OnFalse result (self.new ≡ self.old) }
         ensures settled { IsCoreSettled self.new }
     {
-        self.take_back(count)
+        let Some(request) = self.request_of(count) else {
+            return false;
+        };
+        self.core.take_back(request)
     }
 
     /// Registers an idle ticket for `count` permits, as sync or as async.
@@ -218,25 +188,10 @@ impl<const MAX: usize> SemaphoreCoreOf<MAX> {
         ensures refused { is_yes result ≡ false → (self.new ≡ self.old) × (ticket.new ≡ ticket.old) }
         ensures settled { IsCoreSettled self.new }
     {
-        if ticket.is_registered() {
-            let _opened = &self.out;
+        let Some(request) = self.request_of(count) else {
             return Ok(false);
-        }
-        if count > MAX {
-            let _opened = &self.out;
-            return Ok(false);
-        }
-        let request = Request::Permits(count as u16);
-        if self.takes_now(count) {
-            self.out += count;
-            ticket.set(Registration::AtOnce(0, request, is_sync));
-            return Ok(true);
-        }
-        let Some(slot) = self.line.join(request) else {
-            return Err(Full);
         };
-        ticket.set(Registration::InSlot(slot, request, is_sync));
-        Ok(true)
+        self.core.register(ticket, request, is_sync)
     }
 
     /// Polls a ticket for its grant; a core never waits. Costs O(1).
@@ -246,7 +201,7 @@ impl<const MAX: usize> SemaphoreCoreOf<MAX> {
     /// `Ok(())`: it was granted, its slot is free again, and the ticket is idle.
     pub fn poll(&mut self, ticket: &mut Ticket, how: How) -> Result<(), Error>
         ensures acts { Acts self.old self.new ticket.old ticket.new (λ s name. read_as semaphore_value (polled s name how)) result }
-        ensures ticket { Polled ticket.old ticket.new (fault_of result) }
+        ensures ticket { Polled ticket.old ticket.new how (fault_of result) }
         ensures foreign { IsForeign self.old.slots ticket.old
             → (result ≡ Err NotRegistered) × (self.new ≡ self.old) × (ticket.new ≡ ticket.old) }
         ensures unchanged { OnErr result (self.new ≡ self.old) }
@@ -261,13 +216,13 @@ impl<const MAX: usize> SemaphoreCoreOf<MAX> {
     /// Polls a ticket for the number of its answer, as [`Self::poll`] does.
     pub fn poll_number(&mut self, ticket: &mut Ticket, how: How) -> Result<u8, Error>
         ensures acts { Acts self.old self.new ticket.old ticket.new (λ s name. polled s name how) result }
-        ensures ticket { Polled ticket.old ticket.new (fault_of result) }
+        ensures ticket { Polled ticket.old ticket.new how (fault_of result) }
         ensures foreign { IsForeign self.old.slots ticket.old
             → (result ≡ Err NotRegistered) × (self.new ≡ self.old) × (ticket.new ≡ ticket.old) }
         ensures unchanged { OnErr result (self.new ≡ self.old) }
         ensures settled { IsCoreSettled self.new }
     {
-        ticket.poll_in(&mut self.line, how)
+        self.core.poll_number(ticket, how)
     }
 
     /// Drops what a ticket is registered for: it is idle afterwards in every case.
@@ -282,127 +237,85 @@ impl<const MAX: usize> SemaphoreCoreOf<MAX> {
         ensures foreign { IsForeign self.old.slots ticket.old → self.new ≡ self.old }
         ensures settled { IsCoreSettled self.new }
     {
-        let _opened = &self.out;
-        let registration = ticket.registration();
-        ticket.set(Registration::Unregistered);
-        match registration {
-            Registration::Unregistered => {}
-            Registration::AtOnce(value, request, _is_sync) => self.undo(value, request),
-            Registration::InSlot(slot, request, _is_sync) => self.vacate(slot, request),
-        }
+        self.core.cancel(ticket);
     }
 
-    /// The next slot whose wake is owed, oldest first, out of those that were answered since this was last asked.
-    ///
-    /// `None` where there is none. A slot comes once however often it was answered in between. Costs O(1).
+    /// The oldest wake that is owed, which is told by this: the slot that was answered first out of those that weren't told
+    /// yet; `None` exactly where none is owed. A slot comes once however often it was answered in between. Costs O(1).
     pub fn next_answered(&mut self) -> Option<u16>
+        ensures oldest { result ≡ slice_get self.old.slots.owed 0 }
+        ensures told { self.new ≡ record self.old { slots = wake_told self.old.slots } }
         ensures within { IfSome result (λ slot. slot < room_of self.old.slots) }
-        ensures unchanged { self.new ≡ self.old }
     {
-        self.line.next_answered()
+        self.core.next_answered()
     }
 
-    // Takes back permits that are out, and settles.
-    fn take_back(&mut self, count: usize) -> bool
-        ensures calls { Calls self.old self.new (λ s. given_back s (Permits count)) result }
-        ensures answer { IsTrue result ↔ (count ≤ out_of self.old.held) }
-        ensures refused { OnFalse result (self.new ≡ self.old) }
-        ensures given { self.new ≡ core_given self.old (Permits count) }
-        ensures settled { IsCoreSettled self.new }
+    // The request for so many permits; `None` where that is more than there ever are.
+    fn request_of(&self, count: usize) -> Option<Request>
+        ensures request { result ≡ (if nat_lt MAX count then None else Some (Permits count)) }
+        ensures too_many { IsNone result ↔ (MAX < count) }
+        ensures held { self.now.held ≡ OfSemaphore MAX (out_of self.now.held) }
+        ensures bounded { out_of self.now.held ≤ MAX }
+        ensures settled { IsCoreSettled self.now }
     {
-        if count == 0 {
-            let _opened = &self.out;
-            return true;
+        let _permits = self.core.needs().out;
+        if count > MAX {
+            return None;
         }
+        Some(Request::Permits(count as u16))
+    }
+}
+
+// The permits that are out.
+#[derive(Drop)]
+struct PermitsOut<const MAX: usize> {
+    out: usize,
+    ghost bounded: { out ≤ MAX },
+    ghost narrow: { MAX < 65536 },
+}
+
+impl<const MAX: usize> Needs for PermitsOut<MAX> {
+    ghost use Rattle.saa_object.specs.Held.{OfSemaphore};
+
+    ghost held = { λ permits. OfSemaphore MAX permits.out };
+
+    ghost grants = { λ permits. tt };
+
+    fn fits(&self, request: Request) -> bool {
+        let Request::Permits(count) = request else {
+            return false;
+        };
+        usize::from(count) <= MAX - self.out
+    }
+
+    fn take(&mut self, request: Request) {
+        if let Request::Permits(count) = request {
+            self.out += usize::from(count);
+        }
+    }
+
+    fn give_back(&mut self, request: Request) -> bool {
+        let Request::Permits(count) = request else {
+            return false;
+        };
+        let count = usize::from(count);
         if count > self.out {
             return false;
         }
-        self.give_back(count);
+        self.out -= count;
         true
     }
 
-    // Undoes an answer that isn't consumed: permits that were granted are given back.
-    fn undo(&mut self, value: u8, request: Request)
-        ensures undone { self.new ≡ core_undone self.old value request }
-        ensures settled { IsCoreSettled self.new }
-    {
-        let _opened = &self.out;
-        if value != 0 {
-            return;
-        }
-        if let Request::Permits(count) = request {
-            let _given = self.take_back(usize::from(count));
-        }
+    fn answer_to_all(&self) -> Option<u8> {
+        None
     }
-
-    // Frees a slot of this core: its answer is undone, or it leaves the line; a slot that isn't held is nothing.
-    fn vacate(&mut self, slot: u16, request: Request)
-        ensures vacated { self.new ≡ core_vacated self.old slot request }
-        ensures settled { IsCoreSettled self.new }
-    {
-        if let Some(value) = self.line.take(slot) {
-            self.undo(value, request);
-            return;
-        }
-        if self.line.leave(slot) {
-            self.out = settle(&mut self.line, self.out, MAX);
-        }
-    }
-
-    // Whether a request for so many permits is granted at once.
-    fn takes_now(&self, count: usize) -> bool
-        ensures { result ≡ takes_now self.now (Permits count) }
-    {
-        if self.line.waiting() != 0 {
-            return false;
-        }
-        count <= MAX - self.out
-    }
-
-    // Gives permits back that are out, and settles.
-    fn give_back(&mut self, count: usize)
-        requires { count ≤ out_of self.old.held }
-        ensures given { self.new ≡ core_settled (record self.old { held = OfSemaphore MAX (out_of self.old.held - count) }) }
-        ensures settled { IsCoreSettled self.new }
-    {
-        self.out = settle(&mut self.line, self.out - count, MAX);
-    }
-}
-
-// Grants the oldest waiters while they fit, and answers how many permits are out then.
-fn settle(line: &mut Line, mut out: usize, max: usize) -> usize
-    requires bounded { out ≤ max }
-    requires sound { IsSound line.old }
-    ensures settled { record { held = OfSemaphore max result; slots = line.new }
-        ≡ core_settled (record { held = OfSemaphore max out; slots = line.old }) }
-    ensures bounded { result ≤ max }
-    ensures sound { IsSound line.new }
-{
-    while let Some(count) = oldest_fitting(line, max - out) {
-        out += count;
-        line.grant_front(1);
-    }
-    out
-}
-
-// What the oldest waiter asks, if so many permits are available.
-fn oldest_fitting(line: &Line, available: usize) -> Option<usize>
-    ensures { result ≡ oldest_fitting line.now.line available }
-{
-    let Some((_slot, Request::Permits(count))) = line.oldest() else {
-        return None;
-    };
-    let count = usize::from(count);
-    if count > available {
-        return None;
-    }
-    Some(count)
 }
 
 impl<const MAX: usize> Primitive for SemaphoreCoreOf<MAX> {
-    ghost use Rattle.saa_core.specs.declared.request.Request.TheVariants.{Permits};
-    ghost use Rattle.saa_core.specs.Semaphore.{semaphore_step};
-    ghost use Rattle.saa_core.specs.Values.{semaphore_value};
+    ghost use Rattle.saa_object.specs.declared.request.Request.TheVariants.{Permits};
+    ghost use Rattle.saa_object.specs.Semaphore.{semaphore_step};
+    ghost use Rattle.saa_object.specs.Settling.{IsSettled};
+    ghost use Rattle.saa_object.specs.Values.{semaphore_value};
 
     type Call = SemaphoreCall;
 
@@ -419,6 +332,12 @@ impl<const MAX: usize> Primitive for SemaphoreCoreOf<MAX> {
     ghost step = { semaphore_step };
 
     ghost value = { semaphore_value };
+
+    ghost stands = { IsSettled };
+
+    fn stands(&self) {
+        let _settled = self.core.waiting();
+    }
 
     fn call(&mut self, call: SemaphoreCall) -> SemaphoreAnswer {
         match call {
@@ -459,7 +378,7 @@ impl<const MAX: usize> Primitive for SemaphoreCoreOf<MAX> {
 impl<const MAX: usize> fmt::Debug for SemaphoreCoreOf<MAX> {
     fn fmt<W: fmt::Write>(&self, f: &mut fmt::Formatter<W>) -> fmt::Result {
         let available = self.available_permits();
-        let waiting = self.line.waiting();
+        let waiting = self.core.waiting();
         write!(
             f,
             "SemaphoreCore {{ available_permits: {available}, waiting: {waiting} }}"
@@ -467,5 +386,7 @@ impl<const MAX: usize> fmt::Debug for SemaphoreCoreOf<MAX> {
     }
 }
 
+#[cfg(test)]
+mod bench_tests;
 #[cfg(test)]
 mod tests;

@@ -2,17 +2,17 @@
 use Rattle.std.proofs.Common.{◌≡◌, ◌<◌, ℕ, suc, ◌+◌, Bool, true, false, List, ◌∷◌, ◌++◌, length, Option, Some, None, cond, Result, sym, ap, subst, ◌∙◌, refl, arith}
 use Rattle.std.specs.Prelude.{nat_lt}
 use Rattle.std.proofs.lemmas.Bool.Decides.{nat_tests}
-use Rattle.saa_core.specs.declared.bench.CommandOf.{CommandOf}
-use Rattle.saa_core.specs.declared.bench.CommandOf.TheVariants.{Call, Register, TryPoll, PollSync, PollAsync, Drop}
-use Rattle.saa_core.specs.declared.semaphore.SemaphoreCall.{SemaphoreCall}
-use Rattle.saa_core.specs.Object.{Object, After}
-use Rattle.saa_core.specs.declared.bench.ReplyOf.{ReplyOf}
-use Rattle.saa_core.specs.declared.semaphore.SemaphoreAnswer.{SemaphoreAnswer}
-use Rattle.saa_core.specs.declared.ticket.Error.{Error}
-use Rattle.saa_core.specs.declared.request.Request.TheVariants.{Permits}
-use Rattle.saa_core.specs.Semaphore.{semaphore_step}
-use Rattle.saa_core.specs.Values.{semaphore_value}
-use Rattle.saa_core.specs.Run.{IsWithin, done}
+use Rattle.saa_object.specs.declared.run.CommandOf.{CommandOf}
+use Rattle.saa_object.specs.declared.run.CommandOf.TheVariants.{Call, Register, TryPoll, PollSync, PollAsync, Drop}
+use Rattle.saa_object.specs.declared.semaphore.SemaphoreCall.{SemaphoreCall}
+use Rattle.saa_object.specs.Object.{Object, After}
+use Rattle.saa_object.specs.declared.run.ReplyOf.{ReplyOf}
+use Rattle.saa_object.specs.declared.semaphore.SemaphoreAnswer.{SemaphoreAnswer}
+use Rattle.saa_object.specs.declared.polling.Error.{Error}
+use Rattle.saa_object.specs.declared.request.Request.TheVariants.{Permits}
+use Rattle.saa_object.specs.Semaphore.{semaphore_step}
+use Rattle.saa_object.specs.Values.{semaphore_value}
+use Rattle.saa_object.specs.Run.{IsWithin, done}
 use Rattle.saa_run.specs.declared.command.ScriptLine.{ScriptLine}
 use Rattle.saa_run.specs.declared.command.ScriptLine.TheVariants.{Do, Registered}
 use Rattle.saa_run.specs.Language.{semaphore_line_of}

@@ -1,16 +1,16 @@
 -- The replies to lines are those of a run of their commands.
 use Rattle.std.proofs.Common.{◌≡◌, ℕ, List, [], ◌∷◌, ◌++◌, map, refl, sym, ap, ◌∙◌, append_assoc, Result}
 use Rattle.std.specs.List.{flat_map}
-use Rattle.saa_core.specs.declared.request.Request.TheVariants.{Permits}
-use Rattle.saa_core.specs.declared.bench.CommandOf.{CommandOf}
-use Rattle.saa_core.specs.declared.bench.ReplyOf.{ReplyOf}
-use Rattle.saa_core.specs.declared.semaphore.SemaphoreCall.{SemaphoreCall}
-use Rattle.saa_core.specs.declared.semaphore.SemaphoreAnswer.{SemaphoreAnswer}
-use Rattle.saa_core.specs.declared.ticket.Error.{Error}
-use Rattle.saa_core.specs.Object.{Object, After}
-use Rattle.saa_core.specs.Semaphore.{semaphore_step}
-use Rattle.saa_core.specs.Values.{semaphore_value}
-use Rattle.saa_core.specs.Run.{done, replies, state_after}
+use Rattle.saa_object.specs.declared.request.Request.TheVariants.{Permits}
+use Rattle.saa_object.specs.declared.run.CommandOf.{CommandOf}
+use Rattle.saa_object.specs.declared.run.ReplyOf.{ReplyOf}
+use Rattle.saa_object.specs.declared.semaphore.SemaphoreCall.{SemaphoreCall}
+use Rattle.saa_object.specs.declared.semaphore.SemaphoreAnswer.{SemaphoreAnswer}
+use Rattle.saa_object.specs.declared.polling.Error.{Error}
+use Rattle.saa_object.specs.Object.{Object, After}
+use Rattle.saa_object.specs.Semaphore.{semaphore_step}
+use Rattle.saa_object.specs.Values.{semaphore_value}
+use Rattle.saa_object.specs.Run.{done, replies, state_after}
 use Rattle.saa_run.specs.declared.command.ScriptLine.{ScriptLine}
 use Rattle.saa_run.specs.declared.command.ScriptLine.TheVariants.{Do, Registered}
 use Rattle.saa_run.specs.Replies.{semaphore_does, semaphore_reply, truth_word, is_registered}

@@ -7,9 +7,9 @@ use Rattle.std.specs.List.{AllByRecursion}
 use Rattle.std.proofs.lemmas.Slice.Eq.{bytes_eq-Decides}
 use Rattle.std.proofs.lemmas.Bool.{ltb-true}
 use Rattle.std.proofs.lemmas.Bool.Decides.{nat_tests}
-use Rattle.saa_core.specs.declared.bench.CommandOf.TheVariants.{Call, Register, TryPoll, PollSync, PollAsync, Drop}
-use Rattle.saa_core.specs.declared.semaphore.SemaphoreCall.{SemaphoreCall}
-use Rattle.saa_core.specs.declared.semaphore.SemaphoreCall.TheVariants.{TryAcquireMany, ReleaseMany, AvailablePermits, IsOpen, IsClosed}
+use Rattle.saa_object.specs.declared.run.CommandOf.TheVariants.{Call, Register, TryPoll, PollSync, PollAsync, Drop}
+use Rattle.saa_object.specs.declared.semaphore.SemaphoreCall.{SemaphoreCall}
+use Rattle.saa_object.specs.declared.semaphore.SemaphoreCall.TheVariants.{TryAcquireMany, ReleaseMany, AvailablePermits, IsOpen, IsClosed}
 use Rattle.saa_run.specs.declared.command.FirstLine.{FirstLine}
 use Rattle.saa_run.specs.declared.command.FirstLine.TheVariants.{Semaphore}
 use Rattle.saa_run.specs.declared.command.ScriptLine.{ScriptLine}

@@ -5,7 +5,7 @@ use Rattle.std.specs.Prelude.{if◌then◌else◌}
 use Rattle.std.specs.Option.{option_map_or}
 use Rattle.std.proofs.lemmas.Bool.{lt-ltb}
 use Rattle.std.proofs.Math.Nat.{zero-lt-suc}
-use Rattle.saa_core.specs.Object.{Object, After}
+use Rattle.saa_object.specs.Object.{Object, After}
 use Rattle.saa_run.specs.Fields.{fields_of}
 use Rattle.saa_run.specs.Language.{semaphore_line_in, semaphore_line_of}
 use Rattle.saa_run.specs.Replies.{semaphore_does}

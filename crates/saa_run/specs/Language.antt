@@ -2,9 +2,9 @@
 use Rattle.std.specs.Prelude.{ℕ, Bool, true, false, List, [], ◌∷◌, length, Option, Some, None, nat_lt, if◌then◌else◌, codes, option_and_then}
 use Rattle.std.specs.Option.{option_map}
 use Rattle.std.specs.Str.{bytes_eq}
-use Rattle.saa_core.specs.declared.bench.CommandOf.TheVariants.{Call, Register, TryPoll, PollSync, PollAsync, Drop}
-use Rattle.saa_core.specs.declared.semaphore.SemaphoreCall.{SemaphoreCall}
-use Rattle.saa_core.specs.declared.semaphore.SemaphoreCall.TheVariants.{TryAcquireMany, ReleaseMany, AvailablePermits, IsOpen, IsClosed}
+use Rattle.saa_object.specs.declared.run.CommandOf.TheVariants.{Call, Register, TryPoll, PollSync, PollAsync, Drop}
+use Rattle.saa_object.specs.declared.semaphore.SemaphoreCall.{SemaphoreCall}
+use Rattle.saa_object.specs.declared.semaphore.SemaphoreCall.TheVariants.{TryAcquireMany, ReleaseMany, AvailablePermits, IsOpen, IsClosed}
 use Rattle.saa_run.specs.declared.command.FirstLine.{FirstLine}
 use Rattle.saa_run.specs.declared.command.FirstLine.TheVariants.{Semaphore}
 use Rattle.saa_run.specs.declared.command.ScriptLine.{ScriptLine}

@@ -1,18 +1,18 @@
 -- The words of replies, and what each line of a script answers and leaves.
 use Rattle.std.specs.Prelude.{ℕ, Bool, true, false, not, List, Result, Ok, Err, codes, decimal}
-use Rattle.saa_core.specs.declared.request.Request.TheVariants.{Permits}
-use Rattle.saa_core.specs.declared.ticket.Error.{Error}
-use Rattle.saa_core.specs.declared.ticket.Error.TheVariants.{NotRegistered, WrongMode, NotReady}
-use Rattle.saa_core.specs.declared.bench.ReplyOf.{ReplyOf}
-use Rattle.saa_core.specs.declared.bench.ReplyOf.TheVariants.{Answered, Registered, Polled, Dropped}
-use Rattle.saa_core.specs.declared.semaphore.SemaphoreCall.{SemaphoreCall}
-use Rattle.saa_core.specs.declared.semaphore.SemaphoreAnswer.{SemaphoreAnswer}
-use Rattle.saa_core.specs.declared.semaphore.SemaphoreAnswer.TheVariants.{Bool as SaysBool, Number}
-use Rattle.saa_core.specs.Object.{Object, After, entry_at}
-use Rattle.saa_core.specs.Asking.{is_idle}
-use Rattle.saa_core.specs.Values.{semaphore_value}
-use Rattle.saa_core.specs.Semaphore.{semaphore_step}
-use Rattle.saa_core.specs.Run.{done}
+use Rattle.saa_object.specs.declared.request.Request.TheVariants.{Permits}
+use Rattle.saa_object.specs.declared.polling.Error.{Error}
+use Rattle.saa_object.specs.declared.polling.Error.TheVariants.{NotRegistered, WrongMode, NotReady}
+use Rattle.saa_object.specs.declared.run.ReplyOf.{ReplyOf}
+use Rattle.saa_object.specs.declared.run.ReplyOf.TheVariants.{Answered, Registered, Polled, Dropped}
+use Rattle.saa_object.specs.declared.semaphore.SemaphoreCall.{SemaphoreCall}
+use Rattle.saa_object.specs.declared.semaphore.SemaphoreAnswer.{SemaphoreAnswer}
+use Rattle.saa_object.specs.declared.semaphore.SemaphoreAnswer.TheVariants.{Bool as SaysBool, Number}
+use Rattle.saa_object.specs.Object.{Object, After, entry_at}
+use Rattle.saa_object.specs.Asking.{is_idle}
+use Rattle.saa_object.specs.Values.{semaphore_value}
+use Rattle.saa_object.specs.Semaphore.{semaphore_step}
+use Rattle.saa_object.specs.Run.{done}
 use Rattle.saa_run.specs.declared.command.ScriptLine.{ScriptLine}
 use Rattle.saa_run.specs.declared.command.ScriptLine.TheVariants.{Do, Registered as AskRegistered}
 

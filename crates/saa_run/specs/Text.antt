@@ -2,12 +2,12 @@
 use Rattle.std.specs.Prelude.{ℕ, ◌+◌, List, [], ◌∷◌, ◌++◌, length, Option, Some, None, nat_lt, ◌==◌, if◌then◌else◌, codes, decimal}
 use Rattle.std.specs.Option.{option_map_or}
 use Rattle.std.specs.List.{onto_first}
-use Rattle.saa_core.specs.Object.{Object, After}
-use Rattle.saa_core.specs.Held.{max_permits}
-use Rattle.saa_core.specs.Semaphore.{new_semaphore}
+use Rattle.saa_object.specs.Object.{Object, After}
+use Rattle.saa_object.specs.Held.{max_permits}
+use Rattle.saa_object.specs.Semaphore.{new_semaphore}
 use Rattle.saa_run.specs.declared.command.FirstLine.{FirstLine}
 use Rattle.saa_run.specs.declared.command.FirstLine.TheVariants.{Semaphore}
-use Rattle.saa_core.specs.declared.bench.CommandOf.{CommandOf}
+use Rattle.saa_object.specs.declared.run.CommandOf.{CommandOf}
 use Rattle.saa_run.specs.declared.command.ScriptLine.{ScriptLine}
 use Rattle.saa_run.specs.declared.command.ScriptLine.TheVariants.{Do, Registered}
 use Rattle.saa_run.specs.Language.{first_line_of, semaphore_line_of}

@@ -3,17 +3,17 @@
 //! No code calls these functions; what they ensure is proved all the same.
 ghost use Rattle.std.specs.Prelude.{◌≡◌, ◌↔◌, ◌++◌, ◌∷◌, ℕ, List, Option, Some, map};
 ghost use Rattle.std.specs.List.{flat_map};
-ghost use Rattle.saa_core.specs.declared.bench.CommandOf.{CommandOf};
-ghost use Rattle.saa_core.specs.declared.semaphore.SemaphoreCall.{SemaphoreCall};
+ghost use Rattle.saa_object.specs.declared.run.CommandOf.{CommandOf};
+ghost use Rattle.saa_object.specs.declared.semaphore.SemaphoreCall.{SemaphoreCall};
 ghost use Rattle.saa_run.specs.declared.command.FirstLine.{FirstLine};
 ghost use Rattle.saa_run.specs.declared.command.ScriptLine.{ScriptLine};
 ghost use Rattle.saa_run.specs.Language.{first_line_of, semaphore_line_of};
 ghost use Rattle.saa_run.specs.declared.command.ScriptLine.TheVariants.{Do, Registered};
-ghost use Rattle.saa_core.specs.declared.request.Request.TheVariants.{Permits};
-ghost use Rattle.saa_core.specs.Object.{Object};
-ghost use Rattle.saa_core.specs.Semaphore.{semaphore_step};
-ghost use Rattle.saa_core.specs.Values.{semaphore_value};
-ghost use Rattle.saa_core.specs.Run.{replies, state_after};
+ghost use Rattle.saa_object.specs.declared.request.Request.TheVariants.{Permits};
+ghost use Rattle.saa_object.specs.Object.{Object};
+ghost use Rattle.saa_object.specs.Semaphore.{semaphore_step};
+ghost use Rattle.saa_object.specs.Values.{semaphore_value};
+ghost use Rattle.saa_object.specs.Run.{replies, state_after};
 ghost use Rattle.saa_run.specs.Text.{commands_in, replies_to, reply_line, state_behind};
 ghost use Rattle.saa_run.specs.Replies.{is_registered, semaphore_does, semaphore_reply, truth_word};
 ghost use Rattle.saa_run.specs.Spelling.{SpellsFirst, SpellsLine};

@@ -3,8 +3,8 @@
 //! Held to `specs/Replies.antt`: a command does what it does in every run, and a question after a pager
 //! reads whether it is registered.
 ghost use Rattle.std.specs.Prelude.{◌≡◌, IfOk, length};
-ghost use Rattle.saa_core.specs.Held.{max_permits};
-ghost use Rattle.saa_core.specs.Semaphore.{new_semaphore};
+ghost use Rattle.saa_object.specs.Held.{max_permits};
+ghost use Rattle.saa_object.specs.Semaphore.{new_semaphore};
 ghost use Rattle.saa_run.specs.Text.{pagers};
 
 use crate::command::{ScriptLine, parse_semaphore_line};

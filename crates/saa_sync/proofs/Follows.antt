@@ -1,13 +1,13 @@
 -- Two calls of a core with one ticket, one after the other, as one step of the object.
 use Rattle.std.proofs.Common.{◌≡◌, ℕ, suc, zero, List, [], ◌∷◌, Some, Result, Ok, Bool, true, slice_get, slice_set, refl, ap, subst, ◌∙◌}
-use Rattle.saa_core.specs.declared.request.Request.{Request}
-use Rattle.saa_core.specs.declared.ticket.Error.{Error}
-use Rattle.saa_core.specs.declared.ticket.How.TheVariants.{Sync}
-use Rattle.saa_core.specs.declared.ticket.Registration.{Registration}
-use Rattle.saa_core.specs.Asking.{registered}
-use Rattle.saa_core.specs.Object.{Object, After}
-use Rattle.saa_core.specs.Polling.{polled, read_as}
-use Rattle.saa_core.specs.Tickets.{Core, Acts, Belong, object_of}
+use Rattle.saa_object.specs.declared.request.Request.{Request}
+use Rattle.saa_object.specs.declared.polling.Error.{Error}
+use Rattle.saa_object.specs.declared.polling.How.TheVariants.{Sync}
+use Rattle.saa_tickets.specs.declared.ticket.Registration.{Registration}
+use Rattle.saa_object.specs.Asking.{registered}
+use Rattle.saa_object.specs.Object.{Object, After}
+use Rattle.saa_object.specs.Polling.{polled, read_as}
+use Rattle.saa_tickets.specs.Tickets.{Core, Acts, Belong, object_of}
 use Rattle.saa_sync.specs.Waits.{begun, begun_from, begun_poll}
 
 -- a state with a reply

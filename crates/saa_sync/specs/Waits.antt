@@ -1,13 +1,13 @@
 -- How a call that may wait begins, and how a wait ends.
 use Rattle.std.specs.Prelude.{ℕ, Bool, true, false, Option, Some, None, Result, Ok, Err}
-use Rattle.saa_core.specs.declared.request.Request.{Request}
-use Rattle.saa_core.specs.declared.ticket.Error.{Error}
-use Rattle.saa_core.specs.declared.ticket.Error.TheVariants.{NotRegistered, WrongMode, NotReady}
-use Rattle.saa_core.specs.declared.ticket.Full.{Full}
-use Rattle.saa_core.specs.declared.ticket.How.TheVariants.{Sync}
-use Rattle.saa_core.specs.Asking.{registered}
-use Rattle.saa_core.specs.Object.{Object, After}
-use Rattle.saa_core.specs.Polling.{polled, read_as}
+use Rattle.saa_object.specs.declared.request.Request.{Request}
+use Rattle.saa_object.specs.declared.polling.Error.{Error}
+use Rattle.saa_object.specs.declared.polling.Error.TheVariants.{NotRegistered, WrongMode, NotReady}
+use Rattle.saa_object.specs.declared.request.Full.{Full}
+use Rattle.saa_object.specs.declared.polling.How.TheVariants.{Sync}
+use Rattle.saa_object.specs.Asking.{registered}
+use Rattle.saa_object.specs.Object.{Object, After}
+use Rattle.saa_object.specs.Polling.{polled, read_as}
 use Rattle.saa_sync.specs.declared.shell.Begun.{Begun}
 use Rattle.saa_sync.specs.declared.shell.Begun.TheVariants.{Refused, Answered, Joined}
 

@@ -4,10 +4,10 @@
 //! is registered afterwards exactly where it was before and the answer is one of the three errors of a poll.
 
 ghost use Rattle.std.specs.Prelude.{◌≡◌, ℕ, false, Option, Some, None};
-ghost use Rattle.saa_core.specs.declared.ticket.Error.{Error};
-ghost use Rattle.saa_core.specs.declared.ticket.How.TheVariants.{Sync};
-ghost use Rattle.saa_core.specs.declared.ticket.Registration.TheVariants.{Unregistered};
-ghost use Rattle.saa_core.specs.Tickets.{Polled, is_busy};
+ghost use Rattle.saa_object.specs.declared.polling.Error.{Error};
+ghost use Rattle.saa_object.specs.declared.polling.How.TheVariants.{Sync};
+ghost use Rattle.saa_tickets.specs.declared.ticket.Registration.TheVariants.{Unregistered};
+ghost use Rattle.saa_tickets.specs.Tickets.{Polled, is_busy};
 ghost use Rattle.saa_sync.specs.Waits.{is_not_ready};
 
 pub use saa_core::ticket::{Error, How, Ticket};
@@ -64,8 +64,8 @@ pub struct Pager<'s, S: SyncResult> {
 
 impl<'s, S: SyncResult> Model for Pager<'s, S> {
     ghost use Rattle.std.specs.Prelude.{◌≡◌, is_some};
-    ghost use Rattle.saa_core.specs.declared.ticket.Registration.{Registration};
-    ghost use Rattle.saa_core.specs.Tickets.{is_busy};
+    ghost use Rattle.saa_tickets.specs.declared.ticket.Registration.{Registration};
+    ghost use Rattle.saa_tickets.specs.Tickets.{is_busy};
 
     ghost Value = { Registration };
 

@@ -5,11 +5,11 @@
 
 ghost use Rattle.std.specs.Prelude.{◌≡◌, ◌↔◌, ◌≤◌, ◌<◌, ◌||◌, ◌==◌, true, false, [], nat_lt, IfOk, IsTrue, Ok};
 ghost use Rattle.std.specs.Bool.{OnFalse};
-ghost use Rattle.saa_core.specs.declared.request.Request.TheVariants.{Permits};
-ghost use Rattle.saa_core.specs.Asking.{tried};
-ghost use Rattle.saa_core.specs.Polling.{given_back};
-ghost use Rattle.saa_core.specs.Semaphore.{available, bound_of, out_of};
-ghost use Rattle.saa_core.specs.Tickets.{Calls, is_busy, is_yes};
+ghost use Rattle.saa_object.specs.declared.request.Request.TheVariants.{Permits};
+ghost use Rattle.saa_object.specs.Asking.{tried};
+ghost use Rattle.saa_object.specs.Polling.{given_back};
+ghost use Rattle.saa_object.specs.Semaphore.{available, bound_of, out_of};
+ghost use Rattle.saa_tickets.specs.Tickets.{Calls, is_busy, is_yes};
 
 use crate::pager::{Pager, SyncResult};
 use crate::shell::Shell;
@@ -191,7 +191,7 @@ impl<R: Wait + Drop> Semaphore<R> {
 }
 
 impl<R: Wait + Drop> SyncResult for Semaphore<R> {
-    ghost use Rattle.saa_core.specs.Tickets.{fault_of};
+    ghost use Rattle.saa_tickets.specs.Tickets.{fault_of};
     ghost use Rattle.saa_sync.specs.Pagers.{semaphore_answer};
 
     type Result = Result<(), Error>;

@@ -5,11 +5,11 @@
 //! core, and say what they do to it; those of `Shell` only take the lock round one of them, and wake.
 
 ghost use Rattle.std.specs.Prelude.{◌≡◌, ◌||◌, false};
-ghost use Rattle.saa_core.specs.declared.ticket.How.TheVariants.{Sync};
-ghost use Rattle.saa_core.specs.declared.ticket.Registration.TheVariants.{Unregistered};
-ghost use Rattle.saa_core.specs.Asking.{registered};
-ghost use Rattle.saa_core.specs.Polling.{polled};
-ghost use Rattle.saa_core.specs.Tickets.{Acts, Polled, dropping, fault_of, is_busy, is_yes};
+ghost use Rattle.saa_object.specs.declared.polling.How.TheVariants.{Sync};
+ghost use Rattle.saa_tickets.specs.declared.ticket.Registration.TheVariants.{Unregistered};
+ghost use Rattle.saa_object.specs.Asking.{registered};
+ghost use Rattle.saa_object.specs.Polling.{polled};
+ghost use Rattle.saa_tickets.specs.Tickets.{Acts, Polled, dropping, fault_of, is_busy, is_yes};
 ghost use Rattle.saa_sync.specs.Waits.{begun, has_joined, is_not_ready};
 
 use saa_core::bench::Primitive;

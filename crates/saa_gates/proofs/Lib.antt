@@ -1,0 +1,3 @@
+pub mod Gathering
+pub mod Rounds
+pub mod Entering

@@ -1,0 +1,17 @@
+pub mod Laws
+pub mod RunLaws
+pub mod Registrations
+pub mod Steps
+pub mod Leaders
+pub mod Conservation
+pub use Rattle.saa_object.specs.Held
+pub use Rattle.saa_object.specs.Object
+pub use Rattle.saa_object.specs.Values
+pub use Rattle.saa_object.specs.Settling
+pub use Rattle.saa_object.specs.Asking
+pub use Rattle.saa_object.specs.Polling
+pub use Rattle.saa_object.specs.Semaphore
+pub use Rattle.saa_object.specs.Lock
+pub use Rattle.saa_object.specs.Gate
+pub use Rattle.saa_object.specs.Barrier
+pub use Rattle.saa_object.specs.Run

@@ -1,0 +1,2 @@
+pub mod WakesLemmas
+pub mod LineLemmas

@@ -1,0 +1,11 @@
+pub mod Held
+pub mod Object
+pub mod Values
+pub mod Settling
+pub mod Asking
+pub mod Polling
+pub mod Semaphore
+pub mod Lock
+pub mod Gate
+pub mod Barrier
+pub mod Run

@@ -1,0 +1,14 @@
+//! The sequential object that every form of `saa` is proved against, and the words that callers share with it.
+//!
+//! `specs/` holds the object: what is held, who waits, what each call answers and leaves. `docs/DEFINITIONS.md` reads it
+//! aloud. The modules here hold only the enums that it speaks of: what is asked, what is answered, and their numbers.
+#![tactic(auto)]
+
+pub mod barrier;
+pub mod equality;
+pub mod gate;
+pub mod lock;
+pub mod polling;
+pub mod request;
+pub mod run;
+pub mod semaphore;

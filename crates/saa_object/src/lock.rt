@@ -1,0 +1,57 @@
+//! The modes and calls of a lock, and what they answer.
+
+/// What a registration asks of a lock.
+#[derive(Clone, Copy, Debug, Eq, PartialEq)]
+pub enum Mode {
+    /// To own the lock alone.
+    Exclusive,
+    /// To own one of its shares.
+    Shared,
+    /// To hear when it could be owned alone; takes nothing.
+    WaitExclusive,
+    /// To hear when it could be shared; takes nothing.
+    WaitShared,
+}
+
+/// Why a try on a lock was refused. Neither changes anything.
+#[derive(Clone, Copy, Debug, Eq, PartialEq)]
+pub enum TryLockError {
+    /// The lock is poisoned.
+    Poisoned,
+    /// Somebody waits, or the lock is held so that the try doesn't fit.
+    WouldBlock,
+}
+
+/// A call of a lock that needs no ticket.
+#[derive(Clone, Copy, Debug, Eq, PartialEq)]
+pub enum LockCall {
+    /// Takes the lock for one owner alone if nobody waits and it is free.
+    TryLock,
+    /// Takes a share if nobody waits and one is left.
+    TryShare,
+    /// Gives the lock of one owner back.
+    ReleaseLock,
+    /// Gives one share back.
+    ReleaseShare,
+    /// Poisons the lock that one owner has.
+    PoisonLock,
+    /// Makes a poisoned lock free.
+    ClearPoison,
+    /// Asks whether the lock is free.
+    IsFree,
+    /// Asks whether one owner has the lock alone.
+    IsLocked,
+    /// Asks whether the lock is shared.
+    IsShared,
+    /// Asks whether the lock is poisoned.
+    IsPoisoned,
+}
+
+/// What a call of a lock answers.
+#[derive(Clone, Copy, Debug, Eq, PartialEq)]
+pub enum LockAnswer {
+    /// Of all calls but the two tries.
+    Bool(bool),
+    /// Of the two tries.
+    Tried(Result<(), TryLockError>),
+}

@@ -1,0 +1,28 @@
+//! What a task asks of a primitive: the one word that the line, the tickets and the cores share.
+//!
+//! Which request fits, what it takes and what it gives back stands in `specs/Held.antt`.
+
+/// What a task asks of a primitive.
+#[derive(Clone, Copy, Debug, Eq, PartialEq)]
+pub enum Request {
+    /// A lock for one owner alone.
+    Exclusive,
+    /// A share of a lock.
+    Shared,
+    /// To hear when a lock could be taken by one owner alone; takes nothing.
+    WaitExclusive,
+    /// To hear when a lock could be shared; takes nothing.
+    WaitShared,
+    /// So many permits of a semaphore, 0 among them.
+    Permits(u16),
+    /// To pass a gate.
+    Enter,
+    /// To arrive at a barrier.
+    Arrive,
+}
+
+/// A registration was refused: it had to wait, and every slot of the room is held.
+///
+/// Nothing is changed by a refused registration.
+#[derive(Clone, Copy, Debug, Eq, PartialEq)]
+pub struct Full;

@@ -1,0 +1,14 @@
+pub mod SlotStates
+pub mod Tickets
+pub use Rattle.saa_object.specs.Held
+pub use Rattle.saa_object.specs.Object
+pub use Rattle.saa_object.specs.Values
+pub use Rattle.saa_object.specs.Settling
+pub use Rattle.saa_object.specs.Asking
+pub use Rattle.saa_object.specs.Polling
+pub use Rattle.saa_object.specs.Semaphore
+pub use Rattle.saa_object.specs.Lock
+pub use Rattle.saa_object.specs.Gate
+pub use Rattle.saa_object.specs.Barrier
+pub use Rattle.saa_object.specs.Run
+pub use Rattle.saa_line.specs.Slots
