@@ -1,16 +1,17 @@
 -- A core and the tickets that are registered in it, seen together as the object: the name of a ticket is its
 -- place in a list of tickets. The contract of every core call is said over any such list.
-use Rattle.std.specs.Prelude.{◌≡◌, ℕ, suc, ◌+◌, ◌-◌, ◌≤◌, Bool, true, false, ◌&&◌, if◌then◌else◌, ◌==◌, List, [], ◌∷◌, Option, Some, None, is_some, Result, Ok, Err, slice_get, slice_set}
+use Rattle.std.specs.Prelude.{◌≡◌, ℕ, suc, ◌+◌, ◌-◌, ◌≤◌, Bool, true, false, not, ◌&&◌, if◌then◌else◌, ◌==◌, List, [], ◌∷◌, Option, Some, None, is_some, Result, Ok, Err, slice_get, slice_set}
 use Rattle.saa_core.specs.declared.request.Request.{Request}
 use Rattle.saa_core.specs.declared.ticket.Registration.{Registration}
 use Rattle.saa_core.specs.declared.ticket.Registration.TheVariants.{Unregistered, AtOnce, InSlot}
 use Rattle.saa_core.specs.declared.ticket.Full.{Full}
 use Rattle.saa_core.specs.declared.ticket.Error.{Error}
-use Rattle.saa_core.specs.declared.ticket.Error.TheVariants.{NotRegistered}
+use Rattle.saa_core.specs.declared.ticket.Error.TheVariants.{NotRegistered, WrongMode, NotReady}
+use Rattle.saa_core.specs.declared.ticket.How.{How}
 use Rattle.saa_core.specs.Held.{Held}
 use Rattle.saa_core.specs.Object.{Object, After, Entry, Idle, Waiting, Answered, Waiter, one_if}
 use Rattle.saa_core.specs.Settling.{fitting_front}
-use Rattle.saa_core.specs.Polling.{dropped}
+use Rattle.saa_core.specs.Polling.{dropped, is_right_mode}
 use Rattle.saa_core.specs.Slots.{Slots, answer_in, held_slots, held_times, room_of}
 
 -- what contracts see of a core: what it holds, and its line
@@ -120,12 +121,36 @@ abbrev pub is_yes : Result Bool Full → Bool
 is_yes (Ok is_registered) = is_registered
 is_yes (Err full) = false
 
--- A poll that answered with this error, or with none, in the ticket's own terms: the ticket is registered afterwards
--- exactly where it was before and the poll had an error; then it is unchanged; and an idle ticket isn't registered
-pub record Polled (old new : Registration) (fault : Option Error) : Type 0 where
+-- whether a poll in this way is in the wrong mode: the ticket was registered in the other; an idle ticket has no mode
+abbrev pub is_wrong_mode : How → Registration → Bool
+is_wrong_mode how Unregistered = false
+is_wrong_mode how (AtOnce value request is_sync) = not (is_right_mode how is_sync)
+is_wrong_mode how (InSlot slot request is_sync) = not (is_right_mode how is_sync)
+
+-- whether a poll's error says that the mode was wrong
+abbrev pub says_wrong_mode : Option Error → Bool
+says_wrong_mode None = false
+says_wrong_mode (Some NotRegistered) = false
+says_wrong_mode (Some WrongMode) = true
+says_wrong_mode (Some NotReady) = false
+
+-- whether a poll's error says that the mode was wrong, or that the ticket isn't registered there
+abbrev pub is_refusal : Option Error → Bool
+is_refusal None = false
+is_refusal (Some NotRegistered) = true
+is_refusal (Some WrongMode) = true
+is_refusal (Some NotReady) = false
+
+-- A poll in this way that answered with this error, or with none, in the ticket's own terms. The ticket is registered
+-- afterwards exactly where it was before and the poll had an error; then it is unchanged. An idle ticket isn't
+-- registered. In the wrong mode there is no answer, and the error says so, or that the ticket isn't registered there;
+-- in the right mode no error speaks of the mode
+pub record Polled (old new : Registration) (how : How) (fault : Option Error) : Type 0 where
   pub registered : is_busy new ≡ (is_busy old && is_some fault)
   pub idle : is_busy old ≡ false → fault ≡ Some NotRegistered
   pub same : is_some fault ≡ true → new ≡ old
+  pub wrong : is_wrong_mode how old ≡ true → is_refusal fault ≡ true
+  pub right : is_wrong_mode how old ≡ false → says_wrong_mode fault ≡ false
 
 -- dropping a name as a step of the object
 abbrev pub dropping : Object → ℕ → After (Unit {0})

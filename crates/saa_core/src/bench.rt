@@ -80,7 +80,7 @@ pub trait Primitive: Drop {
     /// Polls a ticket for the number of its answer; never waits.
     fn poll_number(&mut self, ticket: &mut Ticket, how: How) -> Result<u8, Error>
         ensures acts { Acts (core self.old) (core self.new) ticket.old ticket.new (λ s name. polled s name how) result }
-        ensures ticket { Polled ticket.old ticket.new (fault_of result) };
+        ensures ticket { Polled ticket.old ticket.new how (fault_of result) };
 
     /// What the number of an answer means to this primitive.
     fn value_of(answer: Result<u8, Error>) -> Self::Value

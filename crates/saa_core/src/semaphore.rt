@@ -246,7 +246,7 @@ impl<const MAX: usize> SemaphoreCoreOf<MAX> {
     /// `Ok(())`: it was granted, its slot is free again, and the ticket is idle.
     pub fn poll(&mut self, ticket: &mut Ticket, how: How) -> Result<(), Error>
         ensures acts { Acts self.old self.new ticket.old ticket.new (λ s name. read_as semaphore_value (polled s name how)) result }
-        ensures ticket { Polled ticket.old ticket.new (fault_of result) }
+        ensures ticket { Polled ticket.old ticket.new how (fault_of result) }
         ensures foreign { IsForeign self.old.slots ticket.old
             → (result ≡ Err NotRegistered) × (self.new ≡ self.old) × (ticket.new ≡ ticket.old) }
         ensures unchanged { OnErr result (self.new ≡ self.old) }
@@ -261,7 +261,7 @@ impl<const MAX: usize> SemaphoreCoreOf<MAX> {
     /// Polls a ticket for the number of its answer, as [`Self::poll`] does.
     pub fn poll_number(&mut self, ticket: &mut Ticket, how: How) -> Result<u8, Error>
         ensures acts { Acts self.old self.new ticket.old ticket.new (λ s name. polled s name how) result }
-        ensures ticket { Polled ticket.old ticket.new (fault_of result) }
+        ensures ticket { Polled ticket.old ticket.new how (fault_of result) }
         ensures foreign { IsForeign self.old.slots ticket.old
             → (result ≡ Err NotRegistered) × (self.new ≡ self.old) × (ticket.new ≡ ticket.old) }
         ensures unchanged { OnErr result (self.new ≡ self.old) }

@@ -122,7 +122,7 @@ impl Ticket {
         requires { IsSound line.old }
         ensures acts { (held : Held) → Acts (record { held = held; slots = line.old }) (record { held = held; slots = line.new })
             self.old self.new (λ s name. polled s name how) result }
-        ensures ticket { Polled self.old self.new (fault_of result) }
+        ensures ticket { Polled self.old self.new how (fault_of result) }
         ensures foreign { IsForeign line.old self.old
             → (result ≡ Err NotRegistered) × (line.new ≡ line.old) × (self.new ≡ self.old) }
         ensures unchanged { OnErr result (line.new ≡ line.old) }
@@ -157,7 +157,7 @@ impl Ticket {
         requires registered { self.old ≡ InSlot slot _request is_sync }
         ensures acts { (held : Held) → Acts (record { held = held; slots = line.old }) (record { held = held; slots = line.new })
             self.old self.new (λ s name. polled s name how) result }
-        ensures ticket { Polled self.old self.new (fault_of result) }
+        ensures ticket { Polled self.old self.new how (fault_of result) }
         ensures foreign { IsForeign line.old self.old
             → (result ≡ Err NotRegistered) × (line.new ≡ line.old) × (self.new ≡ self.old) }
         ensures unchanged { OnErr result (line.new ≡ line.old) }
