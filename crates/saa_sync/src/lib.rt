@@ -6,5 +6,6 @@
 #![tactic(auto)]
 
 pub mod pager;
+mod seat;
 pub mod semaphore;
 mod shell;
