@@ -9,3 +9,7 @@ pub mod pager;
 mod seat;
 pub mod semaphore;
 mod shell;
+#[cfg(test)]
+mod sleepers;
+#[cfg(test)]
+mod twins;

@@ -10,6 +10,8 @@ ghost use Rattle.saa_core.specs.declared.ticket.Registration.TheVariants.{Unregi
 ghost use Rattle.saa_core.specs.Tickets.{Polled, is_busy};
 ghost use Rattle.saa_sync.specs.Waits.{is_not_ready};
 
+#[cfg(test)]
+use saa_core::ticket::Registration;
 pub use saa_core::ticket::{Error, How, Ticket};
 use std::marker::Model;
 
@@ -149,8 +151,14 @@ impl<'s, S: SyncResult> Pager<'s, S> {
         self.ticket = ticket;
     }
 
-    // One poll; an unregistered pager is answered without its primitive.
-    fn poll(&mut self, how: How) -> S::Result
+    /// What it is registered as.
+    #[cfg(test)]
+    pub(crate) fn registration(&self) -> Registration {
+        self.ticket.registration()
+    }
+
+    /// One poll, in this way; an unregistered pager is answered without its primitive.
+    pub(crate) fn poll(&mut self, how: How) -> S::Result
         ensures polled { Polled self.old self.new how (S.fault result) }
         ensures waited { how ≡ Sync → is_not_ready (S.fault result) ≡ false }
     {

@@ -4,7 +4,7 @@
 //! task stays awake is a value, `Patience`, so that tests can send every wait to sleep.
 
 use std::hint::spin_loop;
-use std::sync::atomic::{AtomicBool, Ordering};
+use std::sync::atomic::{AtomicU64, Ordering};
 use std::sync::{Condvar, MutexGuard, Wait};
 use std::thread::yield_now;
 
@@ -25,11 +25,17 @@ pub(crate) const PATIENCE: Patience = Patience {
     yields: 500,
 };
 
+// What a seat is: its holder is awake, it is rung, or its holder sleeps.
+const AWAKE: u64 = 0;
+
+const RUNG: u64 = 1;
+
+const ASLEEP: u64 = 2;
+
 /// Where the holder of a slot waits.
 #[derive(Drop)]
 pub(crate) struct Seat {
-    // Whether the slot may have been answered since its holder joined.
-    rung: AtomicBool,
+    state: AtomicU64,
     bell: Condvar,
 }
 
@@ -37,32 +43,33 @@ impl Seat {
     /// A seat at which nobody waits.
     pub(crate) fn new() -> Seat {
         Seat {
-            rung: AtomicBool::new(false),
+            state: AtomicU64::new(AWAKE),
             bell: Condvar::new(),
         }
     }
 
-    /// A new holder may wait here from now on.
+    /// A new holder may wait here from now on. Called under the lock under which the slot is given out.
     pub(crate) fn reset(&self) {
-        self.rung.store(false, Ordering::SeqCst);
+        self.state.store(AWAKE, Ordering::SeqCst);
     }
 
-    /// Wakes whoever waits here; makes a system call only where somebody sleeps.
+    /// Wakes whoever waits here; rings the bell only where somebody sleeps.
     pub(crate) fn ring(&self) {
-        self.rung.store(true, Ordering::SeqCst);
-        self.bell.notify_all();
+        if self.state.swap(RUNG, Ordering::SeqCst) == ASLEEP {
+            self.bell.notify_all();
+        }
     }
 
     /// Looks, and then yields, until the seat is rung, or so often that it is time to sleep.
     pub(crate) fn linger(&self, patience: Patience) {
         for _turn in 0..patience.looks {
-            if self.rung.load(Ordering::SeqCst) {
+            if self.is_rung() {
                 return;
             }
             spin_loop();
         }
         for _turn in 0..patience.yields {
-            if self.rung.load(Ordering::SeqCst) {
+            if self.is_rung() {
                 return;
             }
             yield_now();
@@ -70,11 +77,26 @@ impl Seat {
     }
 
     /// Sleeps until the seat is rung, with the lock free meanwhile; now and then it wakes for no reason.
-    pub(crate) fn sleep<'g, T: Drop>(
+    ///
+    /// A slot is answered under the lock that is handed in, and its seat is rung after that. So a holder that found no
+    /// answer under this lock is seen to sleep by whoever rings for it.
+    pub(crate) fn sleep<'g, T>(
         &self,
         rt: &impl Wait,
         inside: MutexGuard<'g, T>,
     ) -> MutexGuard<'g, T> {
+        self.state.store(ASLEEP, Ordering::SeqCst);
         self.bell.wait(rt, inside)
+    }
+
+    /// Whether the slot may have been answered since its holder joined.
+    pub(crate) fn is_rung(&self) -> bool {
+        self.state.load(Ordering::SeqCst) == RUNG
+    }
+
+    /// Whether the holder sleeps. Who asks under the lock knows that it has let go of the lock.
+    #[cfg(test)]
+    pub(crate) fn is_asleep(&self) -> bool {
+        self.state.load(Ordering::SeqCst) == ASLEEP
     }
 }

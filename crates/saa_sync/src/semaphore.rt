@@ -283,3 +283,6 @@ fn give_back(core: &mut SemaphoreCore, count: usize) -> bool
 {
     core.release_many(count)
 }
+
+#[cfg(test)]
+mod tests;

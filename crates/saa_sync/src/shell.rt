@@ -338,4 +338,25 @@ impl<R: Wait + Drop, P: Primitive> Shell<R, P> {
     fn seat(&self, slot: u16) -> Option<&Seat> {
         self.seats.get(usize::from(slot))
     }
+    /// Whether the seat of a slot is rung.
+    #[cfg(test)]
+    pub(crate) fn is_rung(&self, slot: u16) -> bool {
+        match self.seat(slot) {
+            Some(seat) => seat.is_rung(),
+            None => false,
+        }
+    }
+
+    /// How many holders sleep; all those have let go of the lock.
+    #[cfg(test)]
+    pub(crate) fn asleep(&self) -> usize {
+        let _inside = self.lock();
+        self.seats.iter().filter(|seat| seat.is_asleep()).count()
+    }
+
+    /// How many seats are rung.
+    #[cfg(test)]
+    pub(crate) fn rung(&self) -> usize {
+        self.seats.iter().filter(|seat| seat.is_rung()).count()
+    }
 }
