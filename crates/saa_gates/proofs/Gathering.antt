@@ -10,7 +10,8 @@ use Rattle.saa_object.specs.Settling.{all_answered, answered_in}
 use Rattle.saa_object.specs.Asking.{registered, answer_at_once}
 use Rattle.saa_object.specs.Polling.{left_of, undone_of}
 use Rattle.std.specs.Bool.{OnTrue, OnFalse}
-use Rattle.saa_object.proofs.Counts.{length-without, number_same}
+use Rattle.saa_object.proofs.Counts.{below_true, below_false, length-without, number_same}
+use Rattle.saa_tickets.proofs.Counting.{held-once, no_answer}
 use Rattle.saa_line.specs.Slots.{Slots, answer_in, held_slots, held_times, room_of, slots_answered, all_slots_answered, answered_slots, owed_after, IsSound}
 use Rattle.saa_tickets.specs.declared.ticket.Registration.{Registration}
 use Rattle.saa_tickets.specs.declared.ticket.Registration.TheVariants.{Unregistered, AtOnce, InSlot}
@@ -182,3 +183,28 @@ pub length-left : (waited : Bool) (old new : Slots) (slot : ℕ) → OnTrue wait
     → length new.line ≤ length old.line
 length-left true old new slot left same = omega (arith, ap (λ (s : Slots). length s.line) left, length-without slot old.line)
 length-left false old new slot left same = omega (arith, ap (λ (s : Slots). length s.line) same)
+
+-- a slot that waits has no answer, and leaves the line
+vacated_by-waits : (close : Slots → Slots) (slots : Slots) (slot : ℕ) (a : Option ℕ) (waits : Bool) → a ≡ None → waits ≡ true
+    → vacated_by close slots slot a waits ≡ close (slots_left slots slot)
+vacated_by-waits close slots slot None true none some = refl
+vacated_by-waits close slots slot None false none some = cc
+vacated_by-waits close slots slot (Some v) waits none some = cc
+
+pub vacated-waits : (close : Slots → Slots) (slots : Slots) (slot : ℕ) → IsSound slots → 0 < times slot slots.line
+    → vacated close slots slot ≡ close (slots_left slots slot)
+vacated-waits close slots slot sound waits =
+    let none : answer_in slots.answers slot ≡ None = no_answer (answer_in slots.answers slot) (omega (arith, held-once slots sound slot)) in
+    vacated_by-waits close slots slot (answer_in slots.answers slot) (nat_lt 0 (times slot slots.line)) none (below_true 0 (times slot slots.line) waits)
+
+-- one that doesn't changes nothing for those who wait, and wakes nobody
+vacated_by-else : (close : Slots → Slots) (slots : Slots) (slot : ℕ) (a : Option ℕ) (waits : Bool) → waits ≡ false
+    → ((vacated_by close slots slot a waits).line ≡ slots.line) × ((vacated_by close slots slot a waits).owed ≡ slots.owed)
+vacated_by-else close slots slot None true none = cc
+vacated_by-else close slots slot None false none = (refl, refl)
+vacated_by-else close slots slot (Some v) waits none = (refl, refl)
+
+pub vacated-else : (close : Slots → Slots) (slots : Slots) (slot : ℕ) → (0 < times slot slots.line → ⊥)
+    → ((vacated close slots slot).line ≡ slots.line) × ((vacated close slots slot).owed ≡ slots.owed)
+vacated-else close slots slot none =
+    vacated_by-else close slots slot (answer_in slots.answers slot) (nat_lt 0 (times slot slots.line)) (below_false 0 (times slot slots.line) (omega arith))

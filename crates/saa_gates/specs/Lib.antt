@@ -1,5 +1,6 @@
 pub mod Standing
 pub mod GatePolls
+pub mod Waiters
 pub mod GatheringParts
 pub use Rattle.saa_object.specs.Held
 pub use Rattle.saa_object.specs.Object

@@ -13,9 +13,10 @@ ghost use Rattle.saa_object.specs.Asking.{registered};
 ghost use Rattle.saa_object.specs.Polling.{polled, read_as};
 ghost use Rattle.saa_object.specs.Values.{barrier_value, leader_value, passed_value};
 ghost use Rattle.saa_object.specs.Barrier.{size_of, new_barrier};
-ghost use Rattle.saa_line.specs.Slots.{empty_slots, held_slots, room_of, wake_told, all_slots_answered};
+ghost use Rattle.saa_line.specs.Slots.{empty_slots, held_slots, room_of, wake_told, all_slots_answered, IsSound};
 ghost use Rattle.saa_tickets.specs.Tickets.{Acts, Belong, Polled, IsForeign, dropping, fault_of, is_busy, is_yes, object_of};
 ghost use Rattle.saa_gates.specs.Standing.{IsBarrierStanding};
+ghost use Rattle.saa_gates.specs.Waiters.{IsWaiting, left_by};
 ghost use Rattle.saa_gates.specs.GatheringParts.{vacated};
 
 pub use saa_object::barrier::{BarrierAnswer, BarrierCall};
@@ -107,6 +108,8 @@ impl BarrierCore {
             → (result ≡ Ok true) × (self.new ≡ record self.old { slots = all_slots_answered passed_value self.old.slots })
             × (ticket.new ≡ AtOnce leader_value Arrive is_sync) }
         ensures full { IsErr result → held_slots self.old.slots ≡ room_of self.old.slots }
+        ensures nobody { ¬ (length self.old.slots.line + 1 ≡ size_of self.old.held)
+            → self.new.slots.owed ≡ self.old.slots.owed }
         ensures refused { is_yes result ≡ false → (self.new ≡ self.old) × (ticket.new ≡ ticket.old) }
         ensures size { self.new.held ≡ self.old.held }
         ensures standing { IsBarrierStanding self.new }
@@ -167,6 +170,9 @@ impl BarrierCore {
         ensures acts { Acts self.old self.new ticket.old ticket.new dropping result }
         ensures idle { ticket.new ≡ Unregistered }
         ensures unregistered { ticket.old ≡ Unregistered → self.new ≡ self.old }
+        ensures taken_back { IsWaiting self.old.slots ticket.old
+            → self.new ≡ record self.old { slots = left_by ticket.old self.old.slots } }
+        ensures consumed { ¬ IsWaiting self.old.slots ticket.old → self.new.slots.line ≡ self.old.slots.line }
         ensures foreign { IsForeign self.old.slots ticket.old → self.new ≡ self.old }
         ensures nobody { self.new.slots.owed ≡ self.old.slots.owed }
         ensures size { self.new.held ≡ self.old.held }
@@ -203,6 +209,7 @@ impl BarrierCore {
     // Frees a slot of this core: its answer is consumed, or it leaves the line; a slot that isn't held is nothing.
     fn vacate(&mut self, slot: u16)
         ensures vacated { self.new ≡ record self.old { slots = vacated (λ s. s) self.old.slots slot } }
+        ensures sound { IsSound self.old.slots }
         ensures nobody { self.new.slots.owed ≡ self.old.slots.owed }
         ensures standing { IsBarrierStanding self.new }
     {

@@ -14,10 +14,11 @@ ghost use Rattle.saa_object.specs.Asking.{registered};
 ghost use Rattle.saa_object.specs.Polling.{polled, read_as};
 ghost use Rattle.saa_object.specs.Values.{gate_value, gate_error, permitted_value, rejected_value, opened_value, sealed_value, spurious_value};
 ghost use Rattle.saa_object.specs.Gate.{gate_state, gate_step, let_through, moved, new_gate};
-ghost use Rattle.saa_line.specs.Slots.{empty_slots, held_slots, room_of, wake_told, all_slots_answered};
+ghost use Rattle.saa_line.specs.Slots.{empty_slots, held_slots, room_of, wake_told, all_slots_answered, IsSound};
 ghost use Rattle.saa_tickets.specs.Tickets.{Acts, Calls, Belong, Polled, IsForeign, dropping, fault_of, is_busy, is_yes, object_of};
 ghost use Rattle.saa_gates.specs.Standing.{IsGateStanding};
 ghost use Rattle.saa_gates.specs.GatePolls.{GatePolled, is_answer};
+ghost use Rattle.saa_gates.specs.Waiters.{IsWaiting, left_by};
 ghost use Rattle.saa_gates.specs.GatheringParts.{vacated, answer_by_state};
 
 pub use saa_object::gate::{Error, GateAnswer, GateCall, State};
@@ -173,6 +174,7 @@ impl GateCore {
         ensures opened { is_busy ticket.old ≡ false → gate_state self.old.held ≡ Open
             → (result ≡ Ok true) × (self.new ≡ self.old) × (ticket.new ≡ AtOnce opened_value Enter is_sync) }
         ensures full { IsErr result → held_slots self.old.slots ≡ room_of self.old.slots }
+        ensures nobody { self.new.slots.owed ≡ self.old.slots.owed }
         ensures refused { is_yes result ≡ false → (self.new ≡ self.old) × (ticket.new ≡ ticket.old) }
         ensures state { self.new.held ≡ self.old.held }
         ensures standing { IsGateStanding self.new }
@@ -234,6 +236,10 @@ impl GateCore {
         ensures acts { Acts self.old self.new ticket.old ticket.new dropping result }
         ensures idle { ticket.new ≡ Unregistered }
         ensures unregistered { ticket.old ≡ Unregistered → self.new ≡ self.old }
+        ensures others { IsWaiting self.old.slots ticket.old
+            → self.new ≡ record self.old { slots = all_slots_answered spurious_value (left_by ticket.old self.old.slots) } }
+        ensures consumed { ¬ IsWaiting self.old.slots ticket.old
+            → (self.new.slots.line ≡ self.old.slots.line) × (self.new.slots.owed ≡ self.old.slots.owed) }
         ensures foreign { IsForeign self.old.slots ticket.old → self.new ≡ self.old }
         ensures state { self.new.held ≡ self.old.held }
         ensures standing { IsGateStanding self.new }
@@ -314,6 +320,7 @@ impl GateCore {
     // gave up; a slot that isn't held is nothing.
     fn vacate(&mut self, slot: u16)
         ensures vacated { self.new ≡ record self.old { slots = vacated (all_slots_answered spurious_value) self.old.slots slot } }
+        ensures sound { IsSound self.old.slots }
         ensures standing { IsGateStanding self.new }
     {
         if self.line.take(slot).is_some() {

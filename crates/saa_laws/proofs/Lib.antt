@@ -18,5 +18,6 @@ pub mod Permitted
 pub mod Conserved
 pub mod Turns
 pub mod TurnsKept
+pub mod InHand
 pub mod Rows
 pub mod Witnesses

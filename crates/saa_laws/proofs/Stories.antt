@@ -1,5 +1,5 @@
 -- A registration is answered at most once and its answer consumed at most once, over every run of each primitive.
-use Rattle.std.proofs.Common.{◌≡◌, ℕ, ◌≤◌, Bool, true, false, not, ◌||◌, inl, inr, List, [], ◌∷◌, length, set, Option, Some, None, refl, sym, ap, ◌∙◌, arith}
+use Rattle.std.proofs.Common.{◌≡◌, ℕ, ◌≤◌, Bool, true, false, not, ◌||◌, inl, inr, List, [], ◌∷◌, length, set, Option, Some, None, refl, sym, ap, ◌∙◌, arith, All}
 use Rattle.std.specs.Prelude.{Result, map}
 use Rattle.std.specs.List.{AllByRecursion}
 use Rattle.std.proofs.lemmas.Bool.{cases_lt}
@@ -114,11 +114,11 @@ module _ {C K A : Type 0} (request : K → Request) (step : C → Object → Aft
       size-run names commands (done request step as_kept command s).state ((ReadsStep-done 0 command s (rw size within.0)).size ∙ size) within.1
 
   -- every name that isn't idle stands
-  pub reads-story : (story : Story C K) (name : ℕ) → IsStory C K story
+  pub reads-story : (story : Story C K) (name : ℕ) → All (IsWithin story.names) story.commands
       → not (is_idle (entry_at (found request step story).book name)) ≡ stands_in request step story name
-  reads-story story name is =
+  reads-story story name within =
       reads-run story.names name story.commands (newly_made story.held story.room story.names) false (length-replicate story.names Idle)
-      (recursion_from_All (IsWithin story.names) story.commands is.commands)
+      (recursion_from_All (IsWithin story.names) story.commands within)
       (ap (λ (e : Entry). not (is_idle e)) (entry_at-replicate story.names name))
 
   -- the next command of a story
@@ -179,12 +179,12 @@ module _ {C K A : Type 0} (request : K → Request) (step : C → Object → Aft
     same_replies = same_replies-run value;
     same_states = same_states-run value;
     read = reads-story;
-    registered = λ story name is e. sym (reads-story story name is) ∙ ap not ((ReadsStep-next story name is).new e);
+    registered = λ story name is e. sym (reads-story story name is.commands) ∙ ap not ((ReadsStep-next story name is).new e);
     polled = λ story name value is e.
         let was = (ReadsStep-next story name is).told value e in
-        sym (reads-story story name is) ∙ not_idle-answered _ value was.0 was.1 was.2 was.3;
+        sym (reads-story story name is.commands) ∙ not_idle-answered _ value was.0 was.1 was.2 was.3;
     dropped = λ story name is gone none.
-        (ReadsStep-next story name is).unmoved gone (stands_is_busy _ _ (reads-story story name is) none);
+        (ReadsStep-next story name is).unmoved gone (stands_is_busy _ _ (reads-story story name is.commands) none);
     told = told-done;
     kept = kept-done;
   }

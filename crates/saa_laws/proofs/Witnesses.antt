@@ -29,7 +29,7 @@ use Rattle.saa_object.specs.Run.{IsWithin, done, state_after}
 use Rattle.saa_laws.specs.RunLaws.{IsSettledSemaphore, IsSettledLock, NobodyWaits, AnswersInOrder}
 use Rattle.saa_laws.specs.Registrations.{Story, IsStory, found, stands_in, next_of, registers, value_polled, as_kept}
 use Rattle.saa_laws.specs.Leaders.{is_arrival, is_given_up, names_leader, barrier_run, barrier_next, CompletesRound, told}
-use Rattle.saa_laws.specs.Conservation.{semaphore_run, granted_by, given_back_by}
+use Rattle.saa_laws.specs.Conservation.{semaphore_run, granted_by, given_back_by, released_by, taken_in_hand_by}
 use Rattle.saa_laws.proofs.Fronts.{StandsSettled-from_front}
 use Rattle.saa_laws.proofs.SettledKinds.{semaphore-settled_run, lock-settled_run}
 use Rattle.saa_laws.proofs.Waits.{semaphore-nobody_waits, free_lock-nobody_waits, poisoned_lock-nobody_waits, gate-nobody_waits}
@@ -311,3 +311,17 @@ pub a_grant_that_was_released-counts :
     × (out_of (state_after Permits semaphore_step semaphore_value a_grant_that_was_released (new_semaphore 5 5 4 3)).held ≡ 0)
 unfolding settled
 a_grant_that_was_released-counts = (refl, refl, refl)
+
+-- three are tried, two are granted to 1, and the three are released: no more than were in hand
+abbrev a_grant_that_is_out : List (CommandOf SemaphoreCall ℕ)
+a_grant_that_is_out = Call (TryAcquireMany 3) ∷ Register 1 2 true ∷ Call (ReleaseMany 3) ∷ []
+
+-- so a drop gives back the two; that of the grant that was released gave back nothing, as three were released and none in hand
+pub a_grant_that_is_out-counts :
+    (sum_by released_by (semaphore_run 5 5 4 3 a_grant_that_is_out) ≡ 3)
+    × (sum_by taken_in_hand_by (semaphore_run 5 5 4 3 a_grant_that_is_out) ≡ 3)
+    × (entry_at (state_after Permits semaphore_step semaphore_value a_grant_that_is_out (new_semaphore 5 5 4 3)).book 1 ≡ Answered 0 (Permits 2) true false)
+    × (sum_by given_back_by (semaphore_run 5 5 4 3 (a_grant_that_is_out ++ Drop 1 ∷ [])) ≡ 5)
+    × (sum_by taken_in_hand_by (semaphore_run 5 5 4 3 a_grant_that_was_released) ≡ 0)
+unfolding settled
+a_grant_that_is_out-counts = (refl, refl, refl, refl, refl)

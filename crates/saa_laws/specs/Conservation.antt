@@ -1,6 +1,6 @@
 -- The permits of a semaphore: what a run grants and what it gives back, read off its commands, its replies, and the entries
 -- before and after each command.
-use Rattle.std.specs.Prelude.{ℕ, ◌+◌, ◌&&◌, ◌==◌, List, [], ◌∷◌, Result, if◌then◌else◌}
+use Rattle.std.specs.Prelude.{ℕ, ◌+◌, Bool, true, false, ◌&&◌, ◌==◌, List, [], ◌∷◌, Result, Ok, Err, if◌then◌else◌}
 use Rattle.saa_object.specs.declared.request.Request.{Request}
 use Rattle.saa_object.specs.declared.request.Request.TheVariants.{Permits}
 use Rattle.saa_object.specs.declared.polling.Error.{Error}
@@ -9,9 +9,9 @@ use Rattle.saa_object.specs.declared.semaphore.SemaphoreCall.TheVariants.{TryAcq
 use Rattle.saa_object.specs.declared.semaphore.SemaphoreAnswer.{SemaphoreAnswer}
 use Rattle.saa_object.specs.declared.semaphore.SemaphoreAnswer.TheVariants.{Bool as SaysBool}
 use Rattle.saa_object.specs.declared.run.CommandOf.{CommandOf}
-use Rattle.saa_object.specs.declared.run.CommandOf.TheVariants.{Call, Register, Drop}
+use Rattle.saa_object.specs.declared.run.CommandOf.TheVariants.{Call, Register, TryPoll, PollSync, PollAsync, Drop}
 use Rattle.saa_object.specs.declared.run.ReplyOf.{ReplyOf}
-use Rattle.saa_object.specs.declared.run.ReplyOf.TheVariants.{Answered as Says, Registered}
+use Rattle.saa_object.specs.declared.run.ReplyOf.TheVariants.{Answered as Says, Registered, Polled}
 use Rattle.saa_object.specs.Object.{Object, Entry, Idle, Waiting, Answered, entry_at}
 use Rattle.saa_object.specs.Polling.{given_back}
 use Rattle.saa_object.specs.Values.{semaphore_value, granted_value}
@@ -69,6 +69,39 @@ released s _ _ = 0
 -- what a step gives back
 abbrev pub given_back_by : SemaphoreStep → ℕ
 given_back_by step = released step.before step.command step.after.reply
+
+-- the permits that an entry has that is a grant and isn't consumed
+abbrev pub grant_of : Entry → ℕ
+grant_of Idle = 0
+grant_of (Waiting request is_sync) = 0
+grant_of (Answered value request is_sync slotted) = if value == granted_value then permits_of request else 0
+
+-- whether a poll has its value
+abbrev pub has_value : Result (Unit {0}) Error → Bool
+has_value (Ok value) = true
+has_value (Err error) = false
+
+-- what a command with this reply takes into somebody's hands: the permits of a try that is answered true, and of a grant
+-- whose poll has its value
+abbrev pub taken_in_hand : Object → CommandOf SemaphoreCall ℕ → ReplyOf SemaphoreAnswer (Result (Unit {0}) Error) → ℕ
+taken_in_hand s (Call (TryAcquireMany n)) (Says (SaysBool is_so)) = if is_so then n else 0
+taken_in_hand s (TryPoll name) (Polled answer) = if has_value answer then grant_of (entry_at s.book name) else 0
+taken_in_hand s (PollSync name) (Polled answer) = if has_value answer then grant_of (entry_at s.book name) else 0
+taken_in_hand s (PollAsync name) (Polled answer) = if has_value answer then grant_of (entry_at s.book name) else 0
+taken_in_hand s _ _ = 0
+
+-- what a step takes in hand
+abbrev pub taken_in_hand_by : SemaphoreStep → ℕ
+taken_in_hand_by step = taken_in_hand step.before step.command step.after.reply
+
+-- what a call with this reply releases
+abbrev pub released_by_call : CommandOf SemaphoreCall ℕ → ReplyOf SemaphoreAnswer (Result (Unit {0}) Error) → ℕ
+released_by_call (Call (ReleaseMany n)) (Says (SaysBool is_so)) = if is_so then n else 0
+released_by_call _ _ = 0
+
+-- what a step releases by a call
+abbrev pub released_by : SemaphoreStep → ℕ
+released_by step = released_by_call step.command step.after.reply
 
 -- the steps of a run of a newly made semaphore
 abbrev pub semaphore_run : (bound permits room names : ℕ) → List (CommandOf SemaphoreCall ℕ) → List SemaphoreStep

@@ -110,7 +110,7 @@ pub record AnswersOnce (C K A V : Type 0) (request : K → Request) (step : C �
   pub same_states : (s : Object) (commands : List (CommandOf C K))
       → state_after request step value commands s ≡ state_after request step as_kept commands s
   -- a name isn't idle exactly where its commands and replies say that a registration stands
-  pub read : (story : Story C K) (name : ℕ) → IsStory C K story
+  pub read : (story : Story C K) (name : ℕ) → All (IsWithin story.names) story.commands
       → not (is_idle (entry_at (found request step story).book name)) ≡ stands_in request step story name
   -- a registration is answered `Ok(true)` only where none stands
   pub registered : (story : Story C K) (name : ℕ) → IsStory C K story

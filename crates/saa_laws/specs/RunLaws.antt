@@ -1,5 +1,5 @@
--- Laws of whole runs: what a settled object keeps, who is granted before whom, and what nobody waits for.
--- The functions of the module `runs` have them as their contracts; nothing else cites them.
+-- What a settled object keeps, who is answered before whom, and what nobody waits for.
+-- Functions of the module `laws` have these laws as their contracts; nothing else cites them.
 use Rattle.std.specs.Prelude.{◌≡◌, ℕ, ◌<◌, false, IsTrue, [], Some, slice_get}
 use Rattle.saa_object.specs.Held.{OfSemaphore, OfLock, LockState, Poisoned}
 use Rattle.saa_object.specs.Object.{Object, Waiter, entry_at}

@@ -1,7 +1,7 @@
 //! Laws of the sequential object, each the contract of a function that does nothing.
 //!
-//! They show that the definitions of `specs/` mean what they should. No code calls these functions;
-//! what they ensure is proved all the same.
+//! They show that the definitions of `specs/` mean what they should. No program needs to call these functions;
+//! what they ensure is proved all the same. [`all`] names each.
 
 ghost use Rattle.std.specs.Prelude.{◌≡◌, ℕ, ◌+◌, ◌-◌, ◌/◌, ◌<◌, ◌≤◌, ◌↔◌, Bool, List, Result, All, IsTrue, min, sum};
 ghost use Rattle.std.specs.List.{count_by, sum_by};
@@ -16,14 +16,15 @@ ghost use Rattle.saa_object.specs.declared.gate.GateAnswer.{GateAnswer};
 ghost use Rattle.saa_object.specs.declared.barrier.BarrierCall.{BarrierCall};
 ghost use Rattle.saa_object.specs.declared.barrier.BarrierAnswer.{BarrierAnswer};
 ghost use Rattle.saa_object.specs.declared.run.CommandOf.{CommandOf};
+ghost use Rattle.saa_object.specs.declared.run.CommandOf.TheVariants.{Drop};
 ghost use Rattle.saa_object.specs.Held.{Held, OfSemaphore, OfLock, OfGate, OfBarrier, Free, Poisoned};
 ghost use Rattle.saa_object.specs.declared.gate.State.{State};
 ghost use Rattle.saa_object.specs.declared.gate.State.TheVariants.{Controlled};
 ghost use Rattle.saa_object.specs.declared.gate.Error.{Error as GateError};
 ghost use Rattle.saa_object.specs.declared.polling.Error.{Error};
-ghost use Rattle.saa_object.specs.Object.{Object, Waiter, entry_at, newly_made};
+ghost use Rattle.saa_object.specs.Object.{Object, Waiter, Answered, entry_at, newly_made};
 ghost use Rattle.saa_object.specs.Settling.{fitting_front, settled};
-ghost use Rattle.saa_object.specs.Values.{semaphore_value, lock_value, gate_value, barrier_value};
+ghost use Rattle.saa_object.specs.Values.{semaphore_value, lock_value, gate_value, barrier_value, granted_value};
 ghost use Rattle.saa_object.specs.Semaphore.{semaphore_step, new_semaphore, out_of};
 ghost use Rattle.saa_object.specs.Lock.{lock_step, mode_request, new_lock};
 ghost use Rattle.saa_object.specs.Gate.{gate_step, enter_request, new_gate};
@@ -33,7 +34,8 @@ ghost use Rattle.saa_laws.specs.Laws.{is_waiting, IsFittingFront, StandsSettled,
 ghost use Rattle.saa_laws.specs.RunLaws.{IsSettledSemaphore, IsSettledLock, NobodyWaits, AnswersInOrder};
 ghost use Rattle.saa_laws.specs.Registrations.{AnswersOnce, is_answered};
 ghost use Rattle.saa_laws.specs.Leaders.{is_arrival, is_given_up, names_leader, barrier_run, barrier_next, CompletesRound};
-ghost use Rattle.saa_laws.specs.Conservation.{granted_by, given_back_by, semaphore_run};
+ghost use Rattle.saa_laws.specs.Conservation.{granted_by, given_back_by, released_by, taken_in_hand_by, semaphore_run};
+ghost use Rattle.saa_laws.specs.Steps.{step_of};
 
 /// The fitting front is the greatest number of the oldest waiters that all fit, one after another.
 ///
@@ -128,6 +130,21 @@ pub fn nobody_waits_for_nothing()
         ¬ (s.held ≡ OfGate Controlled) → NobodyWaits s }
 {}
 
+/// A semaphore and a lock answer those who wait in the order of the line.
+///
+/// After every run, and at every next command: where a waiter is answered (granted, or told that the lock is poisoned),
+/// nobody who stood before it in the line still waits.
+pub fn answers_in_order()
+    ensures semaphore { (bound permits room names : ℕ) (commands : List (CommandOf SemaphoreCall ℕ)) (next : CommandOf SemaphoreCall ℕ)
+        → All (IsWithin names) commands → IsWithin names next
+        → let s = state_after Permits semaphore_step semaphore_value commands (new_semaphore bound permits room names) in
+        AnswersInOrder s (done Permits semaphore_step semaphore_value next s).state }
+    ensures lock { (room names : ℕ) (commands : List (CommandOf LockCall Mode)) (next : CommandOf LockCall Mode)
+        → All (IsWithin names) commands → IsWithin names next
+        → let s = state_after mode_request lock_step lock_value commands (new_lock room names) in
+        AnswersInOrder s (done mode_request lock_step lock_value next s).state }
+{}
+
 /// A registration is answered at most once, and its answer is consumed at most once, in each of the four primitives.
 ///
 /// Which names are registered can be read off the commands and replies of a run alone: a registration stands since it
@@ -138,6 +155,29 @@ pub fn answers_once()
     ensures lock { AnswersOnce LockCall Mode LockAnswer (Result Bool Error) mode_request lock_step lock_value }
     ensures gate { AnswersOnce GateCall (Unit {0}) GateAnswer (Result State GateError) enter_request gate_step gate_value }
     ensures barrier { AnswersOnce BarrierCall (Unit {0}) BarrierAnswer (Result Bool Error) arrive_request barrier_step barrier_value }
+{}
+
+/// The permits of a semaphore are conserved: what is out in the end and all that was given back are what was withheld at
+/// first and all that was granted.
+///
+/// Granted is what a try took that was answered true, what a registration took that was answered at once, and what those
+/// who waited were granted. Given back is what a release gave back that was answered true, and a grant that was dropped
+/// before it was consumed. Such a drop is the release of what was granted. It gives back all of it wherever no more was
+/// released by calls than was withheld, tried and polled; where others have released the grant already, so that less is
+/// out, it gives nothing back.
+pub fn permits_conserved()
+    ensures conserved { (bound permits room names : ℕ) (commands : List (CommandOf SemaphoreCall ℕ))
+        → All (IsWithin names) commands
+        → let run = semaphore_run bound permits room names commands in
+        let end = state_after Permits semaphore_step semaphore_value commands (new_semaphore bound permits room names) in
+        out_of end.held + sum_by given_back_by run ≡ (bound - min permits bound) + sum_by granted_by run }
+    ensures whole { (bound permits room names : ℕ) (commands : List (CommandOf SemaphoreCall ℕ)) (name n : ℕ) (is_sync slotted : Bool)
+        → All (IsWithin names) commands
+        → let run = semaphore_run bound permits room names commands in
+        let end = state_after Permits semaphore_step semaphore_value commands (new_semaphore bound permits room names) in
+        sum_by released_by run ≤ (bound - min permits bound) + sum_by taken_in_hand_by run
+        → entry_at end.book name ≡ Answered granted_value (Permits n) is_sync slotted
+        → given_back_by (step_of Permits semaphore_step semaphore_value (Drop name) end) ≡ n }
 {}
 
 /// A barrier of size `N` has named as many leaders as full rounds of `N` arrivals, not counting those who were dropped
@@ -160,36 +200,6 @@ pub fn leaders()
         IsTrue (is_waiting (entry_at step.before.book name))
         → IsTrue (is_answered (entry_at step.after.state.book name))
         → IsTrue (names_leader step) }
-{}
-
-/// A semaphore and a lock answer those who wait in the order of the line.
-///
-/// After every run, and at every next command: where a waiter is answered (granted, or told that the lock is poisoned),
-/// nobody who stood before it in the line still waits.
-pub fn answers_in_order()
-    ensures semaphore { (bound permits room names : ℕ) (commands : List (CommandOf SemaphoreCall ℕ)) (next : CommandOf SemaphoreCall ℕ)
-        → All (IsWithin names) commands → IsWithin names next
-        → let s = state_after Permits semaphore_step semaphore_value commands (new_semaphore bound permits room names) in
-        AnswersInOrder s (done Permits semaphore_step semaphore_value next s).state }
-    ensures lock { (room names : ℕ) (commands : List (CommandOf LockCall Mode)) (next : CommandOf LockCall Mode)
-        → All (IsWithin names) commands → IsWithin names next
-        → let s = state_after mode_request lock_step lock_value commands (new_lock room names) in
-        AnswersInOrder s (done mode_request lock_step lock_value next s).state }
-{}
-
-/// The permits of a semaphore are conserved: what is out in the end and all that was given back are what was withheld at
-/// first and all that was granted.
-///
-/// Granted is what a try took that was answered true, what a registration took that was answered at once, and what those
-/// who waited were granted. Given back is what a release gave back that was answered true, and a grant that was dropped
-/// before it was consumed. Such a drop is the release of what was granted: where others have released it already, so that
-/// less is out, it gives nothing back.
-pub fn permits_conserved()
-    ensures { (bound permits room names : ℕ) (commands : List (CommandOf SemaphoreCall ℕ))
-        → All (IsWithin names) commands
-        → let run = semaphore_run bound permits room names commands in
-        let end = state_after Permits semaphore_step semaphore_value commands (new_semaphore bound permits room names) in
-        out_of end.held + sum_by given_back_by run ≡ (bound - min permits bound) + sum_by granted_by run }
 {}
 
 /// Every law, by its name.

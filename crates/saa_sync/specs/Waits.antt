@@ -1,15 +1,28 @@
 -- How a call that may wait begins, and how a wait ends.
-use Rattle.std.specs.Prelude.{ℕ, Bool, true, false, Option, Some, None, Result, Ok, Err}
+use Rattle.std.specs.Prelude.{ℕ, Bool, true, false, [], ◌∷◌, Option, Some, None, Result, Ok, Err}
 use Rattle.saa_object.specs.declared.request.Request.{Request}
 use Rattle.saa_object.specs.declared.polling.Error.{Error}
 use Rattle.saa_object.specs.declared.polling.Error.TheVariants.{NotRegistered, WrongMode, NotReady}
 use Rattle.saa_object.specs.declared.request.Full.{Full}
 use Rattle.saa_object.specs.declared.polling.How.TheVariants.{Sync}
+use Rattle.saa_tickets.specs.declared.ticket.Registration.{Registration}
+use Rattle.saa_tickets.specs.declared.ticket.Registration.TheVariants.{Unregistered, AtOnce, InSlot}
 use Rattle.saa_object.specs.Asking.{registered}
 use Rattle.saa_object.specs.Object.{Object, After}
 use Rattle.saa_object.specs.Polling.{polled, read_as}
+use Rattle.saa_tickets.specs.Tickets.{Core, object_of}
 use Rattle.saa_sync.specs.declared.shell.Begun.{Begun}
 use Rattle.saa_sync.specs.declared.shell.Begun.TheVariants.{Refused, Answered, Joined}
+
+-- whether a ticket was registered as sync; an idle one neither way
+abbrev pub mode_of : Registration → Option Bool
+mode_of Unregistered = None
+mode_of (AtOnce value request is_sync) = Some is_sync
+mode_of (InSlot slot request is_sync) = Some is_sync
+
+-- a core with one idle ticket, as the object
+abbrev pub alone : Core → Object
+alone core = object_of core (Unregistered ∷ [])
 
 -- whether it joined the line
 abbrev pub has_joined : Result Begun Full → Bool
@@ -17,6 +30,13 @@ has_joined (Ok Joined) = true
 has_joined (Ok Refused) = false
 has_joined (Ok (Answered value)) = false
 has_joined (Err full) = false
+
+-- what the registration answered: false exactly where the call is refused
+abbrev pub registration_of : Result Begun Full → Result Bool Full
+registration_of (Ok Refused) = Ok false
+registration_of (Ok (Answered value)) = Ok true
+registration_of (Ok Joined) = Ok true
+registration_of (Err full) = Err full
 
 -- what the first poll of a registration says: it is answered at once, or has joined
 abbrev pub begun_poll : Result ℕ Error → Result Begun Full

@@ -5,6 +5,12 @@
 //! core, that it sleeps and is woken, is shown by tests. This floor knows of the cores only their contracts.
 #![tactic(auto)]
 
+pub mod lock;
 pub mod pager;
+mod seat;
 pub mod semaphore;
 mod shell;
+#[cfg(test)]
+mod sleepers;
+#[cfg(test)]
+mod twins;

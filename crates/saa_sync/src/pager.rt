@@ -5,11 +5,13 @@
 
 ghost use Rattle.std.specs.Prelude.{◌≡◌, ℕ, false, Option, Some, None};
 ghost use Rattle.saa_object.specs.declared.polling.Error.{Error};
-ghost use Rattle.saa_object.specs.declared.polling.How.TheVariants.{Sync};
+ghost use Rattle.saa_object.specs.declared.polling.How.TheVariants.{Try, Sync};
 ghost use Rattle.saa_tickets.specs.declared.ticket.Registration.TheVariants.{Unregistered};
 ghost use Rattle.saa_tickets.specs.Tickets.{Polled, is_busy};
 ghost use Rattle.saa_sync.specs.Waits.{is_not_ready};
 
+#[cfg(test)]
+use saa_core::ticket::Registration;
 pub use saa_core::ticket::{Error, How, Ticket};
 use std::marker::Model;
 
@@ -36,16 +38,22 @@ pub trait SyncResult: Sized {
     /// Polls a ticket that was registered here.
     ///
     /// `How::Sync` waits for the answer; `How::Try` and `How::Async` never sleep for one, and answer `NotReady` where
-    /// it isn't there. `NotRegistered`: the ticket is idle, or was registered elsewhere. `WrongMode`: it was registered
+    /// it isn't there. `NotRegistered`: the ticket is idle, or its slot isn't held here. `WrongMode`: it was registered
     /// as async and is polled as sync, or the other way round. These three leave the ticket as it was; every other
-    /// answer leaves it idle. May wait for the lock.
+    /// answer leaves it idle. So a ticket that was registered in the other mode is never answered, and one that was
+    /// registered as sync is waited for to the end: no wait of it ends by `WrongMode`. May wait for the lock.
+    ///
+    /// A ticket is used with the primitive that it was registered in. One from elsewhere isn't told apart where it
+    /// was answered at once, or where its slot's number is held here too: it is polled as if it were from here.
     fn take(&self, ticket: &mut Ticket, how: How) -> Self::Result
-        ensures polled { Polled ticket.old ticket.new (fault result) }
+        ensures polled { Polled ticket.old ticket.new how (fault result) }
         ensures waited { how ≡ Sync → is_not_ready (fault result) ≡ false };
 
     /// Drops what a ticket is registered for here, and wakes whom that answers; the ticket is idle afterwards.
     ///
-    /// May wait for the lock. A ticket that was registered elsewhere only becomes idle.
+    /// May wait for the lock. A ticket is used with the primitive that it was registered in: of one from elsewhere,
+    /// what it was granted at once is given back here, and a slot of its number that is held here is freed. Where its
+    /// slot isn't held here, it only becomes idle.
     fn cancel(&self, ticket: &mut Ticket)
         ensures { ticket.new ≡ Unregistered };
 }
@@ -97,9 +105,10 @@ impl<'s, S: SyncResult> Pager<'s, S> {
     /// Takes the answer if it is there, whichever way the pager was registered; never sleeps for it.
     ///
     /// The primitive's `NotRegistered` where the pager isn't registered, and its `NotReady` where the answer isn't
-    /// there yet; these leave the pager as it was. Any other answer leaves it unregistered. May wait for the lock.
+    /// there yet; these leave the pager as it was. Any other answer leaves it unregistered. It is never in the wrong
+    /// mode. May wait for the lock.
     pub fn try_poll(&mut self) -> S::Result
-        ensures { Polled self.old self.new (S.fault result) }
+        ensures { Polled self.old self.new Try (S.fault result) }
     {
         self.poll(How::Try)
     }
@@ -108,9 +117,10 @@ impl<'s, S: SyncResult> Pager<'s, S> {
     ///
     /// The primitive's `NotRegistered` where the pager isn't registered, and its `WrongMode` where it was registered as
     /// async, even with an answer there; these come at once, and leave the pager as it was. Any other answer leaves it
-    /// unregistered.
+    /// unregistered. A pager that was registered as sync is waited for to the end: its wait is never ended by
+    /// `WrongMode`, nor by `NotReady`.
     pub fn poll_sync(&mut self) -> S::Result
-        ensures polled { Polled self.old self.new (S.fault result) }
+        ensures polled { Polled self.old self.new Sync (S.fault result) }
         ensures waited { is_not_ready (S.fault result) ≡ false }
     {
         self.poll(How::Sync)
@@ -141,9 +151,15 @@ impl<'s, S: SyncResult> Pager<'s, S> {
         self.ticket = ticket;
     }
 
-    // One poll; an unregistered pager is answered without its primitive.
-    fn poll(&mut self, how: How) -> S::Result
-        ensures polled { Polled self.old self.new (S.fault result) }
+    /// What it is registered as.
+    #[cfg(test)]
+    pub(crate) fn registration(&self) -> Registration {
+        self.ticket.registration()
+    }
+
+    /// One poll, in this way; an unregistered pager is answered without its primitive.
+    pub(crate) fn poll(&mut self, how: How) -> S::Result
+        ensures polled { Polled self.old self.new how (S.fault result) }
         ensures waited { how ≡ Sync → is_not_ready (S.fault result) ≡ false }
     {
         let Some(primitive) = self.at else {

@@ -3,15 +3,17 @@
 //! Each call is one lock, one step of the core, and the wakes that the core owes. The steps stand at the end of this
 //! file as functions that are lent the core, and are held to `specs/Semaphore.antt` of `saa_core` through its calls.
 
-ghost use Rattle.std.specs.Prelude.{◌≡◌, ◌↔◌, ◌≤◌, ◌<◌, ◌||◌, ◌==◌, true, false, [], nat_lt, IfOk, IsTrue, Ok};
+ghost use Rattle.std.specs.Prelude.{◌≡◌, ◌↔◌, ◌≤◌, ◌<◌, ◌||◌, ◌==◌, true, false, [], nat_lt, IfOk, IsTrue, Ok, Some};
 ghost use Rattle.std.specs.Bool.{OnFalse};
 ghost use Rattle.saa_object.specs.declared.request.Request.TheVariants.{Permits};
 ghost use Rattle.saa_object.specs.Asking.{tried};
 ghost use Rattle.saa_object.specs.Polling.{given_back};
 ghost use Rattle.saa_object.specs.Semaphore.{available, bound_of, out_of};
 ghost use Rattle.saa_tickets.specs.Tickets.{Calls, is_busy, is_yes};
+ghost use Rattle.saa_sync.specs.Waits.{mode_of};
 
 use crate::pager::{Pager, SyncResult};
+use crate::seat::{PATIENCE, Patience};
 use crate::shell::Shell;
 use saa_core::semaphore::SemaphoreCore;
 use saa_core::ticket::{Error, Full, How, Ticket};
@@ -52,9 +54,20 @@ impl<R: Wait + Drop> Semaphore<R> {
         permits: usize,
         room: u16,
     ) -> Result<Self, AllocError> {
+        Self::with_patience(rt, alloc, permits, room, PATIENCE)
+    }
+
+    // As `with_permits`, with another patience of those who wait.
+    pub(crate) fn with_patience(
+        rt: R,
+        alloc: Global,
+        permits: usize,
+        room: u16,
+        patience: Patience,
+    ) -> Result<Self, AllocError> {
         let core = SemaphoreCore::with_permits(alloc, permits, room)?;
         Ok(Semaphore {
-            shell: Shell::new(rt, alloc, core, room)?,
+            shell: Shell::new(rt, alloc, core, room, patience)?,
         })
     }
 
@@ -108,18 +121,19 @@ impl<R: Wait + Drop> Semaphore<R> {
 
     /// Takes one permit, and waits for it in the line where it must.
     ///
-    /// `Full`: it would have to wait, and as many slots are held as there is room; nothing is changed. Nothing stays
-    /// registered either way.
+    /// `Ok`: the core answered that it is granted. `Full`: it would have to wait, and as many slots are held as there
+    /// is room; nothing is changed. Nothing stays registered either way. No core refuses to register one permit, or
+    /// forgets a ticket that waits; one that did would be asked again.
     pub fn acquire_sync(&self) -> Result<(), Full> {
-        // One permit is never too many, so there is a value.
-        let _value = self.shell.acquire(1)?;
+        let _granted = self.shell.acquire(1)?;
         Ok(())
     }
 
     /// Takes `count` permits, all at once, and waits for them in the line where it must.
     ///
-    /// `Ok(false)` comes at once, exactly where the count is above [`Self::MAX_PERMITS`]. `Full`: it would have to
-    /// wait, and as many slots are held as there is room. Both change nothing. Nothing stays registered either way.
+    /// `Ok(true)`: the core answered that they are granted. `Ok(false)` comes at once, exactly where the count is above
+    /// [`Self::MAX_PERMITS`]. `Full`: it would have to wait, and as many slots are held as there is room. The last two
+    /// change nothing. Nothing stays registered in any case.
     pub fn acquire_many_sync(&self, count: usize) -> Result<bool, Full>
         ensures answer { IfOk result (λ is_granted. IsTrue is_granted ↔ (count ≤ 63)) }
         ensures too_many { 63 < count → result ≡ Ok false }
@@ -127,8 +141,7 @@ impl<R: Wait + Drop> Semaphore<R> {
         if is_too_many(count) {
             return Ok(false);
         }
-        // A count within the bound is never refused, so there is a value.
-        let _value = self.shell.acquire(count)?;
+        let _granted = self.shell.acquire(count)?;
         Ok(true)
     }
 
@@ -139,7 +152,7 @@ impl<R: Wait + Drop> Semaphore<R> {
     pub fn acquire_sync_with<F: FnOnce() + Drop>(&self, begin_wait: F) -> Result<(), Full>
         requires { F.pre begin_wait }
     {
-        let _value = self.shell.acquire_with(1, begin_wait)?;
+        let _granted = self.shell.acquire_with(1, begin_wait)?;
         Ok(())
     }
 
@@ -159,8 +172,7 @@ impl<R: Wait + Drop> Semaphore<R> {
         if is_too_many(count) {
             return Ok(false);
         }
-        // A count within the bound is never refused, so there is a value.
-        let _value = self.shell.acquire_with(count, begin_wait)?;
+        let _granted = self.shell.acquire_with(count, begin_wait)?;
         Ok(true)
     }
 
@@ -179,6 +191,7 @@ impl<R: Wait + Drop> Semaphore<R> {
         ensures busy { is_busy pager.old ≡ true → result ≡ Ok false }
         ensures too_many { 63 < count → result ≡ Ok false }
         ensures unchanged { is_yes result ≡ false → pager.new ≡ pager.old }
+        ensures mode { is_yes result ≡ true → mode_of pager.new ≡ Some is_sync }
     {
         if pager.is_registered() || is_too_many(count) {
             return Ok(false);
@@ -270,3 +283,6 @@ fn give_back(core: &mut SemaphoreCore, count: usize) -> bool
 {
     core.release_many(count)
 }
+
+#[cfg(test)]
+mod tests;

@@ -4,70 +4,22 @@
 //! there. A call that answered somebody wakes exactly those, with the lock free. The methods of `Inside` are lent the
 //! core, and say what they do to it; those of `Shell` only take the lock round one of them, and wake.
 
-ghost use Rattle.std.specs.Prelude.{◌≡◌, ◌||◌, false};
+ghost use Rattle.std.specs.Prelude.{◌≡◌, ◌||◌, true, false, Some, IfErr, slice_get};
+ghost use Rattle.saa_object.specs.declared.polling.Error.TheVariants.{NotRegistered};
 ghost use Rattle.saa_object.specs.declared.polling.How.TheVariants.{Sync};
 ghost use Rattle.saa_tickets.specs.declared.ticket.Registration.TheVariants.{Unregistered};
 ghost use Rattle.saa_object.specs.Asking.{registered};
 ghost use Rattle.saa_object.specs.Polling.{polled};
 ghost use Rattle.saa_tickets.specs.Tickets.{Acts, Polled, dropping, fault_of, is_busy, is_yes};
-ghost use Rattle.saa_sync.specs.Waits.{begun, has_joined, is_not_ready};
+ghost use Rattle.saa_line.specs.Slots.{wake_told};
+ghost use Rattle.saa_sync.specs.Waits.{alone, begun, has_joined, is_not_ready, mode_of, registration_of};
 
+use crate::seat::{Patience, Seat};
 use saa_core::bench::Primitive;
 use saa_core::ticket::{Error, Full, How, Registration, Ticket};
 use std::alloc::{AllocError, Global};
-use std::hint::spin_loop;
-use std::sync::atomic::{AtomicBool, Ordering};
-use std::sync::{Condvar, Mutex, MutexGuard, Wait};
+use std::sync::{Mutex, MutexGuard, Wait};
 use std::thread::yield_now;
-
-// How often a task that waits looks at its seat, before it begins to yield.
-const LOOKS: u32 = 500;
-
-// How often it yields after that, before it sleeps.
-const YIELDS: u32 = 500;
-
-// Where the holder of a slot waits.
-#[derive(Drop)]
-struct Seat {
-    // Whether the slot may have been answered since its holder joined.
-    rung: AtomicBool,
-    bell: Condvar,
-}
-
-impl Seat {
-    // A seat at which nobody waits.
-    fn new() -> Seat {
-        Seat {
-            rung: AtomicBool::new(false),
-            bell: Condvar::new(),
-        }
-    }
-
-    // A new holder may wait here from now on.
-    fn reset(&self) {
-        self.rung.store(false, Ordering::SeqCst);
-    }
-
-    // Wakes whoever waits here; makes a system call only where somebody sleeps.
-    fn ring(&self) {
-        self.rung.store(true, Ordering::SeqCst);
-        self.bell.notify_all();
-    }
-
-    // Looks, and then yields, until the seat is rung, or so often that it is time to sleep.
-    fn linger(&self) {
-        for turn in 0..LOOKS + YIELDS {
-            if self.rung.load(Ordering::SeqCst) {
-                return;
-            }
-            if turn < LOOKS {
-                spin_loop();
-            } else {
-                yield_now();
-            }
-        }
-    }
-}
 
 /// The wakes that are taken out of the core under one lock: whoever waits at these slots' seats has an answer.
 #[derive(Drop)]
@@ -84,17 +36,23 @@ pub(crate) struct Inside<P: Primitive> {
 }
 
 impl<P: Primitive> Inside<P> {
-    /// The oldest wakes that the core owes, taken out of its list.
+    /// The two oldest wakes that the core owes, told and so taken out of its list.
     pub(crate) fn next_wakes(&mut self) -> Wakes
-        ensures { P.core self.new.core ≡ P.core self.old.core }
+        ensures first { result.first ≡ slice_get (P.core self.old.core).slots.owed 0 }
+        ensures second { result.second ≡ slice_get (P.core self.old.core).slots.owed 1 }
+        ensures told { P.core self.new.core ≡ record (P.core self.old.core) { slots = wake_told (wake_told (P.core self.old.core).slots) } }
     {
         let first = self.core.next_answered();
-        let second = if first.is_some() {
-            self.core.next_answered()
-        } else {
-            None
-        };
-        Wakes { first, second }
+        if first.is_none() {
+            return Wakes {
+                first: None,
+                second: None,
+            };
+        }
+        Wakes {
+            first,
+            second: self.core.next_answered(),
+        }
     }
 
     // Registers a ticket.
@@ -102,6 +60,7 @@ impl<P: Primitive> Inside<P> {
         ensures acts { Acts (P.core self.old.core) (P.core self.new.core) ticket.old ticket.new
             (λ s name. registered s name (P.request ask) is_sync) result }
         ensures ticket { is_busy ticket.new ≡ (is_busy ticket.old || is_yes result) }
+        ensures mode { ticket.old ≡ Unregistered → is_yes result ≡ true → mode_of ticket.new ≡ Some is_sync }
     {
         self.core.register(ticket, ask, is_sync)
     }
@@ -111,7 +70,9 @@ impl<P: Primitive> Inside<P> {
         requires { ticket.old ≡ Unregistered }
         ensures acts { Acts (P.core self.old.core) (P.core self.new.core) ticket.old ticket.new
             (λ s name. begun s name (P.request ask)) result }
+        ensures registration { registration_of result ≡ (registered (alone (P.core self.old.core)) 0 (P.request ask) true).reply }
         ensures ticket { is_busy ticket.new ≡ has_joined result }
+        ensures mode { has_joined result ≡ true → mode_of ticket.new ≡ Some true }
     {
         if !self.register(ticket, ask, true)? {
             return Ok(Begun::Refused);
@@ -126,7 +87,7 @@ impl<P: Primitive> Inside<P> {
     fn poll(&mut self, ticket: &mut Ticket, how: How) -> Result<u8, Error>
         ensures acts { Acts (P.core self.old.core) (P.core self.new.core) ticket.old ticket.new
             (λ s name. polled s name how) result }
-        ensures ticket { Polled ticket.old ticket.new (fault_of result) }
+        ensures ticket { Polled ticket.old ticket.new how (fault_of result) }
     {
         self.core.poll_number(ticket, how)
     }
@@ -158,15 +119,20 @@ pub(crate) struct Shell<R: Wait + Drop, P: Primitive> {
     lock: Mutex<Inside<P>>,
     // One for each slot of the room.
     seats: Vec<Seat>,
-    // For a slot past the room, which no core hands out.
-    spare: Seat,
+    patience: Patience,
 }
 
 impl<R: Wait + Drop, P: Primitive> Shell<R, P> {
     /// The core that is handed in, whose slots are those of so large a room. Costs O(`room`).
     ///
     /// Only this takes memory; the error comes only where that was refused, and the core is dropped then.
-    pub(crate) fn new(rt: R, alloc: Global, core: P, room: u16) -> Result<Self, AllocError> {
+    pub(crate) fn new(
+        rt: R,
+        alloc: Global,
+        core: P,
+        room: u16,
+        patience: Patience,
+    ) -> Result<Self, AllocError> {
         let mut seats = Vec::with_capacity(alloc, usize::from(room))?;
         for _slot in 0..room {
             seats.push_reserved(Seat::new());
@@ -175,7 +141,7 @@ impl<R: Wait + Drop, P: Primitive> Shell<R, P> {
             rt,
             lock: Mutex::new(Inside { core }),
             seats,
-            spare: Seat::new(),
+            patience,
         })
     }
 
@@ -200,46 +166,25 @@ impl<R: Wait + Drop, P: Primitive> Shell<R, P> {
         }
     }
 
-    /// Registers a ticket as sync and polls it once, under one lock, and wakes whom that answered.
-    pub(crate) fn begin(&self, ticket: &mut Ticket, ask: P::Ask) -> Result<Begun, Full>
-        requires { ticket.old ≡ Unregistered }
-        ensures { is_busy ticket.new ≡ has_joined result }
-    {
-        let (begun, first) = {
-            let mut inside = self.lock();
-            let begun = inside.begin(ticket, ask);
-            self.take_seat(ticket);
-            (begun, inside.next_wakes())
-        };
-        self.wake(first);
-        begun
-    }
-
-    /// Waits for the answer of a ticket that joined the line, and consumes it.
+    /// Asks, waits for the answer if it isn't there at once, and consumes it; nothing stays registered.
     ///
-    /// `None` would be a ticket of another core; its registration is dropped then.
-    pub(crate) fn finish(&self, ticket: &mut Ticket) -> Option<u8>
-        ensures { is_busy ticket.new ≡ false }
-    {
-        match self.wait(ticket) {
-            Ok(value) => Some(value),
-            Err(_error) => {
-                self.cancel(ticket);
-                None
+    /// For what the core never refuses. A core that refused all the same, or that forgot a ticket which waits, is
+    /// asked again, so that every value is one that the core answered. `Full`: it would have to wait, and the room is
+    /// full.
+    pub(crate) fn acquire(&self, ask: P::Ask) -> Result<u8, Full> {
+        for _ in self.rt.forever() {
+            let mut ticket = Ticket::new();
+            match self.begin(&mut ticket, ask)? {
+                Begun::Refused => {}
+                Begun::Answered(value) => return Ok(value),
+                Begun::Joined => {
+                    if let Ok(value) = self.finish(&mut ticket) {
+                        return Ok(value);
+                    }
+                }
             }
         }
-    }
-
-    /// Asks, and waits for the answer if it isn't there at once; nothing stays registered.
-    ///
-    /// `None` where the registration is false. `Full`: it would have to wait, and the room is full.
-    pub(crate) fn acquire(&self, ask: P::Ask) -> Result<Option<u8>, Full> {
-        let mut ticket = Ticket::new();
-        match self.begin(&mut ticket, ask)? {
-            Begun::Refused => Ok(None),
-            Begun::Answered(value) => Ok(Some(value)),
-            Begun::Joined => Ok(self.finish(&mut ticket)),
-        }
+        unreachable!()
     }
 
     /// Asks, and where that joins the line calls `begin_wait` and waits, as [`Self::acquire`] does.
@@ -247,16 +192,19 @@ impl<R: Wait + Drop, P: Primitive> Shell<R, P> {
         &self,
         ask: P::Ask,
         begin_wait: F,
-    ) -> Result<Option<u8>, Full>
+    ) -> Result<u8, Full>
         requires { F.pre begin_wait }
     {
         let mut ticket = Ticket::new();
         match self.begin(&mut ticket, ask)? {
-            Begun::Refused => Ok(None),
-            Begun::Answered(value) => Ok(Some(value)),
+            Begun::Refused => self.acquire(ask),
+            Begun::Answered(value) => Ok(value),
             Begun::Joined => {
                 begin_wait();
-                Ok(self.finish(&mut ticket))
+                match self.finish(&mut ticket) {
+                    Ok(value) => Ok(value),
+                    Err(_lost) => self.acquire(ask),
+                }
             }
         }
     }
@@ -268,7 +216,8 @@ impl<R: Wait + Drop, P: Primitive> Shell<R, P> {
         ask: P::Ask,
         is_sync: bool,
     ) -> Result<bool, Full>
-        ensures { is_busy ticket.new ≡ (is_busy ticket.old || is_yes result) }
+        ensures ticket { is_busy ticket.new ≡ (is_busy ticket.old || is_yes result) }
+        ensures mode { ticket.old ≡ Unregistered → is_yes result ≡ true → mode_of ticket.new ≡ Some is_sync }
     {
         let (answer, first) = {
             let mut inside = self.lock();
@@ -282,7 +231,7 @@ impl<R: Wait + Drop, P: Primitive> Shell<R, P> {
 
     /// Polls a ticket: as sync it waits for the answer, else it answers `NotReady` where that isn't there yet.
     pub(crate) fn take(&self, ticket: &mut Ticket, how: How) -> Result<u8, Error>
-        ensures polled { Polled ticket.old ticket.new (fault_of result) }
+        ensures polled { Polled ticket.old ticket.new how (fault_of result) }
         ensures waited { how ≡ Sync → is_not_ready (fault_of result) ≡ false }
     {
         let answer = self.lock().poll(ticket, how);
@@ -304,26 +253,76 @@ impl<R: Wait + Drop, P: Primitive> Shell<R, P> {
         self.wake(first);
     }
 
+    // Registers a ticket as sync and polls it once, under one lock, and wakes whom that answered.
+    fn begin(&self, ticket: &mut Ticket, ask: P::Ask) -> Result<Begun, Full>
+        requires { ticket.old ≡ Unregistered }
+        ensures ticket { is_busy ticket.new ≡ has_joined result }
+        ensures mode { has_joined result ≡ true → mode_of ticket.new ≡ Some true }
+    {
+        let (begun, first) = {
+            let mut inside = self.lock();
+            let begun = inside.begin(ticket, ask);
+            self.take_seat(ticket);
+            (begun, inside.next_wakes())
+        };
+        self.wake(first);
+        begun
+    }
+
+    // Waits for the answer of a ticket that joined the line as sync, and consumes it.
+    //
+    // The one error is that the core doesn't know the ticket; it is idle then too.
+    fn finish(&self, ticket: &mut Ticket) -> Result<u8, Error>
+        requires { mode_of ticket.old ≡ Some true }
+        ensures idle { is_busy ticket.new ≡ false }
+        ensures lost { IfErr result (λ error. error ≡ NotRegistered) }
+    {
+        let answer = self.wait(ticket);
+        if answer.is_err() {
+            self.cancel(ticket);
+        }
+        answer
+    }
+
+    // Waits for the answer of a ticket: until a poll as sync says anything else than that it isn't there yet.
+    //
+    // A ticket without a seat has its answer, or is refused, so it waits for nothing.
+    fn wait(&self, ticket: &mut Ticket) -> Result<u8, Error>
+        ensures polled { Polled ticket.old ticket.new Sync (fault_of result) }
+        ensures waited { is_not_ready (fault_of result) ≡ false }
+        ensures lost { mode_of ticket.old ≡ Some true → IfErr result (λ error. error ≡ NotRegistered) }
+    {
+        let seat = self.seat_of(ticket);
+        if let Some(seat) = seat {
+            seat.linger(self.patience);
+        }
+        let mut inside = self.lock();
+        for _ in self.rt.forever() {
+            match inside.poll(ticket, How::Sync) {
+                Err(Error::NotReady) => {}
+                answer => return answer,
+            }
+            inside = match seat {
+                Some(seat) => seat.sleep(&self.rt, inside),
+                None => self.step_aside(inside),
+            };
+        }
+        unreachable!()
+    }
+
+    // Lets others have the lock for a while.
+    fn step_aside(&self, inside: MutexGuard<'_, Inside<P>>) -> MutexGuard<'_, Inside<P>> {
+        drop(inside);
+        yield_now();
+        self.lock()
+    }
+
     // Rings the seat of a slot whose wake is owed, if there is one.
     fn ring(&self, wake: Option<u16>) {
         if let Some(slot) = wake {
-            self.seat(slot).ring();
-        }
-    }
-
-    // The seat of a slot.
-    fn seat(&self, slot: u16) -> &Seat {
-        match self.seats.get(usize::from(slot)) {
-            Some(seat) => seat,
-            None => &self.spare,
-        }
-    }
-
-    // The seat at which a ticket waits, if it has a slot.
-    fn seat_of(&self, ticket: &Ticket) -> Option<&Seat> {
-        match ticket.registration() {
-            Registration::InSlot(slot, _request, _is_sync) => Some(self.seat(slot)),
-            _ => None,
+            if let Some(seat) = self.seat(slot) {
+                seat.ring();
+            }
         }
     }
 
@@ -334,21 +333,37 @@ impl<R: Wait + Drop, P: Primitive> Shell<R, P> {
         }
     }
 
-    // Waits for the answer of a ticket that was registered as sync. A ticket without a slot has its answer.
-    fn wait(&self, ticket: &mut Ticket) -> Result<u8, Error>
-        ensures polled { Polled ticket.old ticket.new (fault_of result) }
-        ensures waited { is_not_ready (fault_of result) ≡ false }
-    {
-        let seat = self.seat_of(ticket).unwrap_or(&self.spare);
-        seat.linger();
-        let mut inside = self.lock();
-        for _ in self.rt.forever() {
-            match inside.poll(ticket, How::Sync) {
-                Err(Error::NotReady) => {}
-                answer => return answer,
-            }
-            inside = seat.bell.wait(&self.rt, inside);
+    // The seat at which a ticket waits: that of its slot, if it has one.
+    fn seat_of(&self, ticket: &Ticket) -> Option<&Seat> {
+        match ticket.registration() {
+            Registration::InSlot(slot, _request, _is_sync) => self.seat(slot),
+            _ => None,
         }
-        unreachable!()
+    }
+
+    // The seat of a slot of the room; a slot past it has none.
+    fn seat(&self, slot: u16) -> Option<&Seat> {
+        self.seats.get(usize::from(slot))
+    }
+    /// Whether the seat of a slot is rung.
+    #[cfg(test)]
+    pub(crate) fn is_rung(&self, slot: u16) -> bool {
+        match self.seat(slot) {
+            Some(seat) => seat.is_rung(),
+            None => false,
+        }
+    }
+
+    /// How many holders sleep; all those have let go of the lock.
+    #[cfg(test)]
+    pub(crate) fn asleep(&self) -> usize {
+        let _inside = self.lock();
+        self.seats.iter().filter(|seat| seat.is_asleep()).count()
+    }
+
+    /// How many seats are rung.
+    #[cfg(test)]
+    pub(crate) fn rung(&self) -> usize {
+        self.seats.iter().filter(|seat| seat.is_rung()).count()
     }
 }

@@ -1,0 +1,105 @@
+//! A seat: where the holder of a slot waits, first awake and then asleep.
+//!
+//! A wait is over for whoever polls and finds an answer; a seat only says when it is worth polling again. How long a
+//! task stays awake is a value, `Patience`, so that tests can send every wait to sleep.
+
+use std::hint::spin_loop;
+use std::sync::atomic::{AtomicU64, Ordering};
+use std::sync::{Condvar, MutexGuard, Wait};
+use std::thread::yield_now;
+
+/// How long a task that waits stays awake.
+#[derive(Clone, Copy)]
+pub(crate) struct Patience {
+    /// How often it looks at its seat, before it begins to yield.
+    pub(crate) looks: u32,
+    /// How often it yields after that, before it sleeps.
+    pub(crate) yields: u32,
+}
+
+/// What every threaded form is made with. Measured with 2, 4 and 8 threads on 4 processors: a sleep costs some five
+/// microseconds and a wake that comes sooner is the common one, but with more threads than processors looks alone are
+/// ruinous.
+pub(crate) const PATIENCE: Patience = Patience {
+    looks: 500,
+    yields: 500,
+};
+
+// What a seat is: its holder is awake, it is rung, or its holder sleeps.
+const AWAKE: u64 = 0;
+
+const RUNG: u64 = 1;
+
+const ASLEEP: u64 = 2;
+
+/// Where the holder of a slot waits.
+#[derive(Drop)]
+pub(crate) struct Seat {
+    state: AtomicU64,
+    bell: Condvar,
+}
+
+impl Seat {
+    /// A seat at which nobody waits.
+    pub(crate) fn new() -> Seat {
+        Seat {
+            state: AtomicU64::new(AWAKE),
+            bell: Condvar::new(),
+        }
+    }
+
+    /// A new holder may wait here from now on. Called under the lock under which the slot is given out.
+    pub(crate) fn reset(&self) {
+        self.state.store(AWAKE, Ordering::SeqCst);
+    }
+
+    /// Wakes whoever waits here; rings the bell only where somebody may sleep.
+    ///
+    /// A seat that is rung already may have a sleeper too: one that went to sleep as a late ring for the slot's last
+    /// holder came, and so missed its bell.
+    pub(crate) fn ring(&self) {
+        if self.state.swap(RUNG, Ordering::SeqCst) != AWAKE {
+            self.bell.notify_all();
+        }
+    }
+
+    /// Looks, and then yields, until the seat is rung, or so often that it is time to sleep.
+    pub(crate) fn linger(&self, patience: Patience) {
+        for _turn in 0..patience.looks {
+            if self.is_rung() {
+                return;
+            }
+            spin_loop();
+        }
+        for _turn in 0..patience.yields {
+            if self.is_rung() {
+                return;
+            }
+            yield_now();
+        }
+    }
+
+    /// Sleeps until the seat is rung, with the lock free meanwhile; now and then it wakes for no reason.
+    ///
+    /// A slot is answered under the lock that is handed in, and its seat is rung after that. So a holder that found no
+    /// answer under this lock is seen to sleep by whoever rings for it.
+    pub(crate) fn sleep<'g, T>(
+        &self,
+        rt: &impl Wait,
+        inside: MutexGuard<'g, T>,
+    ) -> MutexGuard<'g, T> {
+        self.state.store(ASLEEP, Ordering::SeqCst);
+        self.bell.wait(rt, inside)
+    }
+
+    /// Whether the slot may have been answered since its holder joined.
+    pub(crate) fn is_rung(&self) -> bool {
+        self.state.load(Ordering::SeqCst) == RUNG
+    }
+
+    /// Whether the holder sleeps. Who asks under the lock knows that it has let go of the lock.
+    #[cfg(test)]
+    pub(crate) fn is_asleep(&self) -> bool {
+        self.state.load(Ordering::SeqCst) == ASLEEP
+    }
+}

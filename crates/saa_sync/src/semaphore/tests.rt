@@ -1,0 +1,324 @@
+use super::*;
+use crate::sleepers::{
+    By, End, Place, Sleepers, a_call_wakes_all_whom_it_answers, each_call_wakes_one,
+};
+use crate::twins::{Form, Move, Way, every_list, moves};
+use saa_core::semaphore::{SemaphoreAnswer, SemaphoreCall};
+use std::sync::atomic::AtomicU64;
+use std::test::Fail;
+use std::thread::Threads;
+
+impl<R: Wait + Drop + Copy> Form for Semaphore<R> {
+    type Core = SemaphoreCore;
+
+    type Lent = R;
+
+    fn make(
+        rt: R,
+        alloc: Global,
+        size: usize,
+        room: u16,
+        patience: Patience,
+    ) -> Result<Self, AllocError> {
+        Semaphore::with_patience(rt, alloc, size, room, patience)
+    }
+
+    fn make_core(alloc: Global, size: usize, room: u16) -> Result<SemaphoreCore, AllocError> {
+        SemaphoreCore::with_permits(alloc, size, room)
+    }
+
+    fn shell(&self) -> &Shell<R, SemaphoreCore> {
+        &self.shell
+    }
+
+    fn call(&self, call: SemaphoreCall, is_short: bool) -> SemaphoreAnswer {
+        let mo = Ordering::SeqCst;
+        match call {
+            SemaphoreCall::TryAcquireMany(count) => SemaphoreAnswer::Bool(if is_short {
+                self.try_acquire()
+            } else {
+                self.try_acquire_many(count)
+            }),
+            SemaphoreCall::ReleaseMany(count) => SemaphoreAnswer::Bool(if is_short {
+                self.release()
+            } else {
+                self.release_many(count)
+            }),
+            SemaphoreCall::AvailablePermits => SemaphoreAnswer::Number(self.available_permits(mo)),
+            SemaphoreCall::IsOpen => SemaphoreAnswer::Bool(self.is_open(mo)),
+            SemaphoreCall::IsClosed => SemaphoreAnswer::Bool(self.is_closed(mo)),
+        }
+    }
+
+    fn register<'s>(
+        &'s self,
+        pager: &mut Pager<'s, Self>,
+        count: usize,
+        is_sync: bool,
+    ) -> Result<bool, Full> {
+        self.register_pager(pager, count, is_sync)
+    }
+
+    fn acquire(
+        &self,
+        count: usize,
+        way: Way,
+        runs: &AtomicU64,
+    ) -> Result<Option<Result<(), Error>>, Full> {
+        let count_run = || {
+            runs.fetch_add(1, Ordering::SeqCst);
+        };
+        let is_granted = match way {
+            Way::Plain => self.acquire_many_sync(count)?,
+            Way::With => self.acquire_many_sync_with(count, count_run)?,
+            Way::Short => {
+                self.acquire_sync()?;
+                true
+            }
+            Way::ShortWith => {
+                self.acquire_sync_with(count_run)?;
+                true
+            }
+        };
+        Ok(if is_granted { Some(Ok(())) } else { None })
+    }
+
+    fn read(place: usize) -> Option<SemaphoreCall> {
+        match place {
+            0 => Some(SemaphoreCall::AvailablePermits),
+            1 => Some(SemaphoreCall::IsOpen),
+            2 => Some(SemaphoreCall::IsClosed),
+            _ => None,
+        }
+    }
+
+    fn is_same_answer(one: SemaphoreAnswer, other: SemaphoreAnswer) -> bool {
+        one == other
+    }
+
+    fn is_same_value(one: Result<(), Error>, other: Result<(), Error>) -> bool {
+        one == other
+    }
+}
+
+// What is asked where: one permit ahead, none behind, and all as the wall.
+fn permits_at(place: Place) -> usize {
+    match place {
+        Place::Ahead => 1,
+        Place::Behind => 0,
+        Place::Wall => 63,
+    }
+}
+
+impl<R: Wait + Drop + Sync> Sleepers for Semaphore<R> {
+    fn register_at(&self, ticket: &mut Ticket, place: Place) -> bool {
+        matches!(
+            self.shell.register(ticket, permits_at(place), true),
+            Ok(true)
+        )
+    }
+
+    fn give_up(&self, ticket: Ticket, is_cancelled: bool) {
+        let mut pager = Pager::new();
+        pager.hold(ticket, self);
+        if is_cancelled {
+            pager.cancel();
+        }
+    }
+
+    fn answer(&self, is_short: bool) {
+        let _is_released = if is_short {
+            self.release()
+        } else {
+            self.release_many(1)
+        };
+    }
+
+    fn wait_at(&self, place: Place, by: By, joined: &AtomicU64) -> bool {
+        let count = permits_at(place);
+        if let By::Poll = by {
+            let mut pager = Pager::new();
+            let is_registered = matches!(self.register_pager(&mut pager, count, true), Ok(true));
+            joined.fetch_add(1, Ordering::SeqCst);
+            return is_registered && pager.poll_sync().is_ok();
+        }
+        let answer = self.acquire_many_sync_with(count, || {
+            joined.fetch_add(1, Ordering::SeqCst);
+        });
+        matches!(answer, Ok(true))
+    }
+
+    fn asleep(&self) -> usize {
+        self.shell.asleep()
+    }
+
+    fn rung(&self) -> usize {
+        self.shell.rung()
+    }
+}
+
+// Every move with these counts: a try, a release, a registration and a call that may wait for each, and the rest.
+fn semaphore_moves(
+    alloc: Global,
+    counts: &[usize],
+    waits: &[(usize, Way)],
+) -> Result<Vec<Move<SemaphoreCore>>, AllocError> {
+    let mut calls = Vec::new(alloc);
+    for count in counts {
+        calls.push(SemaphoreCall::TryAcquireMany(*count))?;
+        calls.push(SemaphoreCall::ReleaseMany(*count))?;
+    }
+    calls.push(SemaphoreCall::AvailablePermits)?;
+    calls.push(SemaphoreCall::IsOpen)?;
+    calls.push(SemaphoreCall::IsClosed)?;
+    let short = [
+        SemaphoreCall::TryAcquireMany(1),
+        SemaphoreCall::ReleaseMany(1),
+    ];
+    moves::<SemaphoreCore>(alloc, &calls, &short, counts, waits)
+}
+
+const COUNTS: [usize; 7] = [0, 1, 2, 62, 63, 64, 300];
+
+const WAITS: [(usize, Way); 10] = [
+    (1, Way::Short),
+    (1, Way::ShortWith),
+    (0, Way::Plain),
+    (1, Way::Plain),
+    (62, Way::Plain),
+    (63, Way::Plain),
+    (64, Way::Plain),
+    (1, Way::With),
+    (63, Way::With),
+    (300, Way::With),
+];
+
+// How many lists of so many moves agree, from each of the sizes and with room for 0, 1 and 2, up to the first that
+// doesn't.
+fn agreeing<R: Wait>(
+    rt: &R,
+    alloc: Global,
+    moves: &[Move<SemaphoreCore>],
+    sizes: &[usize],
+    length: u32,
+) -> Result<u64, AllocError> {
+    let mut all = 0u64;
+    for size in sizes {
+        for room in 0..3 {
+            match every_list::<Semaphore<&R>>(rt, alloc, (*size, room), moves, length)? {
+                Ok(lists) => all = all.saturating_add(lists),
+                Err(number) => return Ok(all.saturating_add(number)),
+            }
+        }
+    }
+    Ok(all)
+}
+
+#[test]
+fn short_lists_agree_from_every_size(rt: HostRuntime) -> Result<(), Fail> {
+    let moves = semaphore_moves(rt.alloc(), &COUNTS, &WAITS)?;
+    let sizes = [0, 1, 63, 64, 300, usize::MAX];
+    assert_eq!(rt; moves.len(), 67);
+    assert_eq!(rt; agreeing(&rt, rt.alloc(), &moves, &sizes, 0)?, 18);
+    assert_eq!(rt; agreeing(&rt, rt.alloc(), &moves, &sizes, 1)?, 18 * 67);
+    assert_eq!(rt; agreeing(&rt, rt.alloc(), &moves, &sizes, 2)?, 18 * 67 * 67);
+    Ok(())
+}
+
+#[test]
+fn every_list_of_three_agrees_with_all_permits(rt: HostRuntime) -> Result<(), Fail> {
+    let moves = semaphore_moves(rt.alloc(), &COUNTS, &WAITS)?;
+    assert_eq!(rt;
+        agreeing(&rt, rt.alloc(), &moves, &[63], 3)?,
+        3 * 67 * 67 * 67
+    );
+    Ok(())
+}
+
+#[test]
+fn every_list_of_three_agrees_with_one_permit(rt: HostRuntime) -> Result<(), Fail> {
+    let moves = semaphore_moves(rt.alloc(), &COUNTS, &WAITS)?;
+    assert_eq!(rt;
+        agreeing(&rt, rt.alloc(), &moves, &[1], 3)?,
+        3 * 67 * 67 * 67
+    );
+    Ok(())
+}
+
+#[test]
+fn lists_of_four_agree_with_all_permits(rt: HostRuntime) -> Result<(), Fail> {
+    let moves = semaphore_moves(rt.alloc(), &[0, 1, 63], &[(1, Way::Plain)])?;
+    assert_eq!(rt; moves.len(), 34);
+    assert_eq!(rt;
+        agreeing(&rt, rt.alloc(), &moves, &[63], 4)?,
+        3 * 34 * 34 * 34 * 34
+    );
+    Ok(())
+}
+
+#[test]
+fn lists_of_four_agree_with_no_permit(rt: HostRuntime) -> Result<(), Fail> {
+    let moves = semaphore_moves(rt.alloc(), &[0, 1, 2], &[(1, Way::Plain)])?;
+    assert_eq!(rt; moves.len(), 34);
+    assert_eq!(rt;
+        agreeing(&rt, rt.alloc(), &moves, &[0], 4)?,
+        3 * 34 * 34 * 34 * 34
+    );
+    Ok(())
+}
+
+// Every wait goes to sleep.
+const NO_PATIENCE: Patience = Patience {
+    looks: 0,
+    yields: 0,
+};
+
+// Each number of sleepers, and each way to answer them; the number where one went wrong, or 0.
+fn wrong_wakes<R: Wait + Threads + Sync>(
+    rt: &R,
+    alloc: Global,
+    patience: Patience,
+    by: By,
+) -> Result<u64, AllocError> {
+    let is_patient = patience.looks != 0;
+    let ends = [End::Call(true), End::Call(false), End::Cancel, End::Forget];
+    for count in [1, 2, 3, 48, 100] {
+        for end in ends {
+            let semaphore = Semaphore::with_patience(rt, alloc, 0, 104, patience)?;
+            if !a_call_wakes_all_whom_it_answers(rt, &semaphore, is_patient, count, by, end) {
+                return Ok(count);
+            }
+        }
+    }
+    for count in [1, 2, 3, 48] {
+        let semaphore = Semaphore::with_patience(rt, alloc, 0, 48, patience)?;
+        if !each_call_wakes_one(rt, &semaphore, is_patient, count, by) {
+            return Ok(count);
+        }
+    }
+    Ok(0)
+}
+
+#[test]
+fn sleeping_calls_wake(rt: HostRuntime) -> Result<(), Fail> {
+    assert_eq!(rt; wrong_wakes(&rt, rt.alloc(), NO_PATIENCE, By::Call)?, 0);
+    Ok(())
+}
+
+#[test]
+fn sleeping_polls_wake(rt: HostRuntime) -> Result<(), Fail> {
+    assert_eq!(rt; wrong_wakes(&rt, rt.alloc(), NO_PATIENCE, By::Poll)?, 0);
+    Ok(())
+}
+
+#[test]
+fn waiting_calls_wake(rt: HostRuntime) -> Result<(), Fail> {
+    assert_eq!(rt; wrong_wakes(&rt, rt.alloc(), PATIENCE, By::Call)?, 0);
+    Ok(())
+}
+
+#[test]
+fn waiting_polls_wake(rt: HostRuntime) -> Result<(), Fail> {
+    assert_eq!(rt; wrong_wakes(&rt, rt.alloc(), PATIENCE, By::Poll)?, 0);
+    Ok(())
+}
