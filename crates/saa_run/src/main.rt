@@ -5,6 +5,7 @@
 //! writer. What a command does stands in `saa_core`. `docs/LANGUAGES.md` has the language.
 #![tactic(auto)]
 
+mod arguments;
 mod command;
 mod ended;
 mod fields;
@@ -18,21 +19,24 @@ mod tests;
 mod transfer;
 mod wants;
 
+use crate::arguments::BehindName;
 use crate::run::Wanted;
-use std::io::{BufReader, ErrorKind, Write};
+use std::alloc::Global;
+use std::env::{self, Env};
+use std::io::{self, BufReader, ErrorKind, Write};
 use std::process::ExitCode;
-use std::{env, io};
 
 /// What the arguments ask for; nothing where memory for them was refused.
 ///
-/// An argument that is no text is like any other unknown word.
-fn asked(rt: &HostRuntime) -> Option<Wanted> {
-    match env::args(rt) {
+/// An argument that is no text is like any other unknown word. The name that the program was called by
+/// is none, and isn't read.
+fn asked<E: Env>(environment: &E, alloc: Global) -> Option<Wanted> {
+    match env::args(&(BehindName(environment), alloc)) {
         Err(error) => match error.kind() {
             ErrorKind::OutOfMemory => None,
             _ => Some(Wanted::Usage),
         },
-        Ok(args) => match args.skip(1).collect::<Vec<String>>(rt.alloc()) {
+        Ok(args) => match args.collect::<Vec<String>>(alloc) {
             Ok(words) => Some(run::wanted(words.as_slice())),
             Err(_) => None,
         },
@@ -49,7 +53,7 @@ fn script<W: Write>(rt: &HostRuntime, writer: &mut W) -> u8 {
 
 fn main(rt: HostRuntime) -> ExitCode {
     let mut writer = io::writer(&rt);
-    let status = match asked(&rt) {
+    let status = match asked(&rt, rt.alloc()) {
         None => run::no_memory(&mut writer),
         Some(Wanted::Script) => script(&rt, &mut writer),
         Some(Wanted::Machine | Wanted::Threads(_) | Wanted::Usage) => run::usage(&mut writer),

@@ -1,18 +1,23 @@
 //! What is written: replies, each on a line of its own, and the line that tells of a bad line.
 //!
-//! Held to `specs/Replies.antt` and `specs/Text.antt`. The words take no memory.
+//! Held to `specs/Replies.antt` and `specs/Text.antt`. The words take no memory. Each line is handed to the writer as
+//! one piece, so that who reads along never sees half a line.
 ghost use Rattle.std.specs.Prelude.{◌≡◌, decimal};
 ghost use Rattle.saa_run.specs.Transfer.{Puts};
 ghost use Rattle.saa_run.specs.Replies.{error_word, semaphore_reply};
 ghost use Rattle.saa_run.specs.Said.{said_words};
 ghost use Rattle.saa_run.specs.Text.{bad_line, reply_line};
 
-use crate::transfer::{WriteFailed, put, put_all};
+use crate::transfer::{WriteFailed, put};
+use arrayvec::ArrayString;
 use itoa::Buffer;
 use saa_core::bench::ReplyOf;
 use saa_core::semaphore::SemaphoreAnswer;
 use saa_core::ticket::Error;
 use std::io::Write;
+
+/// A line with a number in it, before it is written.
+type WholeLine = ArrayString<64>;
 
 /// What a reply says.
 #[derive(Clone, Copy, Debug)]
@@ -62,7 +67,10 @@ fn put_number<W: Write>(writer: &mut W, number: usize) -> Result<(), WriteFailed
     ensures { Puts result (W.contents writer.old) (W.contents writer.new) (reply_line (decimal number)) }
 {
     let mut digits = Buffer::new();
-    put_all(writer, &[digits.format(number).as_bytes(), b"\n"])
+    let mut line = WholeLine::new();
+    line.push_str(digits.format(number));
+    line.push_str("\n");
+    put(writer, line.as_str().as_bytes())
 }
 
 /// Writes a reply on a line of its own.
@@ -85,8 +93,9 @@ pub fn put_bad_line<W: Write>(writer: &mut W, number: u64) -> Result<(), WriteFa
     ensures { Puts result (W.contents writer.old) (W.contents writer.new) (bad_line number) }
 {
     let mut digits = Buffer::new();
-    put_all(
-        writer,
-        &[b"bad line ", digits.format(number).as_bytes(), b"\n"],
-    )
+    let mut line = WholeLine::new();
+    line.push_str("bad line ");
+    line.push_str(digits.format(number));
+    line.push_str("\n");
+    put(writer, line.as_str().as_bytes())
 }
