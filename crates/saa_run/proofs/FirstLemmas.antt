@@ -6,6 +6,7 @@ use Rattle.std.proofs.lemmas.Bool.Decides.{nat_tests}
 use Rattle.std.specs.Io.KnownBytes.{Consumes, IsAtEnd}
 use Rattle.std.proofs.KnownBytes.{Appends-nil, Appends-kept, Consumes-kept}
 use Rattle.std.specs.Io.KnownBytes.{Appends, Keeps}
+use Rattle.saa_core.specs.Object.{Object, After}
 use Rattle.saa_run.specs.declared.command.FirstLine.{FirstLine}
 use Rattle.saa_run.specs.declared.command.FirstLine.TheVariants.{Semaphore}
 use Rattle.saa_run.specs.declared.ended.Ended.{Ended}
@@ -13,7 +14,7 @@ use Rattle.saa_run.specs.declared.ended.Ended.TheVariants.{Done, BadLine, ReadFa
 use Rattle.saa_run.specs.Language.{first_line_of}
 use Rattle.saa_run.specs.Transfer.{IsProperBeginning, IsUnbroken}
 use Rattle.saa_run.specs.Text.{Answer, text, with_front, bad_line, bad_first, on_bytes, answer_behind, answer_from, answer_in, answer_of, good_front}
-use Rattle.saa_run.specs.Outcome.{Runs, IsEnd, Opens, Starts, IsOutcome, Scripts, Finishes, Ends, no_memory}
+use Rattle.saa_run.specs.Outcome.{Runs, IsEnd, Opens, OpensWith, Starts, IsOutcome, Scripts, Finishes, Ends, no_memory}
 use Rattle.saa_run.specs.Steps.{no_lines, IsBadAt, EndsLine, AnswersLine}
 use Rattle.saa_run.proofs.StepLemmas.{step-newline, step-last, step-last-ended, step-long}
 use Rattle.saa_run.proofs.BehindLemmas.{runs-behind}
@@ -61,6 +62,15 @@ behind-none (Semaphore permits room) = refl
 -- what a good first line leaves to answer
 first-good : (line : List ℕ) (first : FirstLine) → first_line_of line ≡ Some first → (others : List (List ℕ)) → answer_in (line ∷ others) ≡ with_front [] (answer_behind (Some first) others)
 first-good line first good others = ap (λ found. answer_behind found others) good
+
+module _ {L : Type 0} (meaning : List ℕ → Option L) (does : L → Object → After (List ℕ)) where
+  -- a run from a state that is another's equal
+  pub runs-from : (ended : Ended) (s t : Object) (old new held holds : Option (List ℕ)) → s ≡ t → Runs ended (on_bytes (answer_from meaning does 2 s)) old new held holds → Runs ended (on_bytes (answer_from meaning does 2 t)) old new held holds
+  runs-from ended s t old new held holds same runs = subst (λ u. Runs ended (on_bytes (answer_from meaning does 2 u)) old new held holds) same runs
+
+  -- the same of what the lines behind the first do
+  pub opens-from : (opened : Result Ended AllocError) (s t : Object) (old new held holds : Option (List ℕ)) → s ≡ t → OpensWith opened (answer_from meaning does 2 s) old new held holds → OpensWith opened (answer_from meaning does 2 t) old new held holds
+  opens-from opened s t old new held holds same opens = subst (λ u. OpensWith opened (answer_from meaning does 2 u) old new held holds) same opens
 
 -- a line has a byte or none
 some_or_none : (line : List ℕ) → (line ≡ []) ⊎ (0 < length line)

@@ -91,10 +91,14 @@ pub record Scripts (status : ℕ) (old new held holds : Option (List ℕ)) : Typ
   pub appends : Appends held holds sent
   pub outcome : IsOutcome status read sent new
 
--- what a good first line opens: a run of the lines behind it, or memory is refused and nothing is read or written
+-- what the lines behind the first do, by the answer to them: they are run, or memory is refused and nothing is read or written
+abbrev pub OpensWith : Result Ended AllocError → (List (List ℕ) → Answer) → Option (List ℕ) → Option (List ℕ) → Option (List ℕ) → Option (List ℕ) → Type 0
+OpensWith (Ok ended) said old new held holds = Runs ended (on_bytes said) old new held holds
+OpensWith (Err refused) said old new held holds = Keeps old new × Keeps held holds
+
+-- what a good first line opens
 abbrev pub Opens : Result Ended AllocError → FirstLine → Option (List ℕ) → Option (List ℕ) → Option (List ℕ) → Option (List ℕ) → Type 0
-Opens (Ok ended) first old new held holds = Runs ended (on_bytes (answer_behind (Some first))) old new held holds
-Opens (Err refused) first old new held holds = Keeps old new × Keeps held holds
+Opens opened first old new held holds = OpensWith opened (answer_behind (Some first)) old new held holds
 
 -- what a start does: a whole run, or memory is refused behind a good first line
 abbrev pub Starts : Result Ended AllocError → Option (List ℕ) → Option (List ℕ) → Option (List ℕ) → Option (List ℕ) → Type 0

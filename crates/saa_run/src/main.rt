@@ -2,17 +2,25 @@
 //!
 //! The top floor. `transfer` moves bytes, `fields` and `command` read lines, `reply` writes answers,
 //! `steps` answers the lines behind the first one by one, and `run` is the whole, over any reader and
-//! writer. What a command does stands in `saa_core`. `docs/LANGUAGES.md` has the language.
+//! writer. All that is one engine for every kind of primitive; what a kind says is a `spoken::Spoken`, in
+//! `semaphore_words` and its like, and `bench_script` speaks it to a bench. Only the semaphore is reached by a
+//! first line; the words of a lock, a gate and a barrier stand ready beside it. What a command does stands in
+//! `saa_core`. `docs/LANGUAGES.md` has the language.
 #![tactic(auto)]
 
 mod arguments;
+mod barrier_words;
+mod bench_script;
 mod command;
 mod ended;
 mod fields;
+mod gate_words;
 mod laws;
+mod lock_words;
 mod reply;
 mod run;
-mod semaphore_script;
+mod semaphore_words;
+mod spoken;
 mod steps;
 #[cfg(test)]
 mod tests;

@@ -2,17 +2,27 @@
 //! program is asked to do.
 //!
 //! Held to `specs/Outcome.antt`, which speaks of the text of an input in `specs/Text.antt`.
-ghost use Rattle.std.specs.Prelude.{◌≡◌, ◌⊎◌, map, string_bytes};
+ghost use Rattle.std.specs.Prelude.{◌≡◌, ◌⊎◌, map, replicate, string_bytes};
 ghost use Rattle.std.specs.Io.KnownBytes.{Keeps};
-ghost use Rattle.saa_run.specs.Outcome.{Opens, Starts, Scripts, Tells, Finishes, no_memory as no_memory_text, usage_text};
+ghost use Rattle.saa_run.specs.Outcome.{Opens, OpensWith, Starts, Scripts, Tells, Finishes, no_memory as no_memory_text, usage_text};
+ghost use Rattle.saa_core.specs.declared.ticket.Registration.TheVariants.{Unregistered};
+ghost use Rattle.saa_core.specs.Held.{max_permits};
+ghost use Rattle.saa_core.specs.Semaphore.{new_semaphore};
+ghost use Rattle.saa_core.specs.Tickets.{object_of};
+ghost use Rattle.saa_run.specs.Language.{line_of};
+ghost use Rattle.saa_run.specs.Replies.{line_does, reply_words};
+ghost use Rattle.saa_run.specs.SemaphoreWords.{semaphore_does, semaphore_readings};
+ghost use Rattle.saa_run.specs.Text.{answer_from, pagers};
 ghost use Rattle.saa_run.specs.Wants.{wanted_of};
 
+use crate::bench_script::BenchScript;
 use crate::command::{FirstLine, parse_first};
 use crate::ended::Ended;
-use crate::semaphore_script::SemaphoreScript;
+use crate::spoken::Spoken;
 use crate::steps::{end_at, run_lines};
 use crate::transfer::{Cut, LineBytes, put, read_line};
 pub use crate::wants::Wanted;
+use saa_core::semaphore::SemaphoreCore;
 use std::alloc::{AllocError, Global};
 use std::io::{Read, Write};
 
@@ -84,10 +94,44 @@ fn open<R: Read, W: Write>(
         (R.remaining reader.old) (R.remaining reader.new) (W.contents writer.old) (W.contents writer.new) }
 {
     match first {
-        FirstLine::Semaphore { permits, room } => match SemaphoreScript::new(alloc, permits, room) {
-            Ok(mut script) => Ok(run_lines(&mut script, reader, writer)),
-            Err(refused) => Err(refused),
-        },
+        FirstLine::Semaphore { permits, room } => {
+            open_semaphore(alloc, permits, room, reader, writer)
+        }
+    }
+}
+
+/// Makes a semaphore, and answers the lines behind the first.
+fn open_semaphore<R: Read, W: Write>(
+    alloc: Global,
+    permits: usize,
+    room: u16,
+    reader: &mut R,
+    writer: &mut W,
+) -> Result<Ended, AllocError>
+    ensures { OpensWith result (answer_from (line_of semaphore_readings) semaphore_does 2 (new_semaphore max_permits permits room pagers))
+        (R.remaining reader.old) (R.remaining reader.new) (W.contents writer.old) (W.contents writer.new) }
+{
+    match SemaphoreCore::with_permits(alloc, permits, room) {
+        Ok(core) => run_core(alloc, core, reader, writer),
+        Err(refused) => Err(refused),
+    }
+}
+
+/// Answers the lines behind the first, from the core that the first line made.
+fn run_core<P: Spoken, R: Read, W: Write>(
+    alloc: Global,
+    core: P,
+    reader: &mut R,
+    writer: &mut W,
+) -> Result<Ended, AllocError>
+    ensures { OpensWith result (answer_from (line_of P.readings)
+        (line_does (reply_words P.answer_words P.poll_words) P.request P.step P.value) 2
+        (object_of (P.core core) (replicate pagers Unregistered)))
+        (R.remaining reader.old) (R.remaining reader.new) (W.contents writer.old) (W.contents writer.new) }
+{
+    match BenchScript::new(alloc, core) {
+        Ok(mut script) => Ok(run_lines(&mut script, reader, writer)),
+        Err(refused) => Err(refused),
     }
 }
 

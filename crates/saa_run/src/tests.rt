@@ -1,12 +1,17 @@
 //! What no contract says: that memory and transfers succeed where they can, and the exact bytes of the
 //! worked rows, which were written down by hand.
 
-use crate::asked;
-use crate::reply::{Said, put_bad_line, put_reply, said_by_semaphore};
+use crate::reply::{Said, put_bad_line, put_reply};
 use crate::run::{Wanted, no_memory, script, usage, wanted};
+use crate::spoken::said;
 use crate::transfer::{Cut, LineBytes, put, read_line};
+use crate::{asked, barrier_words, gate_words, lock_words};
+use saa_core::barrier::{BarrierAnswer, BarrierCall};
 use saa_core::bench::ReplyOf;
-use saa_core::semaphore::SemaphoreAnswer;
+use saa_core::gate::{self, GateAnswer, GateCall, State};
+use saa_core::lock::{LockAnswer, LockCall, Mode, TryLockError};
+use saa_core::semaphore::{SemaphoreAnswer, SemaphoreCore};
+use saa_core::ticket::Error;
 use std::alloc::Global;
 use std::env::{Env, FillError};
 use std::io::{self, Read, Write};
@@ -642,11 +647,90 @@ fn transfers(rt: HostRuntime) {
     assert_eq!(rt; writer.as_slice(), b"onetwo".as_slice());
 }
 
+/// The words of a lock, a gate and a barrier, which no script says yet.
+#[test]
+fn words_of_other_kinds(rt: HostRuntime) {
+    for (word, call) in [
+        ("try_lock", LockCall::TryLock),
+        ("try_share", LockCall::TryShare),
+        ("release_lock", LockCall::ReleaseLock),
+        ("release_share", LockCall::ReleaseShare),
+        ("poison_lock", LockCall::PoisonLock),
+        ("clear_poison", LockCall::ClearPoison),
+        ("is_free", LockCall::IsFree),
+        ("is_locked", LockCall::IsLocked),
+        ("is_shared", LockCall::IsShared),
+        ("is_poisoned", LockCall::IsPoisoned),
+    ] {
+        assert_eq!(rt; lock_words::lone_call(word.as_bytes()), Some(call));
+    }
+    assert_eq!(rt; lock_words::lone_call(b"available"), None);
+    for (word, mode) in [
+        ("exclusive", Mode::Exclusive),
+        ("shared", Mode::Shared),
+        ("wait_exclusive", Mode::WaitExclusive),
+        ("wait_shared", Mode::WaitShared),
+    ] {
+        assert_eq!(rt; lock_words::ask(Some(word.as_bytes())), Some(mode));
+    }
+    assert_eq!(rt; lock_words::ask(None), None);
+    for (word, call) in [
+        ("state", GateCall::State),
+        ("reset", GateCall::Reset),
+        ("permit", GateCall::Permit),
+        ("reject", GateCall::Reject),
+        ("open", GateCall::Open),
+        ("seal", GateCall::Seal),
+    ] {
+        assert_eq!(rt; gate_words::lone_call(word.as_bytes()), Some(call));
+    }
+    assert_eq!(rt;
+        barrier_words::lone_call(b"count"),
+        Some(BarrierCall::Count)
+    );
+    assert_eq!(rt; barrier_words::ask(None), Some(()));
+    assert_eq!(rt; barrier_words::ask(Some(b"1")), None);
+}
+
+/// The replies of a lock, a gate and a barrier, each a piece of its own.
+#[test]
+fn replies_of_other_kinds(rt: HostRuntime) {
+    let mut writer = Vec::new(rt.alloc());
+    for said in [
+        lock_words::said_answer(LockAnswer::Bool(true)),
+        lock_words::said_answer(LockAnswer::Tried(Ok(()))),
+        lock_words::said_answer(LockAnswer::Tried(Err(TryLockError::WouldBlock))),
+        lock_words::said_answer(LockAnswer::Tried(Err(TryLockError::Poisoned))),
+        gate_words::said_answer(GateAnswer::State(State::Controlled)),
+        gate_words::said_answer(GateAnswer::Reset(None)),
+        gate_words::said_answer(GateAnswer::Reset(Some(State::Sealed))),
+        gate_words::said_answer(GateAnswer::Answered(Ok(12))),
+        gate_words::said_answer(GateAnswer::Answered(Err(State::Open))),
+        gate_words::said_answer(GateAnswer::Moved(State::Controlled, 3)),
+        gate_words::said_poll(Ok(State::Open)),
+        gate_words::said_poll(Err(gate::Error::Rejected)),
+        gate_words::said_poll(Err(gate::Error::Sealed)),
+        gate_words::said_poll(Err(gate::Error::SpuriousFailure)),
+        gate_words::said_poll(Err(gate::Error::NotRegistered)),
+        gate_words::said_poll(Err(gate::Error::WrongMode)),
+        gate_words::said_poll(Err(gate::Error::NotReady)),
+        barrier_words::said_answer(BarrierAnswer::Count(2)),
+        barrier_words::said_poll(Ok(false)),
+        barrier_words::said_poll(Err(Error::WrongMode)),
+    ] {
+        assert!(rt; put_reply(&mut writer, said).is_ok());
+    }
+    assert_eq!(rt;
+        writer.as_slice(),
+        b"true\nok\nwould_block\npoisoned\ncontrolled\nnone\nsealed\nok 12\nerr open\ncontrolled 3\nok open\nrejected\nsealed\nspurious\nnot_registered\nwrong_mode\nnot_ready\n2\nfalse\nwrong_mode\n".as_slice()
+    );
+}
+
 /// Each call of `reply` once.
 #[test]
 fn replies(rt: HostRuntime) {
     let mut writer = Vec::new(rt.alloc());
-    let said = said_by_semaphore(ReplyOf::Answered(SemaphoreAnswer::Number(63)));
+    let said = said::<SemaphoreCore>(ReplyOf::Answered(SemaphoreAnswer::Number(63)));
     assert!(rt; put_reply(&mut writer, said).is_ok());
     assert!(rt; put_reply(&mut writer, Said::Full).is_ok());
     assert!(rt; put_bad_line(&mut writer, 18446744073709551615).is_ok());

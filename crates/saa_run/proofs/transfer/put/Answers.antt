@@ -1,4 +1,4 @@
-use Rattle.std.proofs.Common.{◌+◌, ◌<◌, length, take, arith, length-drop}
+use Rattle.std.proofs.Common.{◌+◌, take, arith, length-drop}
 use Rattle.std.proofs.KnownBytes.{Appends-kept}
 use Rattle.saa_run.proofs.TransferLemmas.{IsProperBeginning-take, Appends-front, take-drop-rest}
 use Rattle.saa_run.proofs.transfer.put.Goals as goal
