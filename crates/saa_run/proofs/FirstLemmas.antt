@@ -1,19 +1,22 @@
 -- The first line of a script, and its end.
-use Rattle.std.proofs.Common.{◌≡◌, ◌<◌, ℕ, ◌⊎◌, inl, inr, true, List, [], ◌∷◌, ◌++◌, length, Option, Some, None, sym, ap, subst, ◌∙◌, refl, append-nil, arith}
+use Rattle.std.proofs.Common.{◌≡◌, ◌<◌, ℕ, ◌⊎◌, inl, inr, true, List, [], ◌∷◌, ◌++◌, length, Option, Some, None, Result, Ok, Err, sym, ap, subst, ◌∙◌, refl, arith}
+use Rattle.std.specs.declared.alloc.AllocError.{AllocError}
 use Rattle.std.specs.Prelude.{IsSome, nat_lt}
 use Rattle.std.proofs.lemmas.Bool.Decides.{nat_tests}
 use Rattle.std.specs.Io.KnownBytes.{Consumes, IsAtEnd}
-use Rattle.std.proofs.KnownBytes.{Appends-nil, Appends-trans, Appends-kept}
+use Rattle.std.proofs.KnownBytes.{Appends-nil, Appends-kept, Consumes-kept}
+use Rattle.std.specs.Io.KnownBytes.{Appends, Keeps}
+use Rattle.saa_object.specs.Object.{Object, After}
 use Rattle.saa_run.specs.declared.command.FirstLine.{FirstLine}
 use Rattle.saa_run.specs.declared.command.FirstLine.TheVariants.{Semaphore}
 use Rattle.saa_run.specs.declared.ended.Ended.{Ended}
-use Rattle.saa_run.specs.declared.ended.Ended.TheVariants.{Done, BadLine, NoMemory, Failed}
+use Rattle.saa_run.specs.declared.ended.Ended.TheVariants.{Done, BadLine, ReadFailed, WriteFailed, Endless}
 use Rattle.saa_run.specs.Language.{first_line_of}
-use Rattle.saa_run.specs.Transfer.{IsBeginning, IsUnbroken}
+use Rattle.saa_run.specs.Transfer.{IsProperBeginning, IsUnbroken}
 use Rattle.saa_run.specs.Text.{Answer, text, with_front, bad_line, bad_first, on_bytes, answer_behind, answer_from, answer_in, answer_of, good_front}
-use Rattle.saa_run.specs.Outcome.{Runs, Scripts, Finishes, no_memory}
+use Rattle.saa_run.specs.Outcome.{Runs, IsEnd, Opens, OpensWith, Starts, IsOutcome, Scripts, Finishes, Ends, no_memory}
 use Rattle.saa_run.specs.Steps.{no_lines, IsBadAt, EndsLine, AnswersLine}
-use Rattle.saa_run.proofs.StepLemmas.{step-newline, step-last, step-last-ended, step-long, IsBeginning-nil}
+use Rattle.saa_run.proofs.StepLemmas.{step-newline, step-last, step-last-ended, step-long}
 use Rattle.saa_run.proofs.BehindLemmas.{runs-behind}
 
 -- a first line that means nothing is bad
@@ -34,20 +37,22 @@ first-empty = refl
 answers-bad : (here next : List (List ℕ) → Answer) (number : ℕ) (line : List ℕ) (held holds : Option (List ℕ)) (ended : Ended) → IsBadAt number here line → EndsLine ended held holds (bad_line number)
     → AnswersLine (Some ended) here next number line held holds
 answers-bad here next number line held holds BadLine bad told = (told, bad)
-answers-bad here next number line held holds Failed bad told = (told.0, told.2, λ others. subst (λ answer. IsBeginning told.0 (text answer)) (sym (bad others)) told.1)
+answers-bad here next number line held holds WriteFailed bad told = (told.0, told.2, λ others. subst (λ answer. IsProperBeginning told.0 (text answer)) (sym (bad others)) told.1)
 answers-bad here next number line held holds Done bad told = absurd told
-answers-bad here next number line held holds NoMemory bad told = absurd told
+answers-bad here next number line held holds ReadFailed bad told = absurd told
+answers-bad here next number line held holds Endless bad told = absurd told
 
 -- an empty input: line 1 is bad
 empty-bad : (ended : Ended) (read : List ℕ) (old new held holds : Option (List ℕ)) → Consumes old new read → read ≡ [] → IsAtEnd new → EndsLine ended held holds (bad_line 1) → Runs ended answer_of old new held holds
 empty-bad BadLine read old new held holds consumes empty end told =
     let said : answer_of read ≡ bad_first = ap answer_of empty in
     record { read = read; sent = bad_line 1; consumes = consumes; appends = told; end = (sym (ap text said), subst (λ answer. IsSome answer.bad) (sym said) refl, inl end) }
-empty-bad Failed read old new held holds consumes empty end told =
+empty-bad WriteFailed read old new held holds consumes empty end told =
     let said : answer_of read ≡ bad_first = ap answer_of empty in
-    record { read = read; sent = told.0; consumes = consumes; appends = told.2; end = subst (λ answer. IsBeginning told.0 (text answer)) (sym said) told.1 }
+    record { read = read; sent = told.0; consumes = consumes; appends = told.2; end = inr (end, subst (λ answer. IsProperBeginning told.0 (text answer)) (sym said) told.1) }
 empty-bad Done read old new held holds consumes empty end told = absurd told
-empty-bad NoMemory read old new held holds consumes empty end told = absurd told
+empty-bad ReadFailed read old new held holds consumes empty end told = absurd told
+empty-bad Endless read old new held holds consumes empty end told = absurd told
 
 -- behind a good first line there is no answer where no line is left
 behind-none : (first : FirstLine) → answer_behind (Some first) [] ≡ no_lines
@@ -57,6 +62,15 @@ behind-none (Semaphore permits room) = refl
 -- what a good first line leaves to answer
 first-good : (line : List ℕ) (first : FirstLine) → first_line_of line ≡ Some first → (others : List (List ℕ)) → answer_in (line ∷ others) ≡ with_front [] (answer_behind (Some first) others)
 first-good line first good others = ap (λ found. answer_behind found others) good
+
+module _ {L : Type 0} (meaning : List ℕ → Option L) (does : L → Object → After (List ℕ)) where
+  -- a run from a state that is another's equal
+  pub runs-from : (ended : Ended) (s t : Object) (old new held holds : Option (List ℕ)) → s ≡ t → Runs ended (on_bytes (answer_from meaning does 2 s)) old new held holds → Runs ended (on_bytes (answer_from meaning does 2 t)) old new held holds
+  runs-from ended s t old new held holds same runs = subst (λ u. Runs ended (on_bytes (answer_from meaning does 2 u)) old new held holds) same runs
+
+  -- the same of what the lines behind the first do
+  pub opens-from : (opened : Result Ended AllocError) (s t : Object) (old new held holds : Option (List ℕ)) → s ≡ t → OpensWith opened (answer_from meaning does 2 s) old new held holds → OpensWith opened (answer_from meaning does 2 t) old new held holds
+  opens-from opened s t old new held holds same opens = subst (λ u. OpensWith opened (answer_from meaning does 2 u) old new held holds) same opens
 
 -- a line has a byte or none
 some_or_none : (line : List ℕ) → (line ≡ []) ⊎ (0 < length line)
@@ -98,61 +112,58 @@ module _ (line read : List ℕ) (old new : Option (List ℕ)) (consumes : Consum
   pub first-newline-good : (first : FirstLine) (ended : Ended) (last held holds : Option (List ℕ)) → read ≡ line ++ 10 ∷ [] → Some first ≡ first_line_of line
       → Runs ended (on_bytes (answer_behind (Some first))) new last held holds → Runs ended answer_of old last held holds
   first-newline-good first ended last held holds cut good behind =
-      runs-behind ended answer_of (on_bytes (answer_behind (Some first))) old new last held held holds
+      runs-behind 1 ended answer_of (on_bytes (answer_behind (Some first))) old new last held held holds (behind-none first)
       (step-newline answer_in (answer_behind (Some first)) 1 line read old new held held consumes unbroken None cut ([], Appends-nil held, first-good line first (sym good))) behind
 
--- a text is a beginning of itself
-whole : (bytes : List ℕ) → IsBeginning bytes bytes
-whole bytes = ([], sym (append-nil bytes))
+module _ (line read : List ℕ) (old new : Option (List ℕ)) (consumes : Consumes old new read) (unbroken : IsUnbroken line) where
+  -- a good first line that ended with a newline, and what it opens
+  pub first-newline-opens : (first : FirstLine) (opened : Result Ended AllocError) (last held holds : Option (List ℕ)) → read ≡ line ++ 10 ∷ [] → Some first ≡ first_line_of line
+      → Opens opened first new last held holds → Starts opened old last held holds
+  first-newline-opens first (Ok ended) last held holds cut good behind = first-newline-good line read old new consumes unbroken first ended last held holds cut good behind
+  first-newline-opens first (Err refused) last held holds cut good (keeps_reader, keeps_writer) = (
+    line,
+    subst IsSome good refl,
+    subst (Consumes old last) cut (Consumes-kept old new last read consumes keeps_reader),
+    keeps_writer,
+  )
 
--- a run that ended and was finished is a script
-pub scripts : (ended : Ended) (status : ℕ) (old new held mid holds : Option (List ℕ)) → Runs ended answer_of old new held mid → Finishes ended status mid holds → Scripts status old new held holds
-scripts Done status old new held mid holds runs (keeps, inl is) = record {
+-- what is written behind a writer that was kept as it was
+Appends-behind : (old mid new : Option (List ℕ)) (bytes : List ℕ) → Keeps old mid → Appends mid new bytes → Appends old new bytes
+Appends-behind None mid new bytes keeps appends = tt
+Appends-behind (Some xs) None new bytes keeps appends = absurd keeps
+Appends-behind (Some xs) (Some ys) None bytes keeps appends = absurd appends
+Appends-behind (Some xs) (Some ys) (Some zs) bytes keeps appends = appends ∙ ap (λ held. held ++ bytes) keeps
+
+-- a run that ended well, or told of a bad line, with its status, or with 4 where the flush behind it failed; and a run that failed
+is_outcome : (ended : Ended) (status : ℕ) (read sent : List ℕ) (left : Option (List ℕ)) → Ends ended status → IsEnd ended answer_of read sent left → IsOutcome status read sent left
+is_outcome Done status read sent left (inl is) end = inl (is, end)
+is_outcome Done status read sent left (inr is) end = inr (inr (inr (is, inr (inr (inr (inl (inl end)))))))
+is_outcome BadLine status read sent left (inl is) end = inr (inl (is, end))
+is_outcome BadLine status read sent left (inr is) end = inr (inr (inr (is, inr (inr (inr (inl (inr end)))))))
+is_outcome ReadFailed status read sent left is end = inr (inr (inr (is, inl end)))
+is_outcome WriteFailed status read sent left is end = inr (inr (inr (is, inr (inl end))))
+is_outcome Endless status read sent left is end = inr (inr (inr (is, inr (inr (inl end)))))
+
+-- a start that was finished is a script
+pub scripts : (started : Result Ended AllocError) (status : ℕ) (old new held mid holds : Option (List ℕ)) → Starts started old new held mid → Finishes started status mid holds → Scripts status old new held holds
+scripts (Ok ended) status old new held mid holds runs (keeps, ends) = record {
   read = runs.read;
   sent = runs.sent;
   consumes = runs.consumes;
   appends = Appends-kept held mid holds runs.sent runs.appends keeps;
-  outcome = inl (is, runs.end);
+  outcome = is_outcome ended status runs.read runs.sent new ends runs.end;
 }
-scripts Done status old new held mid holds runs (keeps, inr is) = record {
-  read = runs.read;
-  sent = runs.sent;
-  consumes = runs.consumes;
-  appends = Appends-kept held mid holds runs.sent runs.appends keeps;
-  outcome = inr (inr (inr (is, (runs.sent, [], subst (IsBeginning runs.sent) runs.end.0 (whole runs.sent), IsBeginning-nil no_memory, sym (append-nil runs.sent)))));
+scripts (Err refused) status old new held mid holds start (inl (is, appends)) = record {
+  read = start.0 ++ 10 ∷ [];
+  sent = no_memory;
+  consumes = start.2;
+  appends = Appends-behind held mid holds no_memory start.3 appends;
+  outcome = inr (inr (inl (is, (start.0, refl, start.1, refl))));
 }
-scripts BadLine status old new held mid holds runs (keeps, inl is) = record {
-  read = runs.read;
-  sent = runs.sent;
-  consumes = runs.consumes;
-  appends = Appends-kept held mid holds runs.sent runs.appends keeps;
-  outcome = inr (inl (is, runs.end));
-}
-scripts BadLine status old new held mid holds runs (keeps, inr is) = record {
-  read = runs.read;
-  sent = runs.sent;
-  consumes = runs.consumes;
-  appends = Appends-kept held mid holds runs.sent runs.appends keeps;
-  outcome = inr (inr (inr (is, (runs.sent, [], subst (IsBeginning runs.sent) runs.end.0 (whole runs.sent), IsBeginning-nil no_memory, sym (append-nil runs.sent)))));
-}
-scripts NoMemory status old new held mid holds runs (inl (is, appends)) = record {
-  read = runs.read;
-  sent = runs.sent ++ no_memory;
-  consumes = runs.consumes;
-  appends = Appends-trans held mid holds runs.sent no_memory runs.appends appends;
-  outcome = inr (inr (inl (is, (runs.sent, runs.end, refl))));
-}
-scripts NoMemory status old new held mid holds runs (inr (is, part)) = record {
-  read = runs.read;
-  sent = runs.sent ++ part.0;
-  consumes = runs.consumes;
-  appends = Appends-trans held mid holds runs.sent part.0 runs.appends part.2;
-  outcome = inr (inr (inr (is, (runs.sent, part.0, runs.end, part.1, refl))));
-}
-scripts Failed status old new held mid holds runs (keeps, is) = record {
-  read = runs.read;
-  sent = runs.sent;
-  consumes = runs.consumes;
-  appends = Appends-kept held mid holds runs.sent runs.appends keeps;
-  outcome = inr (inr (inr (is, (runs.sent, [], runs.end, IsBeginning-nil no_memory, sym (append-nil runs.sent)))));
+scripts (Err refused) status old new held mid holds start (inr (is, part)) = record {
+  read = start.0 ++ 10 ∷ [];
+  sent = part.0;
+  consumes = start.2;
+  appends = Appends-behind held mid holds part.0 start.3 part.2;
+  outcome = inr (inr (inr (is, inr (inr (inr (inr (part.0, part.1, (start.0, refl, start.1, refl))))))));
 }

@@ -2,7 +2,9 @@ pub mod AnswerLemmas
 pub mod BehindLemmas
 pub mod FieldLemmas
 pub mod FirstLemmas
+pub mod KindLemmas
 pub mod LineLemmas
+pub mod ReadingLemmas
 pub mod RunLemmas
 pub mod SpellingLemmas
 pub mod StepLemmas

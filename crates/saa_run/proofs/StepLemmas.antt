@@ -1,16 +1,16 @@
 -- One line that was cut off and answered is one step of a run. No command is known here.
-use Rattle.std.proofs.Common.{◌≡◌, ◌<◌, ℕ, ◌⊎◌, inl, inr, List, [], ◌∷◌, ◌++◌, length, Option, Some, None, sym, ap, subst, ◌∙◌, refl, append_assoc, append-nil, arith, length-append}
+use Rattle.std.proofs.Common.{◌≡◌, ◌<◌, ◌≤◌, ℕ, ◌⊎◌, inl, inr, List, [], ◌∷◌, ◌++◌, length, Option, Some, None, sym, ap, subst, ◌∙◌, refl, append_assoc, append-nil, arith, length-append}
 use Rattle.std.specs.Prelude.{IsSome, IsNone}
 use Rattle.std.specs.Option.{option_map_or}
 use Rattle.std.specs.Io.KnownBytes.{Consumes, IsAtEnd}
-use Rattle.std.proofs.KnownBytes.{Appends-nil, Consumes-nil}
+use Rattle.std.proofs.KnownBytes.{Appends-nil}
 use Rattle.saa_run.specs.declared.ended.Ended.{Ended}
-use Rattle.saa_run.specs.declared.ended.Ended.TheVariants.{Done, BadLine, NoMemory, Failed}
-use Rattle.saa_run.specs.Transfer.{IsBeginning, IsUnbroken}
+use Rattle.saa_run.specs.declared.ended.Ended.TheVariants.{Done, BadLine, ReadFailed, WriteFailed, Endless}
+use Rattle.saa_run.specs.Transfer.{IsBeginning, IsProperBeginning, IsUnbroken}
 use Rattle.saa_run.specs.Text.{Answer, text, with_front, bad_line, on_bytes, lines_of}
 use Rattle.saa_run.specs.Outcome.{Runs, IsEnd}
 use Rattle.saa_run.specs.Steps.{no_lines, bad_at, IsBadAt, EndsLine, AnswersLine, TakesStep}
-use Rattle.saa_run.proofs.TransferLemmas.{IsBeginning-more}
+use Rattle.saa_run.proofs.TransferLemmas.{IsProperBeginning-more}
 use Rattle.saa_run.proofs.LineLemmas.{lines_of-newline, lines_of-last, lines_of-begins}
 
 -- nothing is a beginning of everything
@@ -18,10 +18,10 @@ pub IsBeginning-nil : (whole : List ℕ) → IsBeginning [] whole
 IsBeginning-nil whole = (whole, refl)
 
 -- a beginning of the replies in front is one of the whole text
-pub IsBeginning-answer : (here next : Answer) (told front : List ℕ) → here ≡ with_front told next → IsBeginning front told → IsBeginning front (text here)
-IsBeginning-answer here next told front same begins =
-    subst (λ answer. IsBeginning front (text answer)) (sym same)
-    (subst (IsBeginning front) (sym (append_assoc told next.replies (option_map_or bad_line next.bad []))) (IsBeginning-more front told (next.replies ++ option_map_or bad_line next.bad []) begins))
+pub IsProperBeginning-answer : (here next : Answer) (told front : List ℕ) → here ≡ with_front told next → IsProperBeginning front told → IsProperBeginning front (text here)
+IsProperBeginning-answer here next told front same begins =
+    subst (λ answer. IsProperBeginning front (text answer)) (sym same)
+    (subst (IsProperBeginning front) (sym (append_assoc told next.replies (option_map_or bad_line next.bad []))) (IsProperBeginning-more front told (next.replies ++ option_map_or bad_line next.bad []) begins))
 
 -- a bad line ends a run: what is said is its number's line, whatever follows
 ends_bad : (said : List ℕ → Answer) (number : ℕ) (read sent : List ℕ) (left : Option (List ℕ)) → sent ≡ bad_line number → said read ≡ bad_at number
@@ -45,6 +45,7 @@ module _ (here next : List (List ℕ) → Answer) (number : ℕ) (line read : Li
     sent = answered.0;
     consumes = consumes;
     appends = answered.1;
+    some = omega (arith, length-append line (10 ∷ []), ap length cut);
     law = λ more. said_newline cut more ∙ answered.2 (lines_of more);
   }
   step-newline (Some BadLine) cut answered = record {
@@ -54,15 +55,16 @@ module _ (here next : List (List ℕ) → Answer) (number : ℕ) (line read : Li
     appends = answered.0;
     end = ends_bad (on_bytes here) number read (bad_line number) new refl (said_alone cut ∙ answered.1 []) (inr (λ more. said_newline cut more ∙ answered.1 (lines_of more)));
   }
-  step-newline (Some Failed) cut answered = record {
+  step-newline (Some WriteFailed) cut answered = record {
     read = read;
     sent = answered.0;
     consumes = consumes;
     appends = answered.1;
-    end = subst (λ answer. IsBeginning answered.0 (text answer)) (sym (said_alone cut)) (answered.2 []);
+    end = inl (λ more. subst (λ answer. IsProperBeginning answered.0 (text answer)) (sym (said_newline cut more)) (answered.2 (lines_of more)));
   }
   step-newline (Some Done) cut answered = absurd answered
-  step-newline (Some NoMemory) cut answered = absurd answered
+  step-newline (Some ReadFailed) cut answered = absurd answered
+  step-newline (Some Endless) cut answered = absurd answered
 
   -- what is said of a last line
   said_last : read ≡ line → 0 < length line → on_bytes here read ≡ here (line ∷ [])
@@ -90,15 +92,16 @@ module _ (here next : List (List ℕ) → Answer) (number : ℕ) (line read : Li
     appends = answered.0;
     end = ends_bad (on_bytes here) number read (bad_line number) new refl (said_last cut some ∙ answered.1 []) (inl end);
   }
-  step-last-ended Failed cut some end answered = record {
+  step-last-ended WriteFailed cut some end answered = record {
     read = read;
     sent = answered.0;
     consumes = consumes;
     appends = answered.1;
-    end = subst (λ answer. IsBeginning answered.0 (text answer)) (sym (said_last cut some)) (answered.2 []);
+    end = inr (end, subst (λ answer. IsProperBeginning answered.0 (text answer)) (sym (said_last cut some)) (answered.2 []));
   }
   step-last-ended Done cut some end answered = absurd answered
-  step-last-ended NoMemory cut some end answered = absurd answered
+  step-last-ended ReadFailed cut some end answered = absurd answered
+  step-last-ended Endless cut some end answered = absurd answered
 
   -- what is said of a line that is too long, whatever follows
   said_long : read ≡ line → 80 < length line → ((long : List ℕ) → 80 < length long → IsBadAt number here long) → (more : List ℕ) → on_bytes here (read ++ more) ≡ bad_at number
@@ -117,28 +120,37 @@ module _ (here next : List (List ℕ) → Answer) (number : ℕ) (line read : Li
         appends = told;
         end = ends_bad (on_bytes here) number read (bad_line number) new refl (ap (on_bytes here) (sym (append-nil read)) ∙ always []) (inr always);
       }
-  step-long Failed cut long bad told =
-      let alone : on_bytes here read ≡ bad_at number = ap (on_bytes here) (sym (append-nil read)) ∙ said_long cut long bad [] in
-      record {
-        read = read;
-        sent = told.0;
-        consumes = consumes;
-        appends = told.2;
-        end = subst (λ answer. IsBeginning told.0 (text answer)) (sym alone) told.1;
-      }
+  step-long WriteFailed cut long bad told = record {
+    read = read;
+    sent = told.0;
+    consumes = consumes;
+    appends = told.2;
+    end = inl (λ more. subst (λ answer. IsProperBeginning told.0 (text answer)) (sym (said_long cut long bad more)) told.1);
+  }
   step-long Done cut long bad told = absurd told
-  step-long NoMemory cut long bad told = absurd told
+  step-long ReadFailed cut long bad told = absurd told
+  step-long Endless cut long bad told = absurd told
 
 -- a read that failed: nothing is said of the line
-pub step-failed : (said : List ℕ → Answer) (read : List ℕ) (old new held : Option (List ℕ)) → Consumes old new read → Runs Failed said old new held held
-step-failed said read old new held consumes = record { read = read; sent = []; consumes = consumes; appends = Appends-nil held; end = IsBeginning-nil (text (said read)) }
+pub step-failed : (said : List ℕ → Answer) (line read : List ℕ) (old new held : Option (List ℕ)) → Consumes old new read → IsUnbroken line → (read ≡ line) × (length line ≤ 80) → Runs ReadFailed said old new held held
+step-failed said line read old new held consumes unbroken cut = record {
+  read = read;
+  sent = [];
+  consumes = consumes;
+  appends = Appends-nil held;
+  end = record {
+    lines = [];
+    part = line;
+    cut = cut.0;
+    unbroken = unbroken;
+    short = cut.1;
+    answered = inl (refl, refl);
+    always = λ more. IsBeginning-nil (text (said (read ++ more)));
+  };
+}
 
 -- the end of the input, where no line is left
 pub step-end : (here : List (List ℕ) → Answer) (read : List ℕ) (old new held : Option (List ℕ)) → Consumes old new read → read ≡ [] → IsAtEnd new → here [] ≡ no_lines → Runs Done (on_bytes here) old new held held
 step-end here read old new held consumes empty end nothing =
     let said : on_bytes here read ≡ no_lines = ap (on_bytes here) empty ∙ nothing in
     record { read = read; sent = []; consumes = consumes; appends = Appends-nil held; end = (sym (ap text said), subst (λ answer. IsNone answer.bad) (sym said) refl, end) }
-
--- memory that was refused before anything was read
-pub step-refused : (said : List ℕ → Answer) (old held : Option (List ℕ)) → Runs NoMemory said old old held held
-step-refused said old held = record { read = []; sent = []; consumes = Consumes-nil old; appends = Appends-nil held; end = IsBeginning-nil (text (said [])) }

@@ -7,8 +7,8 @@ use Rattle.std.proofs.lemmas.Bool.{lt-ltb}
 use Rattle.std.proofs.Math.Nat.{zero-lt-suc}
 use Rattle.saa_object.specs.Object.{Object, After}
 use Rattle.saa_run.specs.Fields.{fields_of}
-use Rattle.saa_run.specs.Language.{semaphore_line_in, semaphore_line_of}
-use Rattle.saa_run.specs.Replies.{semaphore_does}
+use Rattle.saa_run.specs.declared.command.ScriptLine.{ScriptLine}
+use Rattle.saa_run.specs.Language.{Readings, line_in, line_of}
 use Rattle.saa_run.specs.Text.{Answer, answer_from, good_front, replies_to, bad_behind}
 use Rattle.saa_run.specs.Steps.{no_lines, bad_at, IsBadAt}
 
@@ -34,11 +34,12 @@ module _ {L : Type 0} (meaning : List ℕ → Option L) (does : L → Object →
       ∙ ap (λ b. only_bad (if b then Some (number + 0) else None)) (lt-ltb 0 (length (line ∷ lines)) (zero-lt-suc (length lines)))
       ∙ ap (λ n. only_bad (Some n)) (add-zero number)
 
--- no line of more than 80 bytes means anything
-pub line-long : (line : List ℕ) → 80 < length line → semaphore_line_of line ≡ None
-unfolding semaphore_line_of
-line-long line long = ap (λ b. if b then None else semaphore_line_in (fields_of line)) (lt-ltb 80 (length line) long)
+module _ {C K : Type 0} (readings : Readings C K) where
+  -- no line of more than 80 bytes means anything
+  pub line-long : (line : List ℕ) → 80 < length line → line_of readings line ≡ None
+  unfolding line_of
+  line-long line long = ap (λ b. if b then None else line_in readings (fields_of line)) (lt-ltb 80 (length line) long)
 
--- a line of more than 80 bytes is bad for a semaphore
-pub semaphore-too_long : (number : ℕ) (s : Object) (line : List ℕ) → 80 < length line → IsBadAt number (answer_from semaphore_line_of semaphore_does number s) line
-semaphore-too_long number s line long = λ others. answer-bad semaphore_line_of semaphore_does number s line others (line-long line long)
+  -- so it is bad
+  pub line-too_long : (does : ScriptLine C K → Object → After (List ℕ)) (number : ℕ) (s : Object) (line : List ℕ) → 80 < length line → IsBadAt number (answer_from (line_of readings) does number s) line
+  line-too_long does number s line long = λ others. answer-bad (line_of readings) does number s line others (line-long line long)

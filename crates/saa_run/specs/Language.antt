@@ -1,10 +1,8 @@
 -- The language of scripts: which line is which command, in lines, fields and numbers.
 use Rattle.std.specs.Prelude.{ℕ, Bool, true, false, List, [], ◌∷◌, length, Option, Some, None, nat_lt, if◌then◌else◌, codes, option_and_then}
-use Rattle.std.specs.Option.{option_map}
+use Rattle.std.specs.Option.{option_map, option_map_or}
 use Rattle.std.specs.Str.{bytes_eq}
 use Rattle.saa_object.specs.declared.run.CommandOf.TheVariants.{Call, Register, TryPoll, PollSync, PollAsync, Drop}
-use Rattle.saa_object.specs.declared.semaphore.SemaphoreCall.{SemaphoreCall}
-use Rattle.saa_object.specs.declared.semaphore.SemaphoreCall.TheVariants.{TryAcquireMany, ReleaseMany, AvailablePermits, IsOpen, IsClosed}
 use Rattle.saa_run.specs.declared.command.FirstLine.{FirstLine}
 use Rattle.saa_run.specs.declared.command.FirstLine.TheVariants.{Semaphore}
 use Rattle.saa_run.specs.declared.command.ScriptLine.{ScriptLine}
@@ -41,13 +39,12 @@ abbrev pub either : {X : Type 0} → Option X → Option X → Option X
 either (Some x) other = Some x
 either None other = other
 
--- calls of a semaphore that are one word
-abbrev pub lone_calls : List (List ℕ × SemaphoreCall)
-lone_calls = (codes "available", AvailablePermits) ∷ (codes "is_open", IsOpen) ∷ (codes "is_closed", IsClosed) ∷ []
-
--- calls of a semaphore that are a word and a number
-abbrev pub counted_calls : List (List ℕ × (ℕ → SemaphoreCall))
-counted_calls = (codes "try", TryAcquireMany) ∷ (codes "release", ReleaseMany) ∷ []
+-- What a kind of primitive adds to the language: its calls of one word, its calls of a word and a number, and what a
+-- registration asks, by the fields between its pager and its mode
+pub record Readings (C K : Type 0) : Type 0 where
+  pub lone : List (List ℕ × C)
+  pub counted : List (List ℕ × (ℕ → C))
+  pub ask : List (List ℕ) → Option K
 
 -- lines of every primitive that are a word and a pager
 abbrev pub pager_lines : {C K : Type 0} → List (List ℕ × (ℕ → ScriptLine C K))
@@ -59,13 +56,24 @@ pager_lines =
     (codes "drop", λ pager. Do (Drop pager)) ∷ []
 
 -- a call that is one word
-unfoldable pub lone_line : List ℕ → Option (ScriptLine SemaphoreCall ℕ)
-lone_line word = option_map (λ call. Do (Call call)) (meaning_in lone_calls word)
+unfoldable pub lone_call_in : {C K : Type 0} → Readings C K → List ℕ → Option C
+lone_call_in readings word = meaning_in readings.lone word
 
 -- a call that is a word and a number
-unfoldable pub counted_line : List ℕ → List ℕ → Option (ScriptLine SemaphoreCall ℕ)
-counted_line word field =
-    option_and_then (λ call. option_map (λ n. Do (Call (call n))) (number_of field)) (meaning_in counted_calls word)
+unfoldable pub counted_call_in : {C K : Type 0} → Readings C K → List ℕ → ℕ → Option C
+counted_call_in readings word n = option_map (λ call. call n) (meaning_in readings.counted word)
+
+-- what a registration asks, by the field between its pager and its mode, where there is one
+unfoldable pub ask_in : {C K : Type 0} → Readings C K → Option (List ℕ) → Option K
+ask_in readings field = readings.ask (option_map_or (λ f. f ∷ []) field [])
+
+-- a line that is one word
+unfoldable pub lone_line : {C K : Type 0} → Readings C K → List ℕ → Option (ScriptLine C K)
+lone_line readings word = option_map (λ call. Do (Call call)) (lone_call_in readings word)
+
+-- a line that is a word and a number
+unfoldable pub counted_line : {C K : Type 0} → Readings C K → List ℕ → List ℕ → Option (ScriptLine C K)
+counted_line readings word field = option_and_then (λ n. option_map (λ call. Do (Call call)) (counted_call_in readings word n)) (number_of field)
 
 -- a line that is a word and a pager
 unfoldable pub pager_line : {C K : Type 0} → List ℕ → List ℕ → Option (ScriptLine C K)
@@ -78,18 +86,18 @@ registration word pager ask is_sync =
     then option_and_then (λ p. option_and_then (λ k. option_map (λ m. Do (Register p k m)) is_sync) ask) pager
     else None
 
--- the line that these fields make behind the first line of a semaphore
-abbrev pub semaphore_line_in : List (List ℕ) → Option (ScriptLine SemaphoreCall ℕ)
-semaphore_line_in [] = None
-semaphore_line_in (word ∷ []) = lone_line word
-semaphore_line_in (word ∷ field ∷ []) = either (counted_line word field) (pager_line word field)
-semaphore_line_in (word ∷ pager ∷ number ∷ []) = None
-semaphore_line_in (word ∷ pager ∷ number ∷ mode ∷ []) = registration word (pager_of pager) (number_of number) (mode_of mode)
-semaphore_line_in (word ∷ pager ∷ number ∷ mode ∷ field ∷ fields) = None
+-- the line that these fields make
+abbrev pub line_in : {C K : Type 0} → Readings C K → List (List ℕ) → Option (ScriptLine C K)
+line_in readings [] = None
+line_in readings (word ∷ []) = lone_line readings word
+line_in readings (word ∷ field ∷ []) = either (pager_line word field) (counted_line readings word field)
+line_in readings (word ∷ pager ∷ mode ∷ []) = registration word (pager_of pager) (ask_in readings None) (mode_of mode)
+line_in readings (word ∷ pager ∷ ask ∷ mode ∷ []) = registration word (pager_of pager) (ask_in readings (Some ask)) (mode_of mode)
+line_in readings (word ∷ pager ∷ ask ∷ mode ∷ field ∷ fields) = None
 
--- the line that these bytes make behind the first line of a semaphore; a line has at most 80 bytes
-unfoldable pub semaphore_line_of : List ℕ → Option (ScriptLine SemaphoreCall ℕ)
-semaphore_line_of line = if nat_lt 80 (length line) then None else semaphore_line_in (fields_of line)
+-- the line that these bytes make behind the first line; a line has at most 80 bytes
+unfoldable pub line_of : {C K : Type 0} → Readings C K → List ℕ → Option (ScriptLine C K)
+line_of readings line = if nat_lt 80 (length line) then None else line_in readings (fields_of line)
 
 -- the first line semaphore P ROOM
 unfoldable pub semaphore_made : List ℕ → Option ℕ → Option ℕ → Option FirstLine

@@ -1,9 +1,14 @@
 pub mod AnswerLaws
+pub mod BarrierWords
 pub mod Fields
+pub mod GateWords
 pub mod Language
+pub mod LockWords
 pub mod Outcome
 pub mod Replies
+pub mod RunLaws
 pub mod Said
+pub mod SemaphoreWords
 pub mod Spelling
 pub mod Steps
 pub mod Text

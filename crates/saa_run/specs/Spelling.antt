@@ -1,13 +1,12 @@
 -- How each line of a script is spelled: its fields, joined by single spaces, with numbers in plain decimal.
-use Rattle.std.specs.Prelude.{◌≡◌, ◌<◌, ℕ, Bool, true, false, List, [], ◌∷◌, codes, decimal}
-use Rattle.std.specs.List.{join_with_byte}
+use Rattle.std.specs.Prelude.{◌≡◌, ◌<◌, ℕ, Bool, true, false, ◌↔◌, List, [], ◌∷◌, ◌++◌, Some, codes, decimal}
+use Rattle.std.specs.List.{AllByRecursion, join_with_byte}
 use Rattle.saa_object.specs.declared.run.CommandOf.TheVariants.{Call, Register, TryPoll, PollSync, PollAsync, Drop}
-use Rattle.saa_object.specs.declared.semaphore.SemaphoreCall.{SemaphoreCall}
-use Rattle.saa_object.specs.declared.semaphore.SemaphoreCall.TheVariants.{TryAcquireMany, ReleaseMany, AvailablePermits, IsOpen, IsClosed}
 use Rattle.saa_run.specs.declared.command.FirstLine.{FirstLine}
 use Rattle.saa_run.specs.declared.command.FirstLine.TheVariants.{Semaphore}
 use Rattle.saa_run.specs.declared.command.ScriptLine.{ScriptLine}
 use Rattle.saa_run.specs.declared.command.ScriptLine.TheVariants.{Do, Registered}
+use Rattle.saa_run.specs.Language.{Readings, line_of}
 
 -- fields joined by single spaces
 abbrev pub spelled : List (List ℕ) → List ℕ
@@ -30,41 +29,36 @@ abbrev pub mode_word : Bool → List ℕ
 mode_word true = codes "sync"
 mode_word false = codes "async"
 
--- the fields of a call of a semaphore
-abbrev pub call_fields : SemaphoreCall → List (List ℕ)
-call_fields (TryAcquireMany n) = codes "try" ∷ decimal n ∷ []
-call_fields (ReleaseMany n) = codes "release" ∷ decimal n ∷ []
-call_fields AvailablePermits = codes "available" ∷ []
-call_fields IsOpen = codes "is_open" ∷ []
-call_fields IsClosed = codes "is_closed" ∷ []
+-- how a kind of primitive spells its calls and what its registrations ask: the fields, and the numbers in them
+pub record Spellings (C K : Type 0) : Type 0 where
+  pub call_fields : C → List (List ℕ)
+  pub call_numbers : C → List ℕ
+  pub ask_fields : K → List (List ℕ)
+  pub ask_numbers : K → List ℕ
 
--- the fields of a line behind the first line of a semaphore
-abbrev pub line_fields : ScriptLine SemaphoreCall ℕ → List (List ℕ)
-line_fields (Do (Call call)) = call_fields call
-line_fields (Do (Register p n is_sync)) = codes "reg" ∷ decimal p ∷ decimal n ∷ mode_word is_sync ∷ []
-line_fields (Do (TryPoll p)) = codes "try_poll" ∷ decimal p ∷ []
-line_fields (Do (PollSync p)) = codes "poll_sync" ∷ decimal p ∷ []
-line_fields (Do (PollAsync p)) = codes "poll_async" ∷ decimal p ∷ []
-line_fields (Do (Drop p)) = codes "drop" ∷ decimal p ∷ []
-line_fields (Registered p) = codes "registered" ∷ decimal p ∷ []
+-- all numbers can be written
+abbrev pub AreNumbers : List ℕ → Type 0
+AreNumbers numbers = AllByRecursion IsNumber numbers
 
--- the numbers of a call are in range
-abbrev pub IsCallInRange : SemaphoreCall → Type 0
-IsCallInRange (TryAcquireMany n) = IsNumber n
-IsCallInRange (ReleaseMany n) = IsNumber n
-IsCallInRange AvailablePermits = Unit {0}
-IsCallInRange IsOpen = Unit {0}
-IsCallInRange IsClosed = Unit {0}
+-- the fields of a line
+abbrev pub line_fields : {C K : Type 0} → Spellings C K → ScriptLine C K → List (List ℕ)
+line_fields spellings (Do (Call call)) = spellings.call_fields call
+line_fields spellings (Do (Register p ask is_sync)) = codes "reg" ∷ decimal p ∷ (spellings.ask_fields ask ++ mode_word is_sync ∷ [])
+line_fields spellings (Do (TryPoll p)) = codes "try_poll" ∷ decimal p ∷ []
+line_fields spellings (Do (PollSync p)) = codes "poll_sync" ∷ decimal p ∷ []
+line_fields spellings (Do (PollAsync p)) = codes "poll_async" ∷ decimal p ∷ []
+line_fields spellings (Do (Drop p)) = codes "drop" ∷ decimal p ∷ []
+line_fields spellings (Registered p) = codes "registered" ∷ decimal p ∷ []
 
 -- the numbers of a line are in range
-abbrev pub IsLineInRange : ScriptLine SemaphoreCall ℕ → Type 0
-IsLineInRange (Do (Call call)) = IsCallInRange call
-IsLineInRange (Do (Register p n is_sync)) = IsPager p × IsNumber n
-IsLineInRange (Do (TryPoll p)) = IsPager p
-IsLineInRange (Do (PollSync p)) = IsPager p
-IsLineInRange (Do (PollAsync p)) = IsPager p
-IsLineInRange (Do (Drop p)) = IsPager p
-IsLineInRange (Registered p) = IsPager p
+abbrev pub IsLineInRange : {C K : Type 0} → Spellings C K → ScriptLine C K → Type 0
+IsLineInRange spellings (Do (Call call)) = AreNumbers (spellings.call_numbers call)
+IsLineInRange spellings (Do (Register p ask is_sync)) = IsPager p × AreNumbers (spellings.ask_numbers ask)
+IsLineInRange spellings (Do (TryPoll p)) = IsPager p
+IsLineInRange spellings (Do (PollSync p)) = IsPager p
+IsLineInRange spellings (Do (PollAsync p)) = IsPager p
+IsLineInRange spellings (Do (Drop p)) = IsPager p
+IsLineInRange spellings (Registered p) = IsPager p
 
 -- the fields of a first line
 abbrev pub first_fields : FirstLine → List (List ℕ)
@@ -74,9 +68,13 @@ first_fields (Semaphore permits room) = codes "semaphore" ∷ decimal permits �
 abbrev pub IsFirstInRange : FirstLine → Type 0
 IsFirstInRange (Semaphore permits room) = IsNumber permits × IsRoom room
 
--- the bytes are the spelling of a line behind the first line of a semaphore
-abbrev pub SpellsLine : List ℕ → ScriptLine SemaphoreCall ℕ → Type 0
-SpellsLine bytes line = (bytes ≡ spelled (line_fields line)) × IsLineInRange line
+-- the bytes are the spelling of a line behind the first line
+abbrev pub SpellsLine : {C K : Type 0} → Spellings C K → List ℕ → ScriptLine C K → Type 0
+SpellsLine spellings bytes line = (bytes ≡ spelled (line_fields spellings line)) × IsLineInRange spellings line
+
+-- a line is good exactly where it is a line's spelling, and then it is that line
+abbrev pub IsSpelled : {C K : Type 0} → Readings C K → Spellings C K → Type 0
+IsSpelled {C} {K} readings spellings = (bytes : List ℕ) (line : ScriptLine C K) → (line_of readings bytes ≡ Some line) ↔ SpellsLine spellings bytes line
 
 -- the bytes are the spelling of a first line
 abbrev pub SpellsFirst : List ℕ → FirstLine → Type 0

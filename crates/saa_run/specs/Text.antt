@@ -10,8 +10,8 @@ use Rattle.saa_run.specs.declared.command.FirstLine.TheVariants.{Semaphore}
 use Rattle.saa_object.specs.declared.run.CommandOf.{CommandOf}
 use Rattle.saa_run.specs.declared.command.ScriptLine.{ScriptLine}
 use Rattle.saa_run.specs.declared.command.ScriptLine.TheVariants.{Do, Registered}
-use Rattle.saa_run.specs.Language.{first_line_of, semaphore_line_of}
-use Rattle.saa_run.specs.Replies.{semaphore_does}
+use Rattle.saa_run.specs.Language.{first_line_of, line_of}
+use Rattle.saa_run.specs.SemaphoreWords.{semaphore_readings, semaphore_does}
 
 -- the lines of an input: each ends with a newline, which the last may lack
 abbrev pub lines_of : List ℕ → List (List ℕ)
@@ -78,7 +78,7 @@ pagers = 100
 abbrev pub answer_behind : Option FirstLine → List (List ℕ) → Answer
 answer_behind None lines = bad_first
 answer_behind (Some (Semaphore permits room)) lines =
-    answer_from semaphore_line_of semaphore_does 2 (new_semaphore max_permits permits room pagers) lines
+    answer_from (line_of semaphore_readings) semaphore_does 2 (new_semaphore max_permits permits room pagers) lines
 
 -- the answer to the lines of an input; an empty input is a bad line 1
 abbrev pub answer_in : List (List ℕ) → Answer

@@ -1,14 +1,15 @@
 //! The lines of a script: which first line they follow, and which command each of them is.
 //!
 //! Held to `specs/Language.antt`: a line is good exactly where it is a command's spelling, which
-//! `laws` proves. What a command does is left to the primitive's core.
+//! `laws` proves. The lines that all primitives share are here; a kind's own words are a `Spoken`'s. What a
+//! command does is left to the primitive's core.
 ghost use Rattle.std.specs.Prelude.{◌≡◌};
-ghost use Rattle.saa_run.specs.Language.{pager_of, room_of, mode_of, lone_line, counted_line, pager_line, registration, semaphore_line_of, semaphore_made, first_line_of, either};
+ghost use Rattle.saa_run.specs.Language.{pager_of, room_of, mode_of, lone_line, counted_line, pager_line, registration, line_of, semaphore_made, first_line_of, either};
 ghost use Rattle.saa_run.specs.Fields.{number_of};
 
 use crate::fields::{first_field, number};
-use saa_core::bench::CommandOf;
-use saa_core::semaphore::SemaphoreCall;
+use crate::spoken::Spoken;
+use saa_core::bench::{CommandOf, Primitive};
 
 /// The first line of a script: which primitive is made.
 #[derive(Clone, Copy, Debug)]
@@ -26,8 +27,8 @@ pub enum ScriptLine<C, K> {
     Registered(u16),
 }
 
-/// A line behind the first line of a semaphore.
-pub type SemaphoreLine = ScriptLine<SemaphoreCall, usize>;
+/// A line behind the first line of a primitive.
+pub type LineOf<P> = ScriptLine<<P as Primitive>::Call, <P as Primitive>::Ask>;
 
 /// The pager that a field is: 0 to 99.
 #[tactic(auto, unfolding(crate::specs::Language::pager_of))]
@@ -63,37 +64,26 @@ fn mode(field: &[u8]) -> Option<bool>
     }
 }
 
-/// A call of a semaphore that is one word.
+/// A line that is one word.
 #[tactic(auto, unfolding(crate::specs::Language::lone_line))]
-fn lone_word(word: &[u8]) -> Option<SemaphoreLine>
-    ensures { result ≡ lone_line word.now }
+fn lone_word<P: Spoken>(word: &[u8]) -> Option<LineOf<P>>
+    ensures { result ≡ lone_line P.readings word.now }
 {
-    if word == b"available".as_slice() {
-        return Some(ScriptLine::Do(CommandOf::Call(SemaphoreCall::AvailablePermits)));
+    match P::lone_call(word) {
+        Some(call) => Some(ScriptLine::Do(CommandOf::Call(call))),
+        None => None,
     }
-    if word == b"is_open".as_slice() {
-        return Some(ScriptLine::Do(CommandOf::Call(SemaphoreCall::IsOpen)));
-    }
-    if word == b"is_closed".as_slice() {
-        return Some(ScriptLine::Do(CommandOf::Call(SemaphoreCall::IsClosed)));
-    }
-    None
 }
 
-/// A call of a semaphore that is a word and a number.
+/// A line that is a word and a number.
 #[tactic(auto, unfolding(crate::specs::Language::counted_line))]
-fn counted_words(word: &[u8], field: &[u8]) -> Option<SemaphoreLine>
-    ensures { result ≡ counted_line word.now field.now }
+fn counted_words<P: Spoken>(word: &[u8], field: &[u8]) -> Option<LineOf<P>>
+    ensures { result ≡ counted_line P.readings word.now field.now }
 {
-    if word == b"try".as_slice() {
-        let count = number(field)? as usize;
-        return Some(ScriptLine::Do(CommandOf::Call(SemaphoreCall::TryAcquireMany(count))));
+    match P::counted_call(word, count(field)?) {
+        Some(call) => Some(ScriptLine::Do(CommandOf::Call(call))),
+        None => None,
     }
-    if word == b"release".as_slice() {
-        let count = number(field)? as usize;
-        return Some(ScriptLine::Do(CommandOf::Call(SemaphoreCall::ReleaseMany(count))));
-    }
-    None
 }
 
 /// A line that is a word and a pager.
@@ -135,18 +125,18 @@ fn registration_words<C, K: Copy>(
     None
 }
 
-/// A line of a semaphore that is two fields.
-fn two_words(word: &[u8], field: &[u8]) -> Option<SemaphoreLine>
-    ensures { result ≡ either (counted_line word.now field.now) (pager_line word.now field.now) }
+/// A line that is two fields.
+fn two_words<P: Spoken>(word: &[u8], field: &[u8]) -> Option<LineOf<P>>
+    ensures { result ≡ either (pager_line word.now field.now) (counted_line P.readings word.now field.now) }
 {
-    match counted_words(word, field) {
+    match pager_words(word, field) {
         Some(line) => Some(line),
-        None => pager_words(word, field),
+        None => counted_words::<P>(word, field),
     }
 }
 
-/// A number as a count of permits.
-fn count(field: &[u8]) -> Option<usize>
+/// A number as a count.
+pub fn count(field: &[u8]) -> Option<usize>
     ensures { result ≡ number_of field.now }
 {
     match number(field) {
@@ -155,30 +145,30 @@ fn count(field: &[u8]) -> Option<usize>
     }
 }
 
-/// The line of a script that these bytes are, behind the first line of a semaphore.
-#[tactic(auto, using(crate::proofs::FieldLemmas::some_field), unfolding(crate::specs::Language::semaphore_line_of))]
-pub fn parse_semaphore_line(line: &[u8]) -> Option<SemaphoreLine>
-    ensures { result ≡ semaphore_line_of line.now }
+/// The line of a script that these bytes are, behind the first line.
+#[tactic(auto, using(crate::proofs::FieldLemmas::some_field), unfolding(crate::specs::Language::line_of))]
+pub fn parse_line<P: Spoken>(line: &[u8]) -> Option<LineOf<P>>
+    ensures { result ≡ line_of P.readings line.now }
 {
     if line.len() > 80 {
         return None;
     }
     let (word, rest) = first_field(line);
     let Some(rest) = rest else {
-        return lone_word(word);
+        return lone_word::<P>(word);
     };
     let (second, rest) = first_field(rest);
     let Some(rest) = rest else {
-        return two_words(word, second);
+        return two_words::<P>(word, second);
     };
     let (third, rest) = first_field(rest);
     let Some(rest) = rest else {
-        return None;
+        return registration_words(word, pager(second), P::ask(None), mode(third));
     };
     let (fourth, rest) = first_field(rest);
     match rest {
         Some(_) => None,
-        None => registration_words(word, pager(second), count(third), mode(fourth)),
+        None => registration_words(word, pager(second), P::ask(Some(third)), mode(fourth)),
     }
 }
 

@@ -2,37 +2,49 @@
 //!
 //! The top floor. `transfer` moves bytes, `fields` and `command` read lines, `reply` writes answers,
 //! `steps` answers the lines behind the first one by one, and `run` is the whole, over any reader and
-//! writer. What a command does stands in `saa_core`. `docs/LANGUAGES.md` has the language.
+//! writer. All that is one engine for every kind of primitive; what a kind says is a `spoken::Spoken`, in
+//! `semaphore_words` and its like, and `bench_script` speaks it to a bench. Only the semaphore is reached by a
+//! first line; the words of a lock, a gate and a barrier stand ready beside it. What a command does stands in
+//! `saa_core`. `docs/LANGUAGES.md` has the language.
 #![tactic(auto)]
 
+mod arguments;
+mod barrier_words;
+mod bench_script;
 mod command;
 mod ended;
 mod fields;
+mod gate_words;
 mod laws;
+mod lock_words;
 mod reply;
 mod run;
-mod semaphore_script;
+mod semaphore_words;
+mod spoken;
 mod steps;
 #[cfg(test)]
 mod tests;
 mod transfer;
 mod wants;
 
+use crate::arguments::BehindName;
 use crate::run::Wanted;
-use std::io::{BufReader, ErrorKind, Write};
+use std::alloc::Global;
+use std::env::{self, Env};
+use std::io::{self, BufReader, ErrorKind, Write};
 use std::process::ExitCode;
-use std::{env, io};
 
 /// What the arguments ask for; nothing where memory for them was refused.
 ///
-/// An argument that is no text is like any other unknown word.
-fn asked(rt: &HostRuntime) -> Option<Wanted> {
-    match env::args(rt) {
+/// An argument that is no text is like any other unknown word. The name that the program was called by
+/// is none, and isn't read.
+fn asked<E: Env>(environment: &E, alloc: Global) -> Option<Wanted> {
+    match env::args(&(BehindName(environment), alloc)) {
         Err(error) => match error.kind() {
             ErrorKind::OutOfMemory => None,
             _ => Some(Wanted::Usage),
         },
-        Ok(args) => match args.skip(1).collect::<Vec<String>>(rt.alloc()) {
+        Ok(args) => match args.collect::<Vec<String>>(alloc) {
             Ok(words) => Some(run::wanted(words.as_slice())),
             Err(_) => None,
         },
@@ -49,7 +61,7 @@ fn script<W: Write>(rt: &HostRuntime, writer: &mut W) -> u8 {
 
 fn main(rt: HostRuntime) -> ExitCode {
     let mut writer = io::writer(&rt);
-    let status = match asked(&rt) {
+    let status = match asked(&rt, rt.alloc()) {
         None => run::no_memory(&mut writer),
         Some(Wanted::Script) => script(&rt, &mut writer),
         Some(Wanted::Machine | Wanted::Threads(_) | Wanted::Usage) => run::usage(&mut writer),

@@ -1,18 +1,23 @@
 //! What is written: replies, each on a line of its own, and the line that tells of a bad line.
 //!
-//! Held to `specs/Replies.antt` and `specs/Text.antt`. The words take no memory.
-ghost use Rattle.std.specs.Prelude.{◌≡◌, decimal};
+//! Held to `specs/Replies.antt` and `specs/Text.antt`. The words take no memory. Each line is handed to the writer as
+//! one piece, so that who reads along never sees half a line.
+ghost use Rattle.std.specs.Prelude.{◌≡◌, ◌≤◌, ◌++◌, ◌∷◌, codes, decimal, length};
 ghost use Rattle.saa_run.specs.Transfer.{Puts};
-ghost use Rattle.saa_run.specs.Replies.{error_word, semaphore_reply};
+ghost use Rattle.saa_run.specs.Replies.{error_word};
+ghost use Rattle.saa_run.specs.GateWords.{state_word, gate_error_word};
 ghost use Rattle.saa_run.specs.Said.{said_words};
 ghost use Rattle.saa_run.specs.Text.{bad_line, reply_line};
 
-use crate::transfer::{WriteFailed, put, put_all};
+use crate::transfer::{WriteFailed, put};
+use arrayvec::ArrayString;
 use itoa::Buffer;
-use saa_core::bench::ReplyOf;
-use saa_core::semaphore::SemaphoreAnswer;
+use saa_core::gate::{self, State};
 use saa_core::ticket::Error;
 use std::io::Write;
+
+/// A line with a number in it, before it is written.
+type WholeLine = ArrayString<64>;
 
 /// What a reply says.
 #[derive(Clone, Copy, Debug)]
@@ -29,21 +34,24 @@ pub enum Said {
     Refused(Error),
     /// `dropped`.
     Dropped,
-}
-
-/// What the reply of a semaphore says.
-pub fn said_by_semaphore(reply: ReplyOf<SemaphoreAnswer, Result<(), Error>>) -> Said
-    ensures { said_words result ≡ semaphore_reply reply }
-{
-    match reply {
-        ReplyOf::Answered(SemaphoreAnswer::Bool(truth)) => Said::Truth(truth),
-        ReplyOf::Answered(SemaphoreAnswer::Number(number)) => Said::Number(number),
-        ReplyOf::Registered(Ok(truth)) => Said::Truth(truth),
-        ReplyOf::Registered(Err(_)) => Said::Full,
-        ReplyOf::Polled(Ok(())) => Said::Taken,
-        ReplyOf::Polled(Err(error)) => Said::Refused(error),
-        ReplyOf::Dropped => Said::Dropped,
-    }
+    /// `would_block`.
+    WouldBlock,
+    /// `poisoned`.
+    Poisoned,
+    /// A gate's state.
+    GateState(State),
+    /// `none`.
+    NoState,
+    /// `ok N`: so many were answered.
+    Answered(usize),
+    /// `err STATE`: the gate isn't controlled.
+    Turned(State),
+    /// `STATE N`: the state before, and how many were answered.
+    Moved(State, usize),
+    /// `ok STATE`: the state of the gate that was passed.
+    Passed(State),
+    /// Why a poll of a gate has no state.
+    Barred(gate::Error),
 }
 
 /// Writes why a poll has no answer.
@@ -62,7 +70,70 @@ fn put_number<W: Write>(writer: &mut W, number: usize) -> Result<(), WriteFailed
     ensures { Puts result (W.contents writer.old) (W.contents writer.new) (reply_line (decimal number)) }
 {
     let mut digits = Buffer::new();
-    put_all(writer, &[digits.format(number).as_bytes(), b"\n"])
+    let mut line = WholeLine::new();
+    line.push_str(digits.format(number));
+    line.push_str("\n");
+    put(writer, line.as_str().as_bytes())
+}
+
+/// Writes two texts on a line of their own.
+fn put_words<W: Write>(writer: &mut W, front: &str, back: &str) -> Result<(), WriteFailed>
+    requires front { length front.now ≤ 4 }
+    requires back { length back.now ≤ 40 }
+    ensures { Puts result (W.contents writer.old) (W.contents writer.new) (reply_line (front.now ++ back.now)) }
+{
+    let mut line = WholeLine::new();
+    line.push_str(front);
+    line.push_str(back);
+    line.push_str("\n");
+    put(writer, line.as_str().as_bytes())
+}
+
+/// The word of a gate's state.
+fn state_text(state: State) -> &'static str
+    ensures word { result.now ≡ state_word state }
+    ensures short { length result.now ≤ 10 }
+{
+    match state {
+        State::Controlled => "controlled",
+        State::Sealed => "sealed",
+        State::Open => "open",
+    }
+}
+
+/// Writes a number behind a word, on a line of its own.
+fn put_count<W: Write>(writer: &mut W, number: usize) -> Result<(), WriteFailed>
+    ensures { Puts result (W.contents writer.old) (W.contents writer.new) (reply_line (codes "ok " ++ decimal number)) }
+{
+    let mut digits = Buffer::new();
+    put_words(writer, "ok ", digits.format(number))
+}
+
+/// Writes a gate's state and a number on a line of their own.
+fn put_moved<W: Write>(writer: &mut W, state: State, number: usize) -> Result<(), WriteFailed>
+    ensures { Puts result (W.contents writer.old) (W.contents writer.new) (reply_line (state_word state ++ 32 ∷ decimal number)) }
+{
+    let mut digits = Buffer::new();
+    let mut line = WholeLine::new();
+    line.push_str(state_text(state));
+    line.push_str(" ");
+    line.push_str(digits.format(number));
+    line.push_str("\n");
+    put(writer, line.as_str().as_bytes())
+}
+
+/// Writes why a poll of a gate has no state.
+fn put_gate_error<W: Write>(writer: &mut W, error: gate::Error) -> Result<(), WriteFailed>
+    ensures { Puts result (W.contents writer.old) (W.contents writer.new) (reply_line (gate_error_word error)) }
+{
+    match error {
+        gate::Error::Rejected => put(writer, b"rejected\n"),
+        gate::Error::Sealed => put(writer, b"sealed\n"),
+        gate::Error::SpuriousFailure => put(writer, b"spurious\n"),
+        gate::Error::NotRegistered => put(writer, b"not_registered\n"),
+        gate::Error::WrongMode => put(writer, b"wrong_mode\n"),
+        gate::Error::NotReady => put(writer, b"not_ready\n"),
+    }
 }
 
 /// Writes a reply on a line of its own.
@@ -77,6 +148,15 @@ pub fn put_reply<W: Write>(writer: &mut W, said: Said) -> Result<(), WriteFailed
         Said::Taken => put(writer, b"ok\n"),
         Said::Refused(error) => put_error(writer, error),
         Said::Dropped => put(writer, b"dropped\n"),
+        Said::WouldBlock => put(writer, b"would_block\n"),
+        Said::Poisoned => put(writer, b"poisoned\n"),
+        Said::GateState(state) => put_words(writer, "", state_text(state)),
+        Said::NoState => put(writer, b"none\n"),
+        Said::Answered(number) => put_count(writer, number),
+        Said::Turned(state) => put_words(writer, "err ", state_text(state)),
+        Said::Moved(state, number) => put_moved(writer, state, number),
+        Said::Passed(state) => put_words(writer, "ok ", state_text(state)),
+        Said::Barred(error) => put_gate_error(writer, error),
     }
 }
 
@@ -85,8 +165,9 @@ pub fn put_bad_line<W: Write>(writer: &mut W, number: u64) -> Result<(), WriteFa
     ensures { Puts result (W.contents writer.old) (W.contents writer.new) (bad_line number) }
 {
     let mut digits = Buffer::new();
-    put_all(
-        writer,
-        &[b"bad line ", digits.format(number).as_bytes(), b"\n"],
-    )
+    let mut line = WholeLine::new();
+    line.push_str("bad line ");
+    line.push_str(digits.format(number));
+    line.push_str("\n");
+    put(writer, line.as_str().as_bytes())
 }

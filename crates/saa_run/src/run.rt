@@ -2,19 +2,28 @@
 //! program is asked to do.
 //!
 //! Held to `specs/Outcome.antt`, which speaks of the text of an input in `specs/Text.antt`.
-ghost use Rattle.std.specs.Prelude.{◌≡◌, ◌⊎◌, map, string_bytes, Some};
+ghost use Rattle.std.specs.Prelude.{◌≡◌, ◌⊎◌, map, replicate, string_bytes};
 ghost use Rattle.std.specs.Io.KnownBytes.{Keeps};
-ghost use Rattle.saa_run.specs.Text.{answer_behind, answer_of, on_bytes};
-ghost use Rattle.saa_run.specs.Outcome.{Runs, Scripts, Tells, Finishes, no_memory as no_memory_text, usage_text};
+ghost use Rattle.saa_run.specs.Outcome.{Opens, OpensWith, Starts, Scripts, Tells, Finishes, no_memory as no_memory_text, usage_text};
+ghost use Rattle.saa_tickets.specs.declared.ticket.Registration.TheVariants.{Unregistered};
+ghost use Rattle.saa_object.specs.Held.{max_permits};
+ghost use Rattle.saa_object.specs.Semaphore.{new_semaphore};
+ghost use Rattle.saa_tickets.specs.Tickets.{object_of};
+ghost use Rattle.saa_run.specs.Language.{line_of};
+ghost use Rattle.saa_run.specs.Replies.{line_does, reply_words};
+ghost use Rattle.saa_run.specs.SemaphoreWords.{semaphore_does, semaphore_readings};
+ghost use Rattle.saa_run.specs.Text.{answer_from, pagers};
 ghost use Rattle.saa_run.specs.Wants.{wanted_of};
 
+use crate::bench_script::BenchScript;
 use crate::command::{FirstLine, parse_first};
 use crate::ended::Ended;
-use crate::semaphore_script::SemaphoreScript;
+use crate::spoken::Spoken;
 use crate::steps::{end_at, run_lines};
 use crate::transfer::{Cut, LineBytes, put, read_line};
 pub use crate::wants::Wanted;
-use std::alloc::Global;
+use saa_core::semaphore::SemaphoreCore;
+use std::alloc::{AllocError, Global};
 use std::io::{Read, Write};
 
 /// Flushes, and answers a status.
@@ -62,46 +71,89 @@ pub fn wanted(args: &[String]) -> Wanted
     }
 }
 
-/// The status of a run that ended, and what is said of refused memory.
-fn finish<W: Write>(ended: Ended, writer: &mut W) -> u8
-    ensures { Finishes ended result (W.contents writer.old) (W.contents writer.new) }
+/// The status of a run that ended, and what is said of refused memory. Whatever the status, what was written is flushed.
+fn finish<W: Write>(started: Result<Ended, AllocError>, writer: &mut W) -> u8
+    ensures { Finishes started result (W.contents writer.old) (W.contents writer.new) }
 {
-    match ended {
-        Ended::Done => flushed(writer, 0),
-        Ended::BadLine => flushed(writer, 2),
-        Ended::NoMemory => no_memory(writer),
-        Ended::Failed => 4,
+    match started {
+        Ok(Ended::Done) => flushed(writer, 0),
+        Ok(Ended::BadLine) => flushed(writer, 2),
+        Ok(Ended::ReadFailed | Ended::WriteFailed | Ended::Endless) => flushed(writer, 4),
+        Err(_) => no_memory(writer),
     }
 }
 
-/// Makes what the first line says, and answers the lines behind it.
-fn open<R: Read, W: Write>(alloc: Global, first: FirstLine, reader: &mut R, writer: &mut W) -> Ended
-    ensures { Runs result (on_bytes (answer_behind (Some first)))
+/// Makes what the first line says, and answers the lines behind it. All memory is taken here.
+fn open<R: Read, W: Write>(
+    alloc: Global,
+    first: FirstLine,
+    reader: &mut R,
+    writer: &mut W,
+) -> Result<Ended, AllocError>
+    ensures { Opens result first
         (R.remaining reader.old) (R.remaining reader.new) (W.contents writer.old) (W.contents writer.new) }
 {
     match first {
-        FirstLine::Semaphore { permits, room } => match SemaphoreScript::new(alloc, permits, room) {
-            Ok(mut script) => run_lines(&mut script, reader, writer),
-            Err(_) => Ended::NoMemory,
-        },
+        FirstLine::Semaphore { permits, room } => {
+            open_semaphore(alloc, permits, room, reader, writer)
+        }
+    }
+}
+
+/// Makes a semaphore, and answers the lines behind the first.
+fn open_semaphore<R: Read, W: Write>(
+    alloc: Global,
+    permits: usize,
+    room: u16,
+    reader: &mut R,
+    writer: &mut W,
+) -> Result<Ended, AllocError>
+    ensures { OpensWith result (answer_from (line_of semaphore_readings) semaphore_does 2 (new_semaphore max_permits permits room pagers))
+        (R.remaining reader.old) (R.remaining reader.new) (W.contents writer.old) (W.contents writer.new) }
+{
+    match SemaphoreCore::with_permits(alloc, permits, room) {
+        Ok(core) => run_core(alloc, core, reader, writer),
+        Err(refused) => Err(refused),
+    }
+}
+
+/// Answers the lines behind the first, from the core that the first line made.
+fn run_core<P: Spoken, R: Read, W: Write>(
+    alloc: Global,
+    core: P,
+    reader: &mut R,
+    writer: &mut W,
+) -> Result<Ended, AllocError>
+    ensures { OpensWith result (answer_from (line_of P.readings)
+        (line_does (reply_words P.answer_words P.poll_words) P.request P.step P.value) 2
+        (object_of (P.core core) (replicate pagers Unregistered)))
+        (R.remaining reader.old) (R.remaining reader.new) (W.contents writer.old) (W.contents writer.new) }
+{
+    match BenchScript::new(alloc, core) {
+        Ok(mut script) => Ok(run_lines(&mut script, reader, writer)),
+        Err(refused) => Err(refused),
     }
 }
 
 /// Reads the first line, makes what it says, and answers the lines behind it.
-fn start<R: Read, W: Write>(alloc: Global, reader: &mut R, writer: &mut W) -> Ended
-    ensures { Runs result answer_of
+fn start<R: Read, W: Write>(
+    alloc: Global,
+    reader: &mut R,
+    writer: &mut W,
+) -> Result<Ended, AllocError>
+    ensures { Starts result
         (R.remaining reader.old) (R.remaining reader.new) (W.contents writer.old) (W.contents writer.new) }
 {
     let mut line = LineBytes::new();
     match read_line(reader, &mut line) {
-        Cut::Failed => Ended::Failed,
-        Cut::Long => end_at(writer, 1),
+        Cut::Failed => Ok(Ended::ReadFailed),
+        Cut::Long => Ok(end_at(writer, 1)),
         Cut::End => match parse_first(line.as_slice()) {
-            None => end_at(writer, 1),
-            Some(_) => Ended::Done,
+            None => Ok(end_at(writer, 1)),
+            Some(_) => Ok(Ended::Done),
         },
         Cut::Newline => match parse_first(line.as_slice()) {
-            None => end_at(writer, 1),
+            None => Ok(end_at(writer, 1)),
             Some(first) => open(alloc, first, reader, writer),
         },
     }
@@ -111,11 +163,13 @@ fn start<R: Read, W: Write>(alloc: Global, reader: &mut R, writer: &mut W) -> En
 /// bad one. Answers the status of the program.
 ///
 /// The status is 0 where the input was read to its end and has no bad line, 2 at a bad line, 3 where
-/// memory was refused, and 4 where a read or a write failed. `docs/LANGUAGES.md` has the language.
+/// memory was refused, which only a good first line can meet, and 4 where a read, a write or a flush failed
+/// or the input has no end. What is written is a beginning of the input's text, whatever follows what was
+/// read; a line that a failed read cut off isn't judged. `docs/LANGUAGES.md` has the language.
 pub fn script<R: Read, W: Write>(alloc: Global, reader: &mut R, writer: &mut W) -> u8
     ensures { Scripts result (R.remaining reader.old) (R.remaining reader.new)
         (W.contents writer.old) (W.contents writer.new) }
 {
-    let ended = start(alloc, reader, writer);
-    finish(ended, writer)
+    let started = start(alloc, reader, writer);
+    finish(started, writer)
 }

@@ -39,7 +39,7 @@ pub fn end_at<W: Write>(writer: &mut W, number: u64) -> Ended
 {
     match put_bad_line(writer, number) {
         Ok(()) => Ended::BadLine,
-        Err(_) => Ended::Failed,
+        Err(_) => Ended::WriteFailed,
     }
 }
 
@@ -57,7 +57,7 @@ fn answer_line<S: Speaker, W: Write>(
         None => Some(end_at(writer, number)),
         Some(said) => match put_reply(writer, said) {
             Ok(()) => None,
-            Err(_) => Some(Ended::Failed),
+            Err(_) => Some(Ended::WriteFailed),
         },
     }
 }
@@ -74,7 +74,7 @@ fn step<S: Speaker, R: Read, W: Write>(
 {
     let mut line = LineBytes::new();
     match read_line(reader, &mut line) {
-        Cut::Failed => return Some(Ended::Failed),
+        Cut::Failed => return Some(Ended::ReadFailed),
         Cut::Long => return Some(end_at(writer, number)),
         Cut::Newline => return answer_line(speaker, number, line.as_slice(), writer),
         Cut::End => {}
@@ -102,5 +102,5 @@ pub fn run_lines<S: Speaker, R: Read, W: Write>(
             return ended;
         }
     }
-    Ended::Failed
+    Ended::Endless
 }

@@ -1,12 +1,19 @@
 //! What no contract says: that memory and transfers succeed where they can, and the exact bytes of the
 //! worked rows, which were written down by hand.
 
-use crate::reply::{Said, put_bad_line, put_reply, said_by_semaphore};
+use crate::reply::{Said, put_bad_line, put_reply};
 use crate::run::{Wanted, no_memory, script, usage, wanted};
-use crate::transfer::{Cut, LineBytes, put, put_all, read_line};
+use crate::spoken::said;
+use crate::transfer::{Cut, LineBytes, put, read_line};
+use crate::{asked, barrier_words, gate_words, lock_words};
+use saa_core::barrier::{BarrierAnswer, BarrierCall};
 use saa_core::bench::ReplyOf;
-use saa_core::semaphore::SemaphoreAnswer;
+use saa_core::gate::{self, GateAnswer, GateCall, State};
+use saa_core::lock::{LockAnswer, LockCall, Mode, TryLockError};
+use saa_core::semaphore::{SemaphoreAnswer, SemaphoreCore};
+use saa_core::ticket::Error;
 use std::alloc::Global;
+use std::env::{Env, FillError};
 use std::io::{self, Read, Write};
 use std::test::Fail;
 
@@ -352,6 +359,182 @@ fn with_room(alloc: Global, room: usize) -> NarrowWriter {
     }
 }
 
+/// A script of 3,000 lines behind the first: each is answered.
+#[test]
+fn many_lines(rt: HostRuntime) -> Result<(), Fail> {
+    let mut input = Vec::new(rt.alloc());
+    input.extend_from_slice(b"semaphore 63 4\n")?;
+    let mut output = Vec::new(rt.alloc());
+    for _ in 0..1500u16 {
+        input.extend_from_slice(b"try 1\nrelease 1\n")?;
+        output.extend_from_slice(b"true\ntrue\n")?;
+    }
+    let mut reader = input.as_slice();
+    let mut writer = Vec::new(rt.alloc());
+    assert_eq!(rt; script(rt.alloc(), &mut reader, &mut writer), 0);
+    assert_eq!(rt; writer.as_slice(), output.as_slice());
+    Ok(())
+}
+
+/// A long line at the end of the input, with and without a last newline: bad, by its number.
+#[test]
+fn long_last_lines(rt: HostRuntime) -> Result<(), Fail> {
+    for front in ["", "semaphore 63 4\n"] {
+        for length in [79u8, 80, 81] {
+            for end in ["", "\n"] {
+                let mut input = Vec::new(rt.alloc());
+                input.extend_from_slice(front.as_bytes())?;
+                for _ in 0..length {
+                    input.push(b'x')?;
+                }
+                input.extend_from_slice(end.as_bytes())?;
+                let mut reader = input.as_slice();
+                let mut writer = Vec::new(rt.alloc());
+                let status = script(rt.alloc(), &mut reader, &mut writer);
+                let told: &str = if front.is_empty() {
+                    "bad line 1\n"
+                } else {
+                    "bad line 2\n"
+                };
+                assert_eq!(rt; status, 2, "of {length} bytes and {end:?}");
+                assert_eq!(rt;
+                    writer.as_slice(),
+                    told.as_bytes(),
+                    "of {length} bytes and {end:?}"
+                );
+            }
+        }
+    }
+    Ok(())
+}
+
+/// A writer that lets nothing out before it is flushed.
+#[derive(Drop)]
+struct HoldingWriter {
+    held: Vec<u8>,
+    out: Vec<u8>,
+}
+
+impl Write for HoldingWriter {
+    fn write(&mut self, buf: &[u8]) -> io::Result<usize> {
+        self.held.extend_from_slice(buf)?;
+        Ok(buf.len())
+    }
+
+    fn flush(&mut self) -> io::Result<()> {
+        self.out.extend_from_slice(self.held.as_slice())?;
+        self.held.clear();
+        Ok(())
+    }
+}
+
+/// What lets nothing out before it is flushed has let all out when the run ends, whatever its status.
+#[test]
+fn all_is_flushed(rt: HostRuntime) {
+    for (input, output, status) in [
+        (INPUT, OUTPUT, 0u8),
+        ("semaphore 63 4\ntry 60\nno\n", "true\nbad line 3\n", 2),
+        ("", "bad line 1\n", 2),
+    ] {
+        let mut reader = input.as_bytes();
+        let mut writer = HoldingWriter {
+            held: Vec::new(rt.alloc()),
+            out: Vec::new(rt.alloc()),
+        };
+        assert_eq!(rt; script(rt.alloc(), &mut reader, &mut writer), status);
+        assert_eq!(rt; writer.out.as_slice(), output.as_bytes());
+    }
+    let mut reader = BreakingReader {
+        left: INPUT.as_bytes(),
+    };
+    let mut writer = HoldingWriter {
+        held: Vec::new(rt.alloc()),
+        out: Vec::new(rt.alloc()),
+    };
+    assert_eq!(rt; script(rt.alloc(), &mut reader, &mut writer), 4);
+    assert_eq!(rt; writer.out.as_slice(), OUTPUT.as_bytes());
+}
+
+/// A writer that counts the pieces that it is handed, and those that are one line.
+#[derive(Drop)]
+struct CountingWriter {
+    pieces: usize,
+    lines: usize,
+}
+
+impl Write for CountingWriter {
+    fn write(&mut self, buf: &[u8]) -> io::Result<usize> {
+        self.pieces = self.pieces.saturating_add(1);
+        if buf.iter().position(|b| *b == b'\n') == Some(buf.len().saturating_sub(1)) {
+            self.lines = self.lines.saturating_add(1);
+        }
+        Ok(buf.len())
+    }
+
+    fn flush(&mut self) -> io::Result<()> {
+        Ok(())
+    }
+}
+
+/// Each reply is written as one piece, and so is the line that tells of a bad line.
+#[test]
+fn one_write_a_reply(rt: HostRuntime) {
+    let mut reader =
+        "semaphore 63 0\navailable\ntry 60\navailable\nreg 1 4 sync\ntry_poll 1\ndrop 1\nno\n".as_bytes();
+    let mut writer = CountingWriter {
+        pieces: 0,
+        lines: 0,
+    };
+    assert_eq!(rt; script(rt.alloc(), &mut reader, &mut writer), 2);
+    assert_eq!(rt; writer.pieces, 7);
+    assert_eq!(rt; writer.lines, 7);
+}
+
+/// A program's environment with these arguments, its name first.
+#[derive(Clone, Copy)]
+struct Arguments<'a> {
+    words: &'a [&'a [u8]],
+}
+
+impl Env for Arguments<'_> {
+    fn arg(&self, i: usize, buf: &mut [u8]) -> Result<usize, FillError> {
+        match self.words.get(i) {
+            None => Err(FillError::NotPresent),
+            Some(word) if word.len() > buf.len() => Err(FillError::TooLong),
+            Some(word) => {
+                buf[..word.len()].copy_from_slice(word);
+                Ok(word.len())
+            }
+        }
+    }
+
+    fn var(&self, _name: &str, _buf: &mut [u8]) -> Result<usize, FillError> {
+        Err(FillError::NotPresent)
+    }
+
+    fn var_at(&self, _i: usize, _buf: &mut [u8]) -> Result<usize, FillError> {
+        Err(FillError::NotPresent)
+    }
+}
+
+/// Only what stands behind the program's name is judged: the name may be any bytes.
+#[test]
+fn what_is_asked(rt: HostRuntime) {
+    let asks = |words: &[&[u8]]| asked(&Arguments { words }, rt.alloc());
+    assert_eq!(rt; asks(&[b"saa-run", b"script"]), Some(Wanted::Script));
+    assert_eq!(rt;
+        asks(&[b"/tmp/\xff/saa-run", b"script"]),
+        Some(Wanted::Script)
+    );
+    assert_eq!(rt; asks(&[b"saa-run", b"\xff"]), Some(Wanted::Usage));
+    assert_eq!(rt;
+        asks(&[b"saa-run", b"script", b"\xff"]),
+        Some(Wanted::Usage)
+    );
+    assert_eq!(rt; asks(&[b"script"]), Some(Wanted::Usage));
+    assert_eq!(rt; asks(&[]), Some(Wanted::Usage));
+}
+
 const INPUT: &str = "semaphore 2 4\ntry 2\navailable\nreg 1 1 sync\n";
 
 const OUTPUT: &str = "true\n0\ntrue\n";
@@ -460,15 +643,94 @@ fn transfers(rt: HostRuntime) {
     assert_eq!(rt; line.as_slice(), b"two".as_slice());
     let mut writer = Vec::new(rt.alloc());
     assert!(rt; put(&mut writer, b"one").is_ok());
-    assert!(rt; put_all(&mut writer, &[b"two", b"", b"three"]).is_ok());
-    assert_eq!(rt; writer.as_slice(), b"onetwothree".as_slice());
+    assert!(rt; put(&mut writer, b"two").is_ok());
+    assert_eq!(rt; writer.as_slice(), b"onetwo".as_slice());
+}
+
+/// The words of a lock, a gate and a barrier, which no script says yet.
+#[test]
+fn words_of_other_kinds(rt: HostRuntime) {
+    for (word, call) in [
+        ("try_lock", LockCall::TryLock),
+        ("try_share", LockCall::TryShare),
+        ("release_lock", LockCall::ReleaseLock),
+        ("release_share", LockCall::ReleaseShare),
+        ("poison_lock", LockCall::PoisonLock),
+        ("clear_poison", LockCall::ClearPoison),
+        ("is_free", LockCall::IsFree),
+        ("is_locked", LockCall::IsLocked),
+        ("is_shared", LockCall::IsShared),
+        ("is_poisoned", LockCall::IsPoisoned),
+    ] {
+        assert_eq!(rt; lock_words::lone_call(word.as_bytes()), Some(call));
+    }
+    assert_eq!(rt; lock_words::lone_call(b"available"), None);
+    for (word, mode) in [
+        ("exclusive", Mode::Exclusive),
+        ("shared", Mode::Shared),
+        ("wait_exclusive", Mode::WaitExclusive),
+        ("wait_shared", Mode::WaitShared),
+    ] {
+        assert_eq!(rt; lock_words::ask(Some(word.as_bytes())), Some(mode));
+    }
+    assert_eq!(rt; lock_words::ask(None), None);
+    for (word, call) in [
+        ("state", GateCall::State),
+        ("reset", GateCall::Reset),
+        ("permit", GateCall::Permit),
+        ("reject", GateCall::Reject),
+        ("open", GateCall::Open),
+        ("seal", GateCall::Seal),
+    ] {
+        assert_eq!(rt; gate_words::lone_call(word.as_bytes()), Some(call));
+    }
+    assert_eq!(rt;
+        barrier_words::lone_call(b"count"),
+        Some(BarrierCall::Count)
+    );
+    assert_eq!(rt; barrier_words::ask(None), Some(()));
+    assert_eq!(rt; barrier_words::ask(Some(b"1")), None);
+}
+
+/// The replies of a lock, a gate and a barrier, each a piece of its own.
+#[test]
+fn replies_of_other_kinds(rt: HostRuntime) {
+    let mut writer = Vec::new(rt.alloc());
+    for said in [
+        lock_words::said_answer(LockAnswer::Bool(true)),
+        lock_words::said_answer(LockAnswer::Tried(Ok(()))),
+        lock_words::said_answer(LockAnswer::Tried(Err(TryLockError::WouldBlock))),
+        lock_words::said_answer(LockAnswer::Tried(Err(TryLockError::Poisoned))),
+        gate_words::said_answer(GateAnswer::State(State::Controlled)),
+        gate_words::said_answer(GateAnswer::Reset(None)),
+        gate_words::said_answer(GateAnswer::Reset(Some(State::Sealed))),
+        gate_words::said_answer(GateAnswer::Answered(Ok(12))),
+        gate_words::said_answer(GateAnswer::Answered(Err(State::Open))),
+        gate_words::said_answer(GateAnswer::Moved(State::Controlled, 3)),
+        gate_words::said_poll(Ok(State::Open)),
+        gate_words::said_poll(Err(gate::Error::Rejected)),
+        gate_words::said_poll(Err(gate::Error::Sealed)),
+        gate_words::said_poll(Err(gate::Error::SpuriousFailure)),
+        gate_words::said_poll(Err(gate::Error::NotRegistered)),
+        gate_words::said_poll(Err(gate::Error::WrongMode)),
+        gate_words::said_poll(Err(gate::Error::NotReady)),
+        barrier_words::said_answer(BarrierAnswer::Count(2)),
+        barrier_words::said_poll(Ok(false)),
+        barrier_words::said_poll(Err(Error::WrongMode)),
+    ] {
+        assert!(rt; put_reply(&mut writer, said).is_ok());
+    }
+    assert_eq!(rt;
+        writer.as_slice(),
+        b"true\nok\nwould_block\npoisoned\ncontrolled\nnone\nsealed\nok 12\nerr open\ncontrolled 3\nok open\nrejected\nsealed\nspurious\nnot_registered\nwrong_mode\nnot_ready\n2\nfalse\nwrong_mode\n".as_slice()
+    );
 }
 
 /// Each call of `reply` once.
 #[test]
 fn replies(rt: HostRuntime) {
     let mut writer = Vec::new(rt.alloc());
-    let said = said_by_semaphore(ReplyOf::Answered(SemaphoreAnswer::Number(63)));
+    let said = said::<SemaphoreCore>(ReplyOf::Answered(SemaphoreAnswer::Number(63)));
     assert!(rt; put_reply(&mut writer, said).is_ok());
     assert!(rt; put_reply(&mut writer, Said::Full).is_ok());
     assert!(rt; put_bad_line(&mut writer, 18446744073709551615).is_ok());

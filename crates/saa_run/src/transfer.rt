@@ -4,7 +4,6 @@
 //! was cut off an input and of a text that was put out: both say what a failure left. What a line
 //! means is left to `command`.
 ghost use Rattle.saa_run.specs.Transfer.{CutsLine, Puts};
-ghost use Rattle.std.specs.List.{flat_map};
 
 use arrayvec::ArrayVec;
 use std::io::{Read, Write};
@@ -50,7 +49,7 @@ pub fn read_line<R: Read>(reader: &mut R, line: &mut LineBytes) -> Cut
     Cut::Long
 }
 
-/// Writes a text. Where a write fails, what went out is a beginning of it.
+/// Writes a text, at once where the writer takes it at once. Where a write fails, what went out is a beginning of it.
 pub fn put<W: Write>(writer: &mut W, text: &[u8]) -> Result<(), WriteFailed>
     ensures { Puts result (W.contents writer.old) (W.contents writer.new) text.now }
 {
@@ -61,17 +60,6 @@ pub fn put<W: Write>(writer: &mut W, text: &[u8]) -> Result<(), WriteFailed>
             Ok(0) => return Err(WriteFailed),
             Ok(n) => at += n,
         }
-    }
-    Ok(())
-}
-
-/// Writes the parts of a text, one behind the other.
-pub fn put_all<W: Write>(writer: &mut W, parts: &[&[u8]]) -> Result<(), WriteFailed>
-    ensures { Puts result (W.contents writer.old) (W.contents writer.new)
-        (flat_map (λ part. part.now) parts.now) }
-{
-    for part in parts {
-        put(writer, part)?;
     }
     Ok(())
 }

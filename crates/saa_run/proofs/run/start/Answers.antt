@@ -1,6 +1,6 @@
 use Rattle.std.proofs.Common.{ap, ◌∙◌}
 use Rattle.saa_run.specs.Language.{first_line_of}
-use Rattle.saa_run.proofs.FirstLemmas.{first-long-bad, first-last-bad, first-last-good, first-newline-bad, first-newline-good}
+use Rattle.saa_run.proofs.FirstLemmas.{first-long-bad, first-last-bad, first-last-good, first-newline-bad, first-newline-opens}
 use Rattle.saa_run.proofs.run.start.Goals as goal
 
 pub returns-in-Long : goal.returns-in-Long
@@ -29,5 +29,5 @@ returns-in-None-parse_first g c =
 pub returns-in-Some-parse_first : goal.returns-in-Some-parse_first
 returns-in-Some-parse_first g c =
     let cut = c.in-Newline.ensures in
-    first-newline-good c.read_line.new.line.items cut.read _ _ cut.consumes cut.unbroken c.in-Some-parse_first.first c.open.result _ _ _ cut.as_said.0
+    first-newline-opens c.read_line.new.line.items cut.read _ _ cut.consumes cut.unbroken c.in-Some-parse_first.first c.open.result _ _ _ cut.as_said.0
     (c.in-Some-parse_first.ensures ∙ ap first_line_of c.as_slice-in-Newline.ensures.value) c.open.ensures

@@ -1,7 +1,8 @@
 use Rattle.std.proofs.Common.{◌+◌, Some, None, subst, arith}
 use Rattle.std.proofs.lemmas.Bool.Decides.{nat_tests}
 use Rattle.saa_run.specs.Steps.{AnswersLine}
-use Rattle.saa_run.proofs.StepLemmas.{step-newline, step-last, step-last-ended, step-long}
+use Rattle.saa_run.specs.Text.{on_bytes}
+use Rattle.saa_run.proofs.StepLemmas.{step-newline, step-last, step-last-ended, step-long, step-failed}
 use Rattle.saa_run.proofs.steps.step.Goals as goal
 
 pub returns-in-Long : goal.returns-in-Long
@@ -36,3 +37,8 @@ returns-in-Some g c =
     step-last-ended here next c.args.number c.read_line.new.line.items cut.read _ _ _ _ cut.consumes cut.unbroken c.in-Some.ended cut.as_said.0
     (grind (arith, nat_tests, c.if-is_empty.ensures)) cut.as_said.2
     (subst (λ line. AnswersLine (Some c.in-Some.ended) here next c.args.number line (g.W.Write.contents c.args.writer.now) (g.W.Write.contents c.answer_line-2.new.writer)) c.as_slice-2.ensures.value c.in-Some.ensures)
+
+pub returns-in-Failed : goal.returns-in-Failed
+returns-in-Failed g c =
+    let cut = c.in-Failed.ensures in
+    step-failed (on_bytes (g.S.Speaker.answer_to c.args.speaker.now c.args.number)) c.read_line.new.line.items cut.read _ _ _ cut.consumes cut.unbroken cut.as_said

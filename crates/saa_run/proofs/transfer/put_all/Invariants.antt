@@ -1,9 +1,0 @@
-use Rattle.std.proofs.Common.{take}
-use Rattle.std.specs.List.{flat_map}
-use Rattle.std.specs.Io.KnownBytes.{Appends}
-use Rattle.saa_run.proofs.transfer.put_all.Given as goal
-
--- what went out so far are the parts so far
-abbrev pub invariant-loop-part : goal.invariant-loop-part
-invariant-loop-part g l =
-    Appends (g.W.Write.contents l.fn.writer) (g.W.Write.contents l.writer) (flat_map (λ part. part.now) (take l.part-index l.parts))
