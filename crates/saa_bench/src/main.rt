@@ -1,8 +1,8 @@
 //! Times the threaded semaphore beside a plain counter under std's `Mutex` and `Condvar`, in one run.
 //!
 //! With the argument `measure` it prints, for 1, 2, 4 and 8 threads, what one acquire with its release costs by each,
-//! and the ratio; with any other arguments only how to run it. What is measured here is proved nowhere. The counter
-//! is unfair: whoever comes first takes what is there.
+//! and the ratio, and for one thread the ratio to two bare turns at a lock; with any other arguments only how to run
+//! it. What is measured here is proved nowhere. The counter is unfair: whoever comes first takes what is there.
 #![tactic(auto)]
 
 mod measure;

@@ -1,6 +1,6 @@
 //! The measurement: so many threads take and give back permits in turn, and the clock is read before and after.
 
-use crate::permits::{Counter, Permits};
+use crate::permits::{Counter, Permits, Turns};
 use saa_sync::semaphore::Semaphore;
 use std::alloc::Global;
 use std::rt::Runtime;
@@ -20,7 +20,8 @@ const PERMITS: usize = 63;
 
 const TAKEN: usize = 40;
 
-/// Prints a line for each number of threads: nanoseconds by the semaphore, by the counter, and their ratio.
+/// Prints a line for each number of threads: nanoseconds by the semaphore and by the counter, and their ratio; and
+/// then what the semaphore costs one thread beside two turns at a lock.
 pub fn table<R: Runtime + Threads + Wait + Sync>(rt: &R, alloc: Global) -> io::Result<()> {
     println!(rt; "threads  semaphore ns  counter ns  ratio")?;
     for threads in [1, 2, 4, 8] {
@@ -28,11 +29,21 @@ pub fn table<R: Runtime + Threads + Wait + Sync>(rt: &R, alloc: Global) -> io::R
         let counter = Counter::new(rt, PERMITS);
         let ours = best_nanos(rt, &semaphore, threads)?;
         let plain = best_nanos(rt, &counter, threads)?;
-        let hundredths = ours.saturating_mul(100).checked_div(plain).unwrap_or(0);
-        let (whole, part) = (hundredths / 100, hundredths % 100);
+        let (whole, part) = ratio(ours, plain);
         println!(rt; "{threads:>7}  {ours:>12}  {plain:>10}  {whole}.{part:02}")?;
     }
-    Ok(())
+    let semaphore = Semaphore::new(rt, alloc, 8)?;
+    let turns = Turns::new(rt, PERMITS);
+    let ours = best_nanos(rt, &semaphore, 1)?;
+    let plain = best_nanos(rt, &turns, 1)?;
+    let (whole, part) = ratio(ours, plain);
+    println!(rt; "one thread beside two turns at a lock: {ours} ns, {plain} ns, {whole}.{part:02}")
+}
+
+// How often the second is in the first: the whole part, and hundredths.
+fn ratio(ours: u64, plain: u64) -> (u64, u64) {
+    let hundredths = ours.saturating_mul(100).checked_div(plain).unwrap_or(0);
+    (hundredths / 100, hundredths % 100)
 }
 
 // What one acquire with its release costs at best, with so many threads, in nanoseconds.

@@ -1,4 +1,5 @@
-//! What is measured: a way to take a number of permits and give them back, by the semaphore and by a plain counter.
+//! What is measured: a way to take a number of permits and give them back, by the semaphore and by a plain counter;
+//! and what two turns at a lock cost alone.
 
 use saa_sync::semaphore::Semaphore;
 use std::sync::{Condvar, Mutex, Wait};
@@ -57,5 +58,33 @@ impl<R: Wait + Drop + Sync> Permits for Counter<R> {
     fn take_and_give(&self, count: usize) {
         self.take(count);
         self.give(count);
+    }
+}
+
+/// Two turns at a lock, with a write under each: what every form under a lock pays, as long as nobody waits.
+#[derive(Drop)]
+pub struct Turns<R: Wait + Drop> {
+    rt: R,
+    left: Mutex<usize>,
+}
+
+impl<R: Wait + Drop> Turns<R> {
+    /// A lock round so many permits, which nobody waits for.
+    pub fn new(rt: R, permits: usize) -> Turns<R> {
+        Turns {
+            rt,
+            left: Mutex::new(permits),
+        }
+    }
+}
+
+impl<R: Wait + Drop + Sync> Permits for Turns<R> {
+    fn take_and_give(&self, count: usize) {
+        {
+            let mut left = self.left.lock(&self.rt);
+            *left = left.wrapping_sub(count);
+        }
+        let mut left = self.left.lock(&self.rt);
+        *left = left.wrapping_add(count);
     }
 }

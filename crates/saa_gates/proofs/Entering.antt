@@ -1,28 +1,20 @@
 -- The gate: what those who enter are answered, what its calls do, and what happens when a waiter leaves.
-use Rattle.std.proofs.Common.{◌≡◌, ℕ, Bool, true, false, ◌&&◌, Result, List, [], length, Option, Some, None, Ok, Err, refl, sym, ap, ◌∙◌, inl, inr}
+use Rattle.std.proofs.Common.{◌≡◌, ℕ, Bool, true, List, length, Some, None, Ok, refl, ap, ◌∙◌}
 use Rattle.saa_object.specs.declared.request.Request.TheVariants.{Enter}
 use Rattle.saa_object.specs.declared.gate.State.{State}
 use Rattle.saa_object.specs.declared.gate.State.TheVariants.{Controlled, Sealed, Open}
-use Rattle.saa_object.specs.declared.gate.GateCall.TheVariants.{Reset}
-use Rattle.saa_object.specs.declared.gate.GateAnswer.TheVariants.{Reset as SaysReset, Answered, Moved}
-use Rattle.saa_object.specs.declared.polling.How.{How}
-use Rattle.saa_object.specs.declared.polling.Error.{Error}
-use Rattle.saa_object.specs.declared.polling.Error.TheVariants.{NotRegistered, WrongMode, NotReady}
-use Rattle.saa_object.proofs.Counts.{bool_cases}
-use Rattle.saa_object.specs.Held.{Held, OfGate}
-use Rattle.saa_object.specs.Object.{Object, Waiter}
+use Rattle.saa_object.specs.declared.gate.GateAnswer.TheVariants.{Answered, Moved}
+use Rattle.saa_object.specs.Held.{OfGate}
+use Rattle.saa_object.specs.Object.{Object}
 use Rattle.saa_object.specs.Asking.{registered, answer_at_once, answer_in}
-use Rattle.saa_object.specs.Values.{gate_value, spurious_value, sealed_value, opened_value}
-use Rattle.saa_object.specs.Gate.{gate_state, gate_step, let_through, moved}
+use Rattle.saa_object.specs.Values.{spurious_value, sealed_value, opened_value}
+use Rattle.saa_object.specs.Gate.{gate_state, let_through, moved}
 use Rattle.saa_line.specs.Slots.{Slots, all_slots_answered, IsSound}
 use Rattle.saa_tickets.specs.declared.ticket.Registration.{Registration}
 use Rattle.saa_tickets.specs.declared.ticket.Registration.TheVariants.{Unregistered, AtOnce}
-use Rattle.saa_tickets.specs.Tickets.{Core, Acts, Calls, Polled, fault_of, is_busy, object_of}
-use Rattle.saa_tickets.proofs.Registering.{idle_ticket}
-use Rattle.saa_gates.specs.GatePolls.{is_answer}
+use Rattle.saa_tickets.specs.Tickets.{Core, Acts, Calls, object_of}
 use Rattle.saa_tickets.proofs.Polls.{after}
 use Rattle.saa_gates.specs.GatheringParts.{answer_by_state}
-use Rattle.saa_gates.specs.Standing.{IsGateOf}
 use Rattle.saa_gates.proofs.Gathering.{Gathers, all-object, all-belong, all_calls, register_answered}
 
 -- those who enter a sealed or an open gate are answered so

@@ -1,6 +1,6 @@
 -- Answering all who wait, registering and dropping of a core at which tasks gather, case by case, seen as steps of the
 -- object. Neither a gate nor a barrier occurs here.
-use Rattle.std.proofs.Common.{◌≡◌, ℕ, zero, suc, ◌-◌, ◌<◌, ◌≤◌, Bool, true, false, ◌==◌, List, [], ◌∷◌, length, take, drop, Option, Some, None, is_some, Ok, Err, slice_get, slice_set, nat_lt, refl, sym, ap, subst, ◌∙◌, arith, inl, inr, cond}
+use Rattle.std.proofs.Common.{◌≡◌, ℕ, ◌<◌, ◌≤◌, Bool, true, false, ◌==◌, List, [], ◌∷◌, length, take, drop, Option, Some, None, is_some, Ok, Err, slice_set, nat_lt, refl, sym, ap, subst, ◌∙◌, arith, cond}
 use Rattle.std.proofs.Math.Seq.{take-length}
 use Rattle.std.proofs.lemmas.Bool.Decides.{nat_tests}
 use Rattle.saa_object.specs.declared.request.Request.{Request}
@@ -10,12 +10,11 @@ use Rattle.saa_object.specs.Settling.{all_answered, answered_in}
 use Rattle.saa_object.specs.Asking.{registered, answer_at_once}
 use Rattle.saa_object.specs.Polling.{left_of, undone_of}
 use Rattle.std.specs.Bool.{OnTrue, OnFalse}
-use Rattle.saa_object.proofs.Counts.{below_true, below_false, length-without, number_same}
-use Rattle.saa_tickets.proofs.Counting.{held-once, no_answer}
+use Rattle.saa_object.proofs.Counts.{length-without, number_same}
 use Rattle.saa_line.specs.Slots.{Slots, answer_in, held_slots, held_times, room_of, slots_answered, all_slots_answered, answered_slots, owed_after, IsSound}
 use Rattle.saa_tickets.specs.declared.ticket.Registration.{Registration}
 use Rattle.saa_tickets.specs.declared.ticket.Registration.TheVariants.{Unregistered, AtOnce, InSlot}
-use Rattle.saa_tickets.specs.Tickets.{Core, Acts, Calls, Belong, object_of, slot_entry, slotted_count, named, entries, dropping}
+use Rattle.saa_tickets.specs.Tickets.{Core, Acts, Calls, Belong, object_of, slot_entry, named, dropping}
 use Rattle.saa_tickets.proofs.Naming.{entry-at, length-named}
 use Rattle.saa_tickets.proofs.Steps.{own-object, own-belong, slots_joined, join-object, join-belong, slots_taken, take-object, take-belong, slots_left, leave-object, leave-belong, used-object, front-object, front-belong}
 use Rattle.saa_tickets.proofs.Polls.{after, acts_unchanged}
@@ -31,7 +30,7 @@ drop-length (w ∷ line) = drop-length line
 
 -- to answer as many as wait is to answer all
 all_answered-front : (v : ℕ) (slots : Slots) → slots_answered v (length slots.line) slots ≡ all_slots_answered v slots
-all_answered-front v slots = 
+all_answered-front v slots =
     ap (λ (l : List Waiter). record { line = drop (length slots.line) slots.line; answers = answered_slots v l slots.answers; owed = owed_after l slots.owed }) (take-length slots.line)
     ∙ ap (λ (l : List Waiter). record { line = l; answers = answered_slots v slots.line slots.answers; owed = owed_after slots.line slots.owed }) (drop-length slots.line)
 
@@ -183,28 +182,3 @@ pub length-left : (waited : Bool) (old new : Slots) (slot : ℕ) → OnTrue wait
     → length new.line ≤ length old.line
 length-left true old new slot left same = omega (arith, ap (λ (s : Slots). length s.line) left, length-without slot old.line)
 length-left false old new slot left same = omega (arith, ap (λ (s : Slots). length s.line) same)
-
--- a slot that waits has no answer, and leaves the line
-vacated_by-waits : (close : Slots → Slots) (slots : Slots) (slot : ℕ) (a : Option ℕ) (waits : Bool) → a ≡ None → waits ≡ true
-    → vacated_by close slots slot a waits ≡ close (slots_left slots slot)
-vacated_by-waits close slots slot None true none some = refl
-vacated_by-waits close slots slot None false none some = cc
-vacated_by-waits close slots slot (Some v) waits none some = cc
-
-pub vacated-waits : (close : Slots → Slots) (slots : Slots) (slot : ℕ) → IsSound slots → 0 < times slot slots.line
-    → vacated close slots slot ≡ close (slots_left slots slot)
-vacated-waits close slots slot sound waits =
-    let none : answer_in slots.answers slot ≡ None = no_answer (answer_in slots.answers slot) (omega (arith, held-once slots sound slot)) in
-    vacated_by-waits close slots slot (answer_in slots.answers slot) (nat_lt 0 (times slot slots.line)) none (below_true 0 (times slot slots.line) waits)
-
--- one that doesn't changes nothing for those who wait, and wakes nobody
-vacated_by-else : (close : Slots → Slots) (slots : Slots) (slot : ℕ) (a : Option ℕ) (waits : Bool) → waits ≡ false
-    → ((vacated_by close slots slot a waits).line ≡ slots.line) × ((vacated_by close slots slot a waits).owed ≡ slots.owed)
-vacated_by-else close slots slot None true none = cc
-vacated_by-else close slots slot None false none = (refl, refl)
-vacated_by-else close slots slot (Some v) waits none = (refl, refl)
-
-pub vacated-else : (close : Slots → Slots) (slots : Slots) (slot : ℕ) → (0 < times slot slots.line → ⊥)
-    → ((vacated close slots slot).line ≡ slots.line) × ((vacated close slots slot).owed ≡ slots.owed)
-vacated-else close slots slot none =
-    vacated_by-else close slots slot (answer_in slots.answers slot) (nat_lt 0 (times slot slots.line)) (below_false 0 (times slot slots.line) (omega arith))

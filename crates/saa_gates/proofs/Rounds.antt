@@ -1,9 +1,9 @@
 -- The barrier: what an arrival is answered, and what happens when a waiter leaves.
-use Rattle.std.proofs.Common.{◌≡◌, ◌≢◌, ℕ, ◌+◌, ◌-◌, ◌<◌, ◌==◌, Bool, true, false, List, length, Option, Some, None, Ok, slice_set, nat_lt, refl, sym, ap, ◌∙◌, arith, cond}
+use Rattle.std.proofs.Common.{◌≡◌, ◌≢◌, ℕ, ◌+◌, ◌-◌, ◌==◌, Bool, true, false, List, length, Some, None, Ok, refl, sym, ap, ◌∙◌, cond}
 use Rattle.saa_object.specs.declared.request.Request.TheVariants.{Arrive}
 use Rattle.saa_object.specs.Held.{OfBarrier}
-use Rattle.saa_object.specs.Object.{Object, After}
-use Rattle.saa_object.specs.Asking.{registered, answer_at_once, barrier_answers}
+use Rattle.saa_object.specs.Object.{Object}
+use Rattle.saa_object.specs.Asking.{registered, answer_at_once}
 use Rattle.saa_object.specs.Settling.{all_answered}
 use Rattle.saa_object.specs.Values.{leader_value, passed_value}
 use Rattle.saa_object.specs.declared.barrier.BarrierCall.{BarrierCall}
@@ -14,7 +14,7 @@ use Rattle.saa_object.proofs.Counts.{number_same, number_other}
 use Rattle.saa_line.specs.Slots.{Slots, all_slots_answered, IsSound}
 use Rattle.saa_tickets.specs.declared.ticket.Registration.{Registration}
 use Rattle.saa_tickets.specs.declared.ticket.Registration.TheVariants.{Unregistered, AtOnce}
-use Rattle.saa_tickets.specs.Tickets.{Core, Acts, Calls, Belong, object_of, named}
+use Rattle.saa_tickets.specs.Tickets.{Core, Acts, Calls, object_of, named}
 use Rattle.saa_tickets.proofs.Naming.{length-named}
 use Rattle.saa_tickets.proofs.Polls.{after}
 use Rattle.saa_gates.proofs.Gathering.{Gathers, all-object, all-belong, register_answered}

@@ -1,5 +1,5 @@
 -- What holds of a gate and of a barrier at every moment.
-use Rattle.std.specs.Prelude.{◌≡◌, ℕ, ◌<◌, ◌⊎◌, List, [], length}
+use Rattle.std.specs.Prelude.{◌≡◌, ◌<◌, ◌⊎◌, List, [], length}
 use Rattle.saa_object.specs.declared.gate.State.TheVariants.{Controlled}
 use Rattle.saa_object.specs.Held.{Held, OfGate}
 use Rattle.saa_object.specs.Object.{Object, Waiter}

@@ -12,15 +12,15 @@ ghost use Rattle.saa_object.specs.Held.{OfBarrier, max_tasks};
 ghost use Rattle.saa_object.specs.Asking.{registered};
 ghost use Rattle.saa_object.specs.Polling.{polled, read_as};
 ghost use Rattle.saa_object.specs.Values.{barrier_value, leader_value, passed_value};
-ghost use Rattle.saa_object.specs.Barrier.{size_of, new_barrier};
-ghost use Rattle.saa_line.specs.Slots.{empty_slots, held_slots, room_of, wake_told, all_slots_answered, IsSound};
-ghost use Rattle.saa_tickets.specs.Tickets.{Acts, Belong, Polled, IsForeign, dropping, fault_of, is_busy, is_yes, object_of};
+ghost use Rattle.saa_object.specs.Barrier.{size_of, barrier_step, new_barrier};
+ghost use Rattle.saa_line.specs.Slots.{empty_slots, held_slots, room_of, wake_told, all_slots_answered};
+ghost use Rattle.saa_tickets.specs.Tickets.{Acts, Calls, Belong, Polled, IsForeign, dropping, fault_of, is_busy, is_yes, object_of};
 ghost use Rattle.saa_gates.specs.Standing.{IsBarrierStanding};
 ghost use Rattle.saa_gates.specs.Waiters.{IsWaiting, left_by};
 ghost use Rattle.saa_gates.specs.GatheringParts.{vacated};
 
-pub use saa_object::barrier::{BarrierAnswer, BarrierCall};
 use saa_line::line::Line;
+pub use saa_object::barrier::{BarrierAnswer, BarrierCall};
 use saa_object::request::Request;
 use saa_tickets::bench::Primitive;
 use saa_tickets::ticket::{Error, Full, How, Registration, Ticket};
@@ -88,7 +88,8 @@ impl BarrierCore {
 
     /// How many arrivals the round still waits for: the size less those who wait, and 0 at a barrier of size 0. Costs O(1).
     pub fn count(&self) -> usize
-        ensures { result ≡ size_of self.now.held - length self.now.slots.line }
+        ensures calls { Calls self.now self.now (barrier_step BarrierCall.Count) (BarrierAnswer.Count result) }
+        ensures answer { result ≡ size_of self.now.held - length self.now.slots.line }
     {
         self.size.saturating_sub(usize::from(self.line.waiting()))
     }
@@ -209,7 +210,6 @@ impl BarrierCore {
     // Frees a slot of this core: its answer is consumed, or it leaves the line; a slot that isn't held is nothing.
     fn vacate(&mut self, slot: u16)
         ensures vacated { self.new ≡ record self.old { slots = vacated (λ s. s) self.old.slots slot } }
-        ensures sound { IsSound self.old.slots }
         ensures nobody { self.new.slots.owed ≡ self.old.slots.owed }
         ensures standing { IsBarrierStanding self.new }
     {

@@ -14,15 +14,15 @@ ghost use Rattle.saa_object.specs.Asking.{registered};
 ghost use Rattle.saa_object.specs.Polling.{polled, read_as};
 ghost use Rattle.saa_object.specs.Values.{gate_value, gate_error, permitted_value, rejected_value, opened_value, sealed_value, spurious_value};
 ghost use Rattle.saa_object.specs.Gate.{gate_state, gate_step, let_through, moved, new_gate};
-ghost use Rattle.saa_line.specs.Slots.{empty_slots, held_slots, room_of, wake_told, all_slots_answered, IsSound};
+ghost use Rattle.saa_line.specs.Slots.{empty_slots, held_slots, room_of, wake_told, all_slots_answered};
 ghost use Rattle.saa_tickets.specs.Tickets.{Acts, Calls, Belong, Polled, IsForeign, dropping, fault_of, is_busy, is_yes, object_of};
 ghost use Rattle.saa_gates.specs.Standing.{IsGateStanding};
 ghost use Rattle.saa_gates.specs.GatePolls.{GatePolled, is_answer};
 ghost use Rattle.saa_gates.specs.Waiters.{IsWaiting, left_by};
 ghost use Rattle.saa_gates.specs.GatheringParts.{vacated, answer_by_state};
 
-pub use saa_object::gate::{Error, GateAnswer, GateCall, State};
 use saa_line::line::Line;
+pub use saa_object::gate::{Error, GateAnswer, GateCall, State};
 use saa_object::polling;
 use saa_object::request::Request;
 use saa_tickets::bench::Primitive;
@@ -32,10 +32,19 @@ use std::fmt;
 use std::marker::Model;
 
 // The answers, as they are kept until they are consumed: the low two bits are a state, the rest is an error or 0.
+// A controlled gate lets the task pass.
 const PERMITTED: u8 = 0;
+
+// An open gate lets it pass.
 const OPENED: u8 = 2;
+
+// A controlled gate rejects it.
 const REJECTED: u8 = 4;
+
+// A sealed gate refuses it.
 const SEALED: u8 = 9;
+
+// Another waiter gave up.
 const SPURIOUS: u8 = 12;
 
 /// The core of a gate.
@@ -83,7 +92,8 @@ impl GateCore {
 
     /// How the gate treats those who enter. Costs O(1).
     pub fn state(&self) -> State
-        ensures { result ≡ gate_state self.now.held }
+        ensures calls { Calls self.now self.now (gate_step GateCall.State) (GateAnswer.State result) }
+        ensures answer { result ≡ gate_state self.now.held }
     {
         self.state
     }
@@ -320,7 +330,6 @@ impl GateCore {
     // gave up; a slot that isn't held is nothing.
     fn vacate(&mut self, slot: u16)
         ensures vacated { self.new ≡ record self.old { slots = vacated (all_slots_answered spurious_value) self.old.slots slot } }
-        ensures sound { IsSound self.old.slots }
         ensures standing { IsGateStanding self.new }
     {
         if self.line.take(slot).is_some() {

@@ -12,8 +12,8 @@ ghost use Rattle.saa_object.specs.Object.{times, without};
 ghost use Rattle.saa_line.specs.Slots.{room_of, answer_in, held_slots, held_times, IsSound, empty_slots, slots_answered, all_slots_answered, wake_told};
 ghost use Rattle.saa_line.specs.LineParts.{with_owed};
 
-use saa_object::request::Request;
 use crate::wakes::Wakes;
+use saa_object::request::Request;
 use std::alloc::{AllocError, Global};
 use std::collections::VecDeque;
 use std::marker::Model;

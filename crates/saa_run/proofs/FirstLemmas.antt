@@ -8,7 +8,7 @@ use Rattle.std.proofs.KnownBytes.{Appends-nil, Appends-kept, Consumes-kept}
 use Rattle.std.specs.Io.KnownBytes.{Appends, Keeps}
 use Rattle.saa_object.specs.Object.{Object, After}
 use Rattle.saa_run.specs.declared.command.FirstLine.{FirstLine}
-use Rattle.saa_run.specs.declared.command.FirstLine.TheVariants.{Semaphore}
+use Rattle.saa_run.specs.declared.command.FirstLine.TheVariants.{Semaphore, Lock, Gate, Barrier}
 use Rattle.saa_run.specs.declared.ended.Ended.{Ended}
 use Rattle.saa_run.specs.declared.ended.Ended.TheVariants.{Done, BadLine, ReadFailed, WriteFailed, Endless}
 use Rattle.saa_run.specs.Language.{first_line_of}
@@ -58,6 +58,9 @@ empty-bad Endless read old new held holds consumes empty end told = absurd told
 behind-none : (first : FirstLine) → answer_behind (Some first) [] ≡ no_lines
 unfolding answer_from good_front
 behind-none (Semaphore permits room) = refl
+behind-none (Lock room) = refl
+behind-none (Gate room) = refl
+behind-none (Barrier size room) = refl
 
 -- what a good first line leaves to answer
 first-good : (line : List ℕ) (first : FirstLine) → first_line_of line ≡ Some first → (others : List (List ℕ)) → answer_in (line ∷ others) ≡ with_front [] (answer_behind (Some first) others)

@@ -8,12 +8,12 @@ use Rattle.std.proofs.lemmas.Slice.Eq.{bytes_eq-Decides}
 use Rattle.std.proofs.lemmas.Bool.Decides.{nat_tests}
 use Rattle.saa_object.specs.declared.run.CommandOf.TheVariants.{Call, Register, TryPoll, PollSync, PollAsync, Drop}
 use Rattle.saa_run.specs.declared.command.FirstLine.{FirstLine}
-use Rattle.saa_run.specs.declared.command.FirstLine.TheVariants.{Semaphore}
+use Rattle.saa_run.specs.declared.command.FirstLine.TheVariants.{Semaphore, Lock, Gate, Barrier}
 use Rattle.saa_run.specs.declared.command.ScriptLine.{ScriptLine}
 use Rattle.saa_run.specs.declared.command.ScriptLine.TheVariants.{Do, Registered}
 use Rattle.saa_run.specs.Fields.{fields_of, number_of}
-use Rattle.saa_run.specs.Language.{Readings, pager_of, room_of, mode_of, meaning_in, pager_lines, lone_call_in, counted_call_in, ask_in, lone_line, counted_line, pager_line, registration, line_in, line_of, semaphore_made, first_line_in, first_line_of}
-use Rattle.saa_run.specs.Spelling.{Spellings, AreNumbers, spelled, mode_word, line_fields, IsLineInRange, IsSpelled, first_fields, IsFirstInRange, SpellsLine, SpellsFirst}
+use Rattle.saa_run.specs.Language.{Readings, pager_of, room_of, mode_of, meaning_in, pager_lines, lone_call_in, counted_call_in, ask_in, lone_line, counted_line, pager_line, registration, line_in, line_of, roomed_made, counted_made, first_line_in, first_line_of}
+use Rattle.saa_run.specs.Spelling.{IsNumber, IsRoom, Spellings, AreNumbers, spelled, mode_word, line_fields, IsLineInRange, IsSpelled, first_fields, IsFirstInRange, SpellsLine, SpellsFirst}
 use Rattle.saa_run.proofs.FieldLemmas.{number_found, number_said, IsWord, IsWord-literal, IsWord-decimal, fields_of-spelled, spelled-fields_of, length-spelled}
 use Rattle.saa_run.proofs.ReadingLemmas.{pager_found, pager_said, room_found, room_said, mode_found, mode_said, meaning_in-found, option_map-found, option_and_then-found, either_found}
 
@@ -195,41 +195,103 @@ module _ {C K : Type 0} (readings : Readings C K) (spellings : Spellings C K) (f
   pub is_spelled : IsSpelled readings spellings
   is_spelled = λ bytes line. (line_found bytes line, line_said bytes line)
 
--- the same of first lines
-made_found : (word permits room : List ℕ) (first : FirstLine) → semaphore_made word (number_of permits) (room_of room) ≡ Some first
-    → ((word ∷ permits ∷ room ∷ []) ≡ first_fields first) × IsFirstInRange first
-unfolding semaphore_made
-made_found word permits room first found = with_word (bytes_eq word (codes "semaphore")) (bytes_eq-Decides word (codes "semaphore")).0 found
+-- the same of first lines: a word and a room
+made_roomed : (name : List ℕ) (make : ℕ → FirstLine) (word room : List ℕ) (first : FirstLine) → word ≡ name
+    → ((r : ℕ) → first_fields (make r) ≡ name ∷ decimal r ∷ []) → ((r : ℕ) → IsRoom r → IsFirstInRange (make r))
+    → option_map make (room_of room) ≡ Some first
+    → ((word ∷ room ∷ []) ≡ first_fields first) × IsFirstInRange first
+made_roomed name make word room first is fields range e =
+    let r = option_map-found make (room_of room) first e in
+    let room_written = room_found room r.0 r.1 in
+    let is_room : room ≡ decimal r.0 = room_written.0 in
+    let spelled : name ∷ decimal r.0 ∷ [] ≡ first_fields (make r.0) = sym (fields r.0) in
+    let written : (word ∷ room ∷ []) ≡ name ∷ decimal r.0 ∷ [] = cc in
+    subst (λ f. ((word ∷ room ∷ []) ≡ first_fields f) × IsFirstInRange f) r.2 (written ∙ spelled, range r.0 room_written.1)
+
+-- a word, a number and a room
+made_counted : (name : List ℕ) (make : ℕ → ℕ → FirstLine) (word number room : List ℕ) (first : FirstLine) → word ≡ name
+    → ((n r : ℕ) → first_fields (make n r) ≡ name ∷ decimal n ∷ decimal r ∷ []) → ((n r : ℕ) → IsNumber n → IsRoom r → IsFirstInRange (make n r))
+    → option_and_then (λ n. option_map (λ r. make n r) (room_of room)) (number_of number) ≡ Some first
+    → ((word ∷ number ∷ room ∷ []) ≡ first_fields first) × IsFirstInRange first
+made_counted name make word number room first is fields range e =
+    let n = option_and_then-found (λ n. option_map (λ r. make n r) (room_of room)) (number_of number) first e in
+    let r = option_map-found (λ r. make n.0 r) (room_of room) first n.2 in
+    let number_written = number_found number n.0 n.1 in
+    let room_written = room_found room r.0 r.1 in
+    let is_number : number ≡ decimal n.0 = number_written.0 in
+    let is_room : room ≡ decimal r.0 = room_written.0 in
+    let spelled : name ∷ decimal n.0 ∷ decimal r.0 ∷ [] ≡ first_fields (make n.0 r.0) = sym (fields n.0 r.0) in
+    let written : (word ∷ number ∷ room ∷ []) ≡ name ∷ decimal n.0 ∷ decimal r.0 ∷ [] = cc in
+    subst (λ f. ((word ∷ number ∷ room ∷ []) ≡ first_fields f) × IsFirstInRange f) r.2 (written ∙ spelled, range n.0 r.0 number_written.1 room_written.1)
+
+roomed_found : (word room : List ℕ) (first : FirstLine) → roomed_made word (room_of room) ≡ Some first
+    → ((word ∷ room ∷ []) ≡ first_fields first) × IsFirstInRange first
+unfolding roomed_made
+roomed_found word room first found =
+    with_lock (bytes_eq word (codes "lock")) (bytes_eq-Decides word (codes "lock")).0 found
   where
-    with_word : (b : Bool) → (b ≡ true → word ≡ codes "semaphore")
-        → cond b (option_and_then (λ p. option_map (λ r. Semaphore p r) (room_of room)) (number_of permits)) None ≡ Some first
-        → ((word ∷ permits ∷ room ∷ []) ≡ first_fields first) × IsFirstInRange first
-    with_word true same e =
-        let p = option_and_then-found (λ p. option_map (λ r. Semaphore p r) (room_of room)) (number_of permits) first e in
-        let r = option_map-found (λ r. Semaphore p.0 r) (room_of room) first p.2 in
-        let permits_written = number_found permits p.0 p.1 in
-        let room_written = room_found room r.0 r.1 in
-        let is_word : word ≡ codes "semaphore" = same refl in
-        let is_permits : permits ≡ decimal p.0 = permits_written.0 in
-        let is_room : room ≡ decimal r.0 = room_written.0 in
-        let fields : (word ∷ permits ∷ room ∷ []) ≡ first_fields (Semaphore p.0 r.0) = cc in
-        subst (λ f. ((word ∷ permits ∷ room ∷ []) ≡ first_fields f) × IsFirstInRange f) r.2 (fields, (permits_written.1, room_written.1))
-    with_word false same e = cc
+    with_gate : (b : Bool) → (b ≡ true → word ≡ codes "gate")
+        → cond b (option_map (λ r. Gate r) (room_of room)) None ≡ Some first
+        → ((word ∷ room ∷ []) ≡ first_fields first) × IsFirstInRange first
+    with_gate true same e = made_roomed (codes "gate") (λ r. Gate r) word room first (same refl) (λ r. refl) (λ r small. small) e
+    with_gate false same e = cc
+
+    with_lock : (b : Bool) → (b ≡ true → word ≡ codes "lock")
+        → cond b (option_map (λ r. Lock r) (room_of room)) (cond (bytes_eq word (codes "gate")) (option_map (λ r. Gate r) (room_of room)) None) ≡ Some first
+        → ((word ∷ room ∷ []) ≡ first_fields first) × IsFirstInRange first
+    with_lock true same e = made_roomed (codes "lock") (λ r. Lock r) word room first (same refl) (λ r. refl) (λ r small. small) e
+    with_lock false same e = with_gate (bytes_eq word (codes "gate")) (bytes_eq-Decides word (codes "gate")).0 e
+
+counted_found : (word number room : List ℕ) (first : FirstLine) → counted_made word (number_of number) (room_of room) ≡ Some first
+    → ((word ∷ number ∷ room ∷ []) ≡ first_fields first) × IsFirstInRange first
+unfolding counted_made
+counted_found word number room first found =
+    with_semaphore (bytes_eq word (codes "semaphore")) (bytes_eq-Decides word (codes "semaphore")).0 found
+  where
+    with_barrier : (b : Bool) → (b ≡ true → word ≡ codes "barrier")
+        → cond b (option_and_then (λ n. option_map (λ r. Barrier n r) (room_of room)) (number_of number)) None ≡ Some first
+        → ((word ∷ number ∷ room ∷ []) ≡ first_fields first) × IsFirstInRange first
+    with_barrier true same e = made_counted (codes "barrier") (λ n r. Barrier n r) word number room first (same refl) (λ n r. refl) (λ n r small fits. (small, fits)) e
+    with_barrier false same e = cc
+
+    with_semaphore : (b : Bool) → (b ≡ true → word ≡ codes "semaphore")
+        → cond b (option_and_then (λ p. option_map (λ r. Semaphore p r) (room_of room)) (number_of number)) (cond (bytes_eq word (codes "barrier")) (option_and_then (λ n. option_map (λ r. Barrier n r) (room_of room)) (number_of number)) None) ≡ Some first
+        → ((word ∷ number ∷ room ∷ []) ≡ first_fields first) × IsFirstInRange first
+    with_semaphore true same e = made_counted (codes "semaphore") (λ p r. Semaphore p r) word number room first (same refl) (λ p r. refl) (λ p r small fits. (small, fits)) e
+    with_semaphore false same e = with_barrier (bytes_eq word (codes "barrier")) (bytes_eq-Decides word (codes "barrier")).0 e
 
 first_fields_found : (fields : List (List ℕ)) (first : FirstLine) → first_line_in fields ≡ Some first → (fields ≡ first_fields first) × IsFirstInRange first
 first_fields_found [] first found = cc
 first_fields_found (word ∷ []) first found = cc
-first_fields_found (word ∷ room ∷ []) first found = cc
-first_fields_found (word ∷ permits ∷ room ∷ []) first found = made_found word permits room first found
-first_fields_found (word ∷ permits ∷ room ∷ field ∷ fields) first found = cc
+first_fields_found (word ∷ room ∷ []) first found = roomed_found word room first found
+first_fields_found (word ∷ number ∷ room ∷ []) first found = counted_found word number room first found
+first_fields_found (word ∷ number ∷ room ∷ field ∷ fields) first found = cc
 
 first_fields_said : (first : FirstLine) → IsFirstInRange first → first_line_in (first_fields first) ≡ Some first
-unfolding semaphore_made
+unfolding roomed_made counted_made
 first_fields_said (Semaphore permits room) small = rw (number_said permits small.0, room_said room small.1) refl
+first_fields_said (Lock room) small = rw (room_said room small) refl
+first_fields_said (Gate room) small = rw (room_said room small) refl
+first_fields_said (Barrier size room) small = rw (number_said size small.0, room_said room small.1) refl
 
 first_words : (first : FirstLine) → IsFirstInRange first → Words (first_fields first)
 first_words (Semaphore permits room) small = record {
   are = (IsWord-literal (codes "semaphore") refl refl, (IsWord-decimal permits small.0, (IsWord-decimal room (omega (arith, small.1)), tt)));
+  some = omega arith;
+  few = omega arith;
+}
+first_words (Lock room) small = record {
+  are = (IsWord-literal (codes "lock") refl refl, (IsWord-decimal room (omega (arith, small)), tt));
+  some = omega arith;
+  few = omega arith;
+}
+first_words (Gate room) small = record {
+  are = (IsWord-literal (codes "gate") refl refl, (IsWord-decimal room (omega (arith, small)), tt));
+  some = omega arith;
+  few = omega arith;
+}
+first_words (Barrier size room) small = record {
+  are = (IsWord-literal (codes "barrier") refl refl, (IsWord-decimal size small.0, (IsWord-decimal room (omega (arith, small.1)), tt)));
   some = omega arith;
   few = omega arith;
 }

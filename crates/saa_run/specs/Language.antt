@@ -4,7 +4,7 @@ use Rattle.std.specs.Option.{option_map, option_map_or}
 use Rattle.std.specs.Str.{bytes_eq}
 use Rattle.saa_object.specs.declared.run.CommandOf.TheVariants.{Call, Register, TryPoll, PollSync, PollAsync, Drop}
 use Rattle.saa_run.specs.declared.command.FirstLine.{FirstLine}
-use Rattle.saa_run.specs.declared.command.FirstLine.TheVariants.{Semaphore}
+use Rattle.saa_run.specs.declared.command.FirstLine.TheVariants.{Semaphore, Lock, Gate, Barrier}
 use Rattle.saa_run.specs.declared.command.ScriptLine.{ScriptLine}
 use Rattle.saa_run.specs.declared.command.ScriptLine.TheVariants.{Do, Registered}
 use Rattle.saa_run.specs.Fields.{fields_of, number_of}
@@ -99,20 +99,27 @@ line_in readings (word ∷ pager ∷ ask ∷ mode ∷ field ∷ fields) = None
 unfoldable pub line_of : {C K : Type 0} → Readings C K → List ℕ → Option (ScriptLine C K)
 line_of readings line = if nat_lt 80 (length line) then None else line_in readings (fields_of line)
 
--- the first line semaphore P ROOM
-unfoldable pub semaphore_made : List ℕ → Option ℕ → Option ℕ → Option FirstLine
-semaphore_made word permits room =
+-- the first lines lock ROOM and gate ROOM
+unfoldable pub roomed_made : List ℕ → Option ℕ → Option FirstLine
+roomed_made word room =
+    if bytes_eq word (codes "lock")
+    then option_map (λ r. Lock r) room
+    else (if bytes_eq word (codes "gate") then option_map (λ r. Gate r) room else None)
+
+-- the first lines semaphore P ROOM and barrier N ROOM
+unfoldable pub counted_made : List ℕ → Option ℕ → Option ℕ → Option FirstLine
+counted_made word number room =
     if bytes_eq word (codes "semaphore")
-    then option_and_then (λ p. option_map (λ r. Semaphore p r) room) permits
-    else None
+    then option_and_then (λ p. option_map (λ r. Semaphore p r) room) number
+    else (if bytes_eq word (codes "barrier") then option_and_then (λ n. option_map (λ r. Barrier n r) room) number else None)
 
 -- the first line that these fields make
 abbrev pub first_line_in : List (List ℕ) → Option FirstLine
 first_line_in [] = None
 first_line_in (word ∷ []) = None
-first_line_in (word ∷ room ∷ []) = None
-first_line_in (word ∷ permits ∷ room ∷ []) = semaphore_made word (number_of permits) (room_of room)
-first_line_in (word ∷ permits ∷ room ∷ field ∷ fields) = None
+first_line_in (word ∷ room ∷ []) = roomed_made word (room_of room)
+first_line_in (word ∷ number ∷ room ∷ []) = counted_made word (number_of number) (room_of room)
+first_line_in (word ∷ number ∷ room ∷ field ∷ fields) = None
 
 -- the first line that these bytes make; a line has at most 80 bytes
 unfoldable pub first_line_of : List ℕ → Option FirstLine

@@ -111,7 +111,7 @@ Tells status wanted told held holds =
     ((status ≡ wanted) × Appends held holds told)
     ⊎ ((status ≡ 4) × ((part : List ℕ) × IsBeginning part told × Appends held holds part))
 
--- how a run that ended is finished: the status, and what is kept as it was written
+-- how a run that ended is finished: the status
 abbrev pub Ends : Ended → ℕ → Type 0
 Ends Done status = (status ≡ 0) ⊎ (status ≡ 4)
 Ends BadLine status = (status ≡ 2) ⊎ (status ≡ 4)

@@ -3,7 +3,7 @@ use Rattle.std.specs.Prelude.{◌≡◌, ◌<◌, ℕ, Bool, true, false, ◌↔
 use Rattle.std.specs.List.{AllByRecursion, join_with_byte}
 use Rattle.saa_object.specs.declared.run.CommandOf.TheVariants.{Call, Register, TryPoll, PollSync, PollAsync, Drop}
 use Rattle.saa_run.specs.declared.command.FirstLine.{FirstLine}
-use Rattle.saa_run.specs.declared.command.FirstLine.TheVariants.{Semaphore}
+use Rattle.saa_run.specs.declared.command.FirstLine.TheVariants.{Semaphore, Lock, Gate, Barrier}
 use Rattle.saa_run.specs.declared.command.ScriptLine.{ScriptLine}
 use Rattle.saa_run.specs.declared.command.ScriptLine.TheVariants.{Do, Registered}
 use Rattle.saa_run.specs.Language.{Readings, line_of}
@@ -63,10 +63,16 @@ IsLineInRange spellings (Registered p) = IsPager p
 -- the fields of a first line
 abbrev pub first_fields : FirstLine → List (List ℕ)
 first_fields (Semaphore permits room) = codes "semaphore" ∷ decimal permits ∷ decimal room ∷ []
+first_fields (Lock room) = codes "lock" ∷ decimal room ∷ []
+first_fields (Gate room) = codes "gate" ∷ decimal room ∷ []
+first_fields (Barrier size room) = codes "barrier" ∷ decimal size ∷ decimal room ∷ []
 
 -- the numbers of a first line are in range
 abbrev pub IsFirstInRange : FirstLine → Type 0
 IsFirstInRange (Semaphore permits room) = IsNumber permits × IsRoom room
+IsFirstInRange (Lock room) = IsRoom room
+IsFirstInRange (Gate room) = IsRoom room
+IsFirstInRange (Barrier size room) = IsNumber size × IsRoom room
 
 -- the bytes are the spelling of a line behind the first line
 abbrev pub SpellsLine : {C K : Type 0} → Spellings C K → List ℕ → ScriptLine C K → Type 0

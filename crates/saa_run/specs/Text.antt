@@ -5,13 +5,19 @@ use Rattle.std.specs.List.{onto_first}
 use Rattle.saa_object.specs.Object.{Object, After}
 use Rattle.saa_object.specs.Held.{max_permits}
 use Rattle.saa_object.specs.Semaphore.{new_semaphore}
+use Rattle.saa_object.specs.Lock.{new_lock}
+use Rattle.saa_object.specs.Gate.{new_gate}
+use Rattle.saa_object.specs.Barrier.{new_barrier}
 use Rattle.saa_run.specs.declared.command.FirstLine.{FirstLine}
-use Rattle.saa_run.specs.declared.command.FirstLine.TheVariants.{Semaphore}
+use Rattle.saa_run.specs.declared.command.FirstLine.TheVariants.{Semaphore, Lock, Gate, Barrier}
 use Rattle.saa_object.specs.declared.run.CommandOf.{CommandOf}
 use Rattle.saa_run.specs.declared.command.ScriptLine.{ScriptLine}
 use Rattle.saa_run.specs.declared.command.ScriptLine.TheVariants.{Do, Registered}
 use Rattle.saa_run.specs.Language.{first_line_of, line_of}
 use Rattle.saa_run.specs.SemaphoreWords.{semaphore_readings, semaphore_does}
+use Rattle.saa_run.specs.LockWords.{lock_readings, lock_does}
+use Rattle.saa_run.specs.GateWords.{gate_readings, gate_does}
+use Rattle.saa_run.specs.BarrierWords.{barrier_readings, barrier_does}
 
 -- the lines of an input: each ends with a newline, which the last may lack
 abbrev pub lines_of : List ℕ → List (List ℕ)
@@ -79,6 +85,10 @@ abbrev pub answer_behind : Option FirstLine → List (List ℕ) → Answer
 answer_behind None lines = bad_first
 answer_behind (Some (Semaphore permits room)) lines =
     answer_from (line_of semaphore_readings) semaphore_does 2 (new_semaphore max_permits permits room pagers) lines
+answer_behind (Some (Lock room)) lines = answer_from (line_of lock_readings) lock_does 2 (new_lock room pagers) lines
+answer_behind (Some (Gate room)) lines = answer_from (line_of gate_readings) gate_does 2 (new_gate room pagers) lines
+answer_behind (Some (Barrier size room)) lines =
+    answer_from (line_of barrier_readings) barrier_does 2 (new_barrier size room pagers) lines
 
 -- the answer to the lines of an input; an empty input is a bad line 1
 abbrev pub answer_in : List (List ℕ) → Answer

@@ -4,7 +4,7 @@
 //! `laws` proves. The lines that all primitives share are here; a kind's own words are a `Spoken`'s. What a
 //! command does is left to the primitive's core.
 ghost use Rattle.std.specs.Prelude.{◌≡◌};
-ghost use Rattle.saa_run.specs.Language.{pager_of, room_of, mode_of, lone_line, counted_line, pager_line, registration, line_of, semaphore_made, first_line_of, either};
+ghost use Rattle.saa_run.specs.Language.{pager_of, room_of, mode_of, lone_line, counted_line, pager_line, registration, line_of, roomed_made, counted_made, first_line_of, either};
 ghost use Rattle.saa_run.specs.Fields.{number_of};
 
 use crate::fields::{first_field, number};
@@ -16,6 +16,12 @@ use saa_core::bench::{CommandOf, Primitive};
 pub enum FirstLine {
     /// `semaphore P ROOM`: a semaphore that has at most P permits available.
     Semaphore { permits: usize, room: u16 },
+    /// `lock ROOM`: a free lock.
+    Lock { room: u16 },
+    /// `gate ROOM`: a controlled gate.
+    Gate { room: u16 },
+    /// `barrier N ROOM`: a barrier for at most N tasks, and at most 63.
+    Barrier { size: usize, room: u16 },
 }
 
 /// A line behind the first, over the calls `C` of a primitive and what its registrations ask, `K`.
@@ -172,15 +178,36 @@ pub fn parse_line<P: Spoken>(line: &[u8]) -> Option<LineOf<P>>
     }
 }
 
-/// The first line `semaphore P ROOM`.
-#[tactic(auto, unfolding(crate::specs::Language::semaphore_made))]
-fn semaphore_words(word: &[u8], permits: &[u8], room_field: &[u8]) -> Option<FirstLine>
-    ensures { result ≡ semaphore_made word.now (number_of permits.now) (room_of room_field.now) }
+/// A first line that is a word and a room: `lock ROOM` or `gate ROOM`.
+#[tactic(auto, unfolding(crate::specs::Language::roomed_made))]
+fn roomed_words(word: &[u8], room_field: &[u8]) -> Option<FirstLine>
+    ensures { result ≡ roomed_made word.now (room_of room_field.now) }
+{
+    if word == b"lock".as_slice() {
+        let room = room(room_field)?;
+        return Some(FirstLine::Lock { room });
+    }
+    if word == b"gate".as_slice() {
+        let room = room(room_field)?;
+        return Some(FirstLine::Gate { room });
+    }
+    None
+}
+
+/// A first line that is a word, a number and a room: `semaphore P ROOM` or `barrier N ROOM`.
+#[tactic(auto, unfolding(crate::specs::Language::counted_made))]
+fn counted_first_words(word: &[u8], field: &[u8], room_field: &[u8]) -> Option<FirstLine>
+    ensures { result ≡ counted_made word.now (number_of field.now) (room_of room_field.now) }
 {
     if word == b"semaphore".as_slice() {
-        let permits = count(permits)?;
+        let permits = count(field)?;
         let room = room(room_field)?;
         return Some(FirstLine::Semaphore { permits, room });
+    }
+    if word == b"barrier".as_slice() {
+        let size = count(field)?;
+        let room = room(room_field)?;
+        return Some(FirstLine::Barrier { size, room });
     }
     None
 }
@@ -199,11 +226,11 @@ pub fn parse_first(line: &[u8]) -> Option<FirstLine>
     };
     let (second, rest) = first_field(rest);
     let Some(rest) = rest else {
-        return None;
+        return roomed_words(word, second);
     };
     let (third, rest) = first_field(rest);
     match rest {
         Some(_) => None,
-        None => semaphore_words(word, second, third),
+        None => counted_first_words(word, second, third),
     }
 }

@@ -5,11 +5,42 @@ ghost use Rattle.saa_run.specs.GateWords.{gate_answer, gate_poll, gate_readings}
 ghost use Rattle.saa_run.specs.Said.{said_words};
 
 use crate::reply::Said;
-use saa_core::gate::{Error, GateAnswer, GateCall, State};
+use crate::spoken::{Spoken, nothing_asked};
+use saa_gates::gate::{Error, GateAnswer, GateCall, GateCore, State};
+
+impl Spoken for GateCore {
+    ghost readings = { gate_readings };
+
+    ghost answer_words = { gate_answer };
+
+    ghost poll_words = { gate_poll };
+
+    fn lone_call(word: &[u8]) -> Option<GateCall> {
+        lone_call(word)
+    }
+
+    #[tactic(auto, unfolding(crate::specs::Language::counted_call_in))]
+    fn counted_call(_word: &[u8], _count: usize) -> Option<GateCall> {
+        None
+    }
+
+    #[tactic(auto, unfolding(crate::specs::Language::ask_in))]
+    fn ask(field: Option<&[u8]>) -> Option<()> {
+        nothing_asked(field)
+    }
+
+    fn said_answer(answer: GateAnswer) -> Said {
+        said_answer(answer)
+    }
+
+    fn said_poll(answer: Result<State, Error>) -> Said {
+        said_poll(answer)
+    }
+}
 
 /// A call that is one word.
 #[tactic(auto, unfolding(crate::specs::Language::lone_call_in))]
-pub fn lone_call(word: &[u8]) -> Option<GateCall>
+fn lone_call(word: &[u8]) -> Option<GateCall>
     ensures { result ≡ lone_call_in gate_readings word.now }
 {
     if word == b"state".as_slice() {
@@ -34,7 +65,7 @@ pub fn lone_call(word: &[u8]) -> Option<GateCall>
 }
 
 /// What a call's answer says.
-pub fn said_answer(answer: GateAnswer) -> Said
+fn said_answer(answer: GateAnswer) -> Said
     ensures { said_words result ≡ gate_answer answer }
 {
     match answer {
@@ -48,7 +79,7 @@ pub fn said_answer(answer: GateAnswer) -> Said
 }
 
 /// What a poll's answer says.
-pub fn said_poll(answer: Result<State, Error>) -> Said
+fn said_poll(answer: Result<State, Error>) -> Said
     ensures { said_words result ≡ gate_poll answer }
 {
     match answer {

@@ -3,14 +3,46 @@ ghost use Rattle.std.specs.Prelude.{◌≡◌};
 ghost use Rattle.std.specs.Option.{option_map};
 ghost use Rattle.saa_run.specs.Language.{ask_in, lone_call_in};
 ghost use Rattle.saa_run.specs.LockWords.{lock_answer, lock_readings};
+ghost use Rattle.saa_run.specs.Replies.{truth_poll};
 ghost use Rattle.saa_run.specs.Said.{said_words};
 
 use crate::reply::Said;
-use saa_core::lock::{LockAnswer, LockCall, Mode, TryLockError};
+use crate::spoken::{Spoken, said_truth};
+use saa_core::lock::{LockAnswer, LockCall, LockCore, Mode, TryLockError};
+use saa_core::ticket::Error;
+
+impl Spoken for LockCore {
+    ghost readings = { lock_readings };
+
+    ghost answer_words = { lock_answer };
+
+    ghost poll_words = { truth_poll };
+
+    fn lone_call(word: &[u8]) -> Option<LockCall> {
+        lone_call(word)
+    }
+
+    #[tactic(auto, unfolding(crate::specs::Language::counted_call_in))]
+    fn counted_call(_word: &[u8], _count: usize) -> Option<LockCall> {
+        None
+    }
+
+    fn ask(field: Option<&[u8]>) -> Option<Mode> {
+        ask(field)
+    }
+
+    fn said_answer(answer: LockAnswer) -> Said {
+        said_answer(answer)
+    }
+
+    fn said_poll(answer: Result<bool, Error>) -> Said {
+        said_truth(answer)
+    }
+}
 
 /// A call that is one word.
 #[tactic(auto, unfolding(crate::specs::Language::lone_call_in))]
-pub fn lone_call(word: &[u8]) -> Option<LockCall>
+fn lone_call(word: &[u8]) -> Option<LockCall>
     ensures { result ≡ lone_call_in lock_readings word.now }
 {
     if word == b"try_lock".as_slice() {
@@ -48,7 +80,7 @@ pub fn lone_call(word: &[u8]) -> Option<LockCall>
 
 /// What a registration asks: one of the modes.
 #[tactic(auto, unfolding(crate::specs::Language::ask_in))]
-pub fn ask(field: Option<&[u8]>) -> Option<Mode>
+fn ask(field: Option<&[u8]>) -> Option<Mode>
     ensures { result ≡ ask_in lock_readings (option_map (λ bytes. bytes.now) field.entry) }
 {
     let field = field?;
@@ -68,7 +100,7 @@ pub fn ask(field: Option<&[u8]>) -> Option<Mode>
 }
 
 /// What a call's answer says.
-pub fn said_answer(answer: LockAnswer) -> Said
+fn said_answer(answer: LockAnswer) -> Said
     ensures { said_words result ≡ lock_answer answer }
 {
     match answer {

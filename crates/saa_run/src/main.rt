@@ -3,9 +3,8 @@
 //! The top floor. `transfer` moves bytes, `fields` and `command` read lines, `reply` writes answers,
 //! `steps` answers the lines behind the first one by one, and `run` is the whole, over any reader and
 //! writer. All that is one engine for every kind of primitive; what a kind says is a `spoken::Spoken`, in
-//! `semaphore_words` and its like, and `bench_script` speaks it to a bench. Only the semaphore is reached by a
-//! first line; the words of a lock, a gate and a barrier stand ready beside it. What a command does stands in
-//! `saa_core`. `docs/LANGUAGES.md` has the language.
+//! `semaphore_words` and its like, and `bench_script` speaks it to a bench. What a command does stands in the cores.
+//! `docs/LANGUAGES.md` has the language.
 #![tactic(auto)]
 
 mod arguments;
@@ -15,6 +14,8 @@ mod command;
 mod ended;
 mod fields;
 mod gate_words;
+#[cfg(test)]
+mod kind_rows;
 mod laws;
 mod lock_words;
 mod reply;

@@ -8,10 +8,16 @@ ghost use Rattle.saa_run.specs.Outcome.{Opens, OpensWith, Starts, Scripts, Tells
 ghost use Rattle.saa_tickets.specs.declared.ticket.Registration.TheVariants.{Unregistered};
 ghost use Rattle.saa_object.specs.Held.{max_permits};
 ghost use Rattle.saa_object.specs.Semaphore.{new_semaphore};
+ghost use Rattle.saa_object.specs.Lock.{new_lock};
+ghost use Rattle.saa_object.specs.Gate.{new_gate};
+ghost use Rattle.saa_object.specs.Barrier.{new_barrier};
 ghost use Rattle.saa_tickets.specs.Tickets.{object_of};
 ghost use Rattle.saa_run.specs.Language.{line_of};
 ghost use Rattle.saa_run.specs.Replies.{line_does, reply_words};
 ghost use Rattle.saa_run.specs.SemaphoreWords.{semaphore_does, semaphore_readings};
+ghost use Rattle.saa_run.specs.LockWords.{lock_does, lock_readings};
+ghost use Rattle.saa_run.specs.GateWords.{gate_does, gate_readings};
+ghost use Rattle.saa_run.specs.BarrierWords.{barrier_does, barrier_readings};
 ghost use Rattle.saa_run.specs.Text.{answer_from, pagers};
 ghost use Rattle.saa_run.specs.Wants.{wanted_of};
 
@@ -22,7 +28,10 @@ use crate::spoken::Spoken;
 use crate::steps::{end_at, run_lines};
 use crate::transfer::{Cut, LineBytes, put, read_line};
 pub use crate::wants::Wanted;
+use saa_core::lock::LockCore;
 use saa_core::semaphore::SemaphoreCore;
+use saa_gates::barrier::BarrierCore;
+use saa_gates::gate::GateCore;
 use std::alloc::{AllocError, Global};
 use std::io::{Read, Write};
 
@@ -97,6 +106,9 @@ fn open<R: Read, W: Write>(
         FirstLine::Semaphore { permits, room } => {
             open_semaphore(alloc, permits, room, reader, writer)
         }
+        FirstLine::Lock { room } => open_lock(alloc, room, reader, writer),
+        FirstLine::Gate { room } => open_gate(alloc, room, reader, writer),
+        FirstLine::Barrier { size, room } => open_barrier(alloc, size, room, reader, writer),
     }
 }
 
@@ -112,6 +124,55 @@ fn open_semaphore<R: Read, W: Write>(
         (R.remaining reader.old) (R.remaining reader.new) (W.contents writer.old) (W.contents writer.new) }
 {
     match SemaphoreCore::with_permits(alloc, permits, room) {
+        Ok(core) => run_core(alloc, core, reader, writer),
+        Err(refused) => Err(refused),
+    }
+}
+
+/// Makes a lock, and answers the lines behind the first.
+fn open_lock<R: Read, W: Write>(
+    alloc: Global,
+    room: u16,
+    reader: &mut R,
+    writer: &mut W,
+) -> Result<Ended, AllocError>
+    ensures { OpensWith result (answer_from (line_of lock_readings) lock_does 2 (new_lock room pagers))
+        (R.remaining reader.old) (R.remaining reader.new) (W.contents writer.old) (W.contents writer.new) }
+{
+    match LockCore::new(alloc, room) {
+        Ok(core) => run_core(alloc, core, reader, writer),
+        Err(refused) => Err(refused),
+    }
+}
+
+/// Makes a gate, and answers the lines behind the first.
+fn open_gate<R: Read, W: Write>(
+    alloc: Global,
+    room: u16,
+    reader: &mut R,
+    writer: &mut W,
+) -> Result<Ended, AllocError>
+    ensures { OpensWith result (answer_from (line_of gate_readings) gate_does 2 (new_gate room pagers))
+        (R.remaining reader.old) (R.remaining reader.new) (W.contents writer.old) (W.contents writer.new) }
+{
+    match GateCore::new(alloc, room) {
+        Ok(core) => run_core(alloc, core, reader, writer),
+        Err(refused) => Err(refused),
+    }
+}
+
+/// Makes a barrier, and answers the lines behind the first.
+fn open_barrier<R: Read, W: Write>(
+    alloc: Global,
+    size: usize,
+    room: u16,
+    reader: &mut R,
+    writer: &mut W,
+) -> Result<Ended, AllocError>
+    ensures { OpensWith result (answer_from (line_of barrier_readings) barrier_does 2 (new_barrier size room pagers))
+        (R.remaining reader.old) (R.remaining reader.new) (W.contents writer.old) (W.contents writer.new) }
+{
+    match BarrierCore::with_count(alloc, size, room) {
         Ok(core) => run_core(alloc, core, reader, writer),
         Err(refused) => Err(refused),
     }

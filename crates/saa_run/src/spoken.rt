@@ -3,14 +3,15 @@
 //!
 //! Held to the definitions of its kind, as `specs/SemaphoreWords.antt`. The lines that all kinds share are read in
 //! `command`, and spoken to a bench in `bench_script`.
-ghost use Rattle.std.specs.Prelude.{◌≡◌, ℕ, List};
-ghost use Rattle.std.specs.Option.{option_map};
+ghost use Rattle.std.specs.Prelude.{◌≡◌, ◌∷◌, [], ℕ, List};
+ghost use Rattle.std.specs.Option.{option_map, option_map_or};
 ghost use Rattle.saa_run.specs.Language.{Readings, ask_in, counted_call_in, lone_call_in};
-ghost use Rattle.saa_run.specs.Replies.{reply_words};
+ghost use Rattle.saa_run.specs.Replies.{reply_words, no_ask, truth_poll};
 ghost use Rattle.saa_run.specs.Said.{said_words};
 
 use crate::reply::Said;
 use saa_core::bench::{Primitive, Reply, ReplyOf};
+use saa_core::ticket::Error;
 
 /// A primitive that scripts speak to.
 pub trait Spoken: Primitive {
@@ -52,5 +53,25 @@ pub fn said<P: Spoken>(reply: Reply<P>) -> Said
         ReplyOf::Registered(Err(_)) => Said::Full,
         ReplyOf::Polled(answer) => P::said_poll(answer),
         ReplyOf::Dropped => Said::Dropped,
+    }
+}
+
+/// Of a kind whose registrations ask nothing: only no field is good.
+pub fn nothing_asked(field: Option<&[u8]>) -> Option<()>
+    ensures { result ≡ no_ask (option_map_or (λ bytes. bytes.now ∷ []) field.entry []) }
+{
+    match field {
+        None => Some(()),
+        Some(_) => None,
+    }
+}
+
+/// What a poll's answer says where it is a truth.
+pub fn said_truth(answer: Result<bool, Error>) -> Said
+    ensures { said_words result ≡ truth_poll answer }
+{
+    match answer {
+        Ok(truth) => Said::Truth(truth),
+        Err(error) => Said::Refused(error),
     }
 }

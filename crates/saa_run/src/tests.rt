@@ -1,31 +1,28 @@
 //! What no contract says: that memory and transfers succeed where they can, and the exact bytes of the
 //! worked rows, which were written down by hand.
 
+use crate::asked;
+use crate::kind_rows::KIND_ROWS;
 use crate::reply::{Said, put_bad_line, put_reply};
 use crate::run::{Wanted, no_memory, script, usage, wanted};
 use crate::spoken::said;
 use crate::transfer::{Cut, LineBytes, put, read_line};
-use crate::{asked, barrier_words, gate_words, lock_words};
-use saa_core::barrier::{BarrierAnswer, BarrierCall};
 use saa_core::bench::ReplyOf;
-use saa_core::gate::{self, GateAnswer, GateCall, State};
-use saa_core::lock::{LockAnswer, LockCall, Mode, TryLockError};
 use saa_core::semaphore::{SemaphoreAnswer, SemaphoreCore};
-use saa_core::ticket::Error;
 use std::alloc::Global;
 use std::env::{Env, FillError};
 use std::io::{self, Read, Write};
 use std::test::Fail;
 
 /// A script, what is written of it, and the status.
-struct Row {
-    input: &'static str,
-    output: &'static str,
-    status: u8,
+pub(crate) struct Row {
+    pub(crate) input: &'static str,
+    pub(crate) output: &'static str,
+    pub(crate) status: u8,
 }
 
 /// The worked rows, the examples, and bad lines of each kind.
-const ROWS: [Row; 41] = [
+const ROWS: [Row; 38] = [
     // A release serves the oldest waiters that fit, one after another.
     Row {
         input: "semaphore 63 4\ntry 60\nreg 1 5 sync\nreg 2 1 sync\ntry 1\nrelease 1\navailable\nrelease 1\navailable\npoll_sync 1\npoll_sync 2\nrelease 5\npoll_sync 2\navailable\n",
@@ -137,24 +134,6 @@ const ROWS: [Row; 41] = [
     // A room of 65536.
     Row {
         input: "semaphore 63 65536\n",
-        output: "bad line 1\n",
-        status: 2,
-    },
-    // First lines that are not known yet.
-    Row {
-        input: "lock 4\ntry_lock\n",
-        output: "bad line 1\n",
-        status: 2,
-    },
-    // Another.
-    Row {
-        input: "gate 4\n",
-        output: "bad line 1\n",
-        status: 2,
-    },
-    // Another.
-    Row {
-        input: "barrier 3 4\n",
         output: "bad line 1\n",
         status: 2,
     },
@@ -284,7 +263,7 @@ fn run_over_memory(alloc: Global, input: &str) -> (Vec<u8>, u8) {
 
 #[test]
 fn rows_and_bad_lines(rt: HostRuntime) {
-    for row in &ROWS {
+    for row in ROWS.iter().chain(&KIND_ROWS) {
         let (output, status) = run_over_memory(rt.alloc(), row.input);
         assert_eq!(rt;
             output.as_slice(),
@@ -453,6 +432,12 @@ fn all_is_flushed(rt: HostRuntime) {
     };
     assert_eq!(rt; script(rt.alloc(), &mut reader, &mut writer), 4);
     assert_eq!(rt; writer.out.as_slice(), OUTPUT.as_bytes());
+    let mut writer = HoldingWriter {
+        held: Vec::new(rt.alloc()),
+        out: Vec::new(rt.alloc()),
+    };
+    assert_eq!(rt; no_memory(&mut writer), 3);
+    assert_eq!(rt; writer.out.as_slice(), b"no memory\n".as_slice());
 }
 
 /// A writer that counts the pieces that it is handed, and those that are one line.
@@ -645,85 +630,6 @@ fn transfers(rt: HostRuntime) {
     assert!(rt; put(&mut writer, b"one").is_ok());
     assert!(rt; put(&mut writer, b"two").is_ok());
     assert_eq!(rt; writer.as_slice(), b"onetwo".as_slice());
-}
-
-/// The words of a lock, a gate and a barrier, which no script says yet.
-#[test]
-fn words_of_other_kinds(rt: HostRuntime) {
-    for (word, call) in [
-        ("try_lock", LockCall::TryLock),
-        ("try_share", LockCall::TryShare),
-        ("release_lock", LockCall::ReleaseLock),
-        ("release_share", LockCall::ReleaseShare),
-        ("poison_lock", LockCall::PoisonLock),
-        ("clear_poison", LockCall::ClearPoison),
-        ("is_free", LockCall::IsFree),
-        ("is_locked", LockCall::IsLocked),
-        ("is_shared", LockCall::IsShared),
-        ("is_poisoned", LockCall::IsPoisoned),
-    ] {
-        assert_eq!(rt; lock_words::lone_call(word.as_bytes()), Some(call));
-    }
-    assert_eq!(rt; lock_words::lone_call(b"available"), None);
-    for (word, mode) in [
-        ("exclusive", Mode::Exclusive),
-        ("shared", Mode::Shared),
-        ("wait_exclusive", Mode::WaitExclusive),
-        ("wait_shared", Mode::WaitShared),
-    ] {
-        assert_eq!(rt; lock_words::ask(Some(word.as_bytes())), Some(mode));
-    }
-    assert_eq!(rt; lock_words::ask(None), None);
-    for (word, call) in [
-        ("state", GateCall::State),
-        ("reset", GateCall::Reset),
-        ("permit", GateCall::Permit),
-        ("reject", GateCall::Reject),
-        ("open", GateCall::Open),
-        ("seal", GateCall::Seal),
-    ] {
-        assert_eq!(rt; gate_words::lone_call(word.as_bytes()), Some(call));
-    }
-    assert_eq!(rt;
-        barrier_words::lone_call(b"count"),
-        Some(BarrierCall::Count)
-    );
-    assert_eq!(rt; barrier_words::ask(None), Some(()));
-    assert_eq!(rt; barrier_words::ask(Some(b"1")), None);
-}
-
-/// The replies of a lock, a gate and a barrier, each a piece of its own.
-#[test]
-fn replies_of_other_kinds(rt: HostRuntime) {
-    let mut writer = Vec::new(rt.alloc());
-    for said in [
-        lock_words::said_answer(LockAnswer::Bool(true)),
-        lock_words::said_answer(LockAnswer::Tried(Ok(()))),
-        lock_words::said_answer(LockAnswer::Tried(Err(TryLockError::WouldBlock))),
-        lock_words::said_answer(LockAnswer::Tried(Err(TryLockError::Poisoned))),
-        gate_words::said_answer(GateAnswer::State(State::Controlled)),
-        gate_words::said_answer(GateAnswer::Reset(None)),
-        gate_words::said_answer(GateAnswer::Reset(Some(State::Sealed))),
-        gate_words::said_answer(GateAnswer::Answered(Ok(12))),
-        gate_words::said_answer(GateAnswer::Answered(Err(State::Open))),
-        gate_words::said_answer(GateAnswer::Moved(State::Controlled, 3)),
-        gate_words::said_poll(Ok(State::Open)),
-        gate_words::said_poll(Err(gate::Error::Rejected)),
-        gate_words::said_poll(Err(gate::Error::Sealed)),
-        gate_words::said_poll(Err(gate::Error::SpuriousFailure)),
-        gate_words::said_poll(Err(gate::Error::NotRegistered)),
-        gate_words::said_poll(Err(gate::Error::WrongMode)),
-        gate_words::said_poll(Err(gate::Error::NotReady)),
-        barrier_words::said_answer(BarrierAnswer::Count(2)),
-        barrier_words::said_poll(Ok(false)),
-        barrier_words::said_poll(Err(Error::WrongMode)),
-    ] {
-        assert!(rt; put_reply(&mut writer, said).is_ok());
-    }
-    assert_eq!(rt;
-        writer.as_slice(),
-        b"true\nok\nwould_block\npoisoned\ncontrolled\nnone\nsealed\nok 12\nerr open\ncontrolled 3\nok open\nrejected\nsealed\nspurious\nnot_registered\nwrong_mode\nnot_ready\n2\nfalse\nwrong_mode\n".as_slice()
-    );
 }
 
 /// Each call of `reply` once.

@@ -100,12 +100,14 @@ impl<R: Wait + Drop> Lock<R> {
     /// `false` comes exactly where the lock isn't one owner's alone, and changes nothing. Nobody is asked whose lock it
     /// ends. Each who is granted costs a ring at its seat, and each second one of them a short lock more.
     pub fn release_lock(&self) -> bool {
-        let (answer, first) = {
+        let (answer, owed) = {
             let mut inside = self.shell.lock();
             let answer = end_lock(&mut inside.core);
             (answer, inside.next_wakes())
         };
-        self.shell.wake(first);
+        if let Some(wakes) = owed {
+            self.shell.wake(wakes);
+        }
         answer
     }
 
@@ -113,12 +115,14 @@ impl<R: Wait + Drop> Lock<R> {
     ///
     /// `false` comes exactly where the lock isn't shared, and changes nothing. Nobody is asked whose share it ends.
     pub fn release_share(&self) -> bool {
-        let (answer, first) = {
+        let (answer, owed) = {
             let mut inside = self.shell.lock();
             let answer = end_share(&mut inside.core);
             (answer, inside.next_wakes())
         };
-        self.shell.wake(first);
+        if let Some(wakes) = owed {
+            self.shell.wake(wakes);
+        }
         answer
     }
 
@@ -127,12 +131,14 @@ impl<R: Wait + Drop> Lock<R> {
     /// `false` comes exactly where the lock isn't one owner's alone, and changes nothing. Answers that were there before
     /// stay as they are.
     pub fn poison_lock(&self) -> bool {
-        let (answer, first) = {
+        let (answer, owed) = {
             let mut inside = self.shell.lock();
             let answer = poison(&mut inside.core);
             (answer, inside.next_wakes())
         };
-        self.shell.wake(first);
+        if let Some(wakes) = owed {
+            self.shell.wake(wakes);
+        }
         answer
     }
 

@@ -4,7 +4,7 @@
 //! there. A call that answered somebody wakes exactly those, with the lock free. The methods of `Inside` are lent the
 //! core, and say what they do to it; those of `Shell` only take the lock round one of them, and wake.
 
-ghost use Rattle.std.specs.Prelude.{◌≡◌, ◌||◌, true, false, Some, IfErr, slice_get};
+ghost use Rattle.std.specs.Prelude.{◌≡◌, ◌||◌, true, false, [], Some, IsNone, IfSome, IfErr, slice_get};
 ghost use Rattle.saa_object.specs.declared.polling.Error.TheVariants.{NotRegistered};
 ghost use Rattle.saa_object.specs.declared.polling.How.TheVariants.{Sync};
 ghost use Rattle.saa_tickets.specs.declared.ticket.Registration.TheVariants.{Unregistered};
@@ -21,11 +21,11 @@ use std::alloc::{AllocError, Global};
 use std::sync::{Mutex, MutexGuard, Wait};
 use std::thread::yield_now;
 
-/// The wakes that are taken out of the core under one lock: whoever waits at these slots' seats has an answer.
+/// Wakes that were taken out of the core under one lock: whoever waits at these slots' seats has an answer.
 #[derive(Drop)]
 pub(crate) struct Wakes {
-    first: Option<u16>,
-    // Only where there is a first; then more may be owed.
+    first: u16,
+    // If there is one, more may be owed.
     second: Option<u16>,
 }
 
@@ -36,23 +36,16 @@ pub(crate) struct Inside<P: Primitive> {
 }
 
 impl<P: Primitive> Inside<P> {
-    /// The two oldest wakes that the core owes, told and so taken out of its list.
-    pub(crate) fn next_wakes(&mut self) -> Wakes
-        ensures first { result.first ≡ slice_get (P.core self.old.core).slots.owed 0 }
-        ensures second { result.second ≡ slice_get (P.core self.old.core).slots.owed 1 }
+    /// The two oldest wakes that the core owes, told and so taken out of its list; mostly there are none.
+    pub(crate) fn next_wakes(&mut self) -> Option<Wakes>
+        ensures none { IsNone result → (P.core self.old.core).slots.owed ≡ [] }
+        ensures first { IfSome result (λ wakes. slice_get (P.core self.old.core).slots.owed 0 ≡ Some wakes.first) }
+        ensures second { IfSome result (λ wakes. slice_get (P.core self.old.core).slots.owed 1 ≡ wakes.second) }
         ensures told { P.core self.new.core ≡ record (P.core self.old.core) { slots = wake_told (wake_told (P.core self.old.core).slots) } }
     {
-        let first = self.core.next_answered();
-        if first.is_none() {
-            return Wakes {
-                first: None,
-                second: None,
-            };
-        }
-        Wakes {
-            first,
-            second: self.core.next_answered(),
-        }
+        let first = self.core.next_answered()?;
+        let second = self.core.next_answered();
+        Some(Wakes { first, second })
     }
 
     // Registers a ticket.
@@ -152,17 +145,21 @@ impl<R: Wait + Drop, P: Primitive> Shell<R, P> {
 
     /// Wakes as the core says, from these wakes on, with the lock free.
     ///
-    /// None costs nothing. Each costs a ring of its seat, which is a system call only where somebody sleeps there, and
-    /// each second one a short lock, to ask for more.
+    /// Each costs a ring of its seat, which is a system call only where somebody sleeps there, and each second one a
+    /// short lock, to ask for more.
     pub(crate) fn wake(&self, first: Wakes) {
         let mut wakes = first;
         for _ in self.rt.forever() {
             self.ring(wakes.first);
-            if wakes.second.is_none() {
+            let Some(second) = wakes.second else {
                 return;
-            }
-            self.ring(wakes.second);
-            wakes = self.lock().next_wakes();
+            };
+            self.ring(second);
+            let more = self.lock().next_wakes();
+            let Some(more) = more else {
+                return;
+            };
+            wakes = more;
         }
     }
 
@@ -219,13 +216,15 @@ impl<R: Wait + Drop, P: Primitive> Shell<R, P> {
         ensures ticket { is_busy ticket.new ≡ (is_busy ticket.old || is_yes result) }
         ensures mode { ticket.old ≡ Unregistered → is_yes result ≡ true → mode_of ticket.new ≡ Some is_sync }
     {
-        let (answer, first) = {
+        let (answer, owed) = {
             let mut inside = self.lock();
             let answer = inside.register(ticket, ask, is_sync);
             self.take_seat(ticket);
             (answer, inside.next_wakes())
         };
-        self.wake(first);
+        if let Some(wakes) = owed {
+            self.wake(wakes);
+        }
         answer
     }
 
@@ -245,12 +244,14 @@ impl<R: Wait + Drop, P: Primitive> Shell<R, P> {
     pub(crate) fn cancel(&self, ticket: &mut Ticket)
         ensures { ticket.new ≡ Unregistered }
     {
-        let first = {
+        let owed = {
             let mut inside = self.lock();
             inside.cancel(ticket);
             inside.next_wakes()
         };
-        self.wake(first);
+        if let Some(wakes) = owed {
+            self.wake(wakes);
+        }
     }
 
     // Registers a ticket as sync and polls it once, under one lock, and wakes whom that answered.
@@ -259,13 +260,15 @@ impl<R: Wait + Drop, P: Primitive> Shell<R, P> {
         ensures ticket { is_busy ticket.new ≡ has_joined result }
         ensures mode { has_joined result ≡ true → mode_of ticket.new ≡ Some true }
     {
-        let (begun, first) = {
+        let (begun, owed) = {
             let mut inside = self.lock();
             let begun = inside.begin(ticket, ask);
             self.take_seat(ticket);
             (begun, inside.next_wakes())
         };
-        self.wake(first);
+        if let Some(wakes) = owed {
+            self.wake(wakes);
+        }
         begun
     }
 
@@ -317,12 +320,10 @@ impl<R: Wait + Drop, P: Primitive> Shell<R, P> {
         self.lock()
     }
 
-    // Rings the seat of a slot whose wake is owed, if there is one.
-    fn ring(&self, wake: Option<u16>) {
-        if let Some(slot) = wake {
-            if let Some(seat) = self.seat(slot) {
-                seat.ring();
-            }
+    // Rings the seat of a slot whose wake is owed.
+    fn ring(&self, slot: u16) {
+        if let Some(seat) = self.seat(slot) {
+            seat.ring();
         }
     }
 

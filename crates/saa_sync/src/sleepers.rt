@@ -48,6 +48,8 @@ pub(crate) trait Sleepers: Sync {
 pub(crate) enum By {
     /// In a call with a callback.
     Call,
+    /// In a call without one, which counts that it joins before it does; for waiters without patience.
+    Plain,
     /// In a poll of a pager.
     Poll,
 }
@@ -134,6 +136,9 @@ pub(crate) fn a_call_wakes_all_whom_it_answers<F: Sleepers, R: Threads + Wait + 
             }
         }
         near_by.await_joined(rt);
+        if !is_patient {
+            await_asleep(rt, form, count);
+        }
         let is_walled = form.register_at(&mut wall, Place::Wall);
         for _ in 0..BEYOND {
             if scope

@@ -6,8 +6,12 @@
 #[cfg(test)]
 mod callbacks;
 #[cfg(test)]
+mod locks;
+#[cfg(test)]
 mod pagers;
 #[cfg(test)]
 mod semaphores;
 #[cfg(test)]
 mod threads;
+#[cfg(test)]
+mod waits;

@@ -80,3 +80,50 @@ fn an_idle_ticket_is_not_registered(rt: HostRuntime) -> io::Result<()> {
     assert_eq!(rt; semaphore.available_permits(Ordering::SeqCst), 63);
     Ok(())
 }
+
+#[test]
+fn a_granted_pager_gives_its_permits_back(rt: HostRuntime) -> io::Result<()> {
+    for is_sync in [true, false] {
+        for permits in [0, 63] {
+            for is_cancelled in [true, false] {
+                let semaphore = Semaphore::with_permits(&rt, rt.alloc(), permits, 1)?;
+                {
+                    let mut pager = Pager::new();
+                    assert_eq!(rt; semaphore.register_pager(&mut pager, 63, is_sync), Ok(true));
+                    // From 63 permits it was granted at once.
+                    if permits == 0 {
+                        assert!(rt; semaphore.release_many(63));
+                    }
+                    assert_eq!(rt; semaphore.available_permits(Ordering::SeqCst), 0);
+                    if is_cancelled {
+                        pager.cancel();
+                        assert_eq!(rt; semaphore.available_permits(Ordering::SeqCst), 63);
+                    }
+                }
+                assert_eq!(rt;
+                    semaphore.available_permits(Ordering::SeqCst),
+                    63,
+                    "from {permits}"
+                );
+            }
+        }
+    }
+    Ok(())
+}
+
+#[test]
+fn a_pager_is_polled_as_it_was_registered(rt: HostRuntime) -> io::Result<()> {
+    for (is_sync, answer) in [(true, Ok(())), (false, Err(Error::WrongMode))] {
+        for permits in [0, 63] {
+            let semaphore = Semaphore::with_permits(&rt, rt.alloc(), permits, 1)?;
+            let mut pager = Pager::new();
+            assert_eq!(rt; semaphore.register_pager(&mut pager, 63, is_sync), Ok(true));
+            if permits == 0 {
+                assert!(rt; semaphore.release_many(63));
+            }
+            assert_eq!(rt; pager.poll_sync(), answer, "from {permits}");
+            assert_eq!(rt; pager.is_registered(), !is_sync);
+        }
+    }
+    Ok(())
+}

@@ -220,4 +220,3 @@ impl<P: Primitive> Bench<P> {
         self.core.cancel(&mut self.tickets[usize::from(pager)]);
     }
 }
-

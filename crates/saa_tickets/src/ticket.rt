@@ -12,9 +12,9 @@ ghost use Rattle.saa_line.specs.Slots.{IsSound};
 ghost use Rattle.saa_tickets.specs.SlotStates.{IsSlotState};
 ghost use Rattle.saa_tickets.specs.Tickets.{Acts, IsForeign, Polled, fault_of, is_busy};
 
+use saa_line::line::Line;
 pub use saa_object::polling::{Error, How};
 pub use saa_object::request::{Full, Request};
-use saa_line::line::Line;
 use std::marker::Model;
 
 /// What a ticket is registered as. Contracts see a ticket as one of these.

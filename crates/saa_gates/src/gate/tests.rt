@@ -22,7 +22,10 @@ fn a_dropped_waiter_wakes_the_others(rt: HostRuntime) -> Result<(), Fail> {
     assert_eq!(rt; core.register(&mut second, true), Ok(true));
     core.cancel(&mut first);
     assert!(rt; !first.is_registered());
-    assert_eq!(rt; core.poll(&mut second, How::Try), Err(Error::SpuriousFailure));
+    assert_eq!(rt;
+        core.poll(&mut second, How::Try),
+        Err(Error::SpuriousFailure)
+    );
     assert_eq!(rt; core.permit(), Ok(0));
     assert_eq!(rt; core.open(), (State::Controlled, 0));
     assert_eq!(rt; core.permit(), Err(State::Open));
@@ -65,7 +68,10 @@ fn an_answer_is_consumed_in_the_right_mode(rt: HostRuntime) -> Result<(), Fail> 
     assert_eq!(rt; core.poll(&mut ticket, How::Async), Err(Error::WrongMode));
     assert!(rt; ticket.is_registered());
     assert_eq!(rt; core.poll(&mut ticket, How::Sync), Ok(State::Open));
-    assert_eq!(rt; core.poll(&mut ticket, How::Sync), Err(Error::NotRegistered));
+    assert_eq!(rt;
+        core.poll(&mut ticket, How::Sync),
+        Err(Error::NotRegistered)
+    );
     Ok(())
 }
 
@@ -78,7 +84,10 @@ fn a_permit_lets_all_pass_who_wait(rt: HostRuntime) -> Result<(), Fail> {
     }
     assert_eq!(rt; core.permit(), Ok(4));
     for i in 0..4 {
-        assert_eq!(rt; core.poll(&mut tickets[i], How::Sync), Ok(State::Controlled));
+        assert_eq!(rt;
+            core.poll(&mut tickets[i], How::Sync),
+            Ok(State::Controlled)
+        );
     }
     assert_eq!(rt; core.permit(), Ok(0));
     Ok(())

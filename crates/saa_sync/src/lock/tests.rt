@@ -6,7 +6,8 @@ use crate::twins::{Form, Move, Way, every_list, moves};
 use saa_core::lock::{LockAnswer, LockCall};
 use std::sync::atomic::AtomicU64;
 use std::test::Fail;
-use std::thread::Threads;
+use std::thread;
+use std::thread::{Threads, yield_now};
 
 // A lock of size 0 is owned alone from the start, so that nothing is available; else it is new.
 impl<R: Wait + Drop + Copy> Form for Lock<R> {
@@ -166,22 +167,229 @@ fn short_lists_agree(rt: HostRuntime) -> Result<(), Fail> {
 
 #[test]
 fn lists_of_four_agree_from_a_free_lock(rt: HostRuntime) -> Result<(), Fail> {
-    let moves = moves::<LockCore>(rt.alloc(), &CALLS[..6], &[], &MODES, &[])?;
-    assert_eq!(rt; moves.len(), 32);
+    let moves = moves::<LockCore>(rt.alloc(), &CALLS[..6], &[], &MODES[..2], &[])?;
+    assert_eq!(rt; moves.len(), 24);
     assert_eq!(rt;
         agreeing(&rt, rt.alloc(), &moves, &[1], 4)?,
-        3 * 32 * 32 * 32 * 32
+        3 * 24 * 24 * 24 * 24
     );
     Ok(())
 }
 
 #[test]
 fn lists_of_four_agree_from_a_locked_lock(rt: HostRuntime) -> Result<(), Fail> {
-    let moves = moves::<LockCore>(rt.alloc(), &CALLS[..6], &[], &MODES, &[])?;
-    assert_eq!(rt; moves.len(), 32);
+    let moves = moves::<LockCore>(rt.alloc(), &CALLS[..6], &[], &MODES[..2], &[])?;
+    assert_eq!(rt; moves.len(), 24);
     assert_eq!(rt;
         agreeing(&rt, rt.alloc(), &moves, &[0], 4)?,
-        3 * 32 * 32 * 32 * 32
+        3 * 24 * 24 * 24 * 24
     );
+    Ok(())
+}
+
+// A lock that one owner shares, so that nothing else than a share fits.
+fn shared_lock<R: Wait + Drop>(
+    rt: R,
+    alloc: Global,
+    patience: Patience,
+) -> Result<Lock<R>, AllocError> {
+    let lock = Lock::with_patience(rt, alloc, 104, patience)?;
+    let _shared = lock.try_share();
+    Ok(lock)
+}
+
+// What is asked where, by a call: the lock alone ahead and as the wall, and a share behind.
+fn mode_at(place: Place) -> Mode {
+    match place {
+        Place::Ahead | Place::Wall => Mode::Exclusive,
+        Place::Behind => Mode::Shared,
+    }
+}
+
+impl<R: Wait + Drop + Sync> Sleepers for Lock<R> {
+    fn register_at(&self, ticket: &mut Ticket, place: Place) -> bool {
+        matches!(self.shell.register(ticket, mode_at(place), true), Ok(true))
+    }
+
+    fn give_up(&self, ticket: Ticket, is_cancelled: bool) {
+        let mut pager = Pager::new();
+        pager.hold(ticket, self);
+        if is_cancelled {
+            pager.cancel();
+        }
+    }
+
+    // Whoever has it gives it back.
+    fn answer(&self, _is_short: bool) {
+        if self.is_shared(Ordering::SeqCst) {
+            let _is_released = self.release_share();
+        } else {
+            let _is_released = self.release_lock();
+        }
+    }
+
+    fn wait_at(&self, place: Place, by: By, joined: &AtomicU64) -> bool {
+        let answer = match (by, place) {
+            (By::Poll, _) => return self.wait_by_pager(place, joined),
+            (By::Call, Place::Behind) => self.share_sync_with(|| self.count_joined(joined)),
+            (By::Call, _) => self.lock_sync_with(|| self.count_joined(joined)),
+            (By::Plain, Place::Behind) => {
+                joined.fetch_add(1, Ordering::SeqCst);
+                self.share_sync()
+            }
+            (By::Plain, _) => {
+                joined.fetch_add(1, Ordering::SeqCst);
+                self.lock_sync()
+            }
+        };
+        matches!(answer, Ok(true))
+    }
+
+    fn asleep(&self) -> usize {
+        self.shell.asleep()
+    }
+
+    fn rung(&self) -> usize {
+        self.shell.rung()
+    }
+}
+
+impl<R: Wait + Drop + Sync> Lock<R> {
+    // Waits by a pager: behind for what takes nothing, so that any number of them can.
+    fn wait_by_pager(&self, place: Place, joined: &AtomicU64) -> bool {
+        let mode = match place {
+            Place::Behind => Mode::WaitShared,
+            Place::Ahead | Place::Wall => Mode::Exclusive,
+        };
+        let mut pager = Pager::new();
+        let is_registered = matches!(self.register_pager(&mut pager, mode, true), Ok(true));
+        joined.fetch_add(1, Ordering::SeqCst);
+        is_registered && matches!(pager.poll_sync(), Ok(true))
+    }
+
+    // The lock round the core is free, so the look doesn't wait for the caller itself.
+    fn count_joined(&self, joined: &AtomicU64) {
+        let _is_free = self.is_free(Ordering::SeqCst);
+        joined.fetch_add(1, Ordering::SeqCst);
+    }
+}
+
+// Every wait goes to sleep.
+const NO_PATIENCE: Patience = Patience {
+    looks: 0,
+    yields: 0,
+};
+
+// These numbers of sleepers, and each way to answer them; the number where one went wrong, or 0.
+fn wrong_wakes<R: Wait + Threads + Sync>(
+    rt: &R,
+    alloc: Global,
+    patience: Patience,
+    by: By,
+    counts: &[u64],
+) -> Result<u64, AllocError> {
+    let is_patient = patience.looks != 0;
+    for count in counts {
+        for end in [End::Cancel, End::Forget] {
+            let lock = shared_lock(rt, alloc, patience)?;
+            if !a_call_wakes_all_whom_it_answers(rt, &lock, is_patient, *count, by, end) {
+                return Ok(*count);
+            }
+        }
+    }
+    for count in [1, 2, 3, 48] {
+        let lock = shared_lock(rt, alloc, patience)?;
+        if !each_call_wakes_one(rt, &lock, is_patient, count, by) {
+            return Ok(count);
+        }
+    }
+    Ok(0)
+}
+
+#[test]
+fn sleeping_calls_wake(rt: HostRuntime) -> Result<(), Fail> {
+    assert_eq!(rt;
+        wrong_wakes(&rt, rt.alloc(), NO_PATIENCE, By::Call, &[1, 2, 3, 48])?,
+        0
+    );
+    Ok(())
+}
+
+#[test]
+fn sleeping_plain_calls_wake(rt: HostRuntime) -> Result<(), Fail> {
+    assert_eq!(rt;
+        wrong_wakes(&rt, rt.alloc(), NO_PATIENCE, By::Plain, &[1, 2, 3, 48])?,
+        0
+    );
+    Ok(())
+}
+
+#[test]
+fn sleeping_polls_wake(rt: HostRuntime) -> Result<(), Fail> {
+    assert_eq!(rt;
+        wrong_wakes(&rt, rt.alloc(), NO_PATIENCE, By::Poll, &[1, 2, 3, 48, 100])?,
+        0
+    );
+    Ok(())
+}
+
+#[test]
+fn waiting_calls_wake(rt: HostRuntime) -> Result<(), Fail> {
+    assert_eq!(rt;
+        wrong_wakes(&rt, rt.alloc(), PATIENCE, By::Call, &[1, 2, 3, 48])?,
+        0
+    );
+    Ok(())
+}
+
+// So many sleepers of both kinds at a lock that one owner has, and poison: how many were told that it is poisoned.
+fn told_of_poison<R: Wait + Threads + Sync>(
+    rt: &R,
+    alloc: Global,
+    count: u64,
+) -> Result<u64, AllocError> {
+    let lock = Lock::with_patience(rt, alloc, count as u16, NO_PATIENCE)?;
+    let _locked = lock.try_lock();
+    let told = AtomicU64::new(0);
+    let (shared, told_by) = (&lock, &told);
+    thread::scope(thread::scope_env(), rt, |scope| {
+        let mut started = 0;
+        for place in 0..count {
+            let is_reader = place % 2 == 0;
+            if scope
+                .spawn(move || count_poisoned(shared, is_reader, told_by))
+                .is_ok()
+            {
+                started += 1;
+            }
+        }
+        for _ in rt.forever() {
+            if shared.shell.asleep() >= started {
+                break;
+            }
+            yield_now();
+        }
+        let _is_poisoned = shared.poison_lock();
+    });
+    Ok(told.load(Ordering::SeqCst))
+}
+
+// Waits for the lock or for a share, and counts where it is poisoned meanwhile.
+fn count_poisoned<R: Wait + Drop>(lock: &Lock<R>, is_reader: bool, told: &AtomicU64) {
+    let answer = if is_reader {
+        lock.share_sync()
+    } else {
+        lock.lock_sync()
+    };
+    if answer == Ok(false) {
+        told.fetch_add(1, Ordering::SeqCst);
+    }
+}
+
+#[test]
+fn poison_wakes_all(rt: HostRuntime) -> Result<(), Fail> {
+    for count in [1, 2, 3, 48] {
+        assert_eq!(rt; told_of_poison(&rt, rt.alloc(), count)?, count);
+    }
     Ok(())
 }

@@ -136,16 +136,32 @@ impl<R: Wait + Drop + Sync> Sleepers for Semaphore<R> {
 
     fn wait_at(&self, place: Place, by: By, joined: &AtomicU64) -> bool {
         let count = permits_at(place);
-        if let By::Poll = by {
-            let mut pager = Pager::new();
-            let is_registered = matches!(self.register_pager(&mut pager, count, true), Ok(true));
-            joined.fetch_add(1, Ordering::SeqCst);
-            return is_registered && pager.poll_sync().is_ok();
+        match by {
+            By::Call => {
+                let answer = self.acquire_many_sync_with(count, || {
+                    // The lock is free, so this doesn't wait for the caller itself.
+                    let _left = self.available_permits(Ordering::SeqCst);
+                    joined.fetch_add(1, Ordering::SeqCst);
+                });
+                matches!(answer, Ok(true))
+            }
+            By::Plain => {
+                joined.fetch_add(1, Ordering::SeqCst);
+                if count == 1 {
+                    return self.acquire_sync().is_ok();
+                }
+                matches!(self.acquire_many_sync(count), Ok(true))
+            }
+            By::Poll => {
+                let mut pager = Pager::new();
+                let is_registered = matches!(
+                    self.register_pager(&mut pager, count, true),
+                    Ok(true)
+                );
+                joined.fetch_add(1, Ordering::SeqCst);
+                is_registered && pager.poll_sync().is_ok()
+            }
         }
-        let answer = self.acquire_many_sync_with(count, || {
-            joined.fetch_add(1, Ordering::SeqCst);
-        });
-        matches!(answer, Ok(true))
     }
 
     fn asleep(&self) -> usize {
@@ -306,6 +322,12 @@ fn sleeping_calls_wake(rt: HostRuntime) -> Result<(), Fail> {
 }
 
 #[test]
+fn sleeping_calls_without_a_callback_wake(rt: HostRuntime) -> Result<(), Fail> {
+    assert_eq!(rt; wrong_wakes(&rt, rt.alloc(), NO_PATIENCE, By::Plain)?, 0);
+    Ok(())
+}
+
+#[test]
 fn sleeping_polls_wake(rt: HostRuntime) -> Result<(), Fail> {
     assert_eq!(rt; wrong_wakes(&rt, rt.alloc(), NO_PATIENCE, By::Poll)?, 0);
     Ok(())
@@ -320,5 +342,25 @@ fn waiting_calls_wake(rt: HostRuntime) -> Result<(), Fail> {
 #[test]
 fn waiting_polls_wake(rt: HostRuntime) -> Result<(), Fail> {
     assert_eq!(rt; wrong_wakes(&rt, rt.alloc(), PATIENCE, By::Poll)?, 0);
+    Ok(())
+}
+
+// The release of the first call rings the only seat, and the second call takes that seat over.
+#[test]
+fn a_seat_is_reset_for_its_next_holder(rt: HostRuntime) -> Result<(), Fail> {
+    let semaphore = Semaphore::with_permits(&rt, rt.alloc(), 0, 1)?;
+    let rung = AtomicU64::new(0);
+    for _turn in 0..2 {
+        let answer = semaphore.acquire_sync_with(|| {
+            rung.fetch_add(semaphore.rung() as u64, Ordering::SeqCst);
+            semaphore.release();
+            rung.fetch_add(
+                (semaphore.rung() as u64).saturating_mul(100),
+                Ordering::SeqCst,
+            );
+        });
+        assert_eq!(rt; answer, Ok(()));
+    }
+    assert_eq!(rt; rung.load(Ordering::SeqCst), 200);
     Ok(())
 }
