@@ -15,7 +15,8 @@ use Rattle.saa_tickets.specs.declared.ticket.Registration.TheVariants.{Unregiste
 use Rattle.saa_tickets.specs.Tickets.{Core, Acts, Calls, object_of}
 use Rattle.saa_tickets.proofs.Polls.{after}
 use Rattle.saa_gates.specs.GatheringParts.{answer_by_state}
-use Rattle.saa_gates.proofs.Gathering.{Gathers, all-object, all-belong, all_calls, register_answered}
+use Rattle.saa_gates.proofs.Gathering.{Gathers, register_answered}
+use Rattle.saa_tickets.proofs.Answering.{all-object, all-belong, all_calls}
 
 -- those who enter a sealed or an open gate are answered so
 enter_answer : (state : State) (v : ℕ) (s : Object) → s.held ≡ OfGate state → answer_by_state state ≡ Some v → answer_at_once s Enter ≡ Some (after v s)

@@ -17,7 +17,8 @@ use Rattle.saa_tickets.specs.declared.ticket.Registration.TheVariants.{Unregiste
 use Rattle.saa_tickets.specs.Tickets.{Core, Acts, Calls, object_of, named}
 use Rattle.saa_tickets.proofs.Naming.{length-named}
 use Rattle.saa_tickets.proofs.Polls.{after}
-use Rattle.saa_gates.proofs.Gathering.{Gathers, all-object, all-belong, register_answered}
+use Rattle.saa_gates.proofs.Gathering.{Gathers, register_answered}
+use Rattle.saa_tickets.proofs.Answering.{all-object, all-belong}
 
 -- whether an arrival is the last of its round doesn't depend on names
 last-named : (size : ℕ) (slots : Slots) (ts : List Registration) → (length (named ts slots.line) + 1 == size) ≡ (length slots.line + 1 == size)

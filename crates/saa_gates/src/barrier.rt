@@ -4,7 +4,7 @@
 //! Those who wait stand in a line; the last arrival of a round never does. That a round stays incomplete while tasks
 //! wait is `specs/Standing.antt`.
 
-ghost use Rattle.std.specs.Prelude.{true, false, ◌≡◌, ℕ, ◌+◌, ◌-◌, ◌<◌, ◌==◌, ◌||◌, length, min, replicate, slice_get, IfOk, IfSome, OnErr, IsErr};
+ghost use Rattle.std.specs.Prelude.{true, false, ◌≡◌, ℕ, ◌+◌, ◌-◌, ◌<◌, ◌==◌, ◌||◌, length, min, replicate, slice_get, IsOk, IfOk, IfSome, OnErr, IsErr};
 ghost use Rattle.saa_object.specs.declared.request.Request.TheVariants.{Arrive};
 ghost use Rattle.saa_object.specs.declared.polling.Error.TheVariants.{NotRegistered};
 ghost use Rattle.saa_tickets.specs.declared.ticket.Registration.TheVariants.{Unregistered, AtOnce};
@@ -75,6 +75,7 @@ impl BarrierCore {
     pub fn with_count(alloc: Global, count: usize, room: u16) -> Result<Self, AllocError>
         ensures made { IfOk result (λ core.
             core ≡ record { held = OfBarrier (min count max_tasks); slots = empty_slots room }) }
+        ensures no_room { room ≡ 0 → IsOk result }
         ensures idle_tickets { IfOk result (λ core. (names : ℕ) → Belong core.slots (replicate names Unregistered)) }
         ensures object { IfOk result (λ core. (names : ℕ)
             → object_of core (replicate names Unregistered) ≡ new_barrier count room names) }

@@ -76,9 +76,11 @@ impl Model for GateCore {
 impl GateCore {
     /// A controlled gate, and room for so many slots of those who wait. Costs O(`room`).
     ///
-    /// Reserves all the memory that it will ever need; the error comes only where that was refused.
+    /// Reserves all the memory that it will ever need; the error comes only where that was refused, and so never for
+    /// room 0, which takes none.
     pub fn new(alloc: Global, room: u16) -> Result<Self, AllocError>
         ensures made { IfOk result (λ core. core ≡ record { held = OfGate Controlled; slots = empty_slots room }) }
+        ensures no_room { room ≡ 0 → IsOk result }
         ensures idle_tickets { IfOk result (λ core. (names : ℕ) → Belong core.slots (replicate names Unregistered)) }
         ensures object { IfOk result (λ core. (names : ℕ)
             → object_of core (replicate names Unregistered) ≡ new_gate room names) }

@@ -229,20 +229,14 @@ impl<R: Wait + Drop + Sync> Sleepers for Lock<R> {
     }
 
     fn wait_at(&self, place: Place, by: By, joined: &AtomicU64) -> bool {
-        let answer = match (by, place) {
-            (By::Poll, _) => return self.wait_by_pager(place, joined),
-            (By::Call, Place::Behind) => self.share_sync_with(|| self.count_joined(joined)),
-            (By::Call, _) => self.lock_sync_with(|| self.count_joined(joined)),
-            (By::Plain, Place::Behind) => {
+        match by {
+            By::Poll => self.wait_by_pager(place, joined),
+            By::Call => self.wait_with(place, joined),
+            By::Plain => {
                 joined.fetch_add(1, Ordering::SeqCst);
-                self.share_sync()
+                self.wait_plainly(place)
             }
-            (By::Plain, _) => {
-                joined.fetch_add(1, Ordering::SeqCst);
-                self.lock_sync()
-            }
-        };
-        matches!(answer, Ok(true))
+        }
     }
 
     fn asleep(&self) -> usize {
@@ -254,7 +248,7 @@ impl<R: Wait + Drop + Sync> Sleepers for Lock<R> {
     }
 }
 
-impl<R: Wait + Drop + Sync> Lock<R> {
+impl<R: Wait + Drop> Lock<R> {
     // Waits by a pager: behind for what takes nothing, so that any number of them can.
     fn wait_by_pager(&self, place: Place, joined: &AtomicU64) -> bool {
         let mode = match place {
@@ -267,10 +261,24 @@ impl<R: Wait + Drop + Sync> Lock<R> {
         is_registered && matches!(pager.poll_sync(), Ok(true))
     }
 
-    // The lock round the core is free, so the look doesn't wait for the caller itself.
-    fn count_joined(&self, joined: &AtomicU64) {
-        let _is_free = self.is_free(Ordering::SeqCst);
-        joined.fetch_add(1, Ordering::SeqCst);
+    // Waits by a call with a callback, which looks at the lock: that round the core is free, so it waits for nobody.
+    fn wait_with(&self, place: Place, joined: &AtomicU64) -> bool {
+        let begin_wait = || {
+            let _is_free = self.is_free(Ordering::SeqCst);
+            joined.fetch_add(1, Ordering::SeqCst);
+        };
+        match place {
+            Place::Behind => matches!(self.share_sync_with(begin_wait), Ok(true)),
+            Place::Ahead | Place::Wall => matches!(self.lock_sync_with(begin_wait), Ok(true)),
+        }
+    }
+
+    // Waits by a call without one.
+    fn wait_plainly(&self, place: Place) -> bool {
+        match place {
+            Place::Behind => matches!(self.share_sync(), Ok(true)),
+            Place::Ahead | Place::Wall => matches!(self.lock_sync(), Ok(true)),
+        }
     }
 }
 
@@ -346,21 +354,21 @@ fn waiting_calls_wake(rt: HostRuntime) -> Result<(), Fail> {
 fn told_of_poison<R: Wait + Threads + Sync>(
     rt: &R,
     alloc: Global,
-    count: u64,
+    count: u16,
 ) -> Result<u64, AllocError> {
-    let lock = Lock::with_patience(rt, alloc, count as u16, NO_PATIENCE)?;
+    let lock = Lock::with_patience(rt, alloc, count, NO_PATIENCE)?;
     let _locked = lock.try_lock();
     let told = AtomicU64::new(0);
     let (shared, told_by) = (&lock, &told);
     thread::scope(thread::scope_env(), rt, |scope| {
-        let mut started = 0;
+        let mut started = 0usize;
         for place in 0..count {
             let is_reader = place % 2 == 0;
             if scope
                 .spawn(move || count_poisoned(shared, is_reader, told_by))
                 .is_ok()
             {
-                started += 1;
+                started = started.saturating_add(1);
             }
         }
         for _ in rt.forever() {
@@ -389,7 +397,7 @@ fn count_poisoned<R: Wait + Drop>(lock: &Lock<R>, is_reader: bool, told: &Atomic
 #[test]
 fn poison_wakes_all(rt: HostRuntime) -> Result<(), Fail> {
     for count in [1, 2, 3, 48] {
-        assert_eq!(rt; told_of_poison(&rt, rt.alloc(), count)?, count);
+        assert_eq!(rt; told_of_poison(&rt, rt.alloc(), count)?, u64::from(count));
     }
     Ok(())
 }
