@@ -226,7 +226,7 @@ fn after_turns<R: Wait + Threads + Sync>(
         meetings: AtomicU64::new(0),
     };
     let seen_by = &seen;
-    let mut started = 0;
+    let mut started: u64 = 0;
     thread::scope(thread::scope_env(), rt, |scope| {
         for thread in 0..threads {
             let is_reader = thread % writes_every.max(1) != 0;
@@ -235,7 +235,7 @@ fn after_turns<R: Wait + Threads + Sync>(
                 .is_ok()
                 && !is_reader
             {
-                started += 1;
+                started = started.saturating_add(1);
             }
         }
     });
