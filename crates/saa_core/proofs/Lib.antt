@@ -1,2 +1,3 @@
 pub mod SettlingSteps
 pub mod Asks
+pub mod Waking

@@ -10,7 +10,7 @@ ghost use Rattle.saa_object.specs.declared.polling.Error.TheVariants.{NotRegiste
 ghost use Rattle.saa_object.specs.Held.{Held, OfLock, Poisoned, fits, plus, less, asks_too_much};
 ghost use Rattle.saa_object.specs.Asking.{tried, registered};
 ghost use Rattle.saa_object.specs.Polling.{polled, given_back, is_for_nothing};
-ghost use Rattle.saa_line.specs.Slots.{IsSound, held_slots, room_of, wake_told, all_slots_answered};
+ghost use Rattle.saa_line.specs.Slots.{OwesAnswered, IsSound, held_slots, room_of, wake_told, all_slots_answered};
 ghost use Rattle.saa_tickets.specs.declared.ticket.Registration.TheVariants.{Unregistered};
 ghost use Rattle.saa_tickets.specs.Tickets.{Core, Acts, Calls, IsCoreSettled, Polled, IsForeign, dropping, fault_of, is_busy, is_yes};
 ghost use Rattle.saa_core.specs.CoreParts.{core_settled, core_given, core_undone, core_vacated, takes_now, oldest_fitting, IsGranting, answer_to_all};
@@ -84,6 +84,7 @@ impl<N: Needs> Granting<N> {
     /// What is held.
     pub(crate) fn needs(&self) -> &N
         ensures held { self.now.held ≡ N.held result.now }
+        ensures quiet { OwesAnswered self.now.slots self.now.slots }
         ensures settled { IsCoreSettled self.now }
     {
         &self.needs
@@ -93,6 +94,7 @@ impl<N: Needs> Granting<N> {
     pub(crate) fn waiting(&self) -> u16
         ensures waiting { result ≡ length self.now.slots.line }
         ensures sound { IsSound self.now.slots }
+        ensures quiet { OwesAnswered self.now.slots self.now.slots }
         ensures settled { IsCoreSettled self.now }
         ensures unpoisoned { self.now.held ≡ OfLock Poisoned → self.now.slots.line ≡ [] }
     {
@@ -105,6 +107,7 @@ impl<N: Needs> Granting<N> {
         ensures answer { result ≡ takes_now self.old request }
         ensures refused { OnFalse result (self.new ≡ self.old) }
         ensures taken { result ≡ true → self.new ≡ record self.old { held = plus self.old.held request } }
+        ensures wakes { OwesAnswered self.old.slots self.new.slots }
         ensures settled { IsCoreSettled self.new }
     {
         if !self.takes_now(request) {
@@ -122,6 +125,7 @@ impl<N: Needs> Granting<N> {
         ensures calls { Calls self.old self.new (λ s. given_back s request) result }
         ensures given { self.new ≡ core_given self.old request }
         ensures refused { OnFalse result (self.new ≡ self.old) }
+        ensures wakes { OwesAnswered self.old.slots self.new.slots }
         ensures settled { IsCoreSettled self.new }
     {
         if is_for_nothing(request) {
@@ -153,6 +157,7 @@ impl<N: Needs> Granting<N> {
             → (result ≡ Ok false) × (self.new ≡ self.old) × (ticket.new ≡ ticket.old) }
         ensures full { IsErr result → held_slots self.old.slots ≡ room_of self.old.slots }
         ensures refused { is_yes result ≡ false → (self.new ≡ self.old) × (ticket.new ≡ ticket.old) }
+        ensures wakes { OwesAnswered self.old.slots self.new.slots }
         ensures settled { IsCoreSettled self.new }
     {
         if ticket.is_registered() {
@@ -182,6 +187,7 @@ impl<N: Needs> Granting<N> {
         ensures foreign { IsForeign self.old.slots ticket.old
             → (result ≡ Err NotRegistered) × (self.new ≡ self.old) × (ticket.new ≡ ticket.old) }
         ensures unchanged { OnErr result (self.new ≡ self.old) }
+        ensures owed { self.new.slots.owed ≡ self.old.slots.owed }
         ensures settled { IsCoreSettled self.new }
     {
         ticket.poll_in(&mut self.line, how)
@@ -197,6 +203,7 @@ impl<N: Needs> Granting<N> {
         ensures idle { ticket.new ≡ Unregistered }
         ensures unregistered { ticket.old ≡ Unregistered → self.new ≡ self.old }
         ensures foreign { IsForeign self.old.slots ticket.old → self.new ≡ self.old }
+        ensures wakes { OwesAnswered self.old.slots self.new.slots }
         ensures settled { IsCoreSettled self.new }
     {
         let _opened = &self.line;
@@ -222,6 +229,7 @@ impl<N: Needs> Granting<N> {
     /// All who wait are answered with a value, and this is held from now on. Costs O(how many wait).
     pub(crate) fn answer_all(&mut self, needs: N, value: u8)
         ensures answered { self.new ≡ record { held = N.held needs; slots = all_slots_answered value self.old.slots } }
+        ensures wakes { OwesAnswered self.old.slots self.new.slots }
         ensures settled { IsCoreSettled self.new }
     {
         self.needs = needs;
@@ -232,6 +240,7 @@ impl<N: Needs> Granting<N> {
     pub(crate) fn replace(&mut self, needs: N)
         requires { self.old.slots.line ≡ [] }
         ensures replaced { self.new ≡ record self.old { held = N.held needs } }
+        ensures wakes { OwesAnswered self.old.slots self.new.slots }
         ensures settled { IsCoreSettled self.new }
     {
         self.needs = needs;
@@ -250,6 +259,7 @@ impl<N: Needs> Granting<N> {
     // Undoes an answer that isn't consumed: what was granted is given back.
     fn undo(&mut self, value: u8, request: Request)
         ensures undone { self.new ≡ core_undone self.old value request }
+        ensures wakes { OwesAnswered self.old.slots self.new.slots }
         ensures settled { IsCoreSettled self.new }
     {
         let _opened = &self.line;
@@ -262,6 +272,7 @@ impl<N: Needs> Granting<N> {
     // Frees a slot of this core: its answer is undone, or it leaves the line; a slot that isn't held is nothing.
     fn vacate(&mut self, slot: u16, request: Request)
         ensures vacated { self.new ≡ core_vacated self.old slot request }
+        ensures wakes { OwesAnswered self.old.slots self.new.slots }
         ensures settled { IsCoreSettled self.new }
     {
         if let Some(value) = self.line.take(slot) {

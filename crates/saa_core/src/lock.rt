@@ -13,7 +13,7 @@ ghost use Rattle.saa_object.specs.Asking.{tried, registered};
 ghost use Rattle.saa_object.specs.Polling.{polled, given_back, read_as};
 ghost use Rattle.saa_object.specs.Values.{lock_value, poisoned_value};
 ghost use Rattle.saa_object.specs.Lock.{mode_request, is_free, is_locked, is_shared, is_poisoned, poisoned_of, cleared_of, try_error, new_lock};
-ghost use Rattle.saa_line.specs.Slots.{empty_slots, held_slots, room_of, wake_told, all_slots_answered};
+ghost use Rattle.saa_line.specs.Slots.{OwesAnswered, empty_slots, held_slots, room_of, wake_told, all_slots_answered};
 ghost use Rattle.saa_tickets.specs.declared.ticket.Registration.TheVariants.{Unregistered};
 ghost use Rattle.saa_tickets.specs.Tickets.{Acts, Calls, Belong, IsCoreSettled, Polled, IsForeign, dropping, fault_of, is_busy, is_yes, object_of};
 ghost use Rattle.saa_core.specs.CoreParts.{takes_now};
@@ -109,6 +109,7 @@ impl LockCore {
         ensures granted { takes_now self.old AskExclusive ≡ true → result ≡ Ok tt }
         ensures refusal { takes_now self.old AskExclusive ≡ false → result ≡ Err (try_error (is_poisoned self.old.held)) }
         ensures refused { OnErr result (self.new ≡ self.old) }
+        ensures wakes { OwesAnswered self.old.slots self.new.slots }
         ensures settled { IsCoreSettled self.new }
     {
         self.try_take(Request::Exclusive)
@@ -123,6 +124,7 @@ impl LockCore {
         ensures granted { takes_now self.old AskShared ≡ true → result ≡ Ok tt }
         ensures refusal { takes_now self.old AskShared ≡ false → result ≡ Err (try_error (is_poisoned self.old.held)) }
         ensures refused { OnErr result (self.new ≡ self.old) }
+        ensures wakes { OwesAnswered self.old.slots self.new.slots }
         ensures settled { IsCoreSettled self.new }
     {
         self.try_take(Request::Shared)
@@ -136,6 +138,7 @@ impl LockCore {
         ensures calls { Calls self.old self.new (λ s. given_back s AskExclusive) result }
         ensures answer { result ≡ is_locked self.old.held }
         ensures refused { OnFalse result (self.new ≡ self.old) }
+        ensures wakes { OwesAnswered self.old.slots self.new.slots }
         ensures settled { IsCoreSettled self.new }
     {
         let _locked = self.is_locked();
@@ -150,6 +153,7 @@ impl LockCore {
         ensures calls { Calls self.old self.new (λ s. given_back s AskShared) result }
         ensures answer { result ≡ is_shared self.old.held }
         ensures refused { OnFalse result (self.new ≡ self.old) }
+        ensures wakes { OwesAnswered self.old.slots self.new.slots }
         ensures settled { IsCoreSettled self.new }
     {
         let _shared = self.is_shared();
@@ -166,6 +170,7 @@ impl LockCore {
         ensures poisoned { result ≡ true
             → self.new ≡ record { held = OfLock Poisoned; slots = all_slots_answered poisoned_value self.old.slots } }
         ensures refused { OnFalse result (self.new ≡ self.old) }
+        ensures wakes { OwesAnswered self.old.slots self.new.slots }
         ensures settled { IsCoreSettled self.new }
     {
         let _waiting = self.core.waiting();
@@ -184,6 +189,7 @@ impl LockCore {
         ensures answer { result ≡ is_poisoned self.old.held }
         ensures cleared { result ≡ true → self.new ≡ record self.old { held = OfLock Free } }
         ensures refused { OnFalse result (self.new ≡ self.old) }
+        ensures wakes { OwesAnswered self.old.slots self.new.slots }
         ensures settled { IsCoreSettled self.new }
     {
         let _waiting = self.core.waiting();
@@ -207,6 +213,7 @@ impl LockCore {
             → (result ≡ Ok false) × (self.new ≡ self.old) × (ticket.new ≡ ticket.old) }
         ensures full { IsErr result → held_slots self.old.slots ≡ room_of self.old.slots }
         ensures refused { is_yes result ≡ false → (self.new ≡ self.old) × (ticket.new ≡ ticket.old) }
+        ensures wakes { OwesAnswered self.old.slots self.new.slots }
         ensures settled { IsCoreSettled self.new }
     {
         let _owner = self.core.needs().owner();
@@ -224,6 +231,7 @@ impl LockCore {
         ensures foreign { IsForeign self.old.slots ticket.old
             → (result ≡ Err NotRegistered) × (self.new ≡ self.old) × (ticket.new ≡ ticket.old) }
         ensures unchanged { OnErr result (self.new ≡ self.old) }
+        ensures owed { self.new.slots.owed ≡ self.old.slots.owed }
         ensures settled { IsCoreSettled self.new }
     {
         match self.poll_number(ticket, how) {
@@ -239,6 +247,7 @@ impl LockCore {
         ensures foreign { IsForeign self.old.slots ticket.old
             → (result ≡ Err NotRegistered) × (self.new ≡ self.old) × (ticket.new ≡ ticket.old) }
         ensures unchanged { OnErr result (self.new ≡ self.old) }
+        ensures owed { self.new.slots.owed ≡ self.old.slots.owed }
         ensures settled { IsCoreSettled self.new }
     {
         self.core.poll_number(ticket, how)
@@ -255,6 +264,7 @@ impl LockCore {
         ensures idle { ticket.new ≡ Unregistered }
         ensures unregistered { ticket.old ≡ Unregistered → self.new ≡ self.old }
         ensures foreign { IsForeign self.old.slots ticket.old → self.new ≡ self.old }
+        ensures wakes { OwesAnswered self.old.slots self.new.slots }
         ensures settled { IsCoreSettled self.new }
     {
         self.core.cancel(ticket);
@@ -276,6 +286,7 @@ impl LockCore {
         ensures granted { takes_now self.old request ≡ true → result ≡ Ok tt }
         ensures refusal { takes_now self.old request ≡ false → result ≡ Err (try_error (is_poisoned self.old.held)) }
         ensures refused { OnErr result (self.new ≡ self.old) }
+        ensures wakes { OwesAnswered self.old.slots self.new.slots }
         ensures settled { IsCoreSettled self.new }
     {
         let is_poisoned = self.is_poisoned();
@@ -493,6 +504,8 @@ impl Primitive for LockCore {
     }
 
     fn call(&mut self, call: LockCall) -> LockAnswer {
+        // The proof learns that a call which only reads owes nobody a wake.
+        let _waiting = self.core.waiting();
         match call {
             LockCall::TryLock => LockAnswer::Tried(self.try_lock()),
             LockCall::TryShare => LockAnswer::Tried(self.try_share()),

@@ -13,7 +13,7 @@ ghost use Rattle.saa_object.specs.Asking.{tried, registered};
 ghost use Rattle.saa_object.specs.Polling.{polled, given_back, read_as};
 ghost use Rattle.saa_object.specs.Values.{semaphore_value};
 ghost use Rattle.saa_object.specs.Semaphore.{bound_of, out_of, available, new_semaphore};
-ghost use Rattle.saa_line.specs.Slots.{empty_slots, held_slots, room_of, wake_told};
+ghost use Rattle.saa_line.specs.Slots.{OwesAnswered, empty_slots, held_slots, room_of, wake_told};
 ghost use Rattle.saa_tickets.specs.Tickets.{Acts, Calls, Belong, IsCoreSettled, Polled, IsForeign, dropping, fault_of, is_busy, is_yes, object_of};
 
 use crate::granting::{Granting, Needs};
@@ -118,6 +118,7 @@ impl<const MAX: usize> SemaphoreCoreOf<MAX> {
         ensures calls { Calls self.old self.new (λ s. tried s (Permits 1)) result }
         ensures answer { IsTrue result ↔ ((self.old.slots.line ≡ []) × (1 ≤ available self.old.held)) }
         ensures refused { OnFalse result (self.new ≡ self.old) }
+        ensures wakes { OwesAnswered self.old.slots self.new.slots }
         ensures settled { IsCoreSettled self.new }
     {
         self.try_acquire_many(1)
@@ -132,6 +133,7 @@ impl<const MAX: usize> SemaphoreCoreOf<MAX> {
         ensures answer { IsTrue result ↔ ((self.old.slots.line ≡ []) × (count ≤ available self.old.held)) }
         ensures taken { OnTrue result (available self.new.held + count ≡ available self.old.held) }
         ensures refused { OnFalse result (self.new ≡ self.old) }
+        ensures wakes { OwesAnswered self.old.slots self.new.slots }
         ensures settled { IsCoreSettled self.new }
     {
         let Some(request) = self.request_of(count) else {
@@ -145,6 +147,7 @@ impl<const MAX: usize> SemaphoreCoreOf<MAX> {
         ensures calls { Calls self.old self.new (λ s. given_back s (Permits 1)) result }
         ensures answer { IsTrue result ↔ (1 ≤ out_of self.old.held) }
         ensures refused { OnFalse result (self.new ≡ self.old) }
+        ensures wakes { OwesAnswered self.old.slots self.new.slots }
         ensures settled { IsCoreSettled self.new }
     {
         self.release_many(1)
@@ -158,6 +161,7 @@ impl<const MAX: usize> SemaphoreCoreOf<MAX> {
         ensures calls { Calls self.old self.new (λ s. given_back s (Permits count)) result }
         ensures answer { IsTrue result ↔ (count ≤ out_of self.old.held) }
         ensures refused { OnFalse result (self.new ≡ self.old) }
+        ensures wakes { OwesAnswered self.old.slots self.new.slots }
         ensures settled { IsCoreSettled self.new }
     {
         let Some(request) = self.request_of(count) else {
@@ -186,6 +190,7 @@ impl<const MAX: usize> SemaphoreCoreOf<MAX> {
             → (result ≡ Ok false) × (self.new ≡ self.old) × (ticket.new ≡ ticket.old) }
         ensures full { IsErr result → held_slots self.old.slots ≡ room_of self.old.slots }
         ensures refused { is_yes result ≡ false → (self.new ≡ self.old) × (ticket.new ≡ ticket.old) }
+        ensures wakes { OwesAnswered self.old.slots self.new.slots }
         ensures settled { IsCoreSettled self.new }
     {
         let Some(request) = self.request_of(count) else {
@@ -205,6 +210,7 @@ impl<const MAX: usize> SemaphoreCoreOf<MAX> {
         ensures foreign { IsForeign self.old.slots ticket.old
             → (result ≡ Err NotRegistered) × (self.new ≡ self.old) × (ticket.new ≡ ticket.old) }
         ensures unchanged { OnErr result (self.new ≡ self.old) }
+        ensures owed { self.new.slots.owed ≡ self.old.slots.owed }
         ensures settled { IsCoreSettled self.new }
     {
         match self.poll_number(ticket, how) {
@@ -220,6 +226,7 @@ impl<const MAX: usize> SemaphoreCoreOf<MAX> {
         ensures foreign { IsForeign self.old.slots ticket.old
             → (result ≡ Err NotRegistered) × (self.new ≡ self.old) × (ticket.new ≡ ticket.old) }
         ensures unchanged { OnErr result (self.new ≡ self.old) }
+        ensures owed { self.new.slots.owed ≡ self.old.slots.owed }
         ensures settled { IsCoreSettled self.new }
     {
         self.core.poll_number(ticket, how)
@@ -235,6 +242,7 @@ impl<const MAX: usize> SemaphoreCoreOf<MAX> {
         ensures idle { ticket.new ≡ Unregistered }
         ensures unregistered { ticket.old ≡ Unregistered → self.new ≡ self.old }
         ensures foreign { IsForeign self.old.slots ticket.old → self.new ≡ self.old }
+        ensures wakes { OwesAnswered self.old.slots self.new.slots }
         ensures settled { IsCoreSettled self.new }
     {
         self.core.cancel(ticket);
@@ -256,6 +264,7 @@ impl<const MAX: usize> SemaphoreCoreOf<MAX> {
         ensures too_many { IsNone result ↔ (MAX < count) }
         ensures held { self.now.held ≡ OfSemaphore MAX (out_of self.now.held) }
         ensures bounded { out_of self.now.held ≤ MAX }
+        ensures quiet { OwesAnswered self.now.slots self.now.slots }
         ensures settled { IsCoreSettled self.now }
     {
         let _permits = self.core.needs().out;
@@ -340,6 +349,8 @@ impl<const MAX: usize> Primitive for SemaphoreCoreOf<MAX> {
     }
 
     fn call(&mut self, call: SemaphoreCall) -> SemaphoreAnswer {
+        // The proof learns that a call which only reads owes nobody a wake.
+        let _waiting = self.core.waiting();
         match call {
             SemaphoreCall::TryAcquireMany(count) => SemaphoreAnswer::Bool(self.try_acquire_many(
                 count,

@@ -139,3 +139,9 @@ pub length-left : (waited : Bool) (old new : Slots) (slot : ℕ) → OnTrue wait
     → length new.line ≤ length old.line
 length-left true old new slot left same = omega (arith, ap (λ (s : Slots). length s.line) left, length-without slot old.line)
 length-left false old new slot left same = omega (arith, ap (λ (s : Slots). length s.line) same)
+
+-- and nobody is answered by that, nor owed a wake
+pub left-unanswered : (waited : Bool) (old new : Slots) (slot : ℕ) → OnTrue waited (new ≡ record old { line = without slot old.line }) → OnFalse waited (new ≡ old)
+    → (old.answers ≡ new.answers) × (old.owed ≡ new.owed)
+left-unanswered true old new slot left same = (sym (ap (λ (s : Slots). s.answers) left), sym (ap (λ (s : Slots). s.owed) left))
+left-unanswered false old new slot left same = (sym (ap (λ (s : Slots). s.answers) same), sym (ap (λ (s : Slots). s.owed) same))

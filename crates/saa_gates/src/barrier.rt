@@ -13,7 +13,7 @@ ghost use Rattle.saa_object.specs.Asking.{registered};
 ghost use Rattle.saa_object.specs.Polling.{polled, read_as};
 ghost use Rattle.saa_object.specs.Values.{barrier_value, leader_value, passed_value};
 ghost use Rattle.saa_object.specs.Barrier.{size_of, barrier_step, new_barrier};
-ghost use Rattle.saa_line.specs.Slots.{empty_slots, held_slots, room_of, wake_told, all_slots_answered};
+ghost use Rattle.saa_line.specs.Slots.{OwesAnswered, empty_slots, held_slots, room_of, wake_told, all_slots_answered};
 ghost use Rattle.saa_tickets.specs.Tickets.{Acts, Calls, Belong, Polled, IsForeign, dropping, fault_of, is_busy, is_yes, object_of};
 ghost use Rattle.saa_gates.specs.Standing.{IsBarrierStanding};
 ghost use Rattle.saa_gates.specs.Waiters.{IsWaiting, left_by};
@@ -114,6 +114,7 @@ impl BarrierCore {
             → self.new.slots.owed ≡ self.old.slots.owed }
         ensures refused { is_yes result ≡ false → (self.new ≡ self.old) × (ticket.new ≡ ticket.old) }
         ensures size { self.new.held ≡ self.old.held }
+        ensures wakes { OwesAnswered self.old.slots self.new.slots }
         ensures standing { IsBarrierStanding self.new }
     {
         if ticket.is_registered() {
@@ -144,6 +145,7 @@ impl BarrierCore {
             → (result ≡ Err NotRegistered) × (self.new ≡ self.old) × (ticket.new ≡ ticket.old) }
         ensures unchanged { OnErr result (self.new ≡ self.old) }
         ensures size { self.new.held ≡ self.old.held }
+        ensures owed { self.new.slots.owed ≡ self.old.slots.owed }
         ensures standing { IsBarrierStanding self.new }
     {
         let answer = self.poll_number(ticket, how);
@@ -158,6 +160,7 @@ impl BarrierCore {
             → (result ≡ Err NotRegistered) × (self.new ≡ self.old) × (ticket.new ≡ ticket.old) }
         ensures unchanged { OnErr result (self.new ≡ self.old) }
         ensures size { self.new.held ≡ self.old.held }
+        ensures owed { self.new.slots.owed ≡ self.old.slots.owed }
         ensures standing { IsBarrierStanding self.new }
     {
         ticket.poll_in(&mut self.line, how)
@@ -178,6 +181,7 @@ impl BarrierCore {
         ensures foreign { IsForeign self.old.slots ticket.old → self.new ≡ self.old }
         ensures nobody { self.new.slots.owed ≡ self.old.slots.owed }
         ensures size { self.new.held ≡ self.old.held }
+        ensures wakes { OwesAnswered self.old.slots self.new.slots }
         ensures standing { IsBarrierStanding self.new }
     {
         let _opened = &self.line;
@@ -212,6 +216,7 @@ impl BarrierCore {
     fn vacate(&mut self, slot: u16)
         ensures vacated { self.new ≡ record self.old { slots = vacated (λ s. s) self.old.slots slot } }
         ensures nobody { self.new.slots.owed ≡ self.old.slots.owed }
+        ensures wakes { OwesAnswered self.old.slots self.new.slots }
         ensures standing { IsBarrierStanding self.new }
     {
         if self.line.take(slot).is_none() {
@@ -258,6 +263,8 @@ impl Primitive for BarrierCore {
     }
 
     fn call(&mut self, call: BarrierCall) -> BarrierAnswer {
+        // The proof learns that a call which only reads owes nobody a wake.
+        let _opened = &self.line;
         match call {
             BarrierCall::Count => BarrierAnswer::Count(self.count()),
         }

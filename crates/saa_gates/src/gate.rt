@@ -14,7 +14,7 @@ ghost use Rattle.saa_object.specs.Asking.{registered};
 ghost use Rattle.saa_object.specs.Polling.{polled, read_as};
 ghost use Rattle.saa_object.specs.Values.{gate_value, gate_error, permitted_value, rejected_value, opened_value, sealed_value, spurious_value};
 ghost use Rattle.saa_object.specs.Gate.{gate_state, gate_step, let_through, moved, new_gate};
-ghost use Rattle.saa_line.specs.Slots.{empty_slots, held_slots, room_of, wake_told, all_slots_answered};
+ghost use Rattle.saa_line.specs.Slots.{OwesAnswered, empty_slots, held_slots, room_of, wake_told, all_slots_answered};
 ghost use Rattle.saa_tickets.specs.Tickets.{Acts, Calls, Belong, Polled, IsForeign, dropping, fault_of, is_busy, is_yes, object_of};
 ghost use Rattle.saa_gates.specs.Standing.{IsGateStanding};
 ghost use Rattle.saa_gates.specs.GatePolls.{GatePolled, is_answer};
@@ -108,6 +108,7 @@ impl GateCore {
         ensures answer { IsNone result ↔ (gate_state self.old.held ≡ Controlled) }
         ensures before { IfSome result (λ before. before ≡ gate_state self.old.held) }
         ensures controlled { self.new ≡ record self.old { held = OfGate Controlled } }
+        ensures wakes { OwesAnswered self.old.slots self.new.slots }
         ensures standing { IsGateStanding self.new }
     {
         match self.state {
@@ -128,6 +129,7 @@ impl GateCore {
         ensures permitted { IfOk result (λ count. (count ≡ length self.old.slots.line)
             × (self.new ≡ record self.old { slots = all_slots_answered permitted_value self.old.slots })) }
         ensures refused { IfErr result (λ state. (state ≡ gate_state self.old.held) × (self.new ≡ self.old)) }
+        ensures wakes { OwesAnswered self.old.slots self.new.slots }
         ensures standing { IsGateStanding self.new }
     {
         self.let_through(PERMITTED)
@@ -142,6 +144,7 @@ impl GateCore {
         ensures rejected { IfOk result (λ count. (count ≡ length self.old.slots.line)
             × (self.new ≡ record self.old { slots = all_slots_answered rejected_value self.old.slots })) }
         ensures refused { IfErr result (λ state. (state ≡ gate_state self.old.held) × (self.new ≡ self.old)) }
+        ensures wakes { OwesAnswered self.old.slots self.new.slots }
         ensures standing { IsGateStanding self.new }
     {
         self.let_through(REJECTED)
@@ -154,6 +157,7 @@ impl GateCore {
         ensures before { result.0 ≡ gate_state self.old.held }
         ensures count { result.1 ≡ length self.old.slots.line }
         ensures opened { self.new ≡ record { held = OfGate Open; slots = all_slots_answered opened_value self.old.slots } }
+        ensures wakes { OwesAnswered self.old.slots self.new.slots }
         ensures standing { IsGateStanding self.new }
     {
         self.move_to(State::Open, OPENED)
@@ -166,6 +170,7 @@ impl GateCore {
         ensures before { result.0 ≡ gate_state self.old.held }
         ensures count { result.1 ≡ length self.old.slots.line }
         ensures sealed { self.new ≡ record { held = OfGate Sealed; slots = all_slots_answered sealed_value self.old.slots } }
+        ensures wakes { OwesAnswered self.old.slots self.new.slots }
         ensures standing { IsGateStanding self.new }
     {
         self.move_to(State::Sealed, SEALED)
@@ -189,6 +194,7 @@ impl GateCore {
         ensures nobody { self.new.slots.owed ≡ self.old.slots.owed }
         ensures refused { is_yes result ≡ false → (self.new ≡ self.old) × (ticket.new ≡ ticket.old) }
         ensures state { self.new.held ≡ self.old.held }
+        ensures wakes { OwesAnswered self.old.slots self.new.slots }
         ensures standing { IsGateStanding self.new }
     {
         if ticket.is_registered() {
@@ -219,6 +225,7 @@ impl GateCore {
         ensures foreign { IsForeign self.old.slots ticket.old
             → (result ≡ Err Error.NotRegistered) × (self.new ≡ self.old) × (ticket.new ≡ ticket.old) }
         ensures state { self.new.held ≡ self.old.held }
+        ensures owed { self.new.slots.owed ≡ self.old.slots.owed }
         ensures standing { IsGateStanding self.new }
     {
         let answer = self.poll_number(ticket, how);
@@ -234,6 +241,7 @@ impl GateCore {
             → (result ≡ Err NotRegistered) × (self.new ≡ self.old) × (ticket.new ≡ ticket.old) }
         ensures unchanged { OnErr result (self.new ≡ self.old) }
         ensures state { self.new.held ≡ self.old.held }
+        ensures owed { self.new.slots.owed ≡ self.old.slots.owed }
         ensures standing { IsGateStanding self.new }
     {
         ticket.poll_in(&mut self.line, how)
@@ -254,6 +262,7 @@ impl GateCore {
             → (self.new.slots.line ≡ self.old.slots.line) × (self.new.slots.owed ≡ self.old.slots.owed) }
         ensures foreign { IsForeign self.old.slots ticket.old → self.new ≡ self.old }
         ensures state { self.new.held ≡ self.old.held }
+        ensures wakes { OwesAnswered self.old.slots self.new.slots }
         ensures standing { IsGateStanding self.new }
     {
         let _opened = &self.line;
@@ -284,6 +293,7 @@ impl GateCore {
         ensures answered { IfOk result (λ count. (count ≡ length self.old.slots.line)
             × (self.new ≡ record self.old { slots = all_slots_answered value self.old.slots })) }
         ensures refused { IfErr result (λ state. (state ≡ gate_state self.old.held) × (self.new ≡ self.old)) }
+        ensures wakes { OwesAnswered self.old.slots self.new.slots }
         ensures standing { IsGateStanding self.new }
     {
         match self.state {
@@ -298,6 +308,7 @@ impl GateCore {
         ensures before { result.0 ≡ gate_state self.old.held }
         ensures count { result.1 ≡ length self.old.slots.line }
         ensures moved { self.new ≡ record { held = OfGate state; slots = all_slots_answered value self.old.slots } }
+        ensures wakes { OwesAnswered self.old.slots self.new.slots }
         ensures standing { IsGateStanding self.new }
     {
         let before = self.state;
@@ -310,6 +321,7 @@ impl GateCore {
     fn answer_all(&mut self, value: u8) -> usize
         ensures count { result ≡ length self.old.slots.line }
         ensures answered { self.new ≡ record self.old { slots = all_slots_answered value self.old.slots } }
+        ensures wakes { OwesAnswered self.old.slots self.new.slots }
         ensures standing { IsGateStanding self.new }
     {
         let waiting = usize::from(self.line.waiting());
@@ -332,6 +344,7 @@ impl GateCore {
     // gave up; a slot that isn't held is nothing.
     fn vacate(&mut self, slot: u16)
         ensures vacated { self.new ≡ record self.old { slots = vacated (all_slots_answered spurious_value) self.old.slots slot } }
+        ensures wakes { OwesAnswered self.old.slots self.new.slots }
         ensures standing { IsGateStanding self.new }
     {
         if self.line.take(slot).is_some() {
@@ -399,6 +412,8 @@ impl Primitive for GateCore {
     }
 
     fn call(&mut self, call: GateCall) -> GateAnswer {
+        // The proof learns that a call which only reads owes nobody a wake.
+        let _opened = &self.line;
         match call {
             GateCall::State => GateAnswer::State(self.state()),
             GateCall::Reset => GateAnswer::Reset(self.reset()),

@@ -1,6 +1,6 @@
 -- What contracts see of a `Line`: the slots that wait, with what each asks, the answers that are there, and the wakes
 -- that are owed.
-use Rattle.std.specs.Prelude.{ℕ, ◌+◌, ◌≤◌, ◌<◌, List, [], ◌∷◌, ◌++◌, length, Option, Some, None, is_some, nat_lt, ◌==◌, if◌then◌else◌, slice_index_or, slice_set, replicate, take, drop}
+use Rattle.std.specs.Prelude.{◌≡◌, ℕ, ◌+◌, ◌≤◌, ◌<◌, List, [], ◌∷◌, ◌++◌, length, Option, Some, None, is_some, nat_lt, ◌==◌, if◌then◌else◌, slice_index_or, slice_set, replicate, take, drop}
 use Rattle.saa_object.specs.Object.{Waiter, one_if, times}
 
 -- The line, oldest first: a slot and what it asks. The answer of each slot, by its number, where one is there; there are
@@ -81,3 +81,14 @@ all_slots_answered value slots = record {
 -- the oldest wake that is owed was told
 abbrev pub wake_told : Slots → Slots
 wake_told slots = record slots { owed = drop 1 slots.owed }
+
+-- those of a line who have an answer
+abbrev pub answered_of : List Waiter → List (Option ℕ) → List Waiter
+answered_of [] answers = []
+answered_of (waiter ∷ waiters) answers =
+    if is_some (answer_in answers waiter.0) then (waiter ∷ answered_of waiters answers) else answered_of waiters answers
+
+-- What a call does to the wakes that are owed: whoever waited before it and has an answer after it is owed one, in the
+-- order of the line and behind those that were owed before; no other wake comes, and none goes
+pub record OwesAnswered (old new : Slots) : Type 0 where
+  pub exact : new.owed ≡ owed_after (answered_of old.line new.answers) old.owed

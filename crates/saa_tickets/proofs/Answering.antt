@@ -12,7 +12,7 @@ use Rattle.saa_tickets.proofs.Steps.{front-object, front-belong}
 use Rattle.saa_tickets.proofs.Polls.{after}
 
 -- to answer as many as wait is to answer all
-all_answered-front : (v : ℕ) (slots : Slots) → slots_answered v (length slots.line) slots ≡ all_slots_answered v slots
+pub all_answered-front : (v : ℕ) (slots : Slots) → slots_answered v (length slots.line) slots ≡ all_slots_answered v slots
 all_answered-front v slots =
     ap (λ (l : List Waiter). record { line = drop (length slots.line) slots.line; answers = answered_slots v l slots.answers; owed = owed_after l slots.owed }) (take-length slots.line)
     ∙ ap (λ (l : List Waiter). record { line = l; answers = answered_slots v slots.line slots.answers; owed = owed_after slots.line slots.owed }) (drop-length slots.line)

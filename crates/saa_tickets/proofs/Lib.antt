@@ -4,4 +4,5 @@ pub mod Steps
 pub mod Polls
 pub mod Registering
 pub mod Answering
+pub mod Waking
 pub mod BenchLemmas

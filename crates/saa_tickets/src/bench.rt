@@ -11,7 +11,7 @@ ghost use Rattle.saa_tickets.specs.declared.ticket.Registration.TheVariants.{Unr
 ghost use Rattle.saa_object.specs.Object.{Object, After, entry_at};
 ghost use Rattle.saa_object.specs.Asking.{registered, is_idle};
 ghost use Rattle.saa_object.specs.Polling.{polled, read_as, dropped};
-ghost use Rattle.saa_line.specs.Slots.{room_of, wake_told};
+ghost use Rattle.saa_line.specs.Slots.{OwesAnswered, room_of, wake_told};
 ghost use Rattle.saa_tickets.specs.Tickets.{Core, Acts, Calls, Polled, dropping, fault_of, is_busy, is_yes, object_of};
 ghost use Rattle.saa_object.specs.Run.{IsWithin, done, replies, state_after};
 
@@ -47,28 +47,32 @@ pub trait Primitive: Drop {
     fn stands(&self)
         ensures { (tickets : List Registration) → stands (object_of (core self.now) tickets) };
 
-    /// Makes a call that needs no ticket.
+    /// Makes a call that needs no ticket; each whom it answers is owed a wake.
     fn call(&mut self, call: Self::Call) -> Self::Answer
-        ensures { Calls (core self.old) (core self.new) (step call) result };
+        ensures calls { Calls (core self.old) (core self.new) (step call) result }
+        ensures wakes { OwesAnswered (core self.old).slots (core self.new).slots };
 
-    /// Registers an idle ticket, as sync or as async; see the primitive's own call.
+    /// Registers an idle ticket, as sync or as async; see the primitive's own call. Each whom that answers is owed a wake.
     fn register(&mut self, ticket: &mut Ticket, ask: Self::Ask, is_sync: bool) -> Result<bool, Full>
         ensures acts { Acts (core self.old) (core self.new) ticket.old ticket.new (λ s name. registered s name (request ask) is_sync) result }
-        ensures ticket { is_busy ticket.new ≡ (is_busy ticket.old || is_yes result) };
+        ensures ticket { is_busy ticket.new ≡ (is_busy ticket.old || is_yes result) }
+        ensures wakes { OwesAnswered (core self.old).slots (core self.new).slots };
 
-    /// Polls a ticket for the number of its answer; never waits.
+    /// Polls a ticket for the number of its answer; never waits, and leaves the owed wakes as they are.
     fn poll_number(&mut self, ticket: &mut Ticket, how: How) -> Result<u8, Error>
         ensures acts { Acts (core self.old) (core self.new) ticket.old ticket.new (λ s name. polled s name how) result }
-        ensures ticket { Polled ticket.old ticket.new how (fault_of result) };
+        ensures ticket { Polled ticket.old ticket.new how (fault_of result) }
+        ensures owed { (core self.new).slots.owed ≡ (core self.old).slots.owed };
 
     /// What the number of an answer means to this primitive.
     fn value_of(answer: Result<u8, Error>) -> Self::Value
         ensures { result ≡ value answer };
 
-    /// Drops what a ticket is registered for; it is idle afterwards.
+    /// Drops what a ticket is registered for; it is idle afterwards, and each whom that answers is owed a wake.
     fn cancel(&mut self, ticket: &mut Ticket)
         ensures acts { Acts (core self.old) (core self.new) ticket.old ticket.new dropping result }
-        ensures idle { ticket.new ≡ Unregistered };
+        ensures idle { ticket.new ≡ Unregistered }
+        ensures wakes { OwesAnswered (core self.old).slots (core self.new).slots };
 
     /// The oldest wake that is owed, which is told by this; `None` exactly where none is owed.
     fn next_answered(&mut self) -> Option<u16>

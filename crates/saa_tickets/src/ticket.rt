@@ -87,6 +87,7 @@ impl Ticket {
             → (result ≡ Err NotRegistered) × (line.new ≡ line.old) × (self.new ≡ self.old) }
         ensures unchanged { OnErr result (line.new ≡ line.old) }
         ensures line { line.new.line ≡ line.old.line }
+        ensures owed { line.new.owed ≡ line.old.owed }
         ensures sound { IsSound line.new }
     {
         match self.registration() {
@@ -122,6 +123,7 @@ impl Ticket {
             → (result ≡ Err NotRegistered) × (line.new ≡ line.old) × (self.new ≡ self.old) }
         ensures unchanged { OnErr result (line.new ≡ line.old) }
         ensures line { line.new.line ≡ line.old.line }
+        ensures owed { line.new.owed ≡ line.old.owed }
         ensures sound { IsSound line.new }
     {
         match slot_state(line, slot) {

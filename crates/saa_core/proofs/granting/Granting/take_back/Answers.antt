@@ -1,9 +1,11 @@
-use Rattle.std.proofs.Common.{◌≡◌, [], false, Some, sym, subst}
+use Rattle.std.proofs.Common.{◌≡◌, [], false, Some, sym, subst, ap}
 use Rattle.saa_object.specs.Held.{OfLock, Poisoned, less}
 use Rattle.saa_object.specs.Polling.{is_for_nothing}
-use Rattle.saa_tickets.specs.Tickets.{IsCoreSettled}
+use Rattle.saa_tickets.specs.Tickets.{IsCoreSettled, Core}
 use Rattle.saa_core.proofs.Asks.{release_given}
 use Rattle.saa_core.proofs.SettlingSteps.{settled-settled, unpoisoned-given}
+use Rattle.saa_tickets.proofs.Waking.{owes-same}
+use Rattle.saa_core.proofs.Waking.{owes-settled}
 use Rattle.saa_core.proofs.granting.Granting.take_back.Goals as goal
 
 pub invariant_of-self-2 : goal.invariant_of-self-2
@@ -23,3 +25,14 @@ returns-clause-calls g c =
 
 pub returns-clause-settled : goal.returns-clause-settled
 returns-clause-settled g c = subst (λ k. IsCoreSettled k) (sym c.settle.ensures.settled) (settled-settled _)
+
+pub returns-then-is_for_nothing-clause-wakes : goal.returns-then-is_for_nothing-clause-wakes
+returns-then-is_for_nothing-clause-wakes g c = rw (← c.self.view_is) (owes-same c.self.inside.line c.self.invariant.sound)
+
+pub returns-then-not-give_back-clause-wakes : goal.returns-then-not-give_back-clause-wakes
+returns-then-not-give_back-clause-wakes g c = rw (← c.self.view_is) (owes-same c.self.inside.line c.self.invariant.sound)
+
+pub returns-clause-wakes : goal.returns-clause-wakes
+returns-clause-wakes g c =
+    let line = ap (λ (k : Core). k.slots) c.settle.ensures.settled in
+    rw (line, ← c.self.view_is) (owes-settled (record { held = g.N.Needs.held c.give_back.new.self; slots = c.self.inside.line }) c.self.invariant.sound)

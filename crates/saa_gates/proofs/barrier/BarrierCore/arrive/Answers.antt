@@ -7,6 +7,7 @@ use Rattle.saa_object.specs.Barrier.{size_of}
 use Rattle.saa_object.proofs.Counts.{same_number, other_number}
 use Rattle.saa_gates.proofs.Gathering.{register_full, register_joined}
 use Rattle.saa_gates.proofs.Rounds.{arrive_last, arrive_waits}
+use Rattle.saa_tickets.proofs.Waking.{owes-same, owes-joined, owes-all}
 use Rattle.saa_gates.proofs.barrier.BarrierCore.arrive.Goals as goal
 
 pub returns-then-is_registered-clause-acts : goal.returns-then-is_registered-clause-acts
@@ -33,3 +34,15 @@ returns-clause-acts c =
     let idle : c.args.ticket.now ≡ Unregistered = idle_ticket c.args.ticket.now cc in
     let test : (length c.args.self.now.slots.line + 1 == size_of c.args.self.now.held) ≡ false = cc in
     rw (idle, c.set-2.ensures, c.in-Some.ensures.joined, ← c.self.view_is) (register_joined _ c.self.inside.line c.in-Some.slot Arrive c.args.is_sync refl (arrive_waits c.self.inside.size c.self.inside.line (other_number _ _ (rw (← c.self.view_is) at test))) (λ full. (let wrong : true ≡ false = c.in-Some.ensures.full.1 full in cc)) c.in-Some.ensures.was_free)
+
+pub returns-then-is_registered-clause-wakes : goal.returns-then-is_registered-clause-wakes
+returns-then-is_registered-clause-wakes c = rw (← c.self.view_is) (owes-same c.self.inside.line c.self.invariant.sound)
+
+pub returns-then-completes_round-clause-wakes : goal.returns-then-completes_round-clause-wakes
+returns-then-completes_round-clause-wakes c = rw (c.answer_all.ensures.answered, ← c.self.view_is) (owes-all _ c.self.inside.line c.self.invariant.sound)
+
+pub returns-in_default-clause-wakes : goal.returns-in_default-clause-wakes
+returns-in_default-clause-wakes c = rw (c.in_default.ensures.unchanged, ← c.self.view_is) (owes-same c.self.inside.line c.self.invariant.sound)
+
+pub returns-clause-wakes : goal.returns-clause-wakes
+returns-clause-wakes c = rw (c.in-Some.ensures.joined, ← c.self.view_is) (owes-joined c.self.inside.line c.in-Some.slot Arrive c.self.invariant.sound)
