@@ -1,5 +1,5 @@
 -- What a registration says of its ticket, read off what it does to the object of the core with that ticket alone.
-use Rattle.std.proofs.Common.{◌≡◌, ℕ, ◌≤◌, ◌||◌, ◌==◌, not, List, [], ◌∷◌, Option, Some, None, Result, Ok, Err, IsErr, Bool, true, false, slice_set, refl, sym, ap, ◌∙◌, arith}
+use Rattle.std.proofs.Common.{◌≡◌, ℕ, ◌≤◌, ◌||◌, ◌==◌, not, List, [], ◌∷◌, Option, Some, None, Result, Ok, Err, IsErr, Bool, true, false, slice_set, refl, sym, ap, subst, ◌∙◌, arith}
 use Rattle.saa_object.specs.declared.request.Request.{Request}
 use Rattle.saa_object.specs.declared.request.Full.{Full}
 use Rattle.saa_tickets.specs.declared.ticket.Registration.{Registration}
@@ -7,10 +7,10 @@ use Rattle.saa_tickets.specs.declared.ticket.Registration.TheVariants.{Unregiste
 use Rattle.saa_object.specs.Asking.{registered, registered_of, answer_at_once, is_idle}
 use Rattle.saa_object.specs.Held.{asks_too_much}
 use Rattle.saa_object.specs.Object.{Object, After, Entry, Idle, Waiting, Answered, entry_at, used}
-use Rattle.saa_line.specs.Slots.{Slots, answer_in}
+use Rattle.saa_line.specs.Slots.{Slots, OwesAnswered, answer_in}
 use Rattle.saa_tickets.specs.Tickets.{Core, Acts, Belong, entry_of, slot_entry, is_yes, object_of}
 use Rattle.saa_sync.specs.declared.shell.Begun.{Begun}
-use Rattle.saa_sync.specs.Waits.{alone, mode_of, registration_of}
+use Rattle.saa_sync.specs.Waits.{BeginOwes, alone, mode_of, registration_of}
 
 -- an entry's mode; an idle one has none
 abbrev pub entry_mode : Entry → Option Bool
@@ -76,3 +76,15 @@ pub registered-mode : (old new : Core) (ticket : Registration) (request : Reques
 registered-mode old new ticket request is_sync (Ok true) is call = yes-mode old new ticket request is_sync call
 registered-mode old new ticket request is_sync (Ok false) is call = cc
 registered-mode old new ticket request is_sync (Err full) is call = cc
+
+-- what a registration that was answered true and then polled owes
+pub begin-owes : (old between new : Core) (ticket ticket_between : Registration) (request : Request) (answer : Bool) → answer ≡ true
+    → Acts old between ticket ticket_between (λ s name. registered s name request true) (Ok answer) → OwesAnswered old.slots between.slots
+    → new.slots.owed ≡ between.slots.owed → BeginOwes old new ticket request (Ok true)
+begin-owes old between new ticket ticket_between request answer is call owes same = record {
+  between = between;
+  ticket_between = ticket_between;
+  registration = subst (λ (b : Bool). Acts old between ticket ticket_between (λ s name. registered s name request true) (Ok b)) is call;
+  wakes = owes;
+  owed = same;
+}

@@ -1,5 +1,5 @@
 -- How a call that may wait begins, and how a wait ends.
-use Rattle.std.specs.Prelude.{ℕ, Bool, true, false, [], ◌∷◌, Option, Some, None, Result, Ok, Err}
+use Rattle.std.specs.Prelude.{◌≡◌, ℕ, Bool, true, false, [], ◌∷◌, Option, Some, None, Result, Ok, Err}
 use Rattle.saa_object.specs.declared.request.Request.{Request}
 use Rattle.saa_object.specs.declared.polling.Error.{Error}
 use Rattle.saa_object.specs.declared.polling.Error.TheVariants.{NotRegistered, WrongMode, NotReady}
@@ -10,7 +10,8 @@ use Rattle.saa_tickets.specs.declared.ticket.Registration.TheVariants.{Unregiste
 use Rattle.saa_object.specs.Asking.{registered}
 use Rattle.saa_object.specs.Object.{Object, After}
 use Rattle.saa_object.specs.Polling.{polled, read_as}
-use Rattle.saa_tickets.specs.Tickets.{Core, object_of}
+use Rattle.saa_line.specs.Slots.{OwesAnswered}
+use Rattle.saa_tickets.specs.Tickets.{Core, Acts, object_of}
 use Rattle.saa_sync.specs.declared.shell.Begun.{Begun}
 use Rattle.saa_sync.specs.declared.shell.Begun.TheVariants.{Refused, Answered, Joined}
 
@@ -62,3 +63,12 @@ is_not_ready None = false
 is_not_ready (Some NotRegistered) = false
 is_not_ready (Some WrongMode) = false
 is_not_ready (Some NotReady) = true
+
+-- What a call that may wait owes as it begins: its registration, with this answer, owes each whom it answers a wake; to
+-- consume its own answer at once changes none
+pub record BeginOwes (old new : Core) (ticket : Registration) (request : Request) (answer : Result Bool Full) : Type 0 where
+  pub between : Core
+  pub ticket_between : Registration
+  pub registration : Acts old between ticket ticket_between (λ s name. registered s name request true) answer
+  pub wakes : OwesAnswered old.slots between.slots
+  pub owed : new.slots.owed ≡ between.slots.owed

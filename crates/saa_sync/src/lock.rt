@@ -8,6 +8,7 @@ ghost use Rattle.std.specs.Bool.{OnFalse};
 ghost use Rattle.saa_object.specs.declared.request.Request.TheVariants.{Exclusive as AskExclusive, Shared as AskShared};
 ghost use Rattle.saa_object.specs.Polling.{given_back};
 ghost use Rattle.saa_object.specs.Lock.{is_free, is_locked, is_shared, is_poisoned, poisoned_of, cleared_of};
+ghost use Rattle.saa_line.specs.Slots.{OwesAnswered};
 ghost use Rattle.saa_tickets.specs.Tickets.{Calls, is_busy, is_yes};
 ghost use Rattle.saa_core.specs.LockCalls.{lock_tried};
 ghost use Rattle.saa_sync.specs.Waits.{mode_of};
@@ -285,14 +286,16 @@ fn tell_poisoned(core: &LockCore) -> bool
 
 // A try for one owner alone, on the core that is lent.
 fn lock_now(core: &mut LockCore) -> Result<(), TryLockError>
-    ensures { Calls core.old core.new (λ s. lock_tried s AskExclusive) result }
+    ensures calls { Calls core.old core.new (λ s. lock_tried s AskExclusive) result }
+    ensures wakes { OwesAnswered core.old.slots core.new.slots }
 {
     core.try_lock()
 }
 
 // A try for a share, on the core that is lent.
 fn share_now(core: &mut LockCore) -> Result<(), TryLockError>
-    ensures { Calls core.old core.new (λ s. lock_tried s AskShared) result }
+    ensures calls { Calls core.old core.new (λ s. lock_tried s AskShared) result }
+    ensures wakes { OwesAnswered core.old.slots core.new.slots }
 {
     core.try_share()
 }
@@ -302,6 +305,7 @@ fn end_lock(core: &mut LockCore) -> bool
     ensures calls { Calls core.old core.new (λ s. given_back s AskExclusive) result }
     ensures answer { result ≡ is_locked core.old.held }
     ensures refused { OnFalse result (core.new ≡ core.old) }
+    ensures wakes { OwesAnswered core.old.slots core.new.slots }
 {
     core.release_lock()
 }
@@ -311,6 +315,7 @@ fn end_share(core: &mut LockCore) -> bool
     ensures calls { Calls core.old core.new (λ s. given_back s AskShared) result }
     ensures answer { result ≡ is_shared core.old.held }
     ensures refused { OnFalse result (core.new ≡ core.old) }
+    ensures wakes { OwesAnswered core.old.slots core.new.slots }
 {
     core.release_share()
 }
@@ -320,6 +325,7 @@ fn poison(core: &mut LockCore) -> bool
     ensures calls { Calls core.old core.new (λ s. poisoned_of s (is_locked s.held)) result }
     ensures answer { result ≡ is_locked core.old.held }
     ensures refused { OnFalse result (core.new ≡ core.old) }
+    ensures wakes { OwesAnswered core.old.slots core.new.slots }
 {
     core.poison_lock()
 }
@@ -329,6 +335,7 @@ fn clear(core: &mut LockCore) -> bool
     ensures calls { Calls core.old core.new (λ s. cleared_of s (is_poisoned s.held)) result }
     ensures answer { result ≡ is_poisoned core.old.held }
     ensures refused { OnFalse result (core.new ≡ core.old) }
+    ensures wakes { OwesAnswered core.old.slots core.new.slots }
 {
     core.clear_poison()
 }

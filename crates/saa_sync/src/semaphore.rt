@@ -9,6 +9,7 @@ ghost use Rattle.saa_object.specs.declared.request.Request.TheVariants.{Permits}
 ghost use Rattle.saa_object.specs.Asking.{tried};
 ghost use Rattle.saa_object.specs.Polling.{given_back};
 ghost use Rattle.saa_object.specs.Semaphore.{available, bound_of, out_of};
+ghost use Rattle.saa_line.specs.Slots.{OwesAnswered};
 ghost use Rattle.saa_tickets.specs.Tickets.{Calls, is_busy, is_yes};
 ghost use Rattle.saa_sync.specs.Waits.{mode_of};
 
@@ -273,6 +274,7 @@ fn take_now(core: &mut SemaphoreCore, count: usize) -> bool
     ensures calls { Calls core.old core.new (λ s. tried s (Permits count)) result }
     ensures answer { IsTrue result ↔ ((core.old.slots.line ≡ []) × (count ≤ available core.old.held)) }
     ensures refused { OnFalse result (core.new ≡ core.old) }
+    ensures wakes { OwesAnswered core.old.slots core.new.slots }
 {
     core.try_acquire_many(count)
 }
@@ -282,6 +284,7 @@ fn give_back(core: &mut SemaphoreCore, count: usize) -> bool
     ensures calls { Calls core.old core.new (λ s. given_back s (Permits count)) result }
     ensures answer { IsTrue result ↔ (count ≤ out_of core.old.held) }
     ensures refused { OnFalse result (core.new ≡ core.old) }
+    ensures wakes { OwesAnswered core.old.slots core.new.slots }
 {
     core.release_many(count)
 }

@@ -11,8 +11,8 @@ ghost use Rattle.saa_tickets.specs.declared.ticket.Registration.TheVariants.{Unr
 ghost use Rattle.saa_object.specs.Asking.{registered};
 ghost use Rattle.saa_object.specs.Polling.{polled};
 ghost use Rattle.saa_tickets.specs.Tickets.{Acts, Polled, dropping, fault_of, is_busy, is_yes};
-ghost use Rattle.saa_line.specs.Slots.{wake_told};
-ghost use Rattle.saa_sync.specs.Waits.{alone, begun, has_joined, is_not_ready, mode_of, registration_of};
+ghost use Rattle.saa_line.specs.Slots.{OwesAnswered, wake_told};
+ghost use Rattle.saa_sync.specs.Waits.{BeginOwes, alone, begun, has_joined, is_not_ready, mode_of, registration_of};
 
 use crate::seat::{Patience, Seat};
 use saa_core::bench::Primitive;
@@ -54,6 +54,7 @@ impl<P: Primitive> Inside<P> {
             (λ s name. registered s name (P.request ask) is_sync) result }
         ensures ticket { is_busy ticket.new ≡ (is_busy ticket.old || is_yes result) }
         ensures mode { ticket.old ≡ Unregistered → is_yes result ≡ true → mode_of ticket.new ≡ Some is_sync }
+        ensures wakes { OwesAnswered (P.core self.old.core).slots (P.core self.new.core).slots }
     {
         self.core.register(ticket, ask, is_sync)
     }
@@ -66,6 +67,7 @@ impl<P: Primitive> Inside<P> {
         ensures registration { registration_of result ≡ (registered (alone (P.core self.old.core)) 0 (P.request ask) true).reply }
         ensures ticket { is_busy ticket.new ≡ has_joined result }
         ensures mode { has_joined result ≡ true → mode_of ticket.new ≡ Some true }
+        ensures wakes { BeginOwes (P.core self.old.core) (P.core self.new.core) ticket.old (P.request ask) (registration_of result) }
     {
         if !self.register(ticket, ask, true)? {
             return Ok(Begun::Refused);
@@ -81,6 +83,7 @@ impl<P: Primitive> Inside<P> {
         ensures acts { Acts (P.core self.old.core) (P.core self.new.core) ticket.old ticket.new
             (λ s name. polled s name how) result }
         ensures ticket { Polled ticket.old ticket.new how (fault_of result) }
+        ensures owed { (P.core self.new.core).slots.owed ≡ (P.core self.old.core).slots.owed }
     {
         self.core.poll_number(ticket, how)
     }
@@ -89,6 +92,7 @@ impl<P: Primitive> Inside<P> {
     fn cancel(&mut self, ticket: &mut Ticket)
         ensures acts { Acts (P.core self.old.core) (P.core self.new.core) ticket.old ticket.new dropping result }
         ensures idle { ticket.new ≡ Unregistered }
+        ensures wakes { OwesAnswered (P.core self.old.core).slots (P.core self.new.core).slots }
     {
         self.core.cancel(ticket);
     }

@@ -1,6 +1,6 @@
 use Rattle.std.proofs.Common.{rules, ◌≡◌, Ok, true, false, ap, sym, ◌∙◌}
 use Rattle.saa_sync.proofs.Follows.{begun-polled}
-use Rattle.saa_sync.proofs.Modes.{full-stays, reply-alone}
+use Rattle.saa_sync.proofs.Modes.{begin-owes, full-stays, reply-alone}
 use Rattle.saa_sync.proofs.shell.Inside.begin.Goals as goal
 
 pub returns-in-Ok-clause-acts : goal.returns-in-Ok-clause-acts
@@ -32,3 +32,13 @@ pub returns-in-Err-clause-registration : goal.returns-in-Err-clause-registration
 returns-in-Err-clause-registration g c =
     let is_true : c.in_ok-register.field-0 ≡ true = search rules in
     ap Ok (sym is_true) ∙ reply-alone _ _ _ _ _ (rw c.requires at c.in_ok-register.ensures.acts)
+
+pub returns-in-Ok-clause-wakes : goal.returns-in-Ok-clause-wakes
+returns-in-Ok-clause-wakes g c =
+    let is_true : c.in_ok-register.field-0 ≡ true = search rules in
+    begin-owes _ _ _ _ _ _ _ is_true c.in_ok-register.ensures.acts c.in_ok-register.ensures.wakes c.in-Ok.ensures.owed
+
+pub returns-in-Err-clause-wakes : goal.returns-in-Err-clause-wakes
+returns-in-Err-clause-wakes g c =
+    let is_true : c.in_ok-register.field-0 ≡ true = search rules in
+    begin-owes _ _ _ _ _ _ _ is_true c.in_ok-register.ensures.acts c.in_ok-register.ensures.wakes c.in-Err.ensures.owed
