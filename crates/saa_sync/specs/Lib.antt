@@ -1,2 +1,1 @@
 pub mod Pagers
-pub mod Waits

@@ -1,4 +1,4 @@
-//! The forms that threads share: each is one lock round a core of `saa_core`.
+//! The forms that threads share: each is one lock round its core.
 //!
 //! A call takes the lock, makes one call of the core under that call's contract, and wakes whom the core says it
 //! answered. What is proved of a threaded call stands on the function that is lent the core; that a call reaches its
@@ -6,11 +6,10 @@
 #![tactic(auto)]
 
 pub mod lock;
-pub mod pager;
-mod seat;
 pub mod semaphore;
-mod shell;
 #[cfg(test)]
 mod sleepers;
 #[cfg(test)]
 mod twins;
+
+pub use saa_shell::pager;

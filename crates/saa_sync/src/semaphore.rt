@@ -11,11 +11,11 @@ ghost use Rattle.saa_object.specs.Polling.{given_back};
 ghost use Rattle.saa_object.specs.Semaphore.{available, bound_of, out_of};
 ghost use Rattle.saa_line.specs.Slots.{OwesAnswered};
 ghost use Rattle.saa_tickets.specs.Tickets.{Calls, is_busy, is_yes};
-ghost use Rattle.saa_sync.specs.Waits.{mode_of};
+ghost use Rattle.saa_shell.specs.Waits.{mode_of};
 
-use crate::pager::{Pager, SyncResult};
-use crate::seat::{PATIENCE, Patience};
-use crate::shell::Shell;
+use saa_shell::pager::{Pager, SyncResult};
+use saa_shell::seat::{PATIENCE, Patience};
+use saa_shell::shell::Shell;
 use saa_core::semaphore::SemaphoreCore;
 use saa_core::ticket::{Error, Full, How, Ticket};
 use std::alloc::{AllocError, Global};

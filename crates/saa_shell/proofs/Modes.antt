@@ -9,8 +9,8 @@ use Rattle.saa_object.specs.Held.{asks_too_much}
 use Rattle.saa_object.specs.Object.{Object, After, Entry, Idle, Waiting, Answered, entry_at, used}
 use Rattle.saa_line.specs.Slots.{Slots, OwesAnswered, answer_in}
 use Rattle.saa_tickets.specs.Tickets.{Core, Acts, Belong, entry_of, slot_entry, is_yes, object_of}
-use Rattle.saa_sync.specs.declared.shell.Begun.{Begun}
-use Rattle.saa_sync.specs.Waits.{BeginOwes, alone, mode_of, registration_of}
+use Rattle.saa_shell.specs.declared.shell.Begun.{Begun}
+use Rattle.saa_shell.specs.Waits.{BeginOwes, alone, mode_of, registration_of}
 
 -- an entry's mode; an idle one has none
 abbrev pub entry_mode : Entry → Option Bool

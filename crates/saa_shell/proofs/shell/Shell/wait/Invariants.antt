@@ -1,6 +1,6 @@
 -- No poll so far had an answer, so the ticket is as it was handed in.
 use Rattle.std.proofs.Common.{◌≡◌}
-use Rattle.saa_sync.proofs.shell.Shell.wait.Given as goal
+use Rattle.saa_shell.proofs.shell.Shell.wait.Given as goal
 
 abbrev pub invariant-loop : goal.invariant-loop
 invariant-loop g l =

@@ -10,17 +10,17 @@ use std::thread::yield_now;
 
 /// How long a task that waits stays awake.
 #[derive(Clone, Copy)]
-pub(crate) struct Patience {
+pub struct Patience {
     /// How often it looks at its seat, before it begins to yield.
-    pub(crate) looks: u32,
+    pub looks: u32,
     /// How often it yields after that, before it sleeps.
-    pub(crate) yields: u32,
+    pub yields: u32,
 }
 
 /// What every threaded form is made with. Measured with 2, 4 and 8 threads on 4 processors: a sleep costs some five
 /// microseconds and a wake that comes sooner is the common one, but with more threads than processors looks alone are
 /// ruinous.
-pub(crate) const PATIENCE: Patience = Patience {
+pub const PATIENCE: Patience = Patience {
     looks: 500,
     yields: 500,
 };
@@ -98,7 +98,6 @@ impl Seat {
     }
 
     /// Whether the holder sleeps. Who asks under the lock knows that it has let go of the lock.
-    #[cfg(test)]
     pub(crate) fn is_asleep(&self) -> bool {
         self.state.load(Ordering::SeqCst) == ASLEEP
     }

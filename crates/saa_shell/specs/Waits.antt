@@ -12,8 +12,8 @@ use Rattle.saa_object.specs.Object.{Object, After}
 use Rattle.saa_object.specs.Polling.{polled, read_as}
 use Rattle.saa_line.specs.Slots.{OwesAnswered}
 use Rattle.saa_tickets.specs.Tickets.{Core, Acts, object_of}
-use Rattle.saa_sync.specs.declared.shell.Begun.{Begun}
-use Rattle.saa_sync.specs.declared.shell.Begun.TheVariants.{Refused, Answered, Joined}
+use Rattle.saa_shell.specs.declared.shell.Begun.{Begun}
+use Rattle.saa_shell.specs.declared.shell.Begun.TheVariants.{Refused, Answered, Joined}
 
 -- whether a ticket was registered as sync; an idle one neither way
 abbrev pub mode_of : Registration → Option Bool

@@ -1,7 +1,7 @@
 use Rattle.std.proofs.Common.{rules, ◌≡◌, Ok, true, false, ap, sym, ◌∙◌}
-use Rattle.saa_sync.proofs.Follows.{begun-polled}
-use Rattle.saa_sync.proofs.Modes.{begin-owes, full-stays, reply-alone}
-use Rattle.saa_sync.proofs.shell.Inside.begin.Goals as goal
+use Rattle.saa_shell.proofs.Follows.{begun-polled}
+use Rattle.saa_shell.proofs.Modes.{begin-owes, full-stays, reply-alone}
+use Rattle.saa_shell.proofs.shell.Inside.begin.Goals as goal
 
 pub returns-in-Ok-clause-acts : goal.returns-in-Ok-clause-acts
 returns-in-Ok-clause-acts g c =

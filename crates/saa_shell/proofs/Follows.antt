@@ -8,7 +8,7 @@ use Rattle.saa_object.specs.Asking.{registered}
 use Rattle.saa_object.specs.Object.{Object, After}
 use Rattle.saa_object.specs.Polling.{polled, read_as}
 use Rattle.saa_tickets.specs.Tickets.{Core, Acts, Belong, object_of}
-use Rattle.saa_sync.specs.Waits.{begun, begun_from, begun_poll}
+use Rattle.saa_shell.specs.Waits.{begun, begun_from, begun_poll}
 
 -- a state with a reply
 abbrev pub after : {A : Type 0} → A → Object → After A

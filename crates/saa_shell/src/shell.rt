@@ -12,32 +12,34 @@ ghost use Rattle.saa_object.specs.Asking.{registered};
 ghost use Rattle.saa_object.specs.Polling.{polled};
 ghost use Rattle.saa_tickets.specs.Tickets.{Acts, Polled, dropping, fault_of, is_busy, is_yes};
 ghost use Rattle.saa_line.specs.Slots.{OwesAnswered, wake_told};
-ghost use Rattle.saa_sync.specs.Waits.{BeginOwes, alone, begun, has_joined, is_not_ready, mode_of, registration_of};
+ghost use Rattle.saa_shell.specs.Waits.{BeginOwes, alone, begun, has_joined, is_not_ready, mode_of, registration_of};
 
 use crate::seat::{Patience, Seat};
-use saa_core::bench::Primitive;
-use saa_core::ticket::{Error, Full, How, Registration, Ticket};
+use saa_tickets::bench::Primitive;
+use saa_tickets::ticket::{Error, Full, How, Registration, Ticket};
 use std::alloc::{AllocError, Global};
 use std::sync::{Mutex, MutexGuard, Wait};
 use std::thread::yield_now;
 
 /// Wakes that were taken out of the core under one lock: whoever waits at these slots' seats has an answer.
 #[derive(Drop)]
-pub(crate) struct Wakes {
-    first: u16,
-    // If there is one, more may be owed.
-    second: Option<u16>,
+pub struct Wakes {
+    /// The slot of the oldest.
+    pub first: u16,
+    /// That of the next, if there is one; then more may be owed.
+    pub second: Option<u16>,
 }
 
 /// What stands under the lock.
 #[derive(Drop)]
-pub(crate) struct Inside<P: Primitive> {
-    pub(crate) core: P,
+pub struct Inside<P: Primitive> {
+    /// The core, to be lent to one step at a time.
+    pub core: P,
 }
 
 impl<P: Primitive> Inside<P> {
     /// The two oldest wakes that the core owes, told and so taken out of its list; mostly there are none.
-    pub(crate) fn next_wakes(&mut self) -> Option<Wakes>
+    pub fn next_wakes(&mut self) -> Option<Wakes>
         ensures none { IsNone result → (P.core self.old.core).slots.owed ≡ [] }
         ensures first { IfSome result (λ wakes. slice_get (P.core self.old.core).slots.owed 0 ≡ Some wakes.first) }
         ensures second { IfSome result (λ wakes. slice_get (P.core self.old.core).slots.owed 1 ≡ wakes.second) }
@@ -100,7 +102,7 @@ impl<P: Primitive> Inside<P> {
 
 /// How a call that may wait began.
 #[derive(Drop)]
-pub(crate) enum Begun {
+pub enum Begun {
     /// The registration is false: nothing is registered.
     Refused,
     /// It was answered at once, with this value.
@@ -111,7 +113,7 @@ pub(crate) enum Begun {
 
 /// A core that threads share.
 #[derive(Drop)]
-pub(crate) struct Shell<R: Wait + Drop, P: Primitive> {
+pub struct Shell<R: Wait + Drop, P: Primitive> {
     rt: R,
     lock: Mutex<Inside<P>>,
     // One for each slot of the room.
@@ -123,7 +125,7 @@ impl<R: Wait + Drop, P: Primitive> Shell<R, P> {
     /// The core that is handed in, whose slots are those of so large a room. Costs O(`room`).
     ///
     /// Only this takes memory; the error comes only where that was refused, and the core is dropped then.
-    pub(crate) fn new(
+    pub fn new(
         rt: R,
         alloc: Global,
         core: P,
@@ -143,7 +145,7 @@ impl<R: Wait + Drop, P: Primitive> Shell<R, P> {
     }
 
     /// Takes the lock; waits for whoever has it.
-    pub(crate) fn lock(&self) -> MutexGuard<'_, Inside<P>> {
+    pub fn lock(&self) -> MutexGuard<'_, Inside<P>> {
         self.lock.lock(&self.rt)
     }
 
@@ -151,7 +153,7 @@ impl<R: Wait + Drop, P: Primitive> Shell<R, P> {
     ///
     /// Each costs a ring of its seat, which is a system call only where somebody sleeps there, and each second one a
     /// short lock, to ask for more.
-    pub(crate) fn wake(&self, first: Wakes) {
+    pub fn wake(&self, first: Wakes) {
         let mut wakes = first;
         for _ in self.rt.forever() {
             self.ring(wakes.first);
@@ -172,7 +174,7 @@ impl<R: Wait + Drop, P: Primitive> Shell<R, P> {
     /// For what the core never refuses. A core that refused all the same, or that forgot a ticket which waits, is
     /// asked again, so that every value is one that the core answered. `Full`: it would have to wait, and the room is
     /// full.
-    pub(crate) fn acquire(&self, ask: P::Ask) -> Result<u8, Full> {
+    pub fn acquire(&self, ask: P::Ask) -> Result<u8, Full> {
         for _ in self.rt.forever() {
             let mut ticket = Ticket::new();
             match self.begin(&mut ticket, ask)? {
@@ -189,11 +191,7 @@ impl<R: Wait + Drop, P: Primitive> Shell<R, P> {
     }
 
     /// Asks, and where that joins the line calls `begin_wait` and waits, as [`Self::acquire`] does.
-    pub(crate) fn acquire_with<F: FnOnce() + Drop>(
-        &self,
-        ask: P::Ask,
-        begin_wait: F,
-    ) -> Result<u8, Full>
+    pub fn acquire_with<F: FnOnce() + Drop>(&self, ask: P::Ask, begin_wait: F) -> Result<u8, Full>
         requires { F.pre begin_wait }
     {
         let mut ticket = Ticket::new();
@@ -211,12 +209,7 @@ impl<R: Wait + Drop, P: Primitive> Shell<R, P> {
     }
 
     /// Registers a ticket, and wakes whom that answered.
-    pub(crate) fn register(
-        &self,
-        ticket: &mut Ticket,
-        ask: P::Ask,
-        is_sync: bool,
-    ) -> Result<bool, Full>
+    pub fn register(&self, ticket: &mut Ticket, ask: P::Ask, is_sync: bool) -> Result<bool, Full>
         ensures ticket { is_busy ticket.new ≡ (is_busy ticket.old || is_yes result) }
         ensures mode { ticket.old ≡ Unregistered → is_yes result ≡ true → mode_of ticket.new ≡ Some is_sync }
     {
@@ -233,7 +226,7 @@ impl<R: Wait + Drop, P: Primitive> Shell<R, P> {
     }
 
     /// Polls a ticket: as sync it waits for the answer, else it answers `NotReady` where that isn't there yet.
-    pub(crate) fn take(&self, ticket: &mut Ticket, how: How) -> Result<u8, Error>
+    pub fn take(&self, ticket: &mut Ticket, how: How) -> Result<u8, Error>
         ensures polled { Polled ticket.old ticket.new how (fault_of result) }
         ensures waited { how ≡ Sync → is_not_ready (fault_of result) ≡ false }
     {
@@ -245,7 +238,7 @@ impl<R: Wait + Drop, P: Primitive> Shell<R, P> {
     }
 
     /// Drops what a ticket is registered for, and wakes whom that answered.
-    pub(crate) fn cancel(&self, ticket: &mut Ticket)
+    pub fn cancel(&self, ticket: &mut Ticket)
         ensures { ticket.new ≡ Unregistered }
     {
         let owed = {
@@ -350,25 +343,23 @@ impl<R: Wait + Drop, P: Primitive> Shell<R, P> {
     fn seat(&self, slot: u16) -> Option<&Seat> {
         self.seats.get(usize::from(slot))
     }
-    /// Whether the seat of a slot is rung.
-    #[cfg(test)]
-    pub(crate) fn is_rung(&self, slot: u16) -> bool {
+
+    /// Whether the seat of a slot is rung; for the tests of the forms above.
+    pub fn is_rung(&self, slot: u16) -> bool {
         match self.seat(slot) {
             Some(seat) => seat.is_rung(),
             None => false,
         }
     }
 
-    /// How many holders sleep; all those have let go of the lock.
-    #[cfg(test)]
-    pub(crate) fn asleep(&self) -> usize {
+    /// How many holders sleep; all those have let go of the lock. For the tests of the forms above.
+    pub fn asleep(&self) -> usize {
         let _inside = self.lock();
         self.seats.iter().filter(|seat| seat.is_asleep()).count()
     }
 
-    /// How many seats are rung.
-    #[cfg(test)]
-    pub(crate) fn rung(&self) -> usize {
+    /// How many seats are rung; for the tests of the forms above.
+    pub fn rung(&self) -> usize {
         self.seats.iter().filter(|seat| seat.is_rung()).count()
     }
 }

@@ -8,11 +8,10 @@ ghost use Rattle.saa_object.specs.declared.polling.Error.{Error};
 ghost use Rattle.saa_object.specs.declared.polling.How.TheVariants.{Try, Sync};
 ghost use Rattle.saa_tickets.specs.declared.ticket.Registration.TheVariants.{Unregistered};
 ghost use Rattle.saa_tickets.specs.Tickets.{Polled, is_busy};
-ghost use Rattle.saa_sync.specs.Waits.{is_not_ready};
+ghost use Rattle.saa_shell.specs.Waits.{is_not_ready};
 
-#[cfg(test)]
-use saa_core::ticket::Registration;
-pub use saa_core::ticket::{Error, How, Ticket};
+use saa_tickets::ticket::Registration;
+pub use saa_tickets::ticket::{Error, How, Ticket};
 use std::marker::Model;
 
 /// A primitive that pagers wait at: how its answers read, and how a ticket of it is polled and cancelled.
@@ -138,8 +137,8 @@ impl<'s, S: SyncResult> Pager<'s, S> {
         }
     }
 
-    // Takes over a ticket that was registered at this primitive, or an idle one.
-    pub(crate) fn hold(&mut self, ticket: Ticket, primitive: &'s S)
+    /// Takes over a ticket that was registered at this primitive, or an idle one; for the `register_pager` of a form.
+    pub fn hold(&mut self, ticket: Ticket, primitive: &'s S)
         requires { is_busy self.old ≡ false }
         ensures { self.new ≡ ticket }
     {
@@ -151,14 +150,13 @@ impl<'s, S: SyncResult> Pager<'s, S> {
         self.ticket = ticket;
     }
 
-    /// What it is registered as.
-    #[cfg(test)]
-    pub(crate) fn registration(&self) -> Registration {
+    /// What it is registered as; for the tests of the forms above.
+    pub fn registration(&self) -> Registration {
         self.ticket.registration()
     }
 
     /// One poll, in this way; an unregistered pager is answered without its primitive.
-    pub(crate) fn poll(&mut self, how: How) -> S::Result
+    pub fn poll(&mut self, how: How) -> S::Result
         ensures polled { Polled self.old self.new how (S.fault result) }
         ensures waited { how ≡ Sync → is_not_ready (S.fault result) ≡ false }
     {
