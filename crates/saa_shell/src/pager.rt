@@ -19,8 +19,10 @@ pub trait SyncResult: Sized {
     /// What a poll answers.
     type Result: Copy + Eq;
 
-    // Which values mean something, what an answer reads as, and which answers are an error of the poll.
+    // Which values may be read, which are answers, what an answer reads as, and which answers are an error of the poll.
     ghost is_value: { ℕ → Type 0 };
+
+    ghost is_answer: { ℕ → Type 0 };
 
     ghost answer: { ℕ → Option Error → Self.Result };
 
@@ -28,11 +30,12 @@ pub trait SyncResult: Sized {
 
     /// What a poll answers, by the value of an answer, or by the error if there is one; then the value isn't read.
     ///
-    /// Without an error the value is one that the primitive answers (a condition; each primitive says which).
+    /// Without an error a primitive may ask that the value is one that it answers (a condition; each says which). A
+    /// value that it answers never reads as an error of a poll.
     fn to_result(value: u8, pager_error: Option<Error>) -> Self::Result
         requires { pager_error ≡ None → is_value value }
         ensures answer { result ≡ answer value pager_error }
-        ensures fault { fault result ≡ pager_error };
+        ensures fault { (pager_error ≡ None → is_answer value) → fault result ≡ pager_error };
 
     /// Polls a ticket that was registered here.
     ///

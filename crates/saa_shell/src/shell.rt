@@ -102,7 +102,7 @@ impl<P: Primitive> Inside<P> {
 
 /// How a call that may wait began.
 #[derive(Drop)]
-pub enum Begun {
+pub(crate) enum Begun {
     /// The registration is false: nothing is registered.
     Refused,
     /// It was answered at once, with this value.

@@ -5,6 +5,10 @@
 //! core, that it sleeps and is woken, is shown by tests. This floor knows of the cores only their contracts.
 #![tactic(auto)]
 
+pub mod barrier;
+pub mod gate;
+#[cfg(test)]
+mod gatherings;
 pub mod lock;
 pub mod semaphore;
 #[cfg(test)]

@@ -13,12 +13,12 @@ ghost use Rattle.saa_tickets.specs.Tickets.{Calls, is_busy, is_yes};
 ghost use Rattle.saa_core.specs.LockCalls.{lock_tried};
 ghost use Rattle.saa_shell.specs.Waits.{mode_of};
 
-use saa_shell::pager::{Pager, SyncResult};
-use saa_shell::seat::{PATIENCE, Patience};
-use saa_shell::shell::Shell;
 use saa_core::lock::LockCore;
 pub use saa_core::lock::{Mode, TryLockError};
 use saa_core::ticket::{Error, Full, How, Ticket};
+use saa_shell::pager::{Pager, SyncResult};
+use saa_shell::seat::{PATIENCE, Patience};
+use saa_shell::shell::Shell;
 use std::alloc::{AllocError, Global};
 use std::sync::Wait;
 use std::sync::atomic::Ordering;
@@ -219,6 +219,8 @@ impl<R: Wait + Drop> SyncResult for Lock<R> {
     type Result = Result<bool, Error>;
 
     ghost is_value = { λ value. (value ≡ 0) ⊎ (value ≡ 2) };
+
+    ghost is_answer = { λ value. Unit {0} };
 
     ghost answer = { lock_answer };
 

@@ -13,11 +13,11 @@ ghost use Rattle.saa_line.specs.Slots.{OwesAnswered};
 ghost use Rattle.saa_tickets.specs.Tickets.{Calls, is_busy, is_yes};
 ghost use Rattle.saa_shell.specs.Waits.{mode_of};
 
+use saa_core::semaphore::SemaphoreCore;
+use saa_core::ticket::{Error, Full, How, Ticket};
 use saa_shell::pager::{Pager, SyncResult};
 use saa_shell::seat::{PATIENCE, Patience};
 use saa_shell::shell::Shell;
-use saa_core::semaphore::SemaphoreCore;
-use saa_core::ticket::{Error, Full, How, Ticket};
 use std::alloc::{AllocError, Global};
 use std::sync::Wait;
 use std::sync::atomic::Ordering;
@@ -213,6 +213,8 @@ impl<R: Wait + Drop> SyncResult for Semaphore<R> {
     type Result = Result<(), Error>;
 
     ghost is_value = { λ value. Unit {0} };
+
+    ghost is_answer = { λ value. Unit {0} };
 
     ghost answer = { semaphore_answer };
 

@@ -71,16 +71,20 @@ const BEYOND: u64 = 2;
 // How often the main thread looks whether a task that must sleep has ended.
 const TURNS: u32 = 1_000;
 
-// What the sleepers count.
+/// What the sleepers count.
 #[derive(Drop)]
-struct Counts {
-    started: AtomicU64,
-    joined: AtomicU64,
-    ended: AtomicU64,
+pub(crate) struct Counts {
+    /// How many were started.
+    pub(crate) started: AtomicU64,
+    /// How many of those joined the line.
+    pub(crate) joined: AtomicU64,
+    /// How many of those have what they waited for.
+    pub(crate) ended: AtomicU64,
 }
 
 impl Counts {
-    fn new() -> Counts {
+    /// Nobody was started.
+    pub(crate) fn new() -> Counts {
         Counts {
             started: AtomicU64::new(0),
             joined: AtomicU64::new(0),
@@ -88,18 +92,18 @@ impl Counts {
         }
     }
 
-    // Waits until all that were started wait in the line.
-    fn await_joined<R: Wait>(&self, rt: &R) {
+    /// Waits until all that were started wait in the line.
+    pub(crate) fn await_joined<R: Wait>(&self, rt: &R) {
         await_count(rt, &self.joined, self.started.load(Ordering::SeqCst));
     }
 
-    // Waits until all that were started have what they waited for.
-    fn await_ended<R: Wait>(&self, rt: &R) {
+    /// Waits until all that were started have what they waited for.
+    pub(crate) fn await_ended<R: Wait>(&self, rt: &R) {
         await_count(rt, &self.ended, self.started.load(Ordering::SeqCst));
     }
 
-    // Looks often whether one has ended already.
-    fn none_ended(&self) -> bool {
+    /// Looks often whether one has ended already.
+    pub(crate) fn none_ended(&self) -> bool {
         for _turn in 0..TURNS {
             if self.ended.load(Ordering::SeqCst) != 0 {
                 return false;

@@ -1,0 +1,168 @@
+//! Gatherings: tasks that surely sleep at a form that answers all who wait together, and each way to answer them.
+//!
+//! This is test code, over any such form. A test goes on only once all whom it waits for sleep, or one of them has ended
+//! too soon; it ends only if all who are answered wake.
+
+use crate::sleepers::{By, Counts};
+use std::sync::Wait;
+use std::sync::atomic::{AtomicU64, Ordering};
+use std::thread;
+use std::thread::{Threads, yield_now};
+
+/// How all who wait are answered.
+#[derive(Clone, Copy)]
+pub(crate) enum Together {
+    /// A gate permits them.
+    Permit,
+    /// A gate rejects them.
+    Reject,
+    /// A gate opens.
+    Open,
+    /// A gate is sealed.
+    Seal,
+    /// A pager that waits too is cancelled.
+    Cancel,
+    /// A pager that waits too goes out of scope.
+    Forget,
+    /// The last arrival comes, by a call with a callback.
+    LastCall,
+    /// The last arrival comes, by a call without one.
+    LastPlainCall,
+    /// The last arrival comes, by a pager.
+    LastPager,
+}
+
+/// A form at which all who wait are answered together, as these tests see it. Its waiters run in threads of their own, so
+/// nothing of it but itself is named here.
+pub(crate) trait Gathering: Sync {
+    /// Makes it so that tasks wait.
+    fn prepare(&self);
+
+    /// Waits, and counts that it joined the line; whether the answer was that of those who are answered in this way.
+    fn gather(&self, by: By, together: Together, joined: &AtomicU64) -> bool;
+
+    /// Answers all who wait; whether it was told that they are so many.
+    fn answer_all(&self, together: Together, count: u64) -> bool;
+
+    /// How many sleep; all those have let go of the lock.
+    fn asleep(&self) -> usize;
+
+    /// How many seats are rung.
+    fn rung(&self) -> usize;
+}
+
+/// How a gathering goes.
+#[derive(Clone, Copy)]
+pub(crate) struct Plan {
+    /// How many wait.
+    pub(crate) count: u64,
+    /// How they wait.
+    pub(crate) by: By,
+    /// How they are answered.
+    pub(crate) together: Together,
+    /// Whether they stay awake for a while, so that it isn't certain that they sleep when they are answered.
+    pub(crate) is_patient: bool,
+}
+
+// What is counted beside what sleepers count.
+#[derive(Drop)]
+struct Told {
+    // How many had the right answer.
+    right: AtomicU64,
+    // How often somebody answered all, and how often it was told the right number.
+    answers: AtomicU64,
+    exact: AtomicU64,
+}
+
+/// Two gatherings, one after the other, the first answered by the main thread and the second by a thread of its own: all
+/// who wait wake with their answer, nobody before, and no other seat is rung.
+///
+/// The form is new.
+pub(crate) fn all_wake_together<F: Gathering, R: Threads + Wait + Sync>(
+    rt: &R,
+    form: &F,
+    plan: Plan,
+) -> bool {
+    let by_main = gathers(rt, form, plan, false);
+    by_main && gathers(rt, form, plan, true)
+}
+
+// One gathering, answered by the main thread or by another.
+fn gathers<F: Gathering, R: Threads + Wait + Sync>(
+    rt: &R,
+    form: &F,
+    plan: Plan,
+    by_thread: bool,
+) -> bool {
+    form.prepare();
+    let counts = Counts::new();
+    let told = Told {
+        right: AtomicU64::new(0),
+        answers: AtomicU64::new(0),
+        exact: AtomicU64::new(0),
+    };
+    let (counted, told_by) = (&counts, &told);
+    thread::scope(thread::scope_env(), rt, |scope| {
+        for _ in 0..plan.count {
+            if scope
+                .spawn(move || wait_with_others(form, plan, counted, told_by))
+                .is_ok()
+            {
+                counted.started.fetch_add(1, Ordering::SeqCst);
+            }
+        }
+        let started = counted.started.load(Ordering::SeqCst);
+        counted.await_joined(rt);
+        if !plan.is_patient {
+            await_asleep(rt, form, counted, started);
+        }
+        let is_held_back = counted.none_ended();
+        if !by_thread
+            || scope
+                .spawn(move || answer_all(form, plan, started, told_by))
+                .is_err()
+        {
+            answer_all(form, plan, started, told_by);
+        }
+        counted.await_ended(rt);
+        await_answer(rt, told_by);
+        let is_quiet = form.rung() as u64 == started && form.asleep() == 0;
+        is_held_back && is_quiet && told_by.right.load(Ordering::SeqCst) == started
+    }) && told.exact.load(Ordering::SeqCst) == 1
+}
+
+// Waits with the others, and counts that it has its answer, and whether that was right.
+fn wait_with_others<F: Gathering>(form: &F, plan: Plan, counts: &Counts, told: &Told) {
+    if form.gather(plan.by, plan.together, &counts.joined) {
+        told.right.fetch_add(1, Ordering::SeqCst);
+    }
+    counts.ended.fetch_add(1, Ordering::SeqCst);
+}
+
+// Answers all who wait, and counts whether it was told how many they are.
+fn answer_all<F: Gathering>(form: &F, plan: Plan, count: u64, told: &Told) {
+    if form.answer_all(plan.together, count) {
+        told.exact.fetch_add(1, Ordering::SeqCst);
+    }
+    told.answers.fetch_add(1, Ordering::SeqCst);
+}
+
+// Waits until whoever answers all has done so, and has rung for each.
+fn await_answer<R: Wait>(rt: &R, told: &Told) {
+    for _ in rt.forever() {
+        if told.answers.load(Ordering::SeqCst) != 0 {
+            return;
+        }
+        yield_now();
+    }
+}
+
+// Waits until so many sleep, or one has ended.
+fn await_asleep<F: Gathering, R: Wait>(rt: &R, form: &F, counts: &Counts, wanted: u64) {
+    for _ in rt.forever() {
+        if form.asleep() as u64 >= wanted || counts.ended.load(Ordering::SeqCst) != 0 {
+            return;
+        }
+        yield_now();
+    }
+}
