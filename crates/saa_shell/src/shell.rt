@@ -149,6 +149,21 @@ impl<R: Wait + Drop, P: Primitive> Shell<R, P> {
         self.lock.lock(&self.rt)
     }
 
+    /// Makes one step of the core under the lock, and wakes whom the core owes a wake by then, with the lock free.
+    pub fn step<A, F: FnOnce(&mut P) -> A + Drop>(&self, step: F) -> A
+        requires { F.IsAlwaysCallable step }
+    {
+        let (answer, owed) = {
+            let mut inside = self.lock();
+            let answer = step(&mut inside.core);
+            (answer, inside.next_wakes())
+        };
+        if let Some(wakes) = owed {
+            self.wake(wakes);
+        }
+        answer
+    }
+
     /// Wakes as the core says, from these wakes on, with the lock free.
     ///
     /// Each costs a ring of its seat, which is a system call only where somebody sleeps there, and each second one a

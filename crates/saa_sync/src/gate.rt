@@ -77,60 +77,28 @@ impl<R: Wait + Drop> Gate<R> {
     /// An error says that the gate is sealed or open, and changes nothing. Each who passes costs a ring at its seat, and
     /// each second one of them a short lock more.
     pub fn permit(&self) -> Result<usize, State> {
-        let (answer, owed) = {
-            let mut inside = self.shell.lock();
-            let answer = let_pass(&mut inside.core);
-            (answer, inside.next_wakes())
-        };
-        if let Some(wakes) = owed {
-            self.shell.wake(wakes);
-        }
-        answer
+        self.shell.step(let_pass)
     }
 
     /// Rejects all who wait at a controlled gate, wakes exactly those, and answers how many they were.
     ///
     /// An error says that the gate is sealed or open, and changes nothing. Costs what [`Self::permit`] does.
     pub fn reject(&self) -> Result<usize, State> {
-        let (answer, owed) = {
-            let mut inside = self.shell.lock();
-            let answer = turn_away(&mut inside.core);
-            (answer, inside.next_wakes())
-        };
-        if let Some(wakes) = owed {
-            self.shell.wake(wakes);
-        }
-        answer
+        self.shell.step(turn_away)
     }
 
     /// Opens the gate, from every state, lets all pass who wait, and wakes exactly those.
     ///
     /// Answers the state before, and how many waited. Costs what [`Self::permit`] does.
     pub fn open(&self) -> (State, usize) {
-        let (answer, owed) = {
-            let mut inside = self.shell.lock();
-            let answer = open_up(&mut inside.core);
-            (answer, inside.next_wakes())
-        };
-        if let Some(wakes) = owed {
-            self.shell.wake(wakes);
-        }
-        answer
+        self.shell.step(open_up)
     }
 
     /// Seals the gate, from every state, refuses all who wait, and wakes exactly those.
     ///
     /// Answers the state before, and how many waited. Costs what [`Self::permit`] does.
     pub fn seal(&self) -> (State, usize) {
-        let (answer, owed) = {
-            let mut inside = self.shell.lock();
-            let answer = seal_up(&mut inside.core);
-            (answer, inside.next_wakes())
-        };
-        if let Some(wakes) = owed {
-            self.shell.wake(wakes);
-        }
-        answer
+        self.shell.step(seal_up)
     }
 
     /// Passes the gate, and waits in the line where it is controlled.

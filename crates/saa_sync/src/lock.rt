@@ -101,30 +101,14 @@ impl<R: Wait + Drop> Lock<R> {
     /// `false` comes exactly where the lock isn't one owner's alone, and changes nothing. Nobody is asked whose lock it
     /// ends. Each who is granted costs a ring at its seat, and each second one of them a short lock more.
     pub fn release_lock(&self) -> bool {
-        let (answer, owed) = {
-            let mut inside = self.shell.lock();
-            let answer = end_lock(&mut inside.core);
-            (answer, inside.next_wakes())
-        };
-        if let Some(wakes) = owed {
-            self.shell.wake(wakes);
-        }
-        answer
+        self.shell.step(end_lock)
     }
 
     /// Gives one share back, grants those who wait, oldest first, while they fit, and wakes exactly those.
     ///
     /// `false` comes exactly where the lock isn't shared, and changes nothing. Nobody is asked whose share it ends.
     pub fn release_share(&self) -> bool {
-        let (answer, owed) = {
-            let mut inside = self.shell.lock();
-            let answer = end_share(&mut inside.core);
-            (answer, inside.next_wakes())
-        };
-        if let Some(wakes) = owed {
-            self.shell.wake(wakes);
-        }
-        answer
+        self.shell.step(end_share)
     }
 
     /// Poisons the lock that one owner has alone: all who wait are answered that it is poisoned, and woken.
@@ -132,15 +116,7 @@ impl<R: Wait + Drop> Lock<R> {
     /// `false` comes exactly where the lock isn't one owner's alone, and changes nothing. Answers that were there before
     /// stay as they are.
     pub fn poison_lock(&self) -> bool {
-        let (answer, owed) = {
-            let mut inside = self.shell.lock();
-            let answer = poison(&mut inside.core);
-            (answer, inside.next_wakes())
-        };
-        if let Some(wakes) = owed {
-            self.shell.wake(wakes);
-        }
-        answer
+        self.shell.step(poison)
     }
 
     /// Makes a poisoned lock free; nobody waits at one. Wakes nobody.

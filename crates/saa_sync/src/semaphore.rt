@@ -111,15 +111,7 @@ impl<R: Wait + Drop> Semaphore<R> {
     /// change nothing. Each who is granted costs a ring at its seat, which is a system call only where it sleeps, and
     /// each second one of them a short lock more; where nobody is granted nothing is added.
     pub fn release_many(&self, count: usize) -> bool {
-        let (answer, owed) = {
-            let mut inside = self.shell.lock();
-            let answer = give_back(&mut inside.core, count);
-            (answer, inside.next_wakes())
-        };
-        if let Some(wakes) = owed {
-            self.shell.wake(wakes);
-        }
-        answer
+        self.shell.step(|core| give_back(core, count))
     }
 
     /// Takes one permit, and waits for it in the line where it must.
