@@ -23,20 +23,13 @@ pub trait Turn: Sync {
     fn take_turn(&self, number: u64);
 }
 
-/// Something that is measured with so many threads: how often it happens, and how long that takes in nanoseconds.
-trait Measured {
-    fn times(&self) -> u64;
-
-    fn nanos<R: Runtime + Threads + Wait + Sync>(&self, rt: &R, threads: u64) -> io::Result<u64>;
-}
-
 // How many turns all threads of one measurement take together.
 const TURNS: u64 = 200_000;
 
 // How many arrivals at a barrier there are in one measurement, and how often a gate lets all pass: each costs some wakes.
 const ARRIVALS: u64 = 20_000;
 
-const PASSES_OF_A_GATE: u64 = 1_000;
+const PASSINGS: u64 = 1_000;
 
 // How often each measurement is made.
 const PASSES: usize = 9;
@@ -56,13 +49,25 @@ pub fn table<R: Runtime + Threads + Wait + Sync>(rt: &R, alloc: Global) -> io::R
     shells(rt, alloc)
 }
 
+// What one line tells of: its name, how many threads there are, and how often it happens in one measurement.
+#[derive(Clone, Copy)]
+struct Case<'n> {
+    what: &'n str,
+    threads: u64,
+    times: u64,
+}
+
 // A semaphore beside a plain counter.
 fn semaphores<R: Runtime + Threads + Wait + Sync>(rt: &R, alloc: Global) -> io::Result<()> {
     for threads in [1, 2, 4, 8] {
         let semaphore = Semaphore::new(rt, alloc, ROOM)?;
         let counter = Counter::new(rt, PERMITS);
-        let (ours, theirs) = (turns_at(&semaphore), turns_at(&counter));
-        row(rt, alloc, "semaphore, 40 of 63", threads, &ours, &theirs)?;
+        let case = Case {
+            what: "semaphore, 40 of 63",
+            threads,
+            times: TURNS,
+        };
+        turns_row(rt, alloc, case, &semaphore, &counter)?;
     }
     Ok(())
 }
@@ -72,57 +77,37 @@ fn locks<R: Runtime + Threads + Wait + Sync>(rt: &R, alloc: Global) -> io::Resul
     let lock = Lock::new(rt, alloc, ROOM)?;
     let plain = Plain::new(rt);
     for threads in [1, 2, 4] {
-        let (ours, theirs) = (Exclusive { lock: &lock }, Exclusive { lock: &plain });
-        let (ours, theirs) = (turns_at(&ours), turns_at(&theirs));
-        row(rt, alloc, "lock, all exclusive", threads, &ours, &theirs)?;
+        let case = Case {
+            what: "lock, all exclusive",
+            threads,
+            times: TURNS,
+        };
+        let ours = Exclusive { lock: &lock };
+        turns_row(rt, alloc, case, &ours, &Exclusive { lock: &plain })?;
     }
     for threads in [1, 2, 4] {
-        let (ours, theirs) = (MostlyShared { lock: &lock }, MostlyShared { lock: &plain });
-        let (ours, theirs) = (turns_at(&ours), turns_at(&theirs));
-        row(rt, alloc, "lock, 3 of 4 share", threads, &ours, &theirs)?;
+        let case = Case {
+            what: "lock, 3 of 4 share",
+            threads,
+            times: TURNS,
+        };
+        let ours = MostlyShared { lock: &lock };
+        turns_row(rt, alloc, case, &ours, &MostlyShared { lock: &plain })?;
     }
     Ok(())
 }
 
-// A semaphore and a lock, each beside two bare turns at a `Mutex`: what a shell costs where nobody waits.
-fn shells<R: Runtime + Threads + Wait + Sync>(rt: &R, alloc: Global) -> io::Result<()> {
-    let semaphore = Semaphore::new(rt, alloc, ROOM)?;
-    let lock = Lock::new(rt, alloc, ROOM)?;
-    let ours = Exclusive { lock: &lock };
-    let two_turns = TwoTurns::new(rt, PERMITS);
-    let bare = turns_at(&two_turns);
-    row(
-        rt,
-        alloc,
-        "semaphore, two Mutexes",
-        1,
-        &turns_at(&semaphore),
-        &bare,
-    )?;
-    row(rt, alloc, "lock, two Mutexes", 1, &turns_at(&ours), &bare)
-}
-
 // A barrier beside a plain one: an arrival, of which each last one of a round wakes all others.
 fn barriers<R: Runtime + Threads + Wait + Sync>(rt: &R, alloc: Global) -> io::Result<()> {
-    for threads in [4u16, 8] {
-        let barrier = Barrier::with_count(rt, alloc, usize::from(threads), ROOM)?;
-        let plain = PlainBarrier::new(rt, usize::from(threads));
-        let ours = Turns {
-            turn: &barrier,
+    for size in [4u16, 8] {
+        let barrier = Barrier::with_count(rt, alloc, usize::from(size), ROOM)?;
+        let plain = PlainBarrier::new(rt, usize::from(size));
+        let case = Case {
+            what: "barrier, an arrival",
+            threads: u64::from(size),
             times: ARRIVALS,
         };
-        let theirs = Turns {
-            turn: &plain,
-            times: ARRIVALS,
-        };
-        row(
-            rt,
-            alloc,
-            "barrier, an arrival",
-            u64::from(threads),
-            &ours,
-            &theirs,
-        )?;
+        turns_row(rt, alloc, case, &barrier, &plain)?;
     }
     Ok(())
 }
@@ -132,38 +117,82 @@ fn gates<R: Runtime + Threads + Wait + Sync>(rt: &R, alloc: Global) -> io::Resul
     let gate = Gate::new(rt, alloc, ROOM)?;
     let plain = PlainGate::new(rt);
     for threads in [8, 32] {
-        row(
-            rt,
-            alloc,
-            "gate, all pass",
+        let case = Case {
+            what: "gate, all pass",
             threads,
-            &Passes { gate: &gate },
-            &Passes { gate: &plain },
-        )?;
+            times: PASSINGS,
+        };
+        passings_row(rt, alloc, case, &gate, &plain)?;
     }
     Ok(())
 }
 
-// Measures two in turn, and prints a line.
-fn row<R: Runtime + Threads + Wait + Sync, A: Measured, B: Measured>(
+// A semaphore and a lock, each beside two bare turns at a `Mutex`: what a shell costs where nobody waits.
+fn shells<R: Runtime + Threads + Wait + Sync>(rt: &R, alloc: Global) -> io::Result<()> {
+    let semaphore = Semaphore::new(rt, alloc, ROOM)?;
+    let lock = Lock::new(rt, alloc, ROOM)?;
+    let two_turns = TwoTurns::new(rt, PERMITS);
+    let case = Case {
+        what: "semaphore, two Mutexes",
+        threads: 1,
+        times: TURNS,
+    };
+    turns_row(rt, alloc, case, &semaphore, &two_turns)?;
+    let case = Case {
+        what: "lock, two Mutexes",
+        threads: 1,
+        times: TURNS,
+    };
+    turns_row(rt, alloc, case, &Exclusive { lock: &lock }, &two_turns)
+}
+
+// Measures turns at two in turn, and prints a line.
+fn turns_row<R: Runtime + Threads + Wait + Sync, A: Turn, B: Turn>(
     rt: &R,
     alloc: Global,
-    what: &str,
-    threads: u64,
+    case: Case<'_>,
     ours: &A,
     theirs: &B,
 ) -> io::Result<()> {
     let mut our_times = Vec::with_capacity(alloc, PASSES)?;
     let mut their_times = Vec::with_capacity(alloc, PASSES)?;
     for _ in 0..PASSES {
-        our_times.push(ours.nanos(rt, threads)?)?;
-        their_times.push(theirs.nanos(rt, threads)?)?;
+        our_times.push(turns_nanos(rt, ours, case)?)?;
+        their_times.push(turns_nanos(rt, theirs, case)?)?;
     }
+    print_row(rt, case, &mut our_times, &mut their_times)
+}
+
+// Measures passings at two in turn, and prints a line.
+fn passings_row<R: Runtime + Threads + Wait + Sync, A: Passage, B: Passage>(
+    rt: &R,
+    alloc: Global,
+    case: Case<'_>,
+    ours: &A,
+    theirs: &B,
+) -> io::Result<()> {
+    let mut our_times = Vec::with_capacity(alloc, PASSES)?;
+    let mut their_times = Vec::with_capacity(alloc, PASSES)?;
+    for _ in 0..PASSES {
+        our_times.push(passings_nanos(rt, ours, case)?)?;
+        their_times.push(passings_nanos(rt, theirs, case)?)?;
+    }
+    print_row(rt, case, &mut our_times, &mut their_times)
+}
+
+// Prints a line.
+fn print_row<R: Runtime>(
+    rt: &R,
+    case: Case<'_>,
+    our_times: &mut [u64],
+    their_times: &mut [u64],
+) -> io::Result<()> {
+    let (what, threads) = (case.what, case.threads);
     let place = if threads == 1 { 0 } else { PASSES / 2 };
-    let our_time = at_place(&mut our_times, place);
-    let their_time = at_place(&mut their_times, place);
-    let (our_whole, our_part) = quotient(our_time, ours.times(), 10);
-    let (their_whole, their_part) = quotient(their_time, theirs.times(), 10);
+    let our_time = at_place(our_times, place);
+    let their_time = at_place(their_times, place);
+    let (our_whole, our_part) = quotient(our_time, case.times, 10);
+    let (their_whole, their_part) = quotient(their_time, case.times, 10);
     let (whole, part) = quotient(our_time, their_time, 100);
     println!(rt;
         "{what:<22}  {threads:>7}  {our_whole:>8}.{our_part}  {their_whole:>8}.{their_part}  {whole:>2}.{part:02}"
@@ -185,84 +214,63 @@ fn quotient(first: u64, second: u64, parts: u64) -> (u64, u64) {
     )
 }
 
-// So many turns at something.
-#[derive(Drop)]
-struct Turns<'t, T: Turn> {
-    turn: &'t T,
-    times: u64,
-}
-
-// As many turns as one measurement mostly has.
-fn turns_at<T: Turn>(turn: &T) -> Turns<'_, T> {
-    Turns { turn, times: TURNS }
-}
-
-impl<T: Turn> Measured for Turns<'_, T> {
-    fn times(&self) -> u64 {
-        self.times
-    }
-
-    fn nanos<R: Runtime + Threads + Wait + Sync>(&self, rt: &R, threads: u64) -> io::Result<u64> {
-        let turn = self.turn;
-        let turns = self.times.checked_div(threads).unwrap_or(0);
-        let start = Instant::now(rt)?;
-        thread::scope(thread::scope_env(), rt, |scope| {
-            for _ in 0..threads {
-                if scope.spawn(move || take_turns(turn, turns)).is_err() {
-                    take_turns(turn, turns);
-                }
+// How long all turns take together in one measurement, in nanoseconds.
+fn turns_nanos<R: Runtime + Threads + Wait + Sync, T: Turn>(
+    rt: &R,
+    turn: &T,
+    case: Case<'_>,
+) -> io::Result<u64> {
+    let turns = case.times.checked_div(case.threads).unwrap_or(0);
+    let start = Instant::now(rt)?;
+    thread::scope(thread::scope_env(), rt, |scope| {
+        for _ in 0..case.threads {
+            if scope.spawn(move || take_turns(turn, turns)).is_err() {
+                take_turns(turn, turns);
             }
-        });
-        Ok(u64::try_from(start.elapsed(rt)?.as_nanos()).unwrap_or(u64::MAX))
-    }
-}
-
-// A gate at which so many tasks enter, again and again, while one lets them pass.
-#[derive(Drop)]
-struct Passes<'g, G: Passage> {
-    gate: &'g G,
-}
-
-impl<G: Passage> Measured for Passes<'_, G> {
-    fn times(&self) -> u64 {
-        PASSES_OF_A_GATE
-    }
-
-    fn nanos<R: Runtime + Threads + Wait + Sync>(&self, rt: &R, threads: u64) -> io::Result<u64> {
-        let gate = self.gate;
-        let start = Instant::now(rt)?;
-        thread::scope(thread::scope_env(), rt, |scope| {
-            let mut awaited = 0u64;
-            for _ in 0..threads {
-                if scope.spawn(move || enter_often(gate)).is_ok() {
-                    awaited = awaited.saturating_add(PASSES_OF_A_GATE);
-                }
-            }
-            for _ in rt.forever() {
-                if awaited == 0 {
-                    break;
-                }
-                let passed = gate.let_through() as u64;
-                awaited = awaited.saturating_sub(passed);
-                if passed == 0 {
-                    yield_now();
-                }
-            }
-        });
-        Ok(u64::try_from(start.elapsed(rt)?.as_nanos()).unwrap_or(u64::MAX))
-    }
-}
-
-// Enters as often as one measurement lets all pass.
-fn enter_often<G: Passage>(gate: &G) {
-    for _ in 0..PASSES_OF_A_GATE {
-        gate.enter();
-    }
+        }
+    });
+    Ok(u64::try_from(start.elapsed(rt)?.as_nanos()).unwrap_or(u64::MAX))
 }
 
 // Takes so many turns.
 fn take_turns<T: Turn>(turn: &T, turns: u64) {
     for number in 0..turns {
         turn.take_turn(number);
+    }
+}
+
+// How long it takes in one measurement until all have entered as often as they are let pass, in nanoseconds.
+fn passings_nanos<R: Runtime + Threads + Wait + Sync, G: Passage>(
+    rt: &R,
+    gate: &G,
+    case: Case<'_>,
+) -> io::Result<u64> {
+    let times = case.times;
+    let start = Instant::now(rt)?;
+    thread::scope(thread::scope_env(), rt, |scope| {
+        let mut awaited = 0u64;
+        for _ in 0..case.threads {
+            if scope.spawn(move || enter_often(gate, times)).is_ok() {
+                awaited = awaited.saturating_add(times);
+            }
+        }
+        for _ in rt.forever() {
+            if awaited == 0 {
+                break;
+            }
+            let passed = gate.let_through() as u64;
+            awaited = awaited.saturating_sub(passed);
+            if passed == 0 {
+                yield_now();
+            }
+        }
+    });
+    Ok(u64::try_from(start.elapsed(rt)?.as_nanos()).unwrap_or(u64::MAX))
+}
+
+// Enters so often.
+fn enter_often<G: Passage>(gate: &G, times: u64) {
+    for _ in 0..times {
+        gate.enter();
     }
 }
