@@ -1,10 +1,12 @@
-//! Times the threaded semaphore beside a plain counter under std's `Mutex` and `Condvar`, in one run.
+//! Times the threaded semaphore beside a plain counter under std's `Mutex` and `Condvar`, and the threaded lock beside
+//! std's `RwLock`, in one run.
 //!
-//! With the argument `measure` it prints, for 1, 2, 4 and 8 threads, what one acquire with its release costs by each,
-//! and the ratio, and for one thread the ratio to two bare turns at a lock; with any other arguments only how to run
+//! With the argument `measure` it prints, for some numbers of threads, what one acquire with its release costs by each,
+//! and the ratio, and for one thread the ratios to two bare turns at a `Mutex`; with any other arguments only how to run
 //! it. What is measured here is proved nowhere. The counter is unfair: whoever comes first takes what is there.
 #![tactic(auto)]
 
+mod locks;
 mod measure;
 mod permits;
 

@@ -1,19 +1,19 @@
-//! What is measured: a way to take a number of permits and give them back, by the semaphore and by a plain counter;
-//! and what two turns at a lock cost alone.
+//! Permits that are measured: a semaphore's, and a plain counter's; and what two turns at a lock cost alone.
 
+use crate::measure::Turn;
 use saa_sync::semaphore::Semaphore;
 use std::sync::{Condvar, Mutex, Wait};
 
-/// Permits that threads share.
-pub trait Permits: Sync {
-    /// Takes so many permits, waiting where it must, and gives them back.
-    fn take_and_give(&self, count: usize);
-}
+/// The permits of each. Two acquires don't fit beside each other.
+pub const PERMITS: usize = 63;
 
-impl<R: Wait + Drop + Sync> Permits for Semaphore<R> {
-    fn take_and_give(&self, count: usize) {
-        if matches!(self.acquire_many_sync(count), Ok(true)) {
-            self.release_many(count);
+// What each acquire takes.
+const TAKEN: usize = 40;
+
+impl<R: Wait + Drop + Sync> Turn for Semaphore<R> {
+    fn take_turn(&self, _number: u64) {
+        if matches!(self.acquire_many_sync(TAKEN), Ok(true)) {
+            self.release_many(TAKEN);
         }
     }
 }
@@ -54,37 +54,37 @@ impl<R: Wait + Drop> Counter<R> {
     }
 }
 
-impl<R: Wait + Drop + Sync> Permits for Counter<R> {
-    fn take_and_give(&self, count: usize) {
-        self.take(count);
-        self.give(count);
+impl<R: Wait + Drop + Sync> Turn for Counter<R> {
+    fn take_turn(&self, _number: u64) {
+        self.take(TAKEN);
+        self.give(TAKEN);
     }
 }
 
 /// Two turns at a lock, with a write under each: what every form under a lock pays, as long as nobody waits.
 #[derive(Drop)]
-pub struct Turns<R: Wait + Drop> {
+pub struct TwoTurns<R: Wait + Drop> {
     rt: R,
     left: Mutex<usize>,
 }
 
-impl<R: Wait + Drop> Turns<R> {
+impl<R: Wait + Drop> TwoTurns<R> {
     /// A lock round so many permits, which nobody waits for.
-    pub fn new(rt: R, permits: usize) -> Turns<R> {
-        Turns {
+    pub fn new(rt: R, permits: usize) -> TwoTurns<R> {
+        TwoTurns {
             rt,
             left: Mutex::new(permits),
         }
     }
 }
 
-impl<R: Wait + Drop + Sync> Permits for Turns<R> {
-    fn take_and_give(&self, count: usize) {
+impl<R: Wait + Drop + Sync> Turn for TwoTurns<R> {
+    fn take_turn(&self, _number: u64) {
         {
             let mut left = self.left.lock(&self.rt);
-            *left = left.wrapping_sub(count);
+            *left = left.wrapping_sub(TAKEN);
         }
         let mut left = self.left.lock(&self.rt);
-        *left = left.wrapping_add(count);
+        *left = left.wrapping_add(TAKEN);
     }
 }
