@@ -103,3 +103,6 @@ impl Seat {
         self.state.load(Ordering::SeqCst) == ASLEEP
     }
 }
+
+#[cfg(test)]
+mod tests;
