@@ -102,3 +102,6 @@ impl Seat {
         self.state.load(Ordering::SeqCst) == ASLEEP
     }
 }
+
+#[cfg(test)]
+mod tests;

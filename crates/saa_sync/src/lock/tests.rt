@@ -350,7 +350,83 @@ fn waiting_calls_wake(rt: HostRuntime) -> Result<(), Fail> {
     Ok(())
 }
 
-// So many sleepers of both kinds at a lock that one owner has, and poison: how many were told that it is poisoned.
+// A lock that one owner has, at which all whom its release answers want a share: ahead, behind, and not as the wall.
+#[derive(Drop)]
+struct Owned<'l, R: Wait + Drop> {
+    lock: &'l Lock<R>,
+}
+
+// What is asked where, at a lock that one owner has.
+fn owned_mode_at(place: Place) -> Mode {
+    match place {
+        Place::Ahead | Place::Behind => Mode::Shared,
+        Place::Wall => Mode::Exclusive,
+    }
+}
+
+impl<R: Wait + Drop + Sync> Sleepers for Owned<'_, R> {
+    fn register_at(&self, ticket: &mut Ticket, place: Place) -> bool {
+        let mode = owned_mode_at(place);
+        matches!(self.lock.shell.register(ticket, mode, true), Ok(true))
+    }
+
+    fn give_up(&self, ticket: Ticket, is_cancelled: bool) {
+        self.lock.give_up(ticket, is_cancelled);
+    }
+
+    fn answer(&self, _is_short: bool) {
+        let _is_released = self.lock.release_lock();
+    }
+
+    fn wait_at(&self, _place: Place, by: By, joined: &AtomicU64) -> bool {
+        match by {
+            By::Call => self.lock.wait_with(Place::Behind, joined),
+            By::Plain => {
+                joined.fetch_add(1, Ordering::SeqCst);
+                self.lock.wait_plainly(Place::Behind)
+            }
+            By::Poll => self.lock.wait_by_pager(Place::Behind, joined),
+        }
+    }
+
+    fn asleep(&self) -> usize {
+        self.lock.shell.asleep()
+    }
+
+    fn rung(&self) -> usize {
+        self.lock.shell.rung()
+    }
+}
+
+// These numbers of sleepers who want a share of a lock that one owner has, in each way; the number where its release
+// went wrong, or 0.
+fn wrong_shares<R: Wait + Threads + Sync>(
+    rt: &R,
+    alloc: Global,
+    counts: &[u64],
+) -> Result<u64, AllocError> {
+    for count in counts {
+        for by in [By::Call, By::Plain, By::Poll] {
+            let lock = Lock::with_patience(rt, alloc, 104, NO_PATIENCE)?;
+            let _locked = lock.try_lock();
+            let owned = Owned { lock: &lock };
+            let end = End::Call(true);
+            if !a_call_wakes_all_whom_it_answers(rt, &owned, false, *count, by, end) {
+                return Ok(*count);
+            }
+        }
+    }
+    Ok(0)
+}
+
+#[test]
+fn the_end_of_an_owner_wakes_all_who_share_then(rt: HostRuntime) -> Result<(), Fail> {
+    assert_eq!(rt; wrong_shares(&rt, rt.alloc(), &[1, 2, 3, 48])?, 0);
+    Ok(())
+}
+
+// So many sleepers at a lock that one owner has, who wait in every way in turn, and poison: how many were told that it is
+// poisoned.
 fn told_of_poison<R: Wait + Threads + Sync>(
     rt: &R,
     alloc: Global,
@@ -362,10 +438,9 @@ fn told_of_poison<R: Wait + Threads + Sync>(
     let (shared, told_by) = (&lock, &told);
     thread::scope(thread::scope_env(), rt, |scope| {
         let mut started = 0usize;
-        for place in 0..count {
-            let is_reader = place % 2 == 0;
+        for way in 0..count {
             if scope
-                .spawn(move || count_poisoned(shared, is_reader, told_by))
+                .spawn(move || count_poisoned(shared, way, told_by))
                 .is_ok()
             {
                 started = started.saturating_add(1);
@@ -382,21 +457,33 @@ fn told_of_poison<R: Wait + Threads + Sync>(
     Ok(told.load(Ordering::SeqCst))
 }
 
-// Waits for the lock or for a share, and counts where it is poisoned meanwhile.
-fn count_poisoned<R: Wait + Drop>(lock: &Lock<R>, is_reader: bool, told: &AtomicU64) {
-    let answer = if is_reader {
-        lock.share_sync()
-    } else {
-        lock.lock_sync()
+// Waits in a way, and counts where the lock is poisoned meanwhile.
+fn count_poisoned<R: Wait + Drop>(lock: &Lock<R>, way: u16, told: &AtomicU64) {
+    let answer = match way % 6 {
+        0 => lock.share_sync(),
+        1 => lock.lock_sync(),
+        2 => lock.share_sync_with(|| {}),
+        3 => lock.lock_sync_with(|| {}),
+        4 => poll_in_mode(lock, Mode::Shared),
+        _ => poll_in_mode(lock, Mode::WaitExclusive),
     };
     if answer == Ok(false) {
         told.fetch_add(1, Ordering::SeqCst);
     }
 }
 
+// Waits by a pager in a mode; true also where it wasn't answered.
+fn poll_in_mode<R: Wait + Drop>(lock: &Lock<R>, mode: Mode) -> Result<bool, Full> {
+    let mut pager = Pager::new();
+    if lock.register_pager(&mut pager, mode, true)? {
+        return Ok(pager.poll_sync().unwrap_or(true));
+    }
+    Ok(true)
+}
+
 #[test]
 fn poison_wakes_all(rt: HostRuntime) -> Result<(), Fail> {
-    for count in [1, 2, 3, 48] {
+    for count in [1, 2, 3, 6, 48] {
         assert_eq!(rt; told_of_poison(&rt, rt.alloc(), count)?, u64::from(count));
     }
     Ok(())

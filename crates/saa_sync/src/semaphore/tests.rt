@@ -6,6 +6,7 @@ use crate::twins::{Form, Move, Way, every_list, moves};
 use saa_core::semaphore::{SemaphoreAnswer, SemaphoreCall};
 use std::sync::atomic::AtomicU64;
 use std::test::Fail;
+use std::thread;
 use std::thread::Threads;
 
 impl<R: Wait + Drop + Copy> Form for Semaphore<R> {
@@ -362,5 +363,88 @@ fn a_seat_is_reset_for_its_next_holder(rt: HostRuntime) -> Result<(), Fail> {
         assert_eq!(rt; answer, Ok(()));
     }
     assert_eq!(rt; rung.load(Ordering::SeqCst), 200);
+    Ok(())
+}
+
+// The release rings the only seat, and the second pager takes that seat over.
+#[test]
+fn a_seat_is_reset_for_the_next_pager(rt: HostRuntime) -> Result<(), Fail> {
+    let semaphore = Semaphore::with_permits(&rt, rt.alloc(), 0, 1)?;
+    for is_sync in [true, false] {
+        let mut pager = Pager::new();
+        assert_eq!(rt; semaphore.register_pager(&mut pager, 1, is_sync), Ok(true));
+        assert_eq!(rt; semaphore.rung(), 0);
+        assert!(rt; semaphore.release());
+        assert_eq!(rt; semaphore.rung(), 1);
+        assert_eq!(rt; pager.try_poll(), Ok(()));
+    }
+    Ok(())
+}
+
+// How many threads take all permits in turn, and how often each does.
+const THREADS: u64 = 8;
+
+const ROUNDS: u64 = 1_000;
+
+// Takes all permits and gives them back, so often.
+fn take_all_in_turn<R: Wait + Drop>(semaphore: &Semaphore<R>, taken: &AtomicU64) {
+    for _round in 0..ROUNDS {
+        if semaphore.acquire_many_sync(63) == Ok(true) && semaphore.release_many(63) {
+            taken.fetch_add(1, Ordering::SeqCst);
+        }
+    }
+}
+
+// Without patience nearly every turn is a sleep and a wake, so one that is lost somewhere between the two is missed.
+#[test]
+fn sleepers_in_turn_all_wake(rt: HostRuntime) -> Result<(), Fail> {
+    let semaphore = Semaphore::with_patience(&rt, rt.alloc(), 63, 8, NO_PATIENCE)?;
+    let taken = AtomicU64::new(0);
+    let (shared, taken_by) = (&semaphore, &taken);
+    let mut started: u64 = 0;
+    thread::scope(thread::scope_env(), &rt, |scope| {
+        for _ in 0..THREADS {
+            if scope
+                .spawn(move || take_all_in_turn(shared, taken_by))
+                .is_ok()
+            {
+                started = started.saturating_add(1);
+            }
+        }
+    });
+    assert_eq!(rt;
+        taken.load(Ordering::SeqCst),
+        started.saturating_mul(ROUNDS)
+    );
+    assert_eq!(rt; semaphore.available_permits(Ordering::SeqCst), 63);
+    Ok(())
+}
+
+// Who waits doesn't go to sleep before its minutes are over.
+const MUCH_PATIENCE: Patience = Patience {
+    looks: u32::MAX,
+    yields: u32::MAX,
+};
+
+// A task that waits awake keeps nobody out, hears that its seat is rung, and waits no longer then.
+#[test]
+fn a_patient_task_hears_its_ring(rt: HostRuntime) -> Result<(), Fail> {
+    let semaphore = Semaphore::with_patience(&rt, rt.alloc(), 0, 1, MUCH_PATIENCE)?;
+    let joined = AtomicU64::new(0);
+    let (is_granted, is_released) = thread::join(
+        &rt,
+        || semaphore.wait_at(Place::Ahead, By::Call, &joined),
+        || {
+            for _ in rt.forever() {
+                if joined.load(Ordering::SeqCst) != 0 {
+                    break;
+                }
+                thread::yield_now();
+            }
+            semaphore.release()
+        },
+    );
+    assert!(rt; is_granted && is_released);
+    assert_eq!(rt; (semaphore.rung(), semaphore.asleep()), (1, 0));
     Ok(())
 }

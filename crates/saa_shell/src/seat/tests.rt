@@ -1,0 +1,49 @@
+use super::*;
+use std::sync::Mutex;
+use std::sync::atomic::AtomicBool;
+use std::test::Fail;
+use std::thread;
+
+// Waits until the holder sleeps, and so has let go of the lock.
+fn await_asleep(rt: &impl Wait, seat: &Seat, lock: &Mutex<()>) {
+    for _ in rt.forever() {
+        let guard = lock.lock(rt);
+        if seat.is_asleep() {
+            return;
+        }
+        drop(guard);
+        yield_now();
+    }
+}
+
+// A ring for the slot's last holder may come late. One that comes before the next goes to sleep doesn't keep it awake;
+// one that comes as it does, and finds nobody asleep, leaves a sleeper at a seat that is rung, whom the next ring wakes.
+#[test]
+fn a_sleeper_at_a_rung_seat_is_woken(rt: HostRuntime) -> Result<(), Fail> {
+    for is_late in [false, true] {
+        let seat = Seat::new();
+        let lock = Mutex::new(());
+        let has_slept = AtomicBool::new(false);
+        seat.reset();
+        seat.ring();
+        assert!(rt; seat.is_rung());
+        thread::join(
+            &rt,
+            || {
+                drop(seat.sleep(&rt, lock.lock(&rt)));
+                has_slept.store(true, Ordering::SeqCst);
+            },
+            || {
+                await_asleep(&rt, &seat, &lock);
+                if is_late {
+                    seat.reset();
+                    seat.ring();
+                }
+                seat.ring();
+            },
+        );
+        assert!(rt; has_slept.load(Ordering::SeqCst));
+        assert!(rt; seat.is_rung());
+    }
+    Ok(())
+}
