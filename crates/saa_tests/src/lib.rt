@@ -4,7 +4,11 @@
 #![tactic(auto)]
 
 #[cfg(test)]
+mod barriers;
+#[cfg(test)]
 mod callbacks;
+#[cfg(test)]
+mod gates;
 #[cfg(test)]
 mod locks;
 #[cfg(test)]
