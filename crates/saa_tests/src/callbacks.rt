@@ -1,6 +1,7 @@
 //! When the callback of a waiting call runs. It may release what its own call waits for, so one thread is enough.
 
 use saa_core::ticket::Full;
+use saa_sync::lock::{Lock, TryLockError};
 use saa_sync::semaphore::Semaphore;
 use std::io;
 use std::sync::atomic::{AtomicU64, Ordering};
@@ -62,5 +63,51 @@ fn a_callback_does_not_run_where_nobody_waits(rt: HostRuntime) -> io::Result<()>
     assert_eq!(rt; semaphore.acquire_many_sync_with(1, count), Err(Full));
     assert_eq!(rt; runs.load(Ordering::SeqCst), 0);
     assert_eq!(rt; semaphore.available_permits(Ordering::SeqCst), 0);
+    Ok(())
+}
+
+#[test]
+fn a_callback_runs_while_its_task_stands_in_the_line(rt: HostRuntime) -> io::Result<()> {
+    let semaphore = Semaphore::with_permits(&rt, rt.alloc(), 2, 1)?;
+    let passed = AtomicU64::new(0);
+    let answer = semaphore.acquire_many_sync_with(3, || {
+        if semaphore.try_acquire() || semaphore.try_acquire_many(0) {
+            passed.fetch_add(1, Ordering::SeqCst);
+        }
+        semaphore.release();
+    });
+    assert_eq!(rt; answer, Ok(true));
+    assert_eq!(rt; passed.load(Ordering::SeqCst), 0);
+    Ok(())
+}
+
+#[test]
+fn a_callback_of_a_lock_runs_once_while_its_task_stands_in_the_line(
+    rt: HostRuntime,
+) -> io::Result<()> {
+    let lock = Lock::new(&rt, rt.alloc(), 1)?;
+    let runs = AtomicU64::new(0);
+    let refused = AtomicU64::new(0);
+    assert_eq!(rt; lock.try_share(), Ok(()));
+    let answer = lock.lock_sync_with(|| {
+        runs.fetch_add(1, Ordering::SeqCst);
+        if lock.try_share() == Err(TryLockError::WouldBlock) {
+            refused.fetch_add(1, Ordering::SeqCst);
+        }
+        lock.release_share();
+    });
+    assert_eq!(rt; answer, Ok(true));
+    assert!(rt; lock.is_locked(Ordering::SeqCst));
+    let answer = lock.share_sync_with(|| {
+        runs.fetch_add(1, Ordering::SeqCst);
+        if lock.share_sync().is_err() {
+            refused.fetch_add(1, Ordering::SeqCst);
+        }
+        lock.release_lock();
+    });
+    assert_eq!(rt; answer, Ok(true));
+    assert!(rt; lock.is_shared(Ordering::SeqCst));
+    assert_eq!(rt; runs.load(Ordering::SeqCst), 2);
+    assert_eq!(rt; refused.load(Ordering::SeqCst), 2);
     Ok(())
 }

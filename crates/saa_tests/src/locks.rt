@@ -86,6 +86,25 @@ fn a_pager_of_a_lock_is_granted_poisoned_and_dropped(rt: HostRuntime) -> Result<
 }
 
 #[test]
+fn sixty_two_share_and_no_more(rt: HostRuntime) -> Result<(), Fail> {
+    assert_eq!(rt; Lock::<&HostRuntime>::MAX_SHARED_OWNERS, 62);
+    let lock = Lock::new(&rt, rt.alloc(), 1)?;
+    for owner in 1..=62 {
+        assert_eq!(rt; lock.share_sync(), Ok(true), "{owner}");
+    }
+    assert_eq!(rt; lock.try_share(), Err(TryLockError::WouldBlock));
+    let answer = lock.share_sync_with(|| {
+        lock.release_share();
+    });
+    assert_eq!(rt; answer, Ok(true));
+    for owner in 1..=62 {
+        assert!(rt; lock.release_share(), "{owner}");
+    }
+    assert!(rt; lock.is_free(Ordering::SeqCst) && !lock.release_share());
+    Ok(())
+}
+
+#[test]
 fn values_read_as_their_table(rt: HostRuntime) {
     assert_eq!(rt;
         <Lock<&HostRuntime> as SyncResult>::to_result(0, None),

@@ -35,6 +35,7 @@ fn permits_that_are_out_from_the_start(rt: HostRuntime) -> io::Result<()> {
 
 #[test]
 fn sixty_two_and_one(rt: HostRuntime) -> io::Result<()> {
+    assert_eq!(rt; Semaphore::<&HostRuntime>::MAX_PERMITS, 63);
     let semaphore = Semaphore::new(&rt, rt.alloc(), 4)?;
     assert_eq!(rt; semaphore.acquire_many_sync(62), Ok(true));
     assert!(rt; semaphore.try_acquire());

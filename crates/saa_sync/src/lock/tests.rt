@@ -350,7 +350,7 @@ fn waiting_calls_wake(rt: HostRuntime) -> Result<(), Fail> {
     Ok(())
 }
 
-// A lock that one owner has, at which all whom its release answers want a share: ahead, behind, and not as the wall.
+// A lock that one owner has. The end of that answers all who want a share, up to the first who wants the lock alone.
 #[derive(Drop)]
 struct Owned<'l, R: Wait + Drop> {
     lock: &'l Lock<R>,

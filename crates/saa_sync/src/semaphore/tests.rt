@@ -4,6 +4,7 @@ use crate::sleepers::{
 };
 use crate::twins::{Form, Move, Way, every_list, moves};
 use saa_core::semaphore::{SemaphoreAnswer, SemaphoreCall};
+use std::hint::spin_loop;
 use std::sync::atomic::AtomicU64;
 use std::test::Fail;
 use std::thread;
@@ -381,24 +382,35 @@ fn a_seat_is_reset_for_the_next_pager(rt: HostRuntime) -> Result<(), Fail> {
     Ok(())
 }
 
-// How many threads take all permits in turn, and how often each does.
-const THREADS: u64 = 8;
+// How many threads take all permits in turn, how often each does, and how many lengths of rest it has in between.
+const THREADS: u64 = 4;
 
-const ROUNDS: u64 = 1_000;
+const ROUNDS: u64 = 2_000;
 
-// Takes all permits and gives them back, so often.
+const RESTS: u64 = 256;
+
+// Takes all permits and gives them back, so often, and rests after each turn, now for long and now for short.
 fn take_all_in_turn<R: Wait + Drop>(semaphore: &Semaphore<R>, taken: &AtomicU64) {
-    for _round in 0..ROUNDS {
+    for round in 0..ROUNDS {
         if semaphore.acquire_many_sync(63) == Ok(true) && semaphore.release_many(63) {
             taken.fetch_add(1, Ordering::SeqCst);
         }
+        rest(round.saturating_mul(13) % RESTS);
     }
 }
 
-// Without patience nearly every turn is a sleep and a wake, so one that is lost somewhere between the two is missed.
+// Does nothing for so many turns.
+fn rest(turns: u64) {
+    for _turn in 0..turns {
+        spin_loop();
+    }
+}
+
+// Without patience a turn that waits is a sleep and a wake. The rests let the one fall anywhere beside the other, so a
+// wake that can be lost between a poll and the sleep after it is lost.
 #[test]
 fn sleepers_in_turn_all_wake(rt: HostRuntime) -> Result<(), Fail> {
-    let semaphore = Semaphore::with_patience(&rt, rt.alloc(), 63, 8, NO_PATIENCE)?;
+    let semaphore = Semaphore::with_patience(&rt, rt.alloc(), 63, 4, NO_PATIENCE)?;
     let taken = AtomicU64::new(0);
     let (shared, taken_by) = (&semaphore, &taken);
     let mut started: u64 = 0;
