@@ -27,6 +27,8 @@ fn a_gate_is_sealed_reset_and_opened(rt: HostRuntime) -> Result<(), Fail> {
     assert_eq!(rt; gate.open(), (State::Sealed, 0));
     assert_eq!(rt; gate.enter_sync(), Ok(Ok(State::Open)));
     assert_eq!(rt; gate.reject(), Err(State::Open));
+    assert_eq!(rt; gate.reset(), Some(State::Open));
+    assert_eq!(rt; gate.reject(), Ok(0));
     Ok(())
 }
 
