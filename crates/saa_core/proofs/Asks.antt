@@ -1,25 +1,22 @@
 -- Asking, releasing and dropping of a core that grants what fits, case by case, seen as steps of the object.
-use Rattle.std.proofs.Common.{◌≡◌, ℕ, suc, zero, ◌-◌, ◌<◌, ◌≤◌, Bool, true, false, not, ◌&&◌, ◌||◌, cond, ◌==◌, List, [], ◌∷◌, take, drop, length, Option, Some, None, is_some, Ok, Err, slice_get, slice_set, nat_lt, replicate, refl, sym, ap, subst, ◌∙◌, arith, inl, inr, nat_le}
-use Rattle.std.proofs.lemmas.List.{length-replicate}
+use Rattle.std.proofs.Common.{◌≡◌, ℕ, ◌-◌, ◌<◌, Bool, true, false, ◌&&◌, cond, ◌==◌, List, [], ◌∷◌, take, drop, Option, Some, None, is_some, Ok, Err, slice_set, nat_lt, refl, sym, ap, subst, ◌∙◌, arith, inl, inr}
 use Rattle.std.proofs.lemmas.Bool.Decides.{nat_tests}
 use Rattle.saa_object.specs.declared.request.Request.{Request}
 use Rattle.saa_tickets.specs.declared.ticket.Registration.{Registration}
 use Rattle.saa_tickets.specs.declared.ticket.Registration.TheVariants.{Unregistered, AtOnce, InSlot}
 use Rattle.saa_object.specs.Held.{Held, OfSemaphore, OfLock, OfGate, OfBarrier, LockState, Free, Exclusive, Shared, Poisoned, fits, plus, less, asks_too_much}
-use Rattle.saa_object.specs.Object.{Object, After, Entry, Idle, Waiting, Answered, Waiter, entry_at, with_entry, used, is_nobody, times, newly_made, one_if}
+use Rattle.saa_object.specs.Object.{Object, After, Idle, Waiting, Answered, Waiter, with_entry, used, is_nobody, times, one_if}
 use Rattle.saa_object.specs.Settling.{fitting_front, plus_all, answered_in, granted, settled}
-use Rattle.saa_object.specs.Asking.{registered, registered_of, granted_at_once, answer_at_once, answer_in as answer_of_kind, is_granted_at_once, is_idle}
+use Rattle.saa_object.specs.Asking.{registered, granted_at_once, answer_at_once, answer_in as answer_of_kind, is_granted_at_once}
 use Rattle.saa_object.specs.Lock.{is_locked, poisoned_of}
 use Rattle.saa_object.specs.Values.{poisoned_value}
 use Rattle.saa_tickets.proofs.Answering.{all_calls}
-use Rattle.saa_object.specs.Polling.{given_back, given_back_of, is_for_nothing, dropped, dropped_of, left_of, undone_of}
-use Rattle.saa_line.specs.Slots.{Slots, answer_in, answer_count, held_slots, held_times, room_of, empty_slots, IsSound, all_slots_answered}
-use Rattle.saa_tickets.specs.Tickets.{Core, Acts, Calls, Belong, object_of, entry_of, slot_entry, owners, slotted_count, named, entries, is_busy, dropping}
+use Rattle.saa_object.specs.Polling.{given_back, given_back_of, is_for_nothing, left_of, undone_of}
+use Rattle.saa_line.specs.Slots.{Slots, answer_in, held_slots, held_times, room_of, IsSound, all_slots_answered}
+use Rattle.saa_tickets.specs.Tickets.{Core, Acts, Calls, Belong, object_of, slot_entry, slotted_count, named, entries, dropping}
 use Rattle.saa_core.specs.CoreParts.{core_granted, core_settled, core_given, core_given_of, core_undone, core_vacated, core_vacated_by, takes_now, IsGranting, answer_to_all}
-use Rattle.saa_tickets.proofs.Naming.{entry-at, owner-here}
-use Rattle.std.proofs.Math.ListN.{length-set}
-use Rattle.saa_tickets.proofs.Counting.{held-once}
-use Rattle.saa_tickets.proofs.Steps.{own-object, own-belong, slots_joined, join-object, join-belong, slots_taken, held-taken, take-object, take-belong, slots_left, held-left, leave-object, leave-belong, used-object, front-object, front-belong}
+use Rattle.saa_tickets.proofs.Naming.{entry-at}
+use Rattle.saa_tickets.proofs.Steps.{own-object, own-belong, slots_joined, join-object, join-belong, slots_taken, take-object, take-belong, slots_left, leave-object, leave-belong, used-object, front-object, front-belong}
 use Rattle.saa_tickets.proofs.Polls.{after, acts_unchanged}
 use Rattle.saa_object.proofs.Counts.{bool_cases, number_same}
 use Rattle.saa_tickets.proofs.Registering.{registered-by, idle_asks, apart_number, dropped-by, cancel_foreign, taken-sound, left-sound}

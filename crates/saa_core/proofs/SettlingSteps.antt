@@ -1,8 +1,8 @@
 -- Settling of a core, one grant at a time, and what is settled afterwards.
-use Rattle.std.proofs.Common.{◌≡◌, ℕ, zero, suc, ◌<◌, Bool, true, false, ◌&&◌, cond, List, [], ◌∷◌, ◌++◌, length, drop, Option, Some, None, slice_set, refl, sym, ap, ◌∙◌, arith, inl, inr}
+use Rattle.std.proofs.Common.{◌≡◌, ℕ, zero, suc, ◌<◌, true, false, ◌&&◌, cond, List, [], ◌∷◌, ◌++◌, length, drop, Option, Some, None, slice_set, refl, sym, ap, ◌∙◌, arith, inl, inr}
 use Rattle.saa_object.specs.declared.request.Request.{Request}
 use Rattle.saa_object.specs.Held.{Held, OfLock, Poisoned, fits, plus, less}
-use Rattle.saa_object.specs.Object.{Waiter, is_nobody, without}
+use Rattle.saa_object.specs.Object.{Waiter, is_nobody}
 use Rattle.saa_object.specs.Settling.{fitting_front}
 use Rattle.saa_line.specs.Slots.{Slots, owing, slots_answered}
 use Rattle.saa_tickets.specs.Tickets.{IsCoreSettled, Core}

@@ -7,7 +7,7 @@ use Rattle.saa_object.specs.Object.{times, without}
 use Rattle.saa_object.specs.Settling.{fitting_front}
 use Rattle.saa_object.specs.Polling.{is_for_nothing}
 use Rattle.saa_object.specs.Values.{granted_value}
-use Rattle.saa_line.specs.Slots.{Slots, answer_in, IsSound, OwesAnswered}
+use Rattle.saa_line.specs.Slots.{answer_in, IsSound, OwesAnswered}
 use Rattle.saa_tickets.specs.Tickets.{Core}
 use Rattle.saa_tickets.proofs.Steps.{slots_taken}
 use Rattle.saa_tickets.proofs.Waking.{owes-same, owes-front, owes-taken, owes-left_front, sound-taken}

@@ -1,5 +1,5 @@
 -- The tries of a lock, in the type that they answer.
-use Rattle.std.specs.Prelude.{◌≡◌, ℕ, [], Result}
+use Rattle.std.specs.Prelude.{◌≡◌, [], Result}
 use Rattle.saa_object.specs.declared.request.Request.{Request}
 use Rattle.saa_object.specs.declared.lock.TryLockError.{TryLockError}
 use Rattle.saa_object.specs.Held.{OfLock, Poisoned}

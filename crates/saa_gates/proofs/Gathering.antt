@@ -1,22 +1,20 @@
 -- Registering and dropping of a core at which tasks gather, case by case, seen as steps of the
 -- object. Neither a gate nor a barrier occurs here.
-use Rattle.std.proofs.Common.{◌≡◌, ℕ, ◌<◌, ◌≤◌, Bool, true, false, ◌==◌, List, [], ◌∷◌, length, take, drop, Option, Some, None, is_some, Ok, Err, slice_set, nat_lt, refl, sym, ap, subst, ◌∙◌, arith, cond}
-use Rattle.std.proofs.Math.Seq.{take-length}
+use Rattle.std.proofs.Common.{◌≡◌, ℕ, ◌<◌, ◌≤◌, Bool, true, false, ◌==◌, List, length, Option, Some, None, is_some, Ok, Err, slice_set, nat_lt, refl, sym, ap, ◌∙◌, arith, cond}
 use Rattle.std.proofs.lemmas.Bool.Decides.{nat_tests}
 use Rattle.saa_object.specs.declared.request.Request.{Request}
 use Rattle.saa_object.specs.Held.{Held, asks_too_much}
-use Rattle.saa_object.specs.Object.{Object, Idle, Waiting, Answered, Waiter, with_entry, used, times, without, one_if}
-use Rattle.saa_object.specs.Settling.{all_answered, answered_in}
+use Rattle.saa_object.specs.Object.{Object, Idle, Waiting, Answered, with_entry, used, times, without, one_if}
 use Rattle.saa_object.specs.Asking.{registered, answer_at_once}
 use Rattle.saa_object.specs.Polling.{left_of, undone_of}
 use Rattle.std.specs.Bool.{OnTrue, OnFalse}
 use Rattle.saa_object.proofs.Counts.{length-without, number_same}
-use Rattle.saa_line.specs.Slots.{Slots, answer_in, held_slots, held_times, room_of, slots_answered, all_slots_answered, answered_slots, owed_after, IsSound}
+use Rattle.saa_line.specs.Slots.{Slots, answer_in, held_slots, held_times, room_of, IsSound}
 use Rattle.saa_tickets.specs.declared.ticket.Registration.{Registration}
 use Rattle.saa_tickets.specs.declared.ticket.Registration.TheVariants.{Unregistered, AtOnce, InSlot}
-use Rattle.saa_tickets.specs.Tickets.{Core, Acts, Calls, Belong, object_of, slot_entry, named, dropping}
-use Rattle.saa_tickets.proofs.Naming.{entry-at, length-named}
-use Rattle.saa_tickets.proofs.Steps.{own-object, own-belong, slots_joined, join-object, join-belong, slots_taken, take-object, take-belong, slots_left, leave-object, leave-belong, used-object, front-object, front-belong}
+use Rattle.saa_tickets.specs.Tickets.{Core, Acts, Belong, object_of, slot_entry, dropping}
+use Rattle.saa_tickets.proofs.Naming.{entry-at}
+use Rattle.saa_tickets.proofs.Steps.{own-object, own-belong, slots_joined, join-object, join-belong, slots_taken, take-object, take-belong, slots_left, leave-object, leave-belong, used-object}
 use Rattle.saa_tickets.proofs.Polls.{after, acts_unchanged}
 use Rattle.saa_tickets.proofs.Registering.{registered-by, idle_asks, apart_number, dropped-by, cancel_foreign, left-sound}
 use Rattle.saa_gates.specs.GatheringParts.{vacated, vacated_by}

@@ -1,5 +1,5 @@
 -- What a registration says of its ticket, read off what it does to the object of the core with that ticket alone.
-use Rattle.std.proofs.Common.{◌≡◌, ℕ, ◌≤◌, ◌||◌, ◌==◌, not, List, [], ◌∷◌, Option, Some, None, Result, Ok, Err, IsErr, Bool, true, false, slice_set, refl, sym, ap, subst, ◌∙◌, arith}
+use Rattle.std.proofs.Common.{◌≡◌, ℕ, ◌||◌, ◌==◌, not, List, [], ◌∷◌, Option, Some, None, Result, Ok, Err, IsErr, Bool, true, false, slice_set, refl, sym, ap, subst, ◌∙◌, arith}
 use Rattle.saa_object.specs.declared.request.Request.{Request}
 use Rattle.saa_object.specs.declared.request.Full.{Full}
 use Rattle.saa_tickets.specs.declared.ticket.Registration.{Registration}

@@ -3,6 +3,9 @@
 //! A wait is a registration followed by polls: a task that waits looks at its seat, then yields, and only then sleeps
 //! there. A call that answered somebody wakes exactly those, with the lock free. The methods of `Inside` are lent the
 //! core, and say what they do to it; those of `Shell` only take the lock round one of them, and wake.
+//!
+//! What nobody waits in is inlined, and the waiting and waking isn't: each register that a call saves in memory before it
+//! takes the lock is waited for there, which cost a lock some 10 ns.
 
 ghost use Rattle.std.specs.Prelude.{◌≡◌, ◌||◌, true, false, [], Some, IsNone, IfSome, IfErr, slice_get};
 ghost use Rattle.saa_object.specs.declared.polling.Error.TheVariants.{NotRegistered};
@@ -145,11 +148,13 @@ impl<R: Wait + Drop, P: Primitive> Shell<R, P> {
     }
 
     /// Takes the lock; waits for whoever has it.
+    #[inline(always)]
     pub fn lock(&self) -> MutexGuard<'_, Inside<P>> {
         self.lock.lock(&self.rt)
     }
 
     /// Makes one step of the core under the lock, and wakes whom the core owes a wake by then, with the lock free.
+    #[inline(always)]
     pub fn step<A, F: FnOnce(&mut P) -> A + Drop>(&self, step: F) -> A
         requires { F.IsAlwaysCallable step }
     {
@@ -168,6 +173,7 @@ impl<R: Wait + Drop, P: Primitive> Shell<R, P> {
     ///
     /// Each costs a ring of its seat, which is a system call only where somebody sleeps there, and each second one a
     /// short lock, to ask for more.
+    #[inline(never)]
     pub fn wake(&self, first: Wakes) {
         let mut wakes = first;
         for _ in self.rt.forever() {
@@ -189,6 +195,7 @@ impl<R: Wait + Drop, P: Primitive> Shell<R, P> {
     /// For what the core never refuses. A core that refused all the same, or that forgot a ticket which waits, is
     /// asked again, so that every value is one that the core answered. `Full`: it would have to wait, and the room is
     /// full.
+    #[inline(always)]
     pub fn acquire(&self, ask: P::Ask) -> Result<u8, Full> {
         for _ in self.rt.forever() {
             let mut ticket = Ticket::new();
@@ -267,6 +274,7 @@ impl<R: Wait + Drop, P: Primitive> Shell<R, P> {
     }
 
     // Registers a ticket as sync and polls it once, under one lock, and wakes whom that answered.
+    #[inline(always)]
     fn begin(&self, ticket: &mut Ticket, ask: P::Ask) -> Result<Begun, Full>
         requires { ticket.old ≡ Unregistered }
         ensures ticket { is_busy ticket.new ≡ has_joined result }
@@ -287,6 +295,7 @@ impl<R: Wait + Drop, P: Primitive> Shell<R, P> {
     // Waits for the answer of a ticket that joined the line as sync, and consumes it.
     //
     // The one error is that the core doesn't know the ticket; it is idle then too.
+    #[inline(never)]
     fn finish(&self, ticket: &mut Ticket) -> Result<u8, Error>
         requires { mode_of ticket.old ≡ Some true }
         ensures idle { is_busy ticket.new ≡ false }

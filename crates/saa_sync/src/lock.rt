@@ -100,6 +100,7 @@ impl<R: Wait + Drop> Lock<R> {
     ///
     /// `false` comes exactly where the lock isn't one owner's alone, and changes nothing. Nobody is asked whose lock it
     /// ends. Each who is granted costs a ring at its seat, and each second one of them a short lock more.
+    #[inline(always)]
     pub fn release_lock(&self) -> bool {
         self.shell.step(end_lock)
     }
@@ -107,6 +108,7 @@ impl<R: Wait + Drop> Lock<R> {
     /// Gives one share back, grants those who wait, oldest first, while they fit, and wakes exactly those.
     ///
     /// `false` comes exactly where the lock isn't shared, and changes nothing. Nobody is asked whose share it ends.
+    #[inline(always)]
     pub fn release_share(&self) -> bool {
         self.shell.step(end_share)
     }
@@ -130,12 +132,14 @@ impl<R: Wait + Drop> Lock<R> {
     ///
     /// `Ok(true)`: it is granted. `Ok(false)`: the lock is poisoned, or was while this waited. `Full`: it would have to
     /// wait, and as many slots are held as there is room; nothing is changed. Nothing stays registered in any case.
+    #[inline(always)]
     pub fn lock_sync(&self) -> Result<bool, Full> {
         let value = self.shell.acquire(Mode::Exclusive)?;
         Ok(is_granted(value))
     }
 
     /// Takes a share of the lock, and waits for it in the line where it must; answers as [`Self::lock_sync`] does.
+    #[inline(always)]
     pub fn share_sync(&self) -> Result<bool, Full> {
         let value = self.shell.acquire(Mode::Shared)?;
         Ok(is_granted(value))

@@ -110,6 +110,7 @@ impl<R: Wait + Drop> Semaphore<R> {
     /// `false` comes exactly where fewer permits are out, and changes nothing. 0 permits are given back always, and
     /// change nothing. Each who is granted costs a ring at its seat, which is a system call only where it sleeps, and
     /// each second one of them a short lock more; where nobody is granted nothing is added.
+    #[inline(always)]
     pub fn release_many(&self, count: usize) -> bool {
         self.shell.step(|core| give_back(core, count))
     }
@@ -129,6 +130,7 @@ impl<R: Wait + Drop> Semaphore<R> {
     /// `Ok(true)`: the core answered that they are granted. `Ok(false)` comes at once, exactly where the count is above
     /// [`Self::MAX_PERMITS`]. `Full`: it would have to wait, and as many slots are held as there is room. The last two
     /// change nothing. Nothing stays registered in any case.
+    #[inline(always)]
     pub fn acquire_many_sync(&self, count: usize) -> Result<bool, Full>
         ensures answer { IfOk result (λ is_granted. IsTrue is_granted ↔ (count ≤ 63)) }
         ensures too_many { 63 < count → result ≡ Ok false }

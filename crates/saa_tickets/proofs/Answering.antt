@@ -1,12 +1,12 @@
 -- Answering all who wait: of a core with its tickets it is answering all of the object, whatever is held then.
-use Rattle.std.proofs.Common.{◌≡◌, ℕ, List, [], length, take, drop, refl, sym, ap, subst, ◌∙◌}
+use Rattle.std.proofs.Common.{◌≡◌, ℕ, List, [], length, take, drop, sym, ap, subst, ◌∙◌}
 use Rattle.std.proofs.Math.Seq.{take-length, drop-length}
 use Rattle.saa_object.specs.Held.{Held}
 use Rattle.saa_object.specs.Object.{Object, Waiter}
 use Rattle.saa_object.specs.Settling.{all_answered, answered_in}
 use Rattle.saa_line.specs.Slots.{Slots, answered_slots, owed_after, slots_answered, all_slots_answered, IsSound}
 use Rattle.saa_tickets.specs.declared.ticket.Registration.{Registration}
-use Rattle.saa_tickets.specs.Tickets.{Core, Calls, Belong, object_of, named}
+use Rattle.saa_tickets.specs.Tickets.{Calls, Belong, object_of, named}
 use Rattle.saa_tickets.proofs.Naming.{length-named}
 use Rattle.saa_tickets.proofs.Steps.{front-object, front-belong}
 use Rattle.saa_tickets.proofs.Polls.{after}

@@ -1,12 +1,12 @@
 -- How often a slot is held, and how many slots are held, as the line and the answers change.
-use Rattle.std.proofs.Common.{◌≡◌, ◌≢◌, ℕ, suc, zero, ◌+◌, ◌<◌, ◌≤◌, Bool, true, false, ◌==◌, List, [], ◌∷◌, ◌++◌, length, take, drop, get_or, Option, Some, None, is_some, slice_set, nat_lt, refl, sym, ap, ◌∙◌, arith, inl, inr}
+use Rattle.std.proofs.Common.{◌≡◌, ◌≢◌, ℕ, suc, zero, ◌+◌, ◌<◌, ◌≤◌, true, ◌==◌, List, [], ◌∷◌, length, take, get_or, Option, Some, None, is_some, slice_set, nat_lt, refl, sym, ap, ◌∙◌, arith, inl, inr}
 use Rattle.std.proofs.lemmas.Bool.Decides.{nat_tests}
 use Rattle.std.proofs.lemmas.List.{get_or-set_same, get_or-set_other}
 use Rattle.std.proofs.Math.ListN.{length-set}
-use Rattle.saa_object.specs.Object.{Waiter, one_if, times, without}
+use Rattle.saa_object.specs.Object.{Waiter, one_if, times}
 use Rattle.saa_line.specs.Slots.{Slots, answer_in, answer_count, answered_slots, held_times, room_of, IsSound}
 use Rattle.saa_object.proofs.Counts.{bool_cases, same_number, other_number}
-use Rattle.saa_object.proofs.Counts.{number_same, number_other, one_if-same, below_true, below_false, one_if-le, times-append, times-take_drop, length-without, times-without_same, times-without_other}
+use Rattle.saa_object.proofs.Counts.{number_same, below_true, one_if-le, times-take_drop}
 
 -- a slot that is held at all is below the room
 pub held-below : (slots : Slots) → IsSound slots → (slot : ℕ) → 0 < held_times slots slot → slot < room_of slots

@@ -1,23 +1,22 @@
 -- Registering and dropping, as far as they are the same for every core: refusals, idle and foreign tickets, and making.
-use Rattle.std.proofs.Common.{◌≡◌, ℕ, suc, zero, ◌-◌, ◌<◌, ◌≤◌, Bool, true, false, not, ◌&&◌, ◌||◌, cond, ◌==◌, List, [], ◌∷◌, length, Option, Some, None, is_some, Ok, Err, slice_get, slice_set, nat_lt, replicate, refl, sym, ap, subst, ◌∙◌, arith, inl, inr, nat_le}
+use Rattle.std.proofs.Common.{◌≡◌, ℕ, suc, zero, ◌<◌, Bool, true, false, not, ◌||◌, ◌==◌, List, ◌∷◌, length, Option, Some, None, Ok, slice_get, slice_set, nat_lt, replicate, refl, ap, ◌∙◌, arith}
 use Rattle.std.proofs.lemmas.List.{length-replicate}
 use Rattle.std.proofs.lemmas.Bool.Decides.{nat_tests}
 use Rattle.saa_object.specs.declared.request.Request.{Request}
 use Rattle.saa_tickets.specs.declared.ticket.Registration.{Registration}
 use Rattle.saa_tickets.specs.declared.ticket.Registration.TheVariants.{Unregistered, AtOnce, InSlot}
-use Rattle.saa_object.specs.Held.{Held, OfSemaphore, OfLock, OfGate, OfBarrier, LockState, Free, Exclusive, Shared, Poisoned, fits, plus, less, asks_too_much}
-use Rattle.saa_object.specs.Object.{Object, After, Entry, Idle, Waiting, Answered, Waiter, entry_at, with_entry, used, is_nobody, times, newly_made, one_if}
-use Rattle.saa_object.specs.Settling.{settled}
-use Rattle.saa_object.specs.Asking.{registered, registered_of, granted_at_once, answer_at_once, answer_in as answer_of_kind, is_granted_at_once, is_idle}
-use Rattle.saa_object.specs.Polling.{given_back, given_back_of, is_for_nothing, dropped, dropped_of, left_of, undone_of}
-use Rattle.saa_line.specs.Slots.{Slots, answer_in, answer_count, held_slots, held_times, room_of, empty_slots, IsSound}
-use Rattle.saa_tickets.specs.Tickets.{Core, Acts, Calls, Belong, object_of, entry_of, slot_entry, owners, slotted_count, named, entries, is_busy, dropping}
+use Rattle.saa_object.specs.Held.{Held, asks_too_much}
+use Rattle.saa_object.specs.Object.{Object, After, Entry, Idle, entry_at, used, times, newly_made, one_if}
+use Rattle.saa_object.specs.Asking.{registered, registered_of, answer_at_once, is_idle}
+use Rattle.saa_object.specs.Polling.{dropped, dropped_of}
+use Rattle.saa_line.specs.Slots.{Slots, answer_in, answer_count, held_times, empty_slots, IsSound}
+use Rattle.saa_tickets.specs.Tickets.{Core, Acts, Belong, object_of, entry_of, slot_entry, owners, slotted_count, entries, is_busy, dropping}
 use Rattle.saa_tickets.proofs.Naming.{entry-at, owner-here}
 use Rattle.std.proofs.Math.ListN.{length-set}
 use Rattle.saa_tickets.proofs.Counting.{held-once}
 use Rattle.saa_tickets.proofs.Steps.{same_object, slots_taken, held-taken, slots_left, held-left}
 use Rattle.saa_tickets.proofs.Polls.{after, acts_unchanged}
-use Rattle.saa_object.proofs.Counts.{bool_cases, number_same}
+use Rattle.saa_object.proofs.Counts.{number_same}
 
 -- Registering
 

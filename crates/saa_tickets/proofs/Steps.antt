@@ -6,13 +6,13 @@ use Rattle.std.proofs.Math.ListN.{length-set}
 use Rattle.saa_object.specs.declared.request.Request.{Request}
 use Rattle.saa_object.specs.Held.{Held}
 use Rattle.saa_object.specs.Object.{Object, Entry, Idle, Waiter, with_entry, one_if, times, without, used, slots_in, holds_slot}
-use Rattle.saa_line.specs.Slots.{Slots, answer_in, answer_count, answered_slots, slots_answered, held_slots, held_times, room_of, IsSound}
-use Rattle.saa_object.specs.Settling.{fitting_front, plus_all, answered_in, granted, settled}
+use Rattle.saa_line.specs.Slots.{Slots, answer_in, answer_count, answered_slots, slots_answered, held_slots, held_times, IsSound}
+use Rattle.saa_object.specs.Settling.{answered_in}
 use Rattle.saa_object.specs.Asking.{joined}
 use Rattle.saa_tickets.specs.declared.ticket.Registration.{Registration}
 use Rattle.saa_tickets.specs.declared.ticket.Registration.TheVariants.{Unregistered, AtOnce, InSlot}
 use Rattle.saa_tickets.specs.Tickets.{has_slot, is_slotted, owners, slotted_count, name_of, named, entry_of, slot_entry, entries, Core, object_of, Belong}
-use Rattle.saa_tickets.proofs.Naming.{entries-set, entries-other, entries-answer, named-take, named-drop, named-append, fitting_front-named, plus_all-named, name_of-set, named-set, owners-set, slotted_count-set, name_of-own, name_of-found}
+use Rattle.saa_tickets.proofs.Naming.{entries-set, entries-other, entries-answer, named-take, named-drop, named-append, name_of-set, named-set, owners-set, slotted_count-set, name_of-own, name_of-found}
 use Rattle.saa_tickets.proofs.Counting.{held-once, answer_count-none, answer-below, AreUnanswered, no_answer, unanswered-first, unanswered-rest, answer_count-answered, held-answered, length-answered_slots, unanswered-take}
 use Rattle.saa_object.proofs.Counts.{bool_cases, same_number, other_number, number_same, number_other, times-append, times-take_drop, length-without, times-without_same, times-without_other}
 

@@ -1,11 +1,11 @@
 -- The wakes that are owed after each change that a core makes of its line: of those whom it answered, and of nobody else.
-use Rattle.std.proofs.Common.{◌≡◌, ℕ, suc, zero, ◌+◌, ◌<◌, ◌≤◌, Bool, true, false, ◌==◌, List, [], ◌∷◌, ◌++◌, length, take, drop, Option, Some, None, is_some, slice_set, nat_lt, refl, sym, ap, subst, ◌∙◌, arith, inl, inr}
+use Rattle.std.proofs.Common.{◌≡◌, ℕ, ◌<◌, Bool, true, false, ◌==◌, List, [], ◌∷◌, ◌++◌, length, take, drop, Option, Some, None, is_some, slice_set, nat_lt, refl, sym, ap, subst, ◌∙◌, arith, inl, inr}
 use Rattle.std.proofs.lemmas.List.{take-append-drop, append-nil}
 use Rattle.std.proofs.Math.ListN.{length-set}
 use Rattle.saa_object.specs.declared.request.Request.{Request}
 use Rattle.saa_object.specs.Object.{Waiter, one_if, times, without}
-use Rattle.saa_line.specs.Slots.{Slots, answer_in, answered_of, answered_slots, all_slots_answered, held_times, owed_after, room_of, slots_answered, IsSound, OwesAnswered}
-use Rattle.saa_object.proofs.Counts.{bool_cases, same_number, one_if-le, one_if-same, times-take_drop, times-without_same}
+use Rattle.saa_line.specs.Slots.{Slots, answer_in, answered_of, answered_slots, all_slots_answered, owed_after, slots_answered, IsSound, OwesAnswered}
+use Rattle.saa_object.proofs.Counts.{bool_cases, same_number, one_if-same, times-take_drop, times-without_same}
 use Rattle.saa_tickets.proofs.Counting.{held-once, held-answered, no_answer, unanswered-take}
 use Rattle.saa_tickets.proofs.Steps.{slots_joined, slots_taken, slots_left, held-taken, held-left}
 use Rattle.saa_tickets.proofs.Answering.{all_answered-front}
@@ -70,9 +70,9 @@ answered_of-front v k slots sound =
     let after : List (Option ℕ) = answered_slots v front slots.answers in
     let counts = λ (slot : ℕ). held-answered v front slots.answers slot (unanswered-take slots sound k) in
     let all : answered_of front after ≡ front =
-        answered_of-all front after (λ slot some. one_if-true (is_some (answer_in after slot)) (omega (arith, counts slot))) in
+    answered_of-all front after (λ slot some. one_if-true (is_some (answer_in after slot)) (omega (arith, counts slot))) in
     let none : answered_of back after ≡ [] =
-        answered_of-none back after (λ slot some. one_if-false (is_some (answer_in after slot)) (omega (arith, counts slot, times-take_drop slot k slots.line, held-once slots sound slot))) in
+    answered_of-none back after (λ slot some. one_if-false (is_some (answer_in after slot)) (omega (arith, counts slot, times-take_drop slot k slots.line, held-once slots sound slot))) in
     ap (λ (l : List Waiter). answered_of l after) (sym (take-append-drop k slots.line))
     ∙ answered_of-append front back after
     ∙ ap (λ (l : List Waiter). l ++ answered_of back after) all
@@ -86,7 +86,7 @@ pub owes-same : (slots : Slots) → IsSound slots → OwesAnswered slots slots
 owes-same slots sound = record {
   exact =
       let nobody : answered_of slots.line slots.answers ≡ [] =
-          answered_of-none slots.line slots.answers (λ slot some. one_if-false (is_some (answer_in slots.answers slot)) (omega (arith, held-once slots sound slot))) in
+      answered_of-none slots.line slots.answers (λ slot some. one_if-false (is_some (answer_in slots.answers slot)) (omega (arith, held-once slots sound slot))) in
       ap (λ (l : List Waiter). owed_after l slots.owed) (sym nobody);
 }
 
@@ -153,7 +153,7 @@ owes-left_front v k slots slot sound waits =
     let left_sound : IsSound left = sound-left slots slot sound waits in
     let after : List (Option ℕ) = answered_slots v (take k left.line) left.answers in
     let none : answer_in after slot ≡ None =
-        no_answer (answer_in after slot) (omega (arith, held-answered v (take k left.line) left.answers slot (unanswered-take left left_sound k), times-take_drop slot k left.line, times-without_same slot slots.line, held-once slots sound slot)) in
+    no_answer (answer_in after slot) (omega (arith, held-answered v (take k left.line) left.answers slot (unanswered-take left left_sound k), times-take_drop slot k left.line, times-without_same slot slots.line, held-once slots sound slot)) in
     owes-left slots (slots_answered v k left) slot none (owes-front v k left left_sound)
 
 -- and so are all the others

@@ -1,6 +1,6 @@
 use Rattle.std.proofs.Common.{◌≡◌, None, ◌∙◌, sym}
 use Rattle.saa_core.specs.CoreParts.{oldest_fitting}
-use Rattle.saa_core.proofs.SettlingSteps.{settle-grant, settle-fits, settled-none, settle-stop}
+use Rattle.saa_core.proofs.SettlingSteps.{settle-grant, settled-none, settle-stop}
 use Rattle.saa_core.proofs.granting.settle.Goals as goal
 
 pub loop-request-preserved : goal.loop-request-preserved

@@ -1,4 +1,4 @@
-use Rattle.std.proofs.Common.{◌≡◌, true, false, Some, None, arith, rules}
+use Rattle.std.proofs.Common.{◌≡◌, true, false, Some, None, rules}
 use Rattle.saa_tickets.specs.declared.ticket.Registration.TheVariants.{Unregistered}
 use Rattle.saa_tickets.specs.Tickets.{is_busy}
 use Rattle.saa_core.specs.CoreParts.{takes_now, answer_to_all}

@@ -26,7 +26,7 @@ pub returns-then-leave-clause-wakes : goal.returns-then-leave-clause-wakes
 returns-then-leave-clause-wakes g c =
     let took : c.take.new.self ≡ c.self.inside.line = c.in_default.ensures.unchanged in
     let left : c.leave.new.self ≡ record c.self.inside.line { line = without c.args.slot c.self.inside.line.line } =
-        c.if-leave.ensures.left ∙ ap (λ (s : Slots). record s { line = without c.args.slot s.line }) took in
+    c.if-leave.ensures.left ∙ ap (λ (s : Slots). record s { line = without c.args.slot s.line }) took in
     let waited : 0 < times c.args.slot c.take.new.self.line = c.if-leave.ensures.waited.0 refl in
     let waits : 0 < times c.args.slot c.self.inside.line.line = rw took at waited in
     let line = ap (λ (k : Core). k.slots) c.settle.ensures.settled in

@@ -1,4 +1,4 @@
-use Rattle.std.proofs.Common.{length, ap, arith, ◌≡◌}
+use Rattle.std.proofs.Common.{length, ap, arith}
 use Rattle.saa_line.specs.Slots.{Slots}
 use Rattle.saa_gates.proofs.Gathering.{length-left, left-unanswered}
 use Rattle.saa_tickets.proofs.Waking.{owes-same, owes-from, owes-to}

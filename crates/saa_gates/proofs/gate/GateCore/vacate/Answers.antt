@@ -1,6 +1,6 @@
-use Rattle.std.proofs.Common.{◌≡◌, ◌<◌, ap, refl}
+use Rattle.std.proofs.Common.{◌<◌, ap, refl}
 use Rattle.saa_tickets.proofs.Waking.{owes-same, owes-from, owes-left_all}
-use Rattle.saa_object.specs.Object.{times, without}
+use Rattle.saa_object.specs.Object.{times}
 use Rattle.saa_line.specs.Slots.{Slots}
 use Rattle.saa_gates.proofs.gate.GateCore.vacate.Goals as goal
 
