@@ -14,12 +14,14 @@ pub trait ReadWrite: Sync {
 }
 
 impl<R: Wait + Drop + Sync> ReadWrite for Lock<R> {
+    #[inline(always)]
     fn write(&self) {
         if self.lock_sync() == Ok(true) {
             self.release_lock();
         }
     }
 
+    #[inline(always)]
     fn read(&self) {
         if self.share_sync() == Ok(true) {
             self.release_share();
@@ -45,10 +47,12 @@ impl<R: Wait + Drop> Plain<R> {
 }
 
 impl<R: Wait + Drop + Sync> ReadWrite for Plain<R> {
+    #[inline(always)]
     fn write(&self) {
         drop(self.lock.write(&self.rt));
     }
 
+    #[inline(always)]
     fn read(&self) {
         drop(self.lock.read(&self.rt));
     }

@@ -42,6 +42,7 @@ pub struct Inside<P: Primitive> {
 
 impl<P: Primitive> Inside<P> {
     /// The two oldest wakes that the core owes, told and so taken out of its list; mostly there are none.
+    #[inline(always)]
     pub fn next_wakes(&mut self) -> Option<Wakes>
         ensures none { IsNone result → (P.core self.old.core).slots.owed ≡ [] }
         ensures first { IfSome result (λ wakes. slice_get (P.core self.old.core).slots.owed 0 ≡ Some wakes.first) }
@@ -65,6 +66,7 @@ impl<P: Primitive> Inside<P> {
     }
 
     // Registers an idle ticket as sync, and consumes the answer if that is there at once.
+    #[inline(always)]
     fn begin(&mut self, ticket: &mut Ticket, ask: P::Ask) -> Result<Begun, Full>
         requires { ticket.old ≡ Unregistered }
         ensures acts { Acts (P.core self.old.core) (P.core self.new.core) ticket.old ticket.new
