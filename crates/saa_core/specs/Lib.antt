@@ -1,6 +1,3 @@
-pub mod CoreParts
-pub mod LockCalls
-pub mod Owners
 pub use Rattle.saa_object.specs.Held
 pub use Rattle.saa_object.specs.Object
 pub use Rattle.saa_object.specs.Values
@@ -14,3 +11,7 @@ pub use Rattle.saa_object.specs.Barrier
 pub use Rattle.saa_object.specs.Run
 pub use Rattle.saa_line.specs.Slots
 pub use Rattle.saa_tickets.specs.Tickets
+pub use Rattle.saa_granting.specs.CoreParts
+pub use Rattle.saa_locks.specs.LockCalls
+pub use Rattle.saa_gathering.specs.Waiters
+pub use Rattle.saa_gates.specs.GatePolls

@@ -14,8 +14,8 @@ use Rattle.saa_tickets.specs.declared.ticket.Registration.{Registration}
 use Rattle.saa_tickets.specs.declared.ticket.Registration.TheVariants.{Unregistered, AtOnce}
 use Rattle.saa_tickets.specs.Tickets.{Core, Acts, Calls, object_of}
 use Rattle.saa_tickets.proofs.Polls.{after}
-use Rattle.saa_gates.specs.GatheringParts.{answer_by_state}
-use Rattle.saa_gates.proofs.Gathering.{Gathers, register_answered}
+use Rattle.saa_gates.specs.GateParts.{answer_by_state}
+use Rattle.saa_gathering.proofs.Gathering.{Gathers, register_answered}
 use Rattle.saa_tickets.proofs.Answering.{all-object, all-belong, all_calls}
 
 -- those who enter a sealed or an open gate are answered so

@@ -1,3 +1,1 @@
-pub mod Gathering
-pub mod Rounds
 pub mod Entering

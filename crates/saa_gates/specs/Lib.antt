@@ -1,7 +1,6 @@
 pub mod Standing
 pub mod GatePolls
-pub mod Waiters
-pub mod GatheringParts
+pub mod GateParts
 pub use Rattle.saa_object.specs.Held
 pub use Rattle.saa_object.specs.Object
 pub use Rattle.saa_object.specs.Values
@@ -9,7 +8,7 @@ pub use Rattle.saa_object.specs.Settling
 pub use Rattle.saa_object.specs.Asking
 pub use Rattle.saa_object.specs.Polling
 pub use Rattle.saa_object.specs.Gate
-pub use Rattle.saa_object.specs.Barrier
 pub use Rattle.saa_object.specs.Run
 pub use Rattle.saa_line.specs.Slots
 pub use Rattle.saa_tickets.specs.Tickets
+pub use Rattle.saa_gathering.specs.Waiters

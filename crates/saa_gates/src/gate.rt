@@ -18,8 +18,9 @@ ghost use Rattle.saa_line.specs.Slots.{OwesAnswered, empty_slots, held_slots, ro
 ghost use Rattle.saa_tickets.specs.Tickets.{Acts, Calls, Belong, Polled, IsForeign, dropping, fault_of, is_busy, is_yes, object_of};
 ghost use Rattle.saa_gates.specs.Standing.{IsGateStanding};
 ghost use Rattle.saa_gates.specs.GatePolls.{GatePolled, is_answer};
-ghost use Rattle.saa_gates.specs.Waiters.{IsWaiting, left_by};
-ghost use Rattle.saa_gates.specs.GatheringParts.{vacated, answer_by_state};
+ghost use Rattle.saa_gathering.specs.Waiters.{IsWaiting, left_by};
+ghost use Rattle.saa_gathering.specs.GatheringParts.{vacated};
+ghost use Rattle.saa_gates.specs.GateParts.{answer_by_state};
 
 use saa_line::line::Line;
 pub use saa_object::gate::{Error, GateAnswer, GateCall, State};

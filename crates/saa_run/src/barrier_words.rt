@@ -11,7 +11,7 @@ ghost use Rattle.saa_run.specs.Said.{said_words};
 use crate::reply::Said;
 use crate::spoken::{Spoken, nothing_asked, said_truth};
 use saa_core::ticket::Error;
-use saa_gates::barrier::{BarrierAnswer, BarrierCall, BarrierCore};
+use saa_core::barrier::{BarrierAnswer, BarrierCall, BarrierCore};
 
 impl Spoken for BarrierCore {
     ghost readings = { barrier_readings };

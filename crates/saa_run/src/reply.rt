@@ -13,7 +13,7 @@ use crate::transfer::{WriteFailed, put};
 use arrayvec::ArrayString;
 use itoa::Buffer;
 use saa_core::ticket::Error;
-use saa_gates::gate::{self, State};
+use saa_core::gate::{self, State};
 use std::io::Write;
 
 /// A line with a number in it, before it is written.

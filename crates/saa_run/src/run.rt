@@ -30,8 +30,8 @@ use crate::transfer::{Cut, LineBytes, put, read_line};
 pub use crate::wants::Wanted;
 use saa_core::lock::LockCore;
 use saa_core::semaphore::SemaphoreCore;
-use saa_gates::barrier::BarrierCore;
-use saa_gates::gate::GateCore;
+use saa_core::barrier::BarrierCore;
+use saa_core::gate::GateCore;
 use std::alloc::{AllocError, Global};
 use std::io::{Read, Write};
 

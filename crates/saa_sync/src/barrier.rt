@@ -9,8 +9,8 @@ ghost use Rattle.saa_object.specs.Barrier.{size_of};
 ghost use Rattle.saa_tickets.specs.Tickets.{is_busy, is_yes};
 ghost use Rattle.saa_shell.specs.Waits.{mode_of};
 
+use saa_core::barrier::BarrierCore;
 use saa_core::ticket::{Error, Full, How, Ticket};
-use saa_gates::barrier::BarrierCore;
 use saa_shell::pager::{Pager, SyncResult};
 use saa_shell::seat::{PATIENCE, Patience};
 use saa_shell::shell::Shell;

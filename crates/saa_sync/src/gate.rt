@@ -16,9 +16,9 @@ ghost use Rattle.saa_shell.specs.Waits.{mode_of};
 ghost use Rattle.saa_sync.specs.Pagers.{gate_fault};
 
 use saa_core::bench::Primitive;
+use saa_core::gate::GateCore;
+pub use saa_core::gate::{Error, State};
 use saa_core::ticket::{Full, How, Ticket};
-use saa_gates::gate::GateCore;
-pub use saa_gates::gate::{Error, State};
 use saa_object::polling;
 use saa_shell::pager::{Pager, SyncResult};
 use saa_shell::seat::{PATIENCE, Patience};

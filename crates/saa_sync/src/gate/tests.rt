@@ -2,7 +2,7 @@ use super::*;
 use crate::gatherings::{Gathering, Plan, Together, all_wake_together};
 use crate::sleepers::By;
 use crate::twins::{Form, Move, Way, every_list, moves};
-use saa_gates::gate::{GateAnswer, GateCall};
+use saa_core::gate::{GateAnswer, GateCall};
 use std::sync::atomic::AtomicU64;
 use std::test::Fail;
 use std::thread::Threads;

@@ -1,5 +1,5 @@
 use Rattle.saa_tickets.proofs.Registering.{cancel_idle}
-use Rattle.saa_gates.proofs.Gathering.{cancel_at_once, cancel_in_slot}
+use Rattle.saa_gathering.proofs.Gathering.{cancel_at_once, cancel_in_slot}
 use Rattle.saa_gates.proofs.Entering.{gives_up}
 use Rattle.saa_tickets.proofs.Waking.{owes-same}
 use Rattle.saa_gates.proofs.gate.GateCore.cancel.Goals as goal

@@ -4,8 +4,8 @@ use Rattle.saa_tickets.specs.declared.ticket.Registration.TheVariants.{Unregiste
 use Rattle.saa_tickets.specs.Tickets.{is_busy}
 use Rattle.saa_tickets.proofs.Registering.{register_refused, idle_ticket, busy_or}
 use Rattle.saa_object.specs.Gate.{gate_state}
-use Rattle.saa_gates.specs.GatheringParts.{answer_by_state}
-use Rattle.saa_gates.proofs.Gathering.{register_full, register_joined}
+use Rattle.saa_gates.specs.GateParts.{answer_by_state}
+use Rattle.saa_gathering.proofs.Gathering.{register_full, register_joined}
 use Rattle.saa_gates.proofs.Entering.{enter_answered, enter_waits}
 use Rattle.saa_tickets.proofs.Waking.{owes-same, owes-joined}
 use Rattle.saa_gates.proofs.gate.GateCore.register.Goals as goal

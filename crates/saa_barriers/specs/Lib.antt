@@ -1,0 +1,12 @@
+pub mod Standing
+pub use Rattle.saa_object.specs.Held
+pub use Rattle.saa_object.specs.Object
+pub use Rattle.saa_object.specs.Values
+pub use Rattle.saa_object.specs.Settling
+pub use Rattle.saa_object.specs.Asking
+pub use Rattle.saa_object.specs.Polling
+pub use Rattle.saa_object.specs.Barrier
+pub use Rattle.saa_object.specs.Run
+pub use Rattle.saa_line.specs.Slots
+pub use Rattle.saa_tickets.specs.Tickets
+pub use Rattle.saa_gathering.specs.Waiters

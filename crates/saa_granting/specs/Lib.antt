@@ -1,0 +1,9 @@
+pub mod CoreParts
+pub use Rattle.saa_object.specs.Held
+pub use Rattle.saa_object.specs.Object
+pub use Rattle.saa_object.specs.Values
+pub use Rattle.saa_object.specs.Settling
+pub use Rattle.saa_object.specs.Asking
+pub use Rattle.saa_object.specs.Polling
+pub use Rattle.saa_line.specs.Slots
+pub use Rattle.saa_tickets.specs.Tickets

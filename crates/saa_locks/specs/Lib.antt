@@ -1,0 +1,13 @@
+pub mod LockCalls
+pub mod Owners
+pub use Rattle.saa_object.specs.Held
+pub use Rattle.saa_object.specs.Object
+pub use Rattle.saa_object.specs.Values
+pub use Rattle.saa_object.specs.Settling
+pub use Rattle.saa_object.specs.Asking
+pub use Rattle.saa_object.specs.Polling
+pub use Rattle.saa_object.specs.Lock
+pub use Rattle.saa_object.specs.Run
+pub use Rattle.saa_line.specs.Slots
+pub use Rattle.saa_tickets.specs.Tickets
+pub use Rattle.saa_granting.specs.CoreParts
