@@ -12,7 +12,7 @@ ghost use Rattle.saa_shell.specs.Waits.{mode_of};
 use saa_core::barrier::BarrierCore;
 use saa_core::ticket::{Error, Full, How, Ticket};
 use saa_shell::pager::{Pager, SyncResult};
-use saa_shell::seat::{PATIENCE, Patience};
+use saa_shell::seat::PATIENCE;
 use saa_shell::shell::Shell;
 use std::alloc::{AllocError, Global};
 use std::sync::Wait;
@@ -44,21 +44,20 @@ impl<R: Wait + Drop> Barrier<R> {
     /// as there are tasks: a slot is held until its task has its answer. Reserves all the memory that it will ever need;
     /// the error comes only where that was refused.
     pub fn with_count(rt: R, alloc: Global, count: usize, room: u16) -> Result<Self, AllocError> {
-        Self::with_patience(rt, alloc, count, room, PATIENCE)
+        let core = BarrierCore::with_count(alloc, count, room)?;
+        Ok(Self::on_shell(Shell::new(rt, alloc, core, room, PATIENCE)?))
     }
 
-    // As `with_count`, with another patience of those who wait.
-    pub(crate) fn with_patience(
-        rt: R,
-        alloc: Global,
-        count: usize,
-        room: u16,
-        patience: Patience,
-    ) -> Result<Self, AllocError> {
-        let core = BarrierCore::with_count(alloc, count, room)?;
-        Ok(Barrier {
-            shell: Shell::new(rt, alloc, core, room, patience)?,
-        })
+    /// The barrier on a shell that is handed in, for who wants another patience of those who wait, or has a core in use.
+    ///
+    /// Its room and its patience are the shell's. Takes no memory.
+    pub fn on_shell(shell: Shell<R, BarrierCore>) -> Self {
+        Barrier { shell }
+    }
+
+    /// What it stands on; for tests and measurements.
+    pub fn shell(&self) -> &Shell<R, BarrierCore> {
+        &self.shell
     }
 
     /// How many arrivals the round still waits for: the size less those who wait, and 0 at a barrier of size 0. Every
@@ -165,6 +164,3 @@ fn count_missing(core: &BarrierCore) -> usize
 {
     core.count()
 }
-
-#[cfg(test)]
-mod tests;

@@ -21,7 +21,7 @@ pub use saa_core::gate::{Error, State};
 use saa_core::ticket::{Full, How, Ticket};
 use saa_object::polling;
 use saa_shell::pager::{Pager, SyncResult};
-use saa_shell::seat::{PATIENCE, Patience};
+use saa_shell::seat::PATIENCE;
 use saa_shell::shell::Shell;
 use std::alloc::{AllocError, Global};
 use std::sync::Wait;
@@ -44,20 +44,20 @@ impl<R: Wait + Drop> Gate<R> {
     ///
     /// Reserves all the memory that it will ever need; the error comes only where that was refused.
     pub fn new(rt: R, alloc: Global, room: u16) -> Result<Self, AllocError> {
-        Self::with_patience(rt, alloc, room, PATIENCE)
+        let core = GateCore::new(alloc, room)?;
+        Ok(Self::on_shell(Shell::new(rt, alloc, core, room, PATIENCE)?))
     }
 
-    // As `new`, with another patience of those who wait.
-    pub(crate) fn with_patience(
-        rt: R,
-        alloc: Global,
-        room: u16,
-        patience: Patience,
-    ) -> Result<Self, AllocError> {
-        let core = GateCore::new(alloc, room)?;
-        Ok(Gate {
-            shell: Shell::new(rt, alloc, core, room, patience)?,
-        })
+    /// The gate on a shell that is handed in, for who wants another patience of those who wait, or has a core in use.
+    ///
+    /// Its room and its patience are the shell's. Takes no memory.
+    pub fn on_shell(shell: Shell<R, GateCore>) -> Self {
+        Gate { shell }
+    }
+
+    /// What it stands on; for tests and measurements.
+    pub fn shell(&self) -> &Shell<R, GateCore> {
+        &self.shell
     }
 
     /// How the gate treats those who enter. Every ordering acts as the sequentially consistent one; none panics.
@@ -269,6 +269,3 @@ fn seal_up(core: &mut GateCore) -> (State, usize)
 {
     core.seal()
 }
-
-#[cfg(test)]
-mod tests;

@@ -7,13 +7,7 @@
 
 pub mod barrier;
 pub mod gate;
-#[cfg(test)]
-mod gatherings;
 pub mod lock;
 pub mod semaphore;
-#[cfg(test)]
-mod sleepers;
-#[cfg(test)]
-mod twins;
 
 pub use saa_shell::pager;

@@ -17,7 +17,7 @@ use saa_core::lock::LockCore;
 pub use saa_core::lock::{Mode, TryLockError};
 use saa_core::ticket::{Error, Full, How, Ticket};
 use saa_shell::pager::{Pager, SyncResult};
-use saa_shell::seat::{PATIENCE, Patience};
+use saa_shell::seat::PATIENCE;
 use saa_shell::shell::Shell;
 use std::alloc::{AllocError, Global};
 use std::sync::Wait;
@@ -44,20 +44,20 @@ impl<R: Wait + Drop> Lock<R> {
     ///
     /// Reserves all the memory that it will ever need; the error comes only where that was refused.
     pub fn new(rt: R, alloc: Global, room: u16) -> Result<Self, AllocError> {
-        Self::with_patience(rt, alloc, room, PATIENCE)
+        let core = LockCore::new(alloc, room)?;
+        Ok(Self::on_shell(Shell::new(rt, alloc, core, room, PATIENCE)?))
     }
 
-    // As `new`, with another patience of those who wait.
-    pub(crate) fn with_patience(
-        rt: R,
-        alloc: Global,
-        room: u16,
-        patience: Patience,
-    ) -> Result<Self, AllocError> {
-        let core = LockCore::new(alloc, room)?;
-        Ok(Lock {
-            shell: Shell::new(rt, alloc, core, room, patience)?,
-        })
+    /// The lock on a shell that is handed in, for who wants another patience of those who wait, or has a core in use.
+    ///
+    /// Its room and its patience are the shell's. Takes no memory.
+    pub fn on_shell(shell: Shell<R, LockCore>) -> Self {
+        Lock { shell }
+    }
+
+    /// What it stands on; for tests and measurements.
+    pub fn shell(&self) -> &Shell<R, LockCore> {
+        &self.shell
     }
 
     /// Whether nobody has the lock and it isn't poisoned. Every ordering acts as the sequentially consistent one; none
@@ -321,6 +321,3 @@ fn clear(core: &mut LockCore) -> bool
 {
     core.clear_poison()
 }
-
-#[cfg(test)]
-mod tests;

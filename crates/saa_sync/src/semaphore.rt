@@ -16,7 +16,7 @@ ghost use Rattle.saa_shell.specs.Waits.{mode_of};
 use saa_core::semaphore::SemaphoreCore;
 use saa_core::ticket::{Error, Full, How, Ticket};
 use saa_shell::pager::{Pager, SyncResult};
-use saa_shell::seat::{PATIENCE, Patience};
+use saa_shell::seat::PATIENCE;
 use saa_shell::shell::Shell;
 use std::alloc::{AllocError, Global};
 use std::sync::Wait;
@@ -55,21 +55,20 @@ impl<R: Wait + Drop> Semaphore<R> {
         permits: usize,
         room: u16,
     ) -> Result<Self, AllocError> {
-        Self::with_patience(rt, alloc, permits, room, PATIENCE)
+        let core = SemaphoreCore::with_permits(alloc, permits, room)?;
+        Ok(Self::on_shell(Shell::new(rt, alloc, core, room, PATIENCE)?))
     }
 
-    // As `with_permits`, with another patience of those who wait.
-    pub(crate) fn with_patience(
-        rt: R,
-        alloc: Global,
-        permits: usize,
-        room: u16,
-        patience: Patience,
-    ) -> Result<Self, AllocError> {
-        let core = SemaphoreCore::with_permits(alloc, permits, room)?;
-        Ok(Semaphore {
-            shell: Shell::new(rt, alloc, core, room, patience)?,
-        })
+    /// The semaphore on a shell that is handed in, for who wants another patience of those who wait, or has a core in use.
+    ///
+    /// Its room and its patience are the shell's. Takes no memory.
+    pub fn on_shell(shell: Shell<R, SemaphoreCore>) -> Self {
+        Semaphore { shell }
+    }
+
+    /// What it stands on; for tests and measurements.
+    pub fn shell(&self) -> &Shell<R, SemaphoreCore> {
+        &self.shell
     }
 
     /// Whether a permit is available. Every ordering acts as the sequentially consistent one; none panics.
@@ -284,6 +283,3 @@ fn give_back(core: &mut SemaphoreCore, count: usize) -> bool
 {
     core.release_many(count)
 }
-
-#[cfg(test)]
-mod tests;

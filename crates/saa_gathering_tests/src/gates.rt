@@ -1,26 +1,48 @@
-use super::*;
-use crate::gatherings::{Gathering, Plan, Together, all_wake_together};
-use crate::sleepers::By;
-use crate::twins::{Form, Move, Way, every_list, moves};
-use saa_core::gate::{GateAnswer, GateCall};
-use std::sync::atomic::AtomicU64;
+//! The threaded gate beside its core, over every list of moves, and tasks that sleep at it and are woken together.
+
+use saa_core::gate::{GateAnswer, GateCall, GateCore};
+use saa_shell::seat::{PATIENCE, Patience};
+use saa_shell::shell::Shell;
+use saa_sync::gate::{Error, Gate, State};
+use saa_sync::pager::Pager;
+use saa_tickets::ticket::Full;
+use saa_trials::gatherings::{Gathering, Plan, Together, all_wake_together};
+use saa_trials::sleepers::By;
+use saa_trials::twins::{Form, Move, Way, every_list, moves};
+use std::alloc::{AllocError, Global};
+use std::sync::Wait;
+use std::sync::atomic::{AtomicU64, Ordering};
 use std::test::Fail;
 use std::thread::Threads;
 
+// A gate, for the trials.
+#[derive(Drop)]
+struct Tried<R: Wait + Drop> {
+    gate: Gate<R>,
+}
+
+// A controlled gate whose waiters have this patience.
+fn with_patience<R: Wait + Drop + Copy>(
+    rt: R,
+    alloc: Global,
+    room: u16,
+    patience: Patience,
+) -> Result<Tried<R>, AllocError> {
+    let core = GateCore::new(alloc, room)?;
+    let gate = Gate::on_shell(Shell::new(rt, alloc, core, room, patience)?);
+    Ok(Tried { gate })
+}
+
 // A gate of size 0 is controlled, one of size 1 is sealed, and any other is open.
-impl<R: Wait + Drop + Copy> Form for Gate<R> {
+impl<R: Wait + Drop + Copy> Form for Tried<R> {
+    type Threaded = Gate<R>;
+
     type Core = GateCore;
 
     type Lent = R;
 
-    fn make(
-        rt: R,
-        alloc: Global,
-        size: usize,
-        room: u16,
-        patience: Patience,
-    ) -> Result<Self, AllocError> {
-        let gate = Gate::with_patience(rt, alloc, room, patience)?;
+    fn make(rt: R, alloc: Global, size: usize, room: u16) -> Result<Self, AllocError> {
+        let gate = Gate::new(rt, alloc, room)?;
         match size {
             0 => {}
             1 => {
@@ -30,7 +52,7 @@ impl<R: Wait + Drop + Copy> Form for Gate<R> {
                 let _before = gate.open();
             }
         }
-        Ok(gate)
+        Ok(Tried { gate })
     }
 
     fn make_core(alloc: Global, size: usize, room: u16) -> Result<GateCore, AllocError> {
@@ -47,22 +69,22 @@ impl<R: Wait + Drop + Copy> Form for Gate<R> {
         Ok(core)
     }
 
-    fn shell(&self) -> &Shell<R, GateCore> {
-        &self.shell
+    fn is_rung(&self, slot: u16) -> bool {
+        self.gate.shell().is_rung(slot)
     }
 
     fn call(&self, call: GateCall, _is_short: bool) -> GateAnswer {
         match call {
-            GateCall::State => GateAnswer::State(self.state(Ordering::SeqCst)),
-            GateCall::Reset => GateAnswer::Reset(self.reset()),
-            GateCall::Permit => GateAnswer::Answered(self.permit()),
-            GateCall::Reject => GateAnswer::Answered(self.reject()),
+            GateCall::State => GateAnswer::State(self.gate.state(Ordering::SeqCst)),
+            GateCall::Reset => GateAnswer::Reset(self.gate.reset()),
+            GateCall::Permit => GateAnswer::Answered(self.gate.permit()),
+            GateCall::Reject => GateAnswer::Answered(self.gate.reject()),
             GateCall::Open => {
-                let (before, count) = self.open();
+                let (before, count) = self.gate.open();
                 GateAnswer::Moved(before, count)
             }
             GateCall::Seal => {
-                let (before, count) = self.seal();
+                let (before, count) = self.gate.seal();
                 GateAnswer::Moved(before, count)
             }
         }
@@ -70,11 +92,11 @@ impl<R: Wait + Drop + Copy> Form for Gate<R> {
 
     fn register<'s>(
         &'s self,
-        pager: &mut Pager<'s, Self>,
+        pager: &mut Pager<'s, Gate<R>>,
         _ask: (),
         is_sync: bool,
     ) -> Result<bool, Full> {
-        self.register_pager(pager, is_sync)
+        self.gate.register_pager(pager, is_sync)
     }
 
     fn acquire(
@@ -87,8 +109,8 @@ impl<R: Wait + Drop + Copy> Form for Gate<R> {
             runs.fetch_add(1, Ordering::SeqCst);
         };
         let answer = match way {
-            Way::Plain | Way::Short => self.enter_sync()?,
-            Way::With | Way::ShortWith => self.enter_sync_with(count_run)?,
+            Way::Plain | Way::Short => self.gate.enter_sync()?,
+            Way::With | Way::ShortWith => self.gate.enter_sync_with(count_run)?,
         };
         Ok(Some(answer))
     }
@@ -131,7 +153,7 @@ fn agreeing<R: Wait>(
     let mut all = 0u64;
     for size in sizes {
         for room in 0..3 {
-            match every_list::<Gate<&R>>(rt, alloc, (*size, room), moves, length)? {
+            match every_list::<Tried<&R>>(rt, alloc, (*size, room), moves, length)? {
                 Ok(lists) => all = all.saturating_add(lists),
                 Err(number) => return Ok(all.saturating_add(number)),
             }
@@ -181,20 +203,20 @@ fn answer_by(together: Together) -> Result<State, Error> {
     }
 }
 
-impl<R: Wait + Drop + Sync> Gathering for Gate<R> {
+impl<R: Wait + Drop + Sync> Gathering for Tried<R> {
     fn prepare(&self) {
-        let _before = self.reset();
+        let _before = self.gate.reset();
     }
 
     fn gather(&self, by: By, together: Together, joined: &AtomicU64) -> bool {
         let answer = match by {
-            By::Call => self.enter_sync_with(|| {
-                let _state = self.state(Ordering::SeqCst);
+            By::Call => self.gate.enter_sync_with(|| {
+                let _state = self.gate.state(Ordering::SeqCst);
                 joined.fetch_add(1, Ordering::SeqCst);
             }),
             By::Plain => {
                 joined.fetch_add(1, Ordering::SeqCst);
-                self.enter_sync()
+                self.gate.enter_sync()
             }
             By::Poll => self.enter_by_pager(joined),
         };
@@ -204,10 +226,10 @@ impl<R: Wait + Drop + Sync> Gathering for Gate<R> {
     fn answer_all(&self, together: Together, count: u64) -> bool {
         let count = count as usize;
         match together {
-            Together::Permit => self.permit() == Ok(count),
-            Together::Reject => self.reject() == Ok(count),
-            Together::Open => self.open() == (State::Controlled, count),
-            Together::Seal => self.seal() == (State::Controlled, count),
+            Together::Permit => self.gate.permit() == Ok(count),
+            Together::Reject => self.gate.reject() == Ok(count),
+            Together::Open => self.gate.open() == (State::Controlled, count),
+            Together::Seal => self.gate.seal() == (State::Controlled, count),
             Together::Cancel => self.gives_up(true),
             Together::Forget => self.gives_up(false),
             Together::LastCall | Together::LastPlainCall | Together::LastPager => false,
@@ -215,19 +237,19 @@ impl<R: Wait + Drop + Sync> Gathering for Gate<R> {
     }
 
     fn asleep(&self) -> usize {
-        self.shell.asleep()
+        self.gate.shell().asleep()
     }
 
     fn rung(&self) -> usize {
-        self.shell.rung()
+        self.gate.shell().rung()
     }
 }
 
-impl<R: Wait + Drop> Gate<R> {
+impl<R: Wait + Drop> Tried<R> {
     // Waits by a pager.
     fn enter_by_pager(&self, joined: &AtomicU64) -> Result<Result<State, Error>, Full> {
         let mut pager = Pager::new();
-        let is_registered = self.register_pager(&mut pager, true)?;
+        let is_registered = self.gate.register_pager(&mut pager, true)?;
         joined.fetch_add(1, Ordering::SeqCst);
         if !is_registered {
             return Err(Full);
@@ -238,7 +260,7 @@ impl<R: Wait + Drop> Gate<R> {
     // A pager joins the line, and is cancelled or goes out of scope; whether it joined.
     fn gives_up(&self, is_cancelled: bool) -> bool {
         let mut pager = Pager::new();
-        let is_registered = self.register_pager(&mut pager, true) == Ok(true);
+        let is_registered = self.gate.register_pager(&mut pager, true) == Ok(true);
         if is_cancelled {
             pager.cancel();
         }
@@ -271,14 +293,14 @@ fn wrong_wakes<R: Wait + Threads + Sync>(
     for count in [1u16, 2, 3, 48, 100] {
         for together in EVERY_WAY {
             let others = u16::from(matches!(together, Together::Cancel | Together::Forget));
-            let gate = Gate::with_patience(rt, alloc, count.saturating_add(others), patience)?;
+            let form = with_patience(rt, alloc, count.saturating_add(others), patience)?;
             let plan = Plan {
                 count: u64::from(count),
                 by,
                 together,
                 is_patient: patience.looks != 0,
             };
-            if !all_wake_together(rt, &gate, plan) {
+            if !all_wake_together(rt, &form, plan) {
                 return Ok(u64::from(count));
             }
         }

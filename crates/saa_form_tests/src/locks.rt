@@ -1,32 +1,54 @@
-use super::*;
-use crate::sleepers::{
+//! The threaded lock beside its core, over every list of moves, and tasks that sleep at it and are woken.
+
+use saa_core::lock::{LockAnswer, LockCall, LockCore};
+use saa_shell::seat::{PATIENCE, Patience};
+use saa_shell::shell::Shell;
+use saa_sync::lock::{Lock, Mode};
+use saa_sync::pager::{Error, Pager};
+use saa_tickets::ticket::{Full, Ticket};
+use saa_trials::sleepers::{
     By, End, Place, Sleepers, a_call_wakes_all_whom_it_answers, each_call_wakes_one,
 };
-use crate::twins::{Form, Move, Way, every_list, moves};
-use saa_core::lock::{LockAnswer, LockCall};
-use std::sync::atomic::AtomicU64;
+use saa_trials::twins::{Form, Move, Way, every_list, moves};
+use std::alloc::{AllocError, Global};
+use std::sync::Wait;
+use std::sync::atomic::{AtomicU64, Ordering};
 use std::test::Fail;
 use std::thread;
 use std::thread::{Threads, yield_now};
 
+// A lock, for the trials.
+#[derive(Drop)]
+struct Tried<R: Wait + Drop> {
+    lock: Lock<R>,
+}
+
+// A free lock whose waiters have this patience.
+fn with_patience<R: Wait + Drop + Copy>(
+    rt: R,
+    alloc: Global,
+    room: u16,
+    patience: Patience,
+) -> Result<Tried<R>, AllocError> {
+    let core = LockCore::new(alloc, room)?;
+    let lock = Lock::on_shell(Shell::new(rt, alloc, core, room, patience)?);
+    Ok(Tried { lock })
+}
+
 // A lock of size 0 is owned alone from the start, so that nothing is available; else it is new.
-impl<R: Wait + Drop + Copy> Form for Lock<R> {
+impl<R: Wait + Drop + Copy> Form for Tried<R> {
+    type Threaded = Lock<R>;
+
     type Core = LockCore;
 
     type Lent = R;
 
-    fn make(
-        rt: R,
-        alloc: Global,
-        size: usize,
-        room: u16,
-        patience: Patience,
-    ) -> Result<Self, AllocError> {
-        let lock = Lock::with_patience(rt, alloc, room, patience)?;
+    fn make(rt: R, alloc: Global, size: usize, room: u16) -> Result<Self, AllocError> {
+        let lock = Lock::new(rt, alloc, room)?;
         if size == 0 {
             let _locked = lock.try_lock();
         }
-        Ok(lock)
+        Ok(Tried { lock })
     }
 
     fn make_core(alloc: Global, size: usize, room: u16) -> Result<LockCore, AllocError> {
@@ -37,33 +59,33 @@ impl<R: Wait + Drop + Copy> Form for Lock<R> {
         Ok(core)
     }
 
-    fn shell(&self) -> &Shell<R, LockCore> {
-        &self.shell
+    fn is_rung(&self, slot: u16) -> bool {
+        self.lock.shell().is_rung(slot)
     }
 
     fn call(&self, call: LockCall, _is_short: bool) -> LockAnswer {
         let mo = Ordering::SeqCst;
         match call {
-            LockCall::TryLock => LockAnswer::Tried(self.try_lock()),
-            LockCall::TryShare => LockAnswer::Tried(self.try_share()),
-            LockCall::ReleaseLock => LockAnswer::Bool(self.release_lock()),
-            LockCall::ReleaseShare => LockAnswer::Bool(self.release_share()),
-            LockCall::PoisonLock => LockAnswer::Bool(self.poison_lock()),
-            LockCall::ClearPoison => LockAnswer::Bool(self.clear_poison()),
-            LockCall::IsFree => LockAnswer::Bool(self.is_free(mo)),
-            LockCall::IsLocked => LockAnswer::Bool(self.is_locked(mo)),
-            LockCall::IsShared => LockAnswer::Bool(self.is_shared(mo)),
-            LockCall::IsPoisoned => LockAnswer::Bool(self.is_poisoned(mo)),
+            LockCall::TryLock => LockAnswer::Tried(self.lock.try_lock()),
+            LockCall::TryShare => LockAnswer::Tried(self.lock.try_share()),
+            LockCall::ReleaseLock => LockAnswer::Bool(self.lock.release_lock()),
+            LockCall::ReleaseShare => LockAnswer::Bool(self.lock.release_share()),
+            LockCall::PoisonLock => LockAnswer::Bool(self.lock.poison_lock()),
+            LockCall::ClearPoison => LockAnswer::Bool(self.lock.clear_poison()),
+            LockCall::IsFree => LockAnswer::Bool(self.lock.is_free(mo)),
+            LockCall::IsLocked => LockAnswer::Bool(self.lock.is_locked(mo)),
+            LockCall::IsShared => LockAnswer::Bool(self.lock.is_shared(mo)),
+            LockCall::IsPoisoned => LockAnswer::Bool(self.lock.is_poisoned(mo)),
         }
     }
 
     fn register<'s>(
         &'s self,
-        pager: &mut Pager<'s, Self>,
+        pager: &mut Pager<'s, Lock<R>>,
         mode: Mode,
         is_sync: bool,
     ) -> Result<bool, Full> {
-        self.register_pager(pager, mode, is_sync)
+        self.lock.register_pager(pager, mode, is_sync)
     }
 
     // The wait modes have no call that waits: a pager stands in their place, and Plain is spelled so.
@@ -77,10 +99,10 @@ impl<R: Wait + Drop + Copy> Form for Lock<R> {
             runs.fetch_add(1, Ordering::SeqCst);
         };
         let is_granted = match (mode, way) {
-            (Mode::Exclusive, Way::Plain | Way::Short) => self.lock_sync()?,
-            (Mode::Exclusive, Way::With | Way::ShortWith) => self.lock_sync_with(count_run)?,
-            (_, Way::Plain | Way::Short) => self.share_sync()?,
-            (_, Way::With | Way::ShortWith) => self.share_sync_with(count_run)?,
+            (Mode::Exclusive, Way::Plain | Way::Short) => self.lock.lock_sync()?,
+            (Mode::Exclusive, Way::With | Way::ShortWith) => self.lock.lock_sync_with(count_run)?,
+            (_, Way::Plain | Way::Short) => self.lock.share_sync()?,
+            (_, Way::With | Way::ShortWith) => self.lock.share_sync_with(count_run)?,
         };
         Ok(Some(Ok(is_granted)))
     }
@@ -142,7 +164,7 @@ fn agreeing<R: Wait>(
     let mut all = 0u64;
     for size in sizes {
         for room in 0..3 {
-            match every_list::<Lock<&R>>(rt, alloc, (*size, room), moves, length)? {
+            match every_list::<Tried<&R>>(rt, alloc, (*size, room), moves, length)? {
                 Ok(lists) => all = all.saturating_add(lists),
                 Err(number) => return Ok(all.saturating_add(number)),
             }
@@ -188,14 +210,14 @@ fn lists_of_four_agree_from_a_locked_lock(rt: HostRuntime) -> Result<(), Fail> {
 }
 
 // A lock that one owner shares, so that nothing else than a share fits.
-fn shared_lock<R: Wait + Drop>(
+fn shared_lock<R: Wait + Drop + Copy>(
     rt: R,
     alloc: Global,
     patience: Patience,
-) -> Result<Lock<R>, AllocError> {
-    let lock = Lock::with_patience(rt, alloc, 104, patience)?;
-    let _shared = lock.try_share();
-    Ok(lock)
+) -> Result<Tried<R>, AllocError> {
+    let form = with_patience(rt, alloc, 104, patience)?;
+    let _shared = form.lock.try_share();
+    Ok(form)
 }
 
 // What is asked where, by a call: the lock alone ahead and as the wall, and a share behind.
@@ -206,14 +228,15 @@ fn mode_at(place: Place) -> Mode {
     }
 }
 
-impl<R: Wait + Drop + Sync> Sleepers for Lock<R> {
+impl<R: Wait + Drop + Sync> Sleepers for Tried<R> {
     fn register_at(&self, ticket: &mut Ticket, place: Place) -> bool {
-        matches!(self.shell.register(ticket, mode_at(place), true), Ok(true))
+        let shell = self.lock.shell();
+        matches!(shell.register(ticket, mode_at(place), true), Ok(true))
     }
 
     fn give_up(&self, ticket: Ticket, is_cancelled: bool) {
         let mut pager = Pager::new();
-        pager.hold(ticket, self);
+        pager.hold(ticket, &self.lock);
         if is_cancelled {
             pager.cancel();
         }
@@ -221,10 +244,10 @@ impl<R: Wait + Drop + Sync> Sleepers for Lock<R> {
 
     // Whoever has it gives it back.
     fn answer(&self, _is_short: bool) {
-        if self.is_shared(Ordering::SeqCst) {
-            let _is_released = self.release_share();
+        if self.lock.is_shared(Ordering::SeqCst) {
+            let _is_released = self.lock.release_share();
         } else {
-            let _is_released = self.release_lock();
+            let _is_released = self.lock.release_lock();
         }
     }
 
@@ -240,15 +263,15 @@ impl<R: Wait + Drop + Sync> Sleepers for Lock<R> {
     }
 
     fn asleep(&self) -> usize {
-        self.shell.asleep()
+        self.lock.shell().asleep()
     }
 
     fn rung(&self) -> usize {
-        self.shell.rung()
+        self.lock.shell().rung()
     }
 }
 
-impl<R: Wait + Drop> Lock<R> {
+impl<R: Wait + Drop> Tried<R> {
     // Waits by a pager: behind for what takes nothing, so that any number of them can.
     fn wait_by_pager(&self, place: Place, joined: &AtomicU64) -> bool {
         let mode = match place {
@@ -256,7 +279,7 @@ impl<R: Wait + Drop> Lock<R> {
             Place::Ahead | Place::Wall => Mode::Exclusive,
         };
         let mut pager = Pager::new();
-        let is_registered = matches!(self.register_pager(&mut pager, mode, true), Ok(true));
+        let is_registered = matches!(self.lock.register_pager(&mut pager, mode, true), Ok(true));
         joined.fetch_add(1, Ordering::SeqCst);
         is_registered && matches!(pager.poll_sync(), Ok(true))
     }
@@ -264,20 +287,20 @@ impl<R: Wait + Drop> Lock<R> {
     // Waits by a call with a callback, which looks at the lock: that round the core is free, so it waits for nobody.
     fn wait_with(&self, place: Place, joined: &AtomicU64) -> bool {
         let begin_wait = || {
-            let _is_free = self.is_free(Ordering::SeqCst);
+            let _is_free = self.lock.is_free(Ordering::SeqCst);
             joined.fetch_add(1, Ordering::SeqCst);
         };
         match place {
-            Place::Behind => matches!(self.share_sync_with(begin_wait), Ok(true)),
-            Place::Ahead | Place::Wall => matches!(self.lock_sync_with(begin_wait), Ok(true)),
+            Place::Behind => matches!(self.lock.share_sync_with(begin_wait), Ok(true)),
+            Place::Ahead | Place::Wall => matches!(self.lock.lock_sync_with(begin_wait), Ok(true)),
         }
     }
 
     // Waits by a call without one.
     fn wait_plainly(&self, place: Place) -> bool {
         match place {
-            Place::Behind => matches!(self.share_sync(), Ok(true)),
-            Place::Ahead | Place::Wall => matches!(self.lock_sync(), Ok(true)),
+            Place::Behind => matches!(self.lock.share_sync(), Ok(true)),
+            Place::Ahead | Place::Wall => matches!(self.lock.lock_sync(), Ok(true)),
         }
     }
 }
@@ -299,15 +322,15 @@ fn wrong_wakes<R: Wait + Threads + Sync>(
     let is_patient = patience.looks != 0;
     for count in counts {
         for end in [End::Cancel, End::Forget] {
-            let lock = shared_lock(rt, alloc, patience)?;
-            if !a_call_wakes_all_whom_it_answers(rt, &lock, is_patient, *count, by, end) {
+            let form = shared_lock(rt, alloc, patience)?;
+            if !a_call_wakes_all_whom_it_answers(rt, &form, is_patient, *count, by, end) {
                 return Ok(*count);
             }
         }
     }
     for count in [1, 2, 3, 48] {
-        let lock = shared_lock(rt, alloc, patience)?;
-        if !each_call_wakes_one(rt, &lock, is_patient, count, by) {
+        let form = shared_lock(rt, alloc, patience)?;
+        if !each_call_wakes_one(rt, &form, is_patient, count, by) {
             return Ok(count);
         }
     }
@@ -352,8 +375,8 @@ fn waiting_calls_wake(rt: HostRuntime) -> Result<(), Fail> {
 
 // A lock that one owner has. The end of that answers all who want a share, up to the first who wants the lock alone.
 #[derive(Drop)]
-struct Owned<'l, R: Wait + Drop> {
-    lock: &'l Lock<R>,
+struct Owned<R: Wait + Drop> {
+    form: Tried<R>,
 }
 
 // What is asked where, at a lock that one owner has.
@@ -364,37 +387,38 @@ fn owned_mode_at(place: Place) -> Mode {
     }
 }
 
-impl<R: Wait + Drop + Sync> Sleepers for Owned<'_, R> {
+impl<R: Wait + Drop + Sync> Sleepers for Owned<R> {
     fn register_at(&self, ticket: &mut Ticket, place: Place) -> bool {
         let mode = owned_mode_at(place);
-        matches!(self.lock.shell.register(ticket, mode, true), Ok(true))
+        let shell = self.form.lock.shell();
+        matches!(shell.register(ticket, mode, true), Ok(true))
     }
 
     fn give_up(&self, ticket: Ticket, is_cancelled: bool) {
-        self.lock.give_up(ticket, is_cancelled);
+        self.form.give_up(ticket, is_cancelled);
     }
 
     fn answer(&self, _is_short: bool) {
-        let _is_released = self.lock.release_lock();
+        let _is_released = self.form.lock.release_lock();
     }
 
     fn wait_at(&self, _place: Place, by: By, joined: &AtomicU64) -> bool {
         match by {
-            By::Call => self.lock.wait_with(Place::Behind, joined),
+            By::Call => self.form.wait_with(Place::Behind, joined),
             By::Plain => {
                 joined.fetch_add(1, Ordering::SeqCst);
-                self.lock.wait_plainly(Place::Behind)
+                self.form.wait_plainly(Place::Behind)
             }
-            By::Poll => self.lock.wait_by_pager(Place::Behind, joined),
+            By::Poll => self.form.wait_by_pager(Place::Behind, joined),
         }
     }
 
     fn asleep(&self) -> usize {
-        self.lock.shell.asleep()
+        self.form.asleep()
     }
 
     fn rung(&self) -> usize {
-        self.lock.shell.rung()
+        self.form.rung()
     }
 }
 
@@ -407,9 +431,9 @@ fn wrong_shares<R: Wait + Threads + Sync>(
 ) -> Result<u64, AllocError> {
     for count in counts {
         for by in [By::Call, By::Plain, By::Poll] {
-            let lock = Lock::with_patience(rt, alloc, 104, NO_PATIENCE)?;
-            let _locked = lock.try_lock();
-            let owned = Owned { lock: &lock };
+            let form = with_patience(rt, alloc, 104, NO_PATIENCE)?;
+            let _locked = form.lock.try_lock();
+            let owned = Owned { form };
             let end = End::Call(true);
             if !a_call_wakes_all_whom_it_answers(rt, &owned, false, *count, by, end) {
                 return Ok(*count);
@@ -432,7 +456,7 @@ fn told_of_poison<R: Wait + Threads + Sync>(
     alloc: Global,
     count: u16,
 ) -> Result<u64, AllocError> {
-    let lock = Lock::with_patience(rt, alloc, count, NO_PATIENCE)?;
+    let Tried { lock } = with_patience(rt, alloc, count, NO_PATIENCE)?;
     let _locked = lock.try_lock();
     let told = AtomicU64::new(0);
     let (shared, told_by) = (&lock, &told);
@@ -447,7 +471,7 @@ fn told_of_poison<R: Wait + Threads + Sync>(
             }
         }
         for _ in rt.forever() {
-            if shared.shell.asleep() >= started {
+            if shared.shell().asleep() >= started {
                 break;
             }
             yield_now();

@@ -1,64 +1,90 @@
-use super::*;
-use crate::sleepers::{
+//! The threaded semaphore beside its core, over every list of moves, and tasks that sleep at it and are woken.
+
+use saa_core::semaphore::{SemaphoreAnswer, SemaphoreCall, SemaphoreCore};
+use saa_shell::seat::{PATIENCE, Patience};
+use saa_shell::shell::Shell;
+use saa_sync::pager::{Error, Pager};
+use saa_sync::semaphore::Semaphore;
+use saa_tickets::ticket::{Full, Ticket};
+use saa_trials::sleepers::{
     By, End, Place, Sleepers, a_call_wakes_all_whom_it_answers, each_call_wakes_one,
 };
-use crate::twins::{Form, Move, Way, every_list, moves};
-use saa_core::semaphore::{SemaphoreAnswer, SemaphoreCall};
+use saa_trials::twins::{Form, Move, Way, every_list, moves};
+use std::alloc::{AllocError, Global};
 use std::hint::spin_loop;
-use std::sync::atomic::AtomicU64;
+use std::sync::Wait;
+use std::sync::atomic::{AtomicU64, Ordering};
 use std::test::Fail;
 use std::thread;
 use std::thread::Threads;
 
-impl<R: Wait + Drop + Copy> Form for Semaphore<R> {
+// A semaphore, for the trials.
+#[derive(Drop)]
+struct Tried<R: Wait + Drop> {
+    semaphore: Semaphore<R>,
+}
+
+// A semaphore whose waiters have this patience.
+fn with_patience<R: Wait + Drop + Copy>(
+    rt: R,
+    alloc: Global,
+    permits: usize,
+    room: u16,
+    patience: Patience,
+) -> Result<Tried<R>, AllocError> {
+    let core = SemaphoreCore::with_permits(alloc, permits, room)?;
+    let semaphore = Semaphore::on_shell(Shell::new(rt, alloc, core, room, patience)?);
+    Ok(Tried { semaphore })
+}
+
+impl<R: Wait + Drop + Copy> Form for Tried<R> {
+    type Threaded = Semaphore<R>;
+
     type Core = SemaphoreCore;
 
     type Lent = R;
 
-    fn make(
-        rt: R,
-        alloc: Global,
-        size: usize,
-        room: u16,
-        patience: Patience,
-    ) -> Result<Self, AllocError> {
-        Semaphore::with_patience(rt, alloc, size, room, patience)
+    fn make(rt: R, alloc: Global, size: usize, room: u16) -> Result<Self, AllocError> {
+        let semaphore = Semaphore::with_permits(rt, alloc, size, room)?;
+        Ok(Tried { semaphore })
     }
 
     fn make_core(alloc: Global, size: usize, room: u16) -> Result<SemaphoreCore, AllocError> {
         SemaphoreCore::with_permits(alloc, size, room)
     }
 
-    fn shell(&self) -> &Shell<R, SemaphoreCore> {
-        &self.shell
+    fn is_rung(&self, slot: u16) -> bool {
+        self.semaphore.shell().is_rung(slot)
     }
 
     fn call(&self, call: SemaphoreCall, is_short: bool) -> SemaphoreAnswer {
         let mo = Ordering::SeqCst;
         match call {
             SemaphoreCall::TryAcquireMany(count) => SemaphoreAnswer::Bool(if is_short {
-                self.try_acquire()
+                self.semaphore.try_acquire()
             } else {
-                self.try_acquire_many(count)
+                self.semaphore.try_acquire_many(count)
             }),
             SemaphoreCall::ReleaseMany(count) => SemaphoreAnswer::Bool(if is_short {
-                self.release()
+                self.semaphore.release()
             } else {
-                self.release_many(count)
+                self.semaphore.release_many(count)
             }),
-            SemaphoreCall::AvailablePermits => SemaphoreAnswer::Number(self.available_permits(mo)),
-            SemaphoreCall::IsOpen => SemaphoreAnswer::Bool(self.is_open(mo)),
-            SemaphoreCall::IsClosed => SemaphoreAnswer::Bool(self.is_closed(mo)),
+            SemaphoreCall::AvailablePermits => SemaphoreAnswer::Number(
+                self.semaphore.available_permits(mo),
+            ),
+            SemaphoreCall::IsOpen => SemaphoreAnswer::Bool(self.semaphore.is_open(mo)),
+            SemaphoreCall::IsClosed => SemaphoreAnswer::Bool(self.semaphore.is_closed(mo)),
         }
     }
 
     fn register<'s>(
         &'s self,
-        pager: &mut Pager<'s, Self>,
+        pager: &mut Pager<'s, Semaphore<R>>,
         count: usize,
         is_sync: bool,
     ) -> Result<bool, Full> {
-        self.register_pager(pager, count, is_sync)
+        self.semaphore.register_pager(pager, count, is_sync)
     }
 
     fn acquire(
@@ -71,14 +97,14 @@ impl<R: Wait + Drop + Copy> Form for Semaphore<R> {
             runs.fetch_add(1, Ordering::SeqCst);
         };
         let is_granted = match way {
-            Way::Plain => self.acquire_many_sync(count)?,
-            Way::With => self.acquire_many_sync_with(count, count_run)?,
+            Way::Plain => self.semaphore.acquire_many_sync(count)?,
+            Way::With => self.semaphore.acquire_many_sync_with(count, count_run)?,
             Way::Short => {
-                self.acquire_sync()?;
+                self.semaphore.acquire_sync()?;
                 true
             }
             Way::ShortWith => {
-                self.acquire_sync_with(count_run)?;
+                self.semaphore.acquire_sync_with(count_run)?;
                 true
             }
         };
@@ -112,17 +138,15 @@ fn permits_at(place: Place) -> usize {
     }
 }
 
-impl<R: Wait + Drop + Sync> Sleepers for Semaphore<R> {
+impl<R: Wait + Drop + Sync> Sleepers for Tried<R> {
     fn register_at(&self, ticket: &mut Ticket, place: Place) -> bool {
-        matches!(
-            self.shell.register(ticket, permits_at(place), true),
-            Ok(true)
-        )
+        let shell = self.semaphore.shell();
+        matches!(shell.register(ticket, permits_at(place), true), Ok(true))
     }
 
     fn give_up(&self, ticket: Ticket, is_cancelled: bool) {
         let mut pager = Pager::new();
-        pager.hold(ticket, self);
+        pager.hold(ticket, &self.semaphore);
         if is_cancelled {
             pager.cancel();
         }
@@ -130,9 +154,9 @@ impl<R: Wait + Drop + Sync> Sleepers for Semaphore<R> {
 
     fn answer(&self, is_short: bool) {
         let _is_released = if is_short {
-            self.release()
+            self.semaphore.release()
         } else {
-            self.release_many(1)
+            self.semaphore.release_many(1)
         };
     }
 
@@ -140,9 +164,9 @@ impl<R: Wait + Drop + Sync> Sleepers for Semaphore<R> {
         let count = permits_at(place);
         match by {
             By::Call => {
-                let answer = self.acquire_many_sync_with(count, || {
+                let answer = self.semaphore.acquire_many_sync_with(count, || {
                     // The lock is free, so this doesn't wait for the caller itself.
-                    let _left = self.available_permits(Ordering::SeqCst);
+                    let _left = self.semaphore.available_permits(Ordering::SeqCst);
                     joined.fetch_add(1, Ordering::SeqCst);
                 });
                 matches!(answer, Ok(true))
@@ -150,14 +174,14 @@ impl<R: Wait + Drop + Sync> Sleepers for Semaphore<R> {
             By::Plain => {
                 joined.fetch_add(1, Ordering::SeqCst);
                 if count == 1 {
-                    return self.acquire_sync().is_ok();
+                    return self.semaphore.acquire_sync().is_ok();
                 }
-                matches!(self.acquire_many_sync(count), Ok(true))
+                matches!(self.semaphore.acquire_many_sync(count), Ok(true))
             }
             By::Poll => {
                 let mut pager = Pager::new();
                 let is_registered = matches!(
-                    self.register_pager(&mut pager, count, true),
+                    self.semaphore.register_pager(&mut pager, count, true),
                     Ok(true)
                 );
                 joined.fetch_add(1, Ordering::SeqCst);
@@ -167,11 +191,11 @@ impl<R: Wait + Drop + Sync> Sleepers for Semaphore<R> {
     }
 
     fn asleep(&self) -> usize {
-        self.shell.asleep()
+        self.semaphore.shell().asleep()
     }
 
     fn rung(&self) -> usize {
-        self.shell.rung()
+        self.semaphore.shell().rung()
     }
 }
 
@@ -223,7 +247,7 @@ fn agreeing<R: Wait>(
     let mut all = 0u64;
     for size in sizes {
         for room in 0..3 {
-            match every_list::<Semaphore<&R>>(rt, alloc, (*size, room), moves, length)? {
+            match every_list::<Tried<&R>>(rt, alloc, (*size, room), moves, length)? {
                 Ok(lists) => all = all.saturating_add(lists),
                 Err(number) => return Ok(all.saturating_add(number)),
             }
@@ -302,15 +326,15 @@ fn wrong_wakes<R: Wait + Threads + Sync>(
     let ends = [End::Call(true), End::Call(false), End::Cancel, End::Forget];
     for count in [1, 2, 3, 48, 100] {
         for end in ends {
-            let semaphore = Semaphore::with_patience(rt, alloc, 0, 104, patience)?;
-            if !a_call_wakes_all_whom_it_answers(rt, &semaphore, is_patient, count, by, end) {
+            let form = with_patience(rt, alloc, 0, 104, patience)?;
+            if !a_call_wakes_all_whom_it_answers(rt, &form, is_patient, count, by, end) {
                 return Ok(count);
             }
         }
     }
     for count in [1, 2, 3, 48] {
-        let semaphore = Semaphore::with_patience(rt, alloc, 0, 48, patience)?;
-        if !each_call_wakes_one(rt, &semaphore, is_patient, count, by) {
+        let form = with_patience(rt, alloc, 0, 48, patience)?;
+        if !each_call_wakes_one(rt, &form, is_patient, count, by) {
             return Ok(count);
         }
     }
@@ -354,10 +378,10 @@ fn a_seat_is_reset_for_its_next_holder(rt: HostRuntime) -> Result<(), Fail> {
     let rung = AtomicU64::new(0);
     for _turn in 0..2 {
         let answer = semaphore.acquire_sync_with(|| {
-            rung.fetch_add(semaphore.rung() as u64, Ordering::SeqCst);
+            rung.fetch_add(semaphore.shell().rung() as u64, Ordering::SeqCst);
             semaphore.release();
             rung.fetch_add(
-                (semaphore.rung() as u64).saturating_mul(100),
+                (semaphore.shell().rung() as u64).saturating_mul(100),
                 Ordering::SeqCst,
             );
         });
@@ -374,9 +398,9 @@ fn a_seat_is_reset_for_the_next_pager(rt: HostRuntime) -> Result<(), Fail> {
     for is_sync in [true, false] {
         let mut pager = Pager::new();
         assert_eq!(rt; semaphore.register_pager(&mut pager, 1, is_sync), Ok(true));
-        assert_eq!(rt; semaphore.rung(), 0);
+        assert_eq!(rt; semaphore.shell().rung(), 0);
         assert!(rt; semaphore.release());
-        assert_eq!(rt; semaphore.rung(), 1);
+        assert_eq!(rt; semaphore.shell().rung(), 1);
         assert_eq!(rt; pager.try_poll(), Ok(()));
     }
     Ok(())
@@ -410,7 +434,7 @@ fn rest(turns: u64) {
 // wake that can be lost between a poll and the sleep after it is lost.
 #[test]
 fn sleepers_in_turn_all_wake(rt: HostRuntime) -> Result<(), Fail> {
-    let semaphore = Semaphore::with_patience(&rt, rt.alloc(), 63, 4, NO_PATIENCE)?;
+    let Tried { semaphore } = with_patience(&rt, rt.alloc(), 63, 4, NO_PATIENCE)?;
     let taken = AtomicU64::new(0);
     let (shared, taken_by) = (&semaphore, &taken);
     let mut started: u64 = 0;
@@ -441,11 +465,11 @@ const MUCH_PATIENCE: Patience = Patience {
 // A task that waits awake keeps nobody out, hears that its seat is rung, and waits no longer then.
 #[test]
 fn a_patient_task_hears_its_ring(rt: HostRuntime) -> Result<(), Fail> {
-    let semaphore = Semaphore::with_patience(&rt, rt.alloc(), 0, 1, MUCH_PATIENCE)?;
+    let form = with_patience(&rt, rt.alloc(), 0, 1, MUCH_PATIENCE)?;
     let joined = AtomicU64::new(0);
     let (is_granted, is_released) = thread::join(
         &rt,
-        || semaphore.wait_at(Place::Ahead, By::Call, &joined),
+        || form.wait_at(Place::Ahead, By::Call, &joined),
         || {
             for _ in rt.forever() {
                 if joined.load(Ordering::SeqCst) != 0 {
@@ -453,10 +477,10 @@ fn a_patient_task_hears_its_ring(rt: HostRuntime) -> Result<(), Fail> {
                 }
                 thread::yield_now();
             }
-            semaphore.release()
+            form.semaphore.release()
         },
     );
     assert!(rt; is_granted && is_released);
-    assert_eq!(rt; (semaphore.rung(), semaphore.asleep()), (1, 0));
+    assert_eq!(rt; (form.rung(), form.asleep()), (1, 0));
     Ok(())
 }

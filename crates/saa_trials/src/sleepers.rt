@@ -1,10 +1,10 @@
 //! Sleepers: tasks that surely sleep, and each kind of call that answers them.
 //!
-//! This is test code, over any form whose waiters can stand like this: one ahead who must wait, others behind who are
+//! This is for tests, over any form whose waiters can stand like this: one ahead who must wait, others behind who are
 //! answered as soon as the one ahead is answered or gone, and one between them and the last, as a wall, who isn't.
 //! A test goes on only once all whom it waits for sleep, and ends only if all whom a call answers wake.
 
-use saa_core::ticket::Ticket;
+use saa_tickets::ticket::Ticket;
 use std::sync::Wait;
 use std::sync::atomic::{AtomicU64, Ordering};
 use std::thread;
@@ -12,7 +12,7 @@ use std::thread::{Threads, yield_now};
 
 /// Where a waiter stands.
 #[derive(Clone, Copy)]
-pub(crate) enum Place {
+pub enum Place {
     /// It asks what nobody is granted while nothing is available, and what each answering call makes room for once.
     Ahead,
     /// It asks what is granted beside the one ahead, and beside others behind.
@@ -23,7 +23,7 @@ pub(crate) enum Place {
 
 /// A form at which nothing is available, as these tests see it. Its waiters run in threads of their own, so nothing
 /// of it but itself is named here.
-pub(crate) trait Sleepers: Sync {
+pub trait Sleepers: Sync {
     /// Registers a ticket as sync, for what is asked at this place; whether it is registered.
     fn register_at(&self, ticket: &mut Ticket, place: Place) -> bool;
 
@@ -45,7 +45,7 @@ pub(crate) trait Sleepers: Sync {
 
 /// How the sleepers wait.
 #[derive(Clone, Copy)]
-pub(crate) enum By {
+pub enum By {
     /// In a call with a callback.
     Call,
     /// In a call without one, which counts that it joins before it does; for waiters without patience.
@@ -56,7 +56,7 @@ pub(crate) enum By {
 
 /// How the one ahead comes out of the way.
 #[derive(Clone, Copy)]
-pub(crate) enum End {
+pub enum End {
     /// A call answers it, in its short spelling or not.
     Call(bool),
     /// Its pager is cancelled.
@@ -73,18 +73,18 @@ const TURNS: u32 = 1_000;
 
 /// What the sleepers count.
 #[derive(Drop)]
-pub(crate) struct Counts {
+pub struct Counts {
     /// How many were started.
-    pub(crate) started: AtomicU64,
+    pub started: AtomicU64,
     /// How many of those joined the line.
-    pub(crate) joined: AtomicU64,
+    pub joined: AtomicU64,
     /// How many of those have what they waited for.
-    pub(crate) ended: AtomicU64,
+    pub ended: AtomicU64,
 }
 
 impl Counts {
     /// Nobody was started.
-    pub(crate) fn new() -> Counts {
+    pub fn new() -> Counts {
         Counts {
             started: AtomicU64::new(0),
             joined: AtomicU64::new(0),
@@ -93,17 +93,17 @@ impl Counts {
     }
 
     /// Waits until all that were started wait in the line.
-    pub(crate) fn await_joined<R: Wait>(&self, rt: &R) {
+    pub fn await_joined<R: Wait>(&self, rt: &R) {
         await_count(rt, &self.joined, self.started.load(Ordering::SeqCst));
     }
 
     /// Waits until all that were started have what they waited for.
-    pub(crate) fn await_ended<R: Wait>(&self, rt: &R) {
+    pub fn await_ended<R: Wait>(&self, rt: &R) {
         await_count(rt, &self.ended, self.started.load(Ordering::SeqCst));
     }
 
     /// Looks often whether one has ended already.
-    pub(crate) fn none_ended(&self) -> bool {
+    pub fn none_ended(&self) -> bool {
         for _turn in 0..TURNS {
             if self.ended.load(Ordering::SeqCst) != 0 {
                 return false;
@@ -116,7 +116,7 @@ impl Counts {
 /// So many sleepers behind the one ahead, two more behind a wall, and one end: all of the first wake, and no other.
 ///
 /// The form is new and of size 0. Without patience it is certain that all sleep when the end comes.
-pub(crate) fn a_call_wakes_all_whom_it_answers<F: Sleepers, R: Threads + Wait + Sync>(
+pub fn a_call_wakes_all_whom_it_answers<F: Sleepers, R: Threads + Wait + Sync>(
     rt: &R,
     form: &F,
     is_patient: bool,
@@ -171,7 +171,7 @@ pub(crate) fn a_call_wakes_all_whom_it_answers<F: Sleepers, R: Threads + Wait + 
 /// So many sleepers who all ask what the one ahead asks, and as many calls: each call wakes one, and no other.
 ///
 /// The form is new and of size 0. Without patience it is certain that all sleep when the calls come.
-pub(crate) fn each_call_wakes_one<F: Sleepers, R: Threads + Wait + Sync>(
+pub fn each_call_wakes_one<F: Sleepers, R: Threads + Wait + Sync>(
     rt: &R,
     form: &F,
     is_patient: bool,

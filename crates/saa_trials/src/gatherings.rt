@@ -1,6 +1,6 @@
 //! Gatherings: tasks that surely sleep at a form that answers all who wait together, and each way to answer them.
 //!
-//! This is test code, over any such form. A test goes on only once all whom it waits for sleep, or one of them has ended
+//! This is for tests, over any such form. A test goes on only once all whom it waits for sleep, or one of them has ended
 //! too soon; it ends only if all who are answered wake.
 
 use crate::sleepers::{By, Counts};
@@ -11,7 +11,7 @@ use std::thread::{Threads, yield_now};
 
 /// How all who wait are answered.
 #[derive(Clone, Copy)]
-pub(crate) enum Together {
+pub enum Together {
     /// A gate permits them.
     Permit,
     /// A gate rejects them.
@@ -34,7 +34,7 @@ pub(crate) enum Together {
 
 /// A form at which all who wait are answered together, as these tests see it. Its waiters run in threads of their own, so
 /// nothing of it but itself is named here.
-pub(crate) trait Gathering: Sync {
+pub trait Gathering: Sync {
     /// Makes it so that tasks wait.
     fn prepare(&self);
 
@@ -53,15 +53,15 @@ pub(crate) trait Gathering: Sync {
 
 /// How a gathering goes.
 #[derive(Clone, Copy)]
-pub(crate) struct Plan {
+pub struct Plan {
     /// How many wait.
-    pub(crate) count: u64,
+    pub count: u64,
     /// How they wait.
-    pub(crate) by: By,
+    pub by: By,
     /// How they are answered.
-    pub(crate) together: Together,
+    pub together: Together,
     /// Whether they stay awake for a while, so that it isn't certain that they sleep when they are answered.
-    pub(crate) is_patient: bool,
+    pub is_patient: bool,
 }
 
 // What is counted beside what sleepers count.
@@ -78,7 +78,7 @@ struct Told {
 /// who wait wake with their answer, nobody before, and no other seat is rung.
 ///
 /// The form is new.
-pub(crate) fn all_wake_together<F: Gathering, R: Threads + Wait + Sync>(
+pub fn all_wake_together<F: Gathering, R: Threads + Wait + Sync>(
     rt: &R,
     form: &F,
     plan: Plan,

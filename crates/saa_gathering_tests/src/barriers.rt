@@ -1,49 +1,73 @@
-use super::*;
-use crate::gatherings::{Gathering, Plan, Together, all_wake_together};
-use crate::sleepers::By;
-use crate::twins::{Form, Move, Way, every_list, moves};
-use saa_core::barrier::{BarrierAnswer, BarrierCall};
-use std::sync::atomic::AtomicU64;
+//! The threaded barrier beside its core, over every list of moves, and tasks that sleep at it and are woken together.
+
+use saa_core::barrier::{BarrierAnswer, BarrierCall, BarrierCore};
+use saa_shell::seat::{PATIENCE, Patience};
+use saa_shell::shell::Shell;
+use saa_sync::barrier::Barrier;
+use saa_sync::pager::{Error, Pager};
+use saa_tickets::ticket::Full;
+use saa_trials::gatherings::{Gathering, Plan, Together, all_wake_together};
+use saa_trials::sleepers::By;
+use saa_trials::twins::{Form, Move, Way, every_list, moves};
+use std::alloc::{AllocError, Global};
+use std::sync::Wait;
+use std::sync::atomic::{AtomicU64, Ordering};
 use std::test::Fail;
 use std::thread::Threads;
 
+// A barrier, for the trials.
+#[derive(Drop)]
+struct Tried<R: Wait + Drop> {
+    barrier: Barrier<R>,
+}
+
+// A barrier whose waiters have this patience.
+fn with_patience<R: Wait + Drop + Copy>(
+    rt: R,
+    alloc: Global,
+    count: usize,
+    room: u16,
+    patience: Patience,
+) -> Result<Tried<R>, AllocError> {
+    let core = BarrierCore::with_count(alloc, count, room)?;
+    let barrier = Barrier::on_shell(Shell::new(rt, alloc, core, room, patience)?);
+    Ok(Tried { barrier })
+}
+
 // A size is what a barrier is made with.
-impl<R: Wait + Drop + Copy> Form for Barrier<R> {
+impl<R: Wait + Drop + Copy> Form for Tried<R> {
+    type Threaded = Barrier<R>;
+
     type Core = BarrierCore;
 
     type Lent = R;
 
-    fn make(
-        rt: R,
-        alloc: Global,
-        size: usize,
-        room: u16,
-        patience: Patience,
-    ) -> Result<Self, AllocError> {
-        Barrier::with_patience(rt, alloc, size, room, patience)
+    fn make(rt: R, alloc: Global, size: usize, room: u16) -> Result<Self, AllocError> {
+        let barrier = Barrier::with_count(rt, alloc, size, room)?;
+        Ok(Tried { barrier })
     }
 
     fn make_core(alloc: Global, size: usize, room: u16) -> Result<BarrierCore, AllocError> {
         BarrierCore::with_count(alloc, size, room)
     }
 
-    fn shell(&self) -> &Shell<R, BarrierCore> {
-        &self.shell
+    fn is_rung(&self, slot: u16) -> bool {
+        self.barrier.shell().is_rung(slot)
     }
 
     fn call(&self, call: BarrierCall, _is_short: bool) -> BarrierAnswer {
         match call {
-            BarrierCall::Count => BarrierAnswer::Count(self.count(Ordering::SeqCst)),
+            BarrierCall::Count => BarrierAnswer::Count(self.barrier.count(Ordering::SeqCst)),
         }
     }
 
     fn register<'s>(
         &'s self,
-        pager: &mut Pager<'s, Self>,
+        pager: &mut Pager<'s, Barrier<R>>,
         _ask: (),
         is_sync: bool,
     ) -> Result<bool, Full> {
-        self.register_pager(pager, is_sync)
+        self.barrier.register_pager(pager, is_sync)
     }
 
     fn acquire(
@@ -56,8 +80,8 @@ impl<R: Wait + Drop + Copy> Form for Barrier<R> {
             runs.fetch_add(1, Ordering::SeqCst);
         };
         let is_leader = match way {
-            Way::Plain | Way::Short => self.wait_sync()?,
-            Way::With | Way::ShortWith => self.wait_sync_with(count_run)?,
+            Way::Plain | Way::Short => self.barrier.wait_sync()?,
+            Way::With | Way::ShortWith => self.barrier.wait_sync_with(count_run)?,
         };
         Ok(Some(Ok(is_leader)))
     }
@@ -95,7 +119,7 @@ fn agreeing<R: Wait>(
     let mut all = 0u64;
     for size in sizes {
         for room in 0..3 {
-            match every_list::<Barrier<&R>>(rt, alloc, (*size, room), moves, length)? {
+            match every_list::<Tried<&R>>(rt, alloc, (*size, room), moves, length)? {
                 Ok(lists) => all = all.saturating_add(lists),
                 Err(number) => return Ok(all.saturating_add(number)),
             }
@@ -138,18 +162,18 @@ fn lists_of_four_agree_at_large_barriers(rt: HostRuntime) -> Result<(), Fail> {
     Ok(())
 }
 
-impl<R: Wait + Drop + Sync> Gathering for Barrier<R> {
+impl<R: Wait + Drop + Sync> Gathering for Tried<R> {
     fn prepare(&self) {}
 
     fn gather(&self, by: By, _together: Together, joined: &AtomicU64) -> bool {
         let answer = match by {
-            By::Call => self.wait_sync_with(|| {
-                let _count = self.count(Ordering::SeqCst);
+            By::Call => self.barrier.wait_sync_with(|| {
+                let _count = self.barrier.count(Ordering::SeqCst);
                 joined.fetch_add(1, Ordering::SeqCst);
             }),
             By::Plain => {
                 joined.fetch_add(1, Ordering::SeqCst);
-                self.wait_sync()
+                self.barrier.wait_sync()
             }
             By::Poll => self.wait_by_pager(joined),
         };
@@ -158,31 +182,31 @@ impl<R: Wait + Drop + Sync> Gathering for Barrier<R> {
 
     // Whoever waits leaves one arrival to come, which is the leader, and then all are to come.
     fn answer_all(&self, together: Together, count: u64) -> bool {
-        let missing = self.count(Ordering::SeqCst);
+        let missing = self.barrier.count(Ordering::SeqCst);
         let is_leader = match together {
             Together::LastCall => self.leads_without_callback(),
-            Together::LastPlainCall => self.wait_sync() == Ok(true),
+            Together::LastPlainCall => self.barrier.wait_sync() == Ok(true),
             Together::LastPager => self.leads_by_pager(),
             _ => false,
         };
-        let size = self.count(Ordering::SeqCst) as u64;
+        let size = self.barrier.count(Ordering::SeqCst) as u64;
         is_leader && missing == 1 && size == count.saturating_add(1)
     }
 
     fn asleep(&self) -> usize {
-        self.shell.asleep()
+        self.barrier.shell().asleep()
     }
 
     fn rung(&self) -> usize {
-        self.shell.rung()
+        self.barrier.shell().rung()
     }
 }
 
-impl<R: Wait + Drop> Barrier<R> {
+impl<R: Wait + Drop> Tried<R> {
     // Waits by a pager.
     fn wait_by_pager(&self, joined: &AtomicU64) -> Result<bool, Full> {
         let mut pager = Pager::new();
-        let is_registered = self.register_pager(&mut pager, true)?;
+        let is_registered = self.barrier.register_pager(&mut pager, true)?;
         joined.fetch_add(1, Ordering::SeqCst);
         if !is_registered {
             return Err(Full);
@@ -193,7 +217,7 @@ impl<R: Wait + Drop> Barrier<R> {
     // Comes as the last arrival by a call whose callback doesn't run; whether it is the leader.
     fn leads_without_callback(&self) -> bool {
         let runs = AtomicU64::new(0);
-        let answer = self.wait_sync_with(|| {
+        let answer = self.barrier.wait_sync_with(|| {
             runs.fetch_add(1, Ordering::SeqCst);
         });
         answer == Ok(true) && runs.load(Ordering::SeqCst) == 0
@@ -202,7 +226,7 @@ impl<R: Wait + Drop> Barrier<R> {
     // Comes as the last arrival by a pager; whether it is the leader.
     fn leads_by_pager(&self) -> bool {
         let mut pager = Pager::new();
-        self.register_pager(&mut pager, false) == Ok(true) && pager.try_poll() == Ok(true)
+        self.barrier.register_pager(&mut pager, false) == Ok(true) && pager.try_poll() == Ok(true)
     }
 }
 
@@ -228,14 +252,14 @@ fn wrong_wakes<R: Wait + Threads + Sync>(
     for count in [1u16, 2, 3, 48, 62] {
         for together in EVERY_WAY {
             let size = usize::from(count).saturating_add(1);
-            let barrier = Barrier::with_patience(rt, alloc, size, count, patience)?;
+            let form = with_patience(rt, alloc, size, count, patience)?;
             let plan = Plan {
                 count: u64::from(count),
                 by,
                 together,
                 is_patient: patience.looks != 0,
             };
-            if !all_wake_together(rt, &barrier, plan) {
+            if !all_wake_together(rt, &form, plan) {
                 return Ok(u64::from(count));
             }
         }
