@@ -1,2 +1,1 @@
 pub mod Follows
-pub mod Modes

@@ -1,29 +1,15 @@
 -- How a call that may wait begins, and how a wait ends.
-use Rattle.std.specs.Prelude.{◌≡◌, ℕ, Bool, true, false, [], ◌∷◌, Option, Some, None, Result, Ok, Err}
+use Rattle.std.specs.Prelude.{ℕ, Bool, true, false, Option, Some, None, Result, Ok, Err}
 use Rattle.saa_object.specs.declared.request.Request.{Request}
 use Rattle.saa_object.specs.declared.polling.Error.{Error}
 use Rattle.saa_object.specs.declared.polling.Error.TheVariants.{NotRegistered, WrongMode, NotReady}
 use Rattle.saa_object.specs.declared.request.Full.{Full}
 use Rattle.saa_object.specs.declared.polling.How.TheVariants.{Sync}
-use Rattle.saa_tickets.specs.declared.ticket.Registration.{Registration}
-use Rattle.saa_tickets.specs.declared.ticket.Registration.TheVariants.{Unregistered, AtOnce, InSlot}
 use Rattle.saa_object.specs.Asking.{registered}
 use Rattle.saa_object.specs.Object.{Object, After}
 use Rattle.saa_object.specs.Polling.{polled, read_as}
-use Rattle.saa_line.specs.Slots.{OwesAnswered}
-use Rattle.saa_tickets.specs.Tickets.{Core, Acts, object_of}
 use Rattle.saa_shell.specs.declared.shell.Begun.{Begun}
 use Rattle.saa_shell.specs.declared.shell.Begun.TheVariants.{Refused, Answered, Joined}
-
--- whether a ticket was registered as sync; an idle one neither way
-abbrev pub mode_of : Registration → Option Bool
-mode_of Unregistered = None
-mode_of (AtOnce value request is_sync) = Some is_sync
-mode_of (InSlot slot request is_sync) = Some is_sync
-
--- a core with one idle ticket, as the object
-abbrev pub alone : Core → Object
-alone core = object_of core (Unregistered ∷ [])
 
 -- whether it joined the line
 abbrev pub has_joined : Result Begun Full → Bool
@@ -63,12 +49,3 @@ is_not_ready None = false
 is_not_ready (Some NotRegistered) = false
 is_not_ready (Some WrongMode) = false
 is_not_ready (Some NotReady) = true
-
--- What a call that may wait owes as it begins: its registration, with this answer, owes each whom it answers a wake; to
--- consume its own answer at once changes none
-pub record BeginOwes (old new : Core) (ticket : Registration) (request : Request) (answer : Result Bool Full) : Type 0 where
-  pub between : Core
-  pub ticket_between : Registration
-  pub registration : Acts old between ticket ticket_between (λ s name. registered s name request true) answer
-  pub wakes : OwesAnswered old.slots between.slots
-  pub owed : new.slots.owed ≡ between.slots.owed

@@ -15,7 +15,8 @@ ghost use Rattle.saa_object.specs.Asking.{registered};
 ghost use Rattle.saa_object.specs.Polling.{polled};
 ghost use Rattle.saa_tickets.specs.Tickets.{Acts, Polled, dropping, fault_of, is_busy, is_yes};
 ghost use Rattle.saa_line.specs.Slots.{OwesAnswered, wake_told};
-ghost use Rattle.saa_shell.specs.Waits.{BeginOwes, alone, begun, has_joined, is_not_ready, mode_of, registration_of};
+ghost use Rattle.saa_tickets.specs.Beginning.{BeginOwes, alone, mode_of};
+ghost use Rattle.saa_shell.specs.Waits.{begun, has_joined, is_not_ready, registration_of};
 
 use crate::seat::{Patience, Seat};
 use saa_tickets::bench::Primitive;
@@ -74,7 +75,7 @@ impl<P: Primitive> Inside<P> {
         ensures registration { registration_of result ≡ (registered (alone (P.core self.old.core)) 0 (P.request ask) true).reply }
         ensures ticket { is_busy ticket.new ≡ has_joined result }
         ensures mode { has_joined result ≡ true → mode_of ticket.new ≡ Some true }
-        ensures wakes { BeginOwes (P.core self.old.core) (P.core self.new.core) ticket.old (P.request ask) (registration_of result) }
+        ensures wakes { BeginOwes (P.core self.old.core) (P.core self.new.core) ticket.old (P.request ask) true (registration_of result) }
     {
         if !self.register(ticket, ask, true)? {
             return Ok(Begun::Refused);

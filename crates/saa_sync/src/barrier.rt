@@ -7,7 +7,7 @@
 ghost use Rattle.std.specs.Prelude.{◌≡◌, ◌-◌, ◌||◌, ◌==◌, true, false, length, Ok, Some};
 ghost use Rattle.saa_object.specs.Barrier.{size_of};
 ghost use Rattle.saa_tickets.specs.Tickets.{is_busy, is_yes};
-ghost use Rattle.saa_shell.specs.Waits.{mode_of};
+ghost use Rattle.saa_tickets.specs.Beginning.{mode_of};
 
 use saa_core::barrier::BarrierCore;
 use saa_core::ticket::{Error, Full, How, Ticket};

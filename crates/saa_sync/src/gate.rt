@@ -12,7 +12,7 @@ ghost use Rattle.saa_object.specs.Held.{OfGate};
 ghost use Rattle.saa_object.specs.Values.{gate_value, permitted_value, rejected_value, opened_value, sealed_value};
 ghost use Rattle.saa_line.specs.Slots.{all_slots_answered};
 ghost use Rattle.saa_tickets.specs.Tickets.{Calls, is_busy, is_yes};
-ghost use Rattle.saa_shell.specs.Waits.{mode_of};
+ghost use Rattle.saa_tickets.specs.Beginning.{mode_of};
 ghost use Rattle.saa_sync.specs.Pagers.{gate_fault};
 
 use saa_core::bench::Primitive;

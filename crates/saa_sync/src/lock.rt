@@ -11,7 +11,7 @@ ghost use Rattle.saa_object.specs.Lock.{is_free, is_locked, is_shared, is_poison
 ghost use Rattle.saa_line.specs.Slots.{OwesAnswered};
 ghost use Rattle.saa_tickets.specs.Tickets.{Calls, is_busy, is_yes};
 ghost use Rattle.saa_core.specs.LockCalls.{lock_tried};
-ghost use Rattle.saa_shell.specs.Waits.{mode_of};
+ghost use Rattle.saa_tickets.specs.Beginning.{mode_of};
 
 use saa_core::lock::LockCore;
 pub use saa_core::lock::{Mode, TryLockError};

@@ -11,7 +11,7 @@ ghost use Rattle.saa_object.specs.Polling.{given_back};
 ghost use Rattle.saa_object.specs.Semaphore.{available, bound_of, out_of};
 ghost use Rattle.saa_line.specs.Slots.{OwesAnswered};
 ghost use Rattle.saa_tickets.specs.Tickets.{Calls, is_busy, is_yes};
-ghost use Rattle.saa_shell.specs.Waits.{mode_of};
+ghost use Rattle.saa_tickets.specs.Beginning.{mode_of};
 
 use saa_core::semaphore::SemaphoreCore;
 use saa_core::ticket::{Error, Full, How, Ticket};

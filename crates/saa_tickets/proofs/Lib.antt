@@ -6,3 +6,5 @@ pub mod Registering
 pub mod Answering
 pub mod Waking
 pub mod BenchLemmas
+pub mod Follows
+pub mod Modes

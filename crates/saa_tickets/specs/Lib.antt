@@ -1,5 +1,6 @@
 pub mod SlotStates
 pub mod Tickets
+pub mod Beginning
 pub use Rattle.saa_object.specs.Held
 pub use Rattle.saa_object.specs.Object
 pub use Rattle.saa_object.specs.Values

@@ -1,6 +1,6 @@
 use Rattle.std.proofs.Common.{rules, ◌≡◌, Ok, true, false, ap, sym, ◌∙◌}
-use Rattle.saa_shell.proofs.Follows.{begun-polled}
-use Rattle.saa_shell.proofs.Modes.{begin-owes, full-stays, reply-alone}
+use Rattle.saa_tickets.proofs.Modes.{begin-owes, reply-alone}
+use Rattle.saa_shell.proofs.Follows.{begun-polled, full-stays}
 use Rattle.saa_shell.proofs.shell.Inside.begin.Goals as goal
 
 pub returns-in-Ok-clause-acts : goal.returns-in-Ok-clause-acts
@@ -36,9 +36,9 @@ returns-in-Err-clause-registration g c =
 pub returns-in-Ok-clause-wakes : goal.returns-in-Ok-clause-wakes
 returns-in-Ok-clause-wakes g c =
     let is_true : c.in_ok-register.field-0 ≡ true = search rules in
-    begin-owes _ _ _ _ _ _ _ is_true c.in_ok-register.ensures.acts c.in_ok-register.ensures.wakes c.in-Ok.ensures.owed
+    begin-owes _ _ _ _ _ _ _ _ is_true c.in_ok-register.ensures.acts c.in_ok-register.ensures.wakes c.in-Ok.ensures.owed
 
 pub returns-in-Err-clause-wakes : goal.returns-in-Err-clause-wakes
 returns-in-Err-clause-wakes g c =
     let is_true : c.in_ok-register.field-0 ≡ true = search rules in
-    begin-owes _ _ _ _ _ _ _ is_true c.in_ok-register.ensures.acts c.in_ok-register.ensures.wakes c.in-Err.ensures.owed
+    begin-owes _ _ _ _ _ _ _ _ is_true c.in_ok-register.ensures.acts c.in_ok-register.ensures.wakes c.in-Err.ensures.owed

@@ -1,4 +1,4 @@
-use Rattle.saa_shell.proofs.Modes.{registered-mode}
+use Rattle.saa_tickets.proofs.Modes.{registered-mode}
 use Rattle.saa_shell.proofs.shell.Inside.register.Goals as goal
 
 pub returns-clause-mode : goal.returns-clause-mode

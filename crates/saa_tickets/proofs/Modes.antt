@@ -1,5 +1,5 @@
 -- What a registration says of its ticket, read off what it does to the object of the core with that ticket alone.
-use Rattle.std.proofs.Common.{◌≡◌, ℕ, ◌||◌, ◌==◌, not, List, [], ◌∷◌, Option, Some, None, Result, Ok, Err, IsErr, Bool, true, false, slice_set, refl, sym, ap, subst, ◌∙◌, arith}
+use Rattle.std.proofs.Common.{◌≡◌, ℕ, ◌||◌, ◌==◌, not, List, [], ◌∷◌, Option, Some, None, Result, Ok, Err, Bool, true, false, slice_set, refl, sym, ap, subst, ◌∙◌, arith}
 use Rattle.saa_object.specs.declared.request.Request.{Request}
 use Rattle.saa_object.specs.declared.request.Full.{Full}
 use Rattle.saa_tickets.specs.declared.ticket.Registration.{Registration}
@@ -9,8 +9,7 @@ use Rattle.saa_object.specs.Held.{asks_too_much}
 use Rattle.saa_object.specs.Object.{Object, After, Entry, Idle, Waiting, Answered, entry_at, used}
 use Rattle.saa_line.specs.Slots.{Slots, OwesAnswered, answer_in}
 use Rattle.saa_tickets.specs.Tickets.{Core, Acts, Belong, entry_of, slot_entry, is_yes, object_of}
-use Rattle.saa_shell.specs.declared.shell.Begun.{Begun}
-use Rattle.saa_shell.specs.Waits.{BeginOwes, alone, mode_of, registration_of}
+use Rattle.saa_tickets.specs.Beginning.{BeginOwes, alone, mode_of}
 
 -- an entry's mode; an idle one has none
 abbrev pub entry_mode : Entry → Option Bool
@@ -58,11 +57,6 @@ pub reply-alone : {A : Type 0} (old new : Core) (ticket : Registration) (step : 
 reply-alone old new ticket step reply call =
     sym (ap (λ a. a.reply) (call.acts (Unregistered ∷ []) 0 refl (idle-belongs old.slots)).0)
 
--- a refusal hands its one error on
-pub full-stays : (begun : Result Begun Full) (full : Full) → IsErr begun → registration_of begun ≡ Err full
-full-stays (Ok begun) full is = cc
-full-stays (Err other) full is = refl
-
 yes-mode : (old new : Core) (ticket : Registration) (request : Request) (is_sync : Bool)
     → Acts old new Unregistered ticket (λ s name. registered s name request is_sync) (Ok true) → mode_of ticket ≡ Some is_sync
 yes-mode old new ticket request is_sync call =
@@ -78,13 +72,13 @@ registered-mode old new ticket request is_sync (Ok false) is call = cc
 registered-mode old new ticket request is_sync (Err full) is call = cc
 
 -- what a registration that was answered true and then polled owes
-pub begin-owes : (old between new : Core) (ticket ticket_between : Registration) (request : Request) (answer : Bool) → answer ≡ true
-    → Acts old between ticket ticket_between (λ s name. registered s name request true) (Ok answer) → OwesAnswered old.slots between.slots
-    → new.slots.owed ≡ between.slots.owed → BeginOwes old new ticket request (Ok true)
-begin-owes old between new ticket ticket_between request answer is call owes same = record {
+pub begin-owes : (old between new : Core) (ticket ticket_between : Registration) (request : Request) (is_sync answer : Bool) → answer ≡ true
+    → Acts old between ticket ticket_between (λ s name. registered s name request is_sync) (Ok answer) → OwesAnswered old.slots between.slots
+    → new.slots.owed ≡ between.slots.owed → BeginOwes old new ticket request is_sync (Ok true)
+begin-owes old between new ticket ticket_between request is_sync answer is call owes same = record {
   between = between;
   ticket_between = ticket_between;
-  registration = subst (λ (b : Bool). Acts old between ticket ticket_between (λ s name. registered s name request true) (Ok b)) is call;
+  registration = subst (λ (b : Bool). Acts old between ticket ticket_between (λ s name. registered s name request is_sync) (Ok b)) is call;
   wakes = owes;
   owed = same;
 }

@@ -1,0 +1,49 @@
+-- The polls of a future as one step of the object.
+use Rattle.std.proofs.Common.{◌≡◌, ℕ, Result, Ok, Option, Bool, true, false, refl, ap, subst}
+use Rattle.saa_object.specs.declared.request.Request.{Request}
+use Rattle.saa_object.specs.declared.polling.Error.{Error}
+use Rattle.saa_object.specs.declared.polling.How.TheVariants.{Async}
+use Rattle.saa_tickets.specs.declared.ticket.Registration.{Registration}
+use Rattle.saa_tickets.specs.declared.ticket.Registration.TheVariants.{Unregistered, AtOnce, InSlot}
+use Rattle.saa_object.specs.Asking.{registered}
+use Rattle.saa_object.specs.Object.{Object, After}
+use Rattle.saa_object.specs.Polling.{polled, read_as}
+use Rattle.saa_tickets.specs.Tickets.{Core, Acts, is_busy}
+use Rattle.saa_tickets.proofs.Follows.{follow, then}
+use Rattle.saa_futures.specs.declared.future.Progress.{Progress}
+use Rattle.saa_futures.specs.declared.future.Progress.TheVariants.{Joined}
+use Rattle.saa_futures.specs.Futures.{answer_or, asked, asked_from, progress_as, read_progress}
+
+-- a poll of a future is also the poll whose value is read
+pub progress-read : {A B : Type 0} (read : A → B) (old new : Core) (t0 t1 : Registration) (step : Object → ℕ → After (Progress A)) (progress : Progress A)
+    → Acts old new t0 t1 step progress → Acts old new t0 t1 (λ s name. progress_as read (step s name)) (read_progress read progress)
+progress-read read old new t0 t1 step progress call =
+    then old new t0 t1 step (λ s name. progress_as read (step s name)) progress (read_progress read progress)
+    (λ s next name leads. ap (progress_as read) leads) call
+
+-- a poll of a ticket as async is a further poll of its future
+pub waited-polled : (old new : Core) (t0 t1 : Registration) (answer : Result ℕ Error) (otherwise : Progress (Option ℕ))
+    → Acts old new t0 t1 (λ s name. polled s name Async) answer
+    → Acts old new t0 t1 (λ s name. read_as (answer_or otherwise) (polled s name Async)) (answer_or otherwise answer)
+waited-polled old new t0 t1 answer otherwise call =
+    then old new t0 t1 (λ s name. polled s name Async) (λ s name. read_as (answer_or otherwise) (polled s name Async)) answer (answer_or otherwise answer)
+    (λ s next name leads. ap (read_as (answer_or otherwise)) leads) call
+
+-- a true registration as async and then a poll as async are a first poll
+pub asked-polled : (old mid new : Core) (t0 t1 t2 : Registration) (request : Request) (is_registered : Bool) (answer : Result ℕ Error)
+    → is_registered ≡ true
+    → Acts old mid t0 t1 (λ s name. registered s name request false) (Ok is_registered)
+    → Acts mid new t1 t2 (λ s name. polled s name Async) answer
+    → Acts old new t0 t2 (λ s name. asked s name request) (answer_or Joined answer)
+asked-polled old mid new t0 t1 t2 request is_registered answer is_true call later =
+    follow old mid new t0 t1 t2 (λ s name. registered s name request false) (λ s name. read_as (answer_or Joined) (polled s name Async)) (λ s name. asked s name request)
+    (Ok true) (answer_or Joined answer)
+    (λ s next name leads. ap (asked_from name) leads)
+    (subst (λ b. Acts old mid t0 t1 (λ s name. registered s name request false) (Ok b)) is_true call)
+    (waited-polled mid new t1 t2 answer Joined later)
+
+-- a ticket that isn't busy is idle
+pub idle-is : (ticket : Registration) → is_busy ticket ≡ false → ticket ≡ Unregistered
+idle-is Unregistered is = refl
+idle-is (AtOnce value request is_sync) is = cc
+idle-is (InSlot slot request is_sync) is = cc
