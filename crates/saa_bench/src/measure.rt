@@ -6,11 +6,13 @@
 use crate::locks::{Exclusive, MostlyShared, Plain};
 use crate::permits::{Counter, PERMITS, TwoTurns};
 use crate::rounds::{Passage, PlainBarrier, PlainGate};
+use crate::tasks::{alone_nanos, idle_polls, line_nanos};
 use saa_sync::barrier::Barrier;
 use saa_sync::gate::Gate;
 use saa_sync::lock::Lock;
 use saa_sync::semaphore::Semaphore;
-use std::alloc::Global;
+use std::alloc::{AllocGlobal, Global};
+use std::random::RandomSource;
 use std::rt::Runtime;
 use std::sync::Wait;
 use std::thread::{Threads, yield_now};
@@ -31,6 +33,18 @@ const ARRIVALS: u64 = 20_000;
 
 const PASSINGS: u64 = 1_000;
 
+// How often a future is granted, takes its answer and joins anew in one measurement.
+const GRANTS: u64 = 50_000;
+
+// How many futures wait in the shortest line, and in the others.
+const SHORTEST: u16 = 64;
+
+const LINES: [(&str, u16); 3] = [
+    ("64 futures in line", SHORTEST),
+    ("1,024 futures in line", 1_024),
+    ("4,096 futures in line", 4_096),
+];
+
 // How often each measurement is made.
 const PASSES: usize = 9;
 
@@ -39,14 +53,20 @@ const ROOM: u16 = 32;
 
 /// Prints for each number of threads what a turn costs at a semaphore beside a plain counter, at a lock beside std's,
 /// and at a barrier beside a plain one, and what a gate costs that lets so many pass; with the ratios. And then what one
-/// thread's turn costs at a semaphore and a lock beside two bare turns at a `Mutex`.
-pub fn table<R: Runtime + Threads + Wait + Sync>(rt: &R, alloc: Global) -> io::Result<()> {
+/// thread's turn costs at a semaphore and a lock beside two bare turns at a `Mutex`; what a turn costs as a future beside a
+/// call that sleeps; a grant in a line of so many futures beside one in a line of 64; and how often tasks that contend are
+/// polled for nothing.
+pub fn table<R: Runtime + RandomSource + AllocGlobal + Threads + Wait + Sync>(
+    rt: &R,
+    alloc: Global,
+) -> io::Result<()> {
     println!(rt; "what                    threads     ours ns      std ns  ratio")?;
     semaphores(rt, alloc)?;
     locks(rt, alloc)?;
     barriers(rt, alloc)?;
     gates(rt, alloc)?;
-    shells(rt, alloc)
+    shells(rt, alloc)?;
+    futures(rt, alloc)
 }
 
 // What one line tells of: its name, how many threads there are, and how often it happens in one measurement.
@@ -144,6 +164,55 @@ fn shells<R: Runtime + Threads + Wait + Sync>(rt: &R, alloc: Global) -> io::Resu
         times: TURNS,
     };
     turns_row(rt, alloc, case, &Exclusive { lock: &lock }, &two_turns)
+}
+
+// A turn as a future beside one as a call; and a grant, its answer and a join in a line of so many beside a short line.
+fn futures<R: Runtime + RandomSource + AllocGlobal + Threads + Wait + Sync>(
+    rt: &R,
+    alloc: Global,
+) -> io::Result<()> {
+    let one = Semaphore::new(rt, alloc, ROOM)?;
+    let case = Case {
+        what: "future, beside a call",
+        threads: 1,
+        times: TURNS,
+    };
+    let mut our_times = Vec::with_capacity(alloc, PASSES)?;
+    let mut their_times = Vec::with_capacity(alloc, PASSES)?;
+    for _ in 0..PASSES {
+        our_times.push(alone_nanos(rt, alloc, TURNS)?)?;
+        their_times.push(turns_nanos(rt, &one, case)?)?;
+    }
+    print_row(rt, case, &mut our_times, &mut their_times)?;
+    for (what, waiting) in LINES {
+        line_row(rt, alloc, what, waiting)?;
+    }
+    for threads in [2, 4, 8] {
+        let idle = idle_polls(rt, alloc, threads, GRANTS)?;
+        println!(rt; "tasks in {threads} threads, {GRANTS} turns: {idle} polls for nothing")?;
+    }
+    Ok(())
+}
+
+// A grant in a line of so many futures, beside one in the shortest.
+fn line_row<R: Runtime + RandomSource + AllocGlobal + Wait>(
+    rt: &R,
+    alloc: Global,
+    what: &str,
+    waiting: u16,
+) -> io::Result<()> {
+    let case = Case {
+        what,
+        threads: 1,
+        times: GRANTS,
+    };
+    let mut our_times = Vec::with_capacity(alloc, PASSES)?;
+    let mut their_times = Vec::with_capacity(alloc, PASSES)?;
+    for _ in 0..PASSES {
+        our_times.push(line_nanos(rt, alloc, waiting, GRANTS)?)?;
+        their_times.push(line_nanos(rt, alloc, SHORTEST, GRANTS)?)?;
+    }
+    print_row(rt, case, &mut our_times, &mut their_times)
 }
 
 // Measures turns at two in turn, and prints a line.

@@ -7,8 +7,8 @@ use std::sync::{Condvar, Mutex, Wait};
 /// The permits of each. Two acquires don't fit beside each other.
 pub const PERMITS: usize = 63;
 
-// What each acquire takes.
-const TAKEN: usize = 40;
+/// What each acquire takes.
+pub const TAKEN: usize = 40;
 
 impl<R: Wait + Drop + Sync> Turn for Semaphore<R> {
     fn take_turn(&self, _number: u64) {

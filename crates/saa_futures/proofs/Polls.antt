@@ -1,28 +1,21 @@
 -- The polls of a future as one step of the object.
-use Rattle.std.proofs.Common.{◌≡◌, ℕ, Result, Ok, Option, Bool, true, false, refl, ap, subst}
+use Rattle.std.proofs.Common.{◌≡◌, ℕ, Result, Ok, Err, Option, Some, is_some, [], ◌∷◌, Bool, true, false, refl, ap, subst, arith}
 use Rattle.saa_object.specs.declared.request.Request.{Request}
 use Rattle.saa_object.specs.declared.polling.Error.{Error}
 use Rattle.saa_object.specs.declared.polling.How.TheVariants.{Async}
 use Rattle.saa_tickets.specs.declared.ticket.Registration.{Registration}
 use Rattle.saa_tickets.specs.declared.ticket.Registration.TheVariants.{Unregistered, AtOnce, InSlot}
 use Rattle.saa_object.specs.Asking.{registered}
-use Rattle.saa_object.specs.Object.{Object, After}
 use Rattle.saa_object.specs.Polling.{polled, read_as}
-use Rattle.saa_tickets.specs.Tickets.{Core, Acts, is_busy}
+use Rattle.saa_tickets.specs.Tickets.{Core, Acts, Belong, is_busy}
+use Rattle.saa_tickets.specs.Beginning.{mode_of}
 use Rattle.saa_tickets.proofs.Follows.{follow, then}
 use Rattle.saa_futures.specs.declared.future.Progress.{Progress}
 use Rattle.saa_futures.specs.declared.future.Progress.TheVariants.{Joined}
-use Rattle.saa_futures.specs.Futures.{answer_or, asked, asked_from, progress_as, read_progress}
+use Rattle.saa_futures.specs.Futures.{answer_or, asked, asked_from, slot_of}
 
--- a poll of a future is also the poll whose value is read
-pub progress-read : {A B : Type 0} (read : A → B) (old new : Core) (t0 t1 : Registration) (step : Object → ℕ → After (Progress A)) (progress : Progress A)
-    → Acts old new t0 t1 step progress → Acts old new t0 t1 (λ s name. progress_as read (step s name)) (read_progress read progress)
-progress-read read old new t0 t1 step progress call =
-    then old new t0 t1 step (λ s name. progress_as read (step s name)) progress (read_progress read progress)
-    (λ s next name leads. ap (progress_as read) leads) call
-
--- a poll of a ticket as async is a further poll of its future
-pub waited-polled : (old new : Core) (t0 t1 : Registration) (answer : Result ℕ Error) (otherwise : Progress (Option ℕ))
+-- a poll of a ticket as async, read by its future
+waited-polled : (old new : Core) (t0 t1 : Registration) (answer : Result ℕ Error) (otherwise : Progress (Option ℕ))
     → Acts old new t0 t1 (λ s name. polled s name Async) answer
     → Acts old new t0 t1 (λ s name. read_as (answer_or otherwise) (polled s name Async)) (answer_or otherwise answer)
 waited-polled old new t0 t1 answer otherwise call =
@@ -47,3 +40,14 @@ pub idle-is : (ticket : Registration) → is_busy ticket ≡ false → ticket �
 idle-is Unregistered is = refl
 idle-is (AtOnce value request is_sync) is = cc
 idle-is (InSlot slot request is_sync) is = cc
+
+-- an answer that came at once is there for a poll in the right mode, so a ticket without one has a slot
+pub waits-slotted : (mid new : Core) (t1 t2 : Registration) (error : Error) → is_busy t1 ≡ true → mode_of t1 ≡ Some false
+    → Acts mid new t1 t2 (λ s name. polled s name Async) (Err error) → is_some (slot_of t1) ≡ true
+waits-slotted mid new Unregistered t2 error busy mode call = cc
+waits-slotted mid new (InSlot slot request is_sync) t2 error busy mode call = refl
+waits-slotted mid new (AtOnce value request true) t2 error busy mode call = cc
+waits-slotted mid new (AtOnce value request false) t2 error busy mode call =
+    let belongs : Belong mid.slots (AtOnce value request false ∷ []) = record { owned = λ slot. omega arith; few = omega arith } in
+    let no : ◌≡◌ {A = Result ℕ Error} (Ok value) (Err error) = ap (λ a. a.reply) (call.acts (AtOnce value request false ∷ []) 0 refl belongs).0 in
+    cc

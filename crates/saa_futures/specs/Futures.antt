@@ -1,10 +1,11 @@
 -- What each poll of a future does to the object, and what it says.
-use Rattle.std.specs.Prelude.{◌≡◌, ℕ, Bool, true, false, Option, Some, None, Result, Ok, Err}
+use Rattle.std.specs.Prelude.{◌≡◌, ℕ, Bool, true, false, Option, Some, None, is_some, Result, Ok, Err}
 use Rattle.saa_object.specs.declared.request.Request.{Request}
 use Rattle.saa_object.specs.declared.request.Full.{Full}
 use Rattle.saa_object.specs.declared.polling.Error.{Error}
 use Rattle.saa_object.specs.declared.polling.How.TheVariants.{Async}
 use Rattle.saa_tickets.specs.declared.ticket.Registration.{Registration}
+use Rattle.saa_tickets.specs.declared.ticket.Registration.TheVariants.{Unregistered, AtOnce, InSlot}
 use Rattle.saa_object.specs.Asking.{registered}
 use Rattle.saa_object.specs.Object.{Object, After}
 use Rattle.saa_object.specs.Polling.{polled, read_as}
@@ -19,10 +20,17 @@ pub record AskingState : Type 0 where
   pub ticket : Registration
   pub has_ended : Bool
 
--- what always holds of a future: a registered one hasn't ended, and is registered as async
+-- the slot of a ticket, if it has one
+abbrev pub slot_of : Registration → Option ℕ
+slot_of Unregistered = None
+slot_of (AtOnce value request is_sync) = None
+slot_of (InSlot slot request is_sync) = Some slot
+
+-- what always holds of a future: a registered one hasn't ended, is registered as async, and has a slot
 pub record IsKept (ticket : Registration) (has_ended : Bool) : Type 0 where
   pub unended : is_busy ticket ≡ true → has_ended ≡ false
   pub mode : is_busy ticket ≡ true → mode_of ticket ≡ Some false
+  pub slot : is_some (slot_of ticket) ≡ is_busy ticket
 
 -- whether a poll ended the future
 abbrev pub is_end : {T : Type 0} → Progress T → Bool
@@ -67,13 +75,28 @@ asked_from name after = asked_of name after.state after.reply
 abbrev pub asked : Object → ℕ → Request → After (Progress (Option ℕ))
 asked s name request = asked_from name (registered s name request false)
 
--- what the registration of a first poll answered: false exactly where the future ends without a value
+-- what the registration of a first poll answered: false exactly where the future ends without a value. (A first poll
+-- doesn't say that the future waits still)
 abbrev pub registration_of : Progress (Option ℕ) → Result Bool Full
 registration_of (Done None) = Ok false
 registration_of (Done (Some value)) = Ok true
 registration_of Joined = Ok true
 registration_of Waits = Ok true
 registration_of (Refused full) = Err full
+
+-- what holds of the value that a poll ended with, if it ended with one
+abbrev pub IfDone : {A : Type 0} → Progress A → (A → Type 0) → Type 0
+IfDone (Done value) P = P value
+IfDone Joined P = Unit {0}
+IfDone Waits P = Unit {0}
+IfDone (Refused full) P = Unit {0}
+
+-- the same progress, with a value that its own may be read as
+abbrev pub IsRead : {A B : Type 0} → (A → B → Type 0) → Progress A → Progress B → Type 0
+IsRead Reads (Done value) other = (read : _) × Reads value read × (other ≡ Done read)
+IsRead Reads Joined other = other ≡ Joined
+IsRead Reads Waits other = other ≡ Waits
+IsRead Reads (Refused full) other = other ≡ Refused full
 
 -- the same progress, with its value read
 abbrev pub read_progress : {A B : Type 0} → (A → B) → Progress A → Progress B

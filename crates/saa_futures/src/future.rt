@@ -3,13 +3,13 @@
 //! What each poll does to the core and says stands in `specs/Futures.antt`, and the contract of every call here is said
 //! over it.
 
-ghost use Rattle.std.specs.Prelude.{◌≡◌, ◌&&◌, not, true, false, Some};
+ghost use Rattle.std.specs.Prelude.{◌≡◌, ◌&&◌, not, true, false, Some, is_some};
 ghost use Rattle.saa_tickets.specs.declared.ticket.Registration.TheVariants.{Unregistered};
 ghost use Rattle.saa_object.specs.Asking.{registered};
 ghost use Rattle.saa_line.specs.Slots.{OwesAnswered};
 ghost use Rattle.saa_tickets.specs.Tickets.{Acts, dropping, is_busy};
 ghost use Rattle.saa_tickets.specs.Beginning.{BeginOwes, alone, mode_of};
-ghost use Rattle.saa_futures.specs.Futures.{asked, has_joined, is_end, is_waiting, registration_of, waited};
+ghost use Rattle.saa_futures.specs.Futures.{IfDone, IsRead, asked, has_joined, is_end, is_waiting, registration_of, slot_of, waited};
 
 use saa_tickets::bench::Primitive;
 use saa_tickets::ticket::{Full, How, Registration, Ticket};
@@ -34,6 +34,19 @@ impl<T> Progress<T> {
         ensures { result ≡ is_end self.now }
     {
         matches!(self, Progress::Done(_) | Progress::Refused(_))
+    }
+
+    /// The same progress, with the value that it ended with read so. Nothing is read where it didn't end with one.
+    pub fn map<V, F: FnOnce(T) -> V + Drop>(self, read: F) -> Progress<V>
+        requires { IfDone self (F.pre read) }
+        ensures { IsRead (F.post read) self result }
+    {
+        match self {
+            Progress::Done(value) => Progress::Done(read(value)),
+            Progress::Joined => Progress::Joined,
+            Progress::Waits => Progress::Waits,
+            Progress::Refused(full) => Progress::Refused(full),
+        }
     }
 }
 
@@ -80,27 +93,32 @@ impl<P: Primitive> Asking<P> {
         self.has_ended
     }
 
-    /// What it is registered as: where it has a slot, the waker that its answer wakes is to be kept by that slot's number.
-    ///
-    /// It is never registered as sync.
-    pub fn registration(&self) -> Registration
-        ensures registration { result ≡ self.now.ticket }
-        ensures mode { is_busy result ≡ true → mode_of result ≡ Some false }
+    /// The slot at which it waits, or has an answer that it didn't look for yet: the waker that this answer wakes is to be
+    /// kept by that number. `None` exactly where it isn't registered. It is never registered as sync.
+    pub fn slot(&self) -> Option<u16>
+        ensures slot { result ≡ slot_of self.now.ticket }
+        ensures registered { is_some result ≡ is_busy self.now.ticket }
+        ensures mode { is_busy self.now.ticket ≡ true → mode_of self.now.ticket ≡ Some false }
     {
-        self.ticket.registration()
+        match self.ticket.registration() {
+            Registration::InSlot(slot, _request, _is_sync) => Some(slot),
+            _ => None,
+        }
     }
 
     /// Polls it in its core; never waits.
     ///
     /// The first poll registers it as async. `Done(None)`: the registration is false, so it asks for more than there
     /// ever is. `Done(Some(value))`: it was answered at once, and the answer is consumed. `Joined`: it waits in the line,
-    /// at the slot of [`Self::registration`]. `Refused`: it would have to wait, and the room is full; nothing is changed.
+    /// at the slot that [`Self::slot`] says. `Refused`: it would have to wait, and the room is full; nothing is changed.
     ///
     /// Each further poll looks for the answer. `Done(Some(value))`: it was there, and is consumed. `Waits`: it isn't there
     /// yet, and nothing is changed. In another core than that of its first poll, where its slot isn't held, a poll says
-    /// `Waits` too and changes nothing; where the slot's number is held there too, it is polled as if it were from there.
+    /// `Waits` too, and the future stays as it was; where a slot of that number is held there too, it is polled as if it
+    /// were from there.
     ///
-    /// Each whom a first poll answers is owed a wake; a further poll answers nobody. Takes no memory.
+    /// Each whom a first poll answers is owed a wake; a further poll owes nobody one. Costs what registering and polling
+    /// a ticket costs in the core, and takes no memory.
     pub fn poll_on(&mut self, core: &mut P) -> Progress<Option<u8>>
         requires { self.old.has_ended ≡ false }
         ensures first { is_busy self.old.ticket ≡ false → Acts (P.core core.old) (P.core core.new) self.old.ticket self.new.ticket
@@ -110,6 +128,7 @@ impl<P: Primitive> Asking<P> {
         ensures state { self.new ≡ record { request = self.old.request; ticket = self.new.ticket; has_ended = is_end result } }
         ensures ticket { is_busy self.new.ticket ≡ not (is_end result) }
         ensures mode { is_busy self.new.ticket ≡ true → mode_of self.new.ticket ≡ Some false }
+        ensures slot { is_some (slot_of self.new.ticket) ≡ is_busy self.new.ticket }
         ensures joined { has_joined result ≡ (not (is_busy self.old.ticket) && is_busy self.new.ticket) }
         ensures waits { is_waiting result ≡ true → self.new.ticket ≡ self.old.ticket }
         ensures registration { is_busy self.old.ticket ≡ false → registration_of result ≡ (registered (alone (P.core core.old)) 0 self.old.request false).reply }
@@ -128,7 +147,8 @@ impl<P: Primitive> Asking<P> {
     /// Ends it, and drops what it is registered for in its core.
     ///
     /// A waiter leaves the line, and what was granted and not consumed is given back; each whom that answers is owed a
-    /// wake. Where it isn't registered, nothing is done to the core. Takes no memory.
+    /// wake. Where it isn't registered, nothing is done to the core. Costs what the cancel of a ticket costs in the core,
+    /// and takes no memory.
     pub fn cancel_on(&mut self, core: &mut P)
         ensures acts { Acts (P.core core.old) (P.core core.new) self.old.ticket self.new.ticket dropping result }
         ensures state { self.new ≡ record { request = self.old.request; ticket = Unregistered; has_ended = true } }
@@ -149,6 +169,7 @@ fn ask_on<P: Primitive>(ticket: &mut Ticket, core: &mut P, ask: P::Ask) -> Progr
     ensures ticket { is_busy ticket.new ≡ has_joined result }
     ensures end { is_end result ≡ not (has_joined result) }
     ensures mode { has_joined result ≡ true → mode_of ticket.new ≡ Some false }
+    ensures slot { has_joined result ≡ true → is_some (slot_of ticket.new) ≡ true }
     ensures registration { registration_of result ≡ (registered (alone (P.core core.old)) 0 (P.request ask) false).reply }
     ensures wakes { BeginOwes (P.core core.old) (P.core core.new) ticket.old (P.request ask) false (registration_of result) }
 {

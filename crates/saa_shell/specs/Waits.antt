@@ -9,6 +9,7 @@ use Rattle.saa_object.specs.Asking.{registered}
 use Rattle.saa_object.specs.Object.{Object, After}
 use Rattle.saa_object.specs.Polling.{polled, read_as}
 use Rattle.saa_shell.specs.declared.shell.Begun.{Begun}
+use Rattle.saa_shell.specs.declared.shell.Wake.{Wake}
 use Rattle.saa_shell.specs.declared.shell.Begun.TheVariants.{Refused, Answered, Joined}
 
 -- whether it joined the line
@@ -42,6 +43,11 @@ begun_from name after = begun_of name after.state after.reply
 -- A call that may wait begins by registering its name as sync; an answer that is there at once is consumed
 abbrev pub begun : Object → ℕ → Request → After (Result Begun Full)
 begun s name request = begun_from name (registered s name request true)
+
+-- the slot of a wake, if there is one
+abbrev pub slot_woken : Option Wake → Option ℕ
+slot_woken None = None
+slot_woken (Some wake) = Some wake.slot
 
 -- whether a poll's error says that the answer isn't there yet
 abbrev pub is_not_ready : Option Error → Bool

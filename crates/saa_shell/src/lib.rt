@@ -4,6 +4,8 @@
 //! core is known by the contract of `Primitive`, and a form by `SyncResult`.
 #![tactic(auto)]
 
+pub mod future;
 pub mod pager;
 pub mod seat;
 pub mod shell;
+mod wakers;

@@ -5,11 +5,15 @@
 
 ghost use Rattle.std.specs.Prelude.{◌≡◌, ℕ, false, Option, Some, None};
 ghost use Rattle.saa_object.specs.declared.polling.Error.{Error};
-ghost use Rattle.saa_object.specs.declared.polling.How.TheVariants.{Try, Sync};
+ghost use Rattle.saa_object.specs.declared.polling.How.TheVariants.{Try, Sync, Async};
 ghost use Rattle.saa_tickets.specs.declared.ticket.Registration.TheVariants.{Unregistered};
 ghost use Rattle.saa_tickets.specs.Tickets.{Polled, is_busy};
 ghost use Rattle.saa_shell.specs.Waits.{is_not_ready};
+ghost use Rattle.futures.specs.Task.{Hears, IsArmed, Keeps};
+ghost use Rattle.futures.specs.Poll.{IfReady, OnPending};
 
+use futures::Future;
+use futures::task::{Context, Poll};
 use saa_tickets::ticket::Registration;
 pub use saa_tickets::ticket::{Error, How, Ticket};
 use std::marker::Model;
@@ -27,6 +31,9 @@ pub trait SyncResult: Sized {
     ghost answer: { ℕ → Option Error → Self.Result };
 
     ghost fault: { Self.Result → Option Error };
+
+    // What a task that polls here waits for.
+    ghost source: { Self → ℕ };
 
     /// What a poll answers, by the value of an answer, or by the error if there is one; then the value isn't read.
     ///
@@ -50,6 +57,19 @@ pub trait SyncResult: Sized {
     fn take(&self, ticket: &mut Ticket, how: How) -> Self::Result
         ensures polled { Polled ticket.old ticket.new how (fault result) }
         ensures waited { how ≡ Sync → is_not_ready (fault result) ≡ false };
+
+    /// Polls a ticket that was registered here, for a task, as [`Self::take`] does as async.
+    ///
+    /// Where the answer isn't there yet the poll stays pending, the ticket is as it was, and the task is woken once the
+    /// answer is there: its waker is kept with the ticket's slot. Where no waker can be made, the task is woken at once.
+    /// Every other answer is ready, the three errors of a poll among them. May wait for the lock.
+    fn poll_task(&self, ticket: &mut Ticket, cx: &mut Context<'_>) -> Poll<Self::Result>
+        ensures ready { IfReady result (λ answer. Polled ticket.old ticket.new Async (fault answer)) }
+        ensures waited { IfReady result (λ answer. is_not_ready (fault answer) ≡ false) }
+        ensures pending { OnPending result (ticket.new ≡ ticket.old) }
+        ensures armed { OnPending result (IsArmed cx.new) }
+        ensures heard { OnPending result (Hears cx.new (source self.now)) }
+        ensures kept { Keeps cx.old cx.new };
 
     /// Drops what a ticket is registered for here, and wakes whom that answers; the ticket is idle afterwards.
     ///
@@ -128,6 +148,19 @@ impl<'s, S: SyncResult> Pager<'s, S> {
         self.poll(How::Sync)
     }
 
+    /// The future of the answer of a pager that was registered as async; see [`PollPager`].
+    ///
+    /// It borrows the pager, which stays as it is until the future is polled.
+    pub fn poll_async(&mut self) -> PollPager<'_, 's, S>
+        ensures pager { result.pager ≡ self.entry }
+        ensures fresh { result.has_ended ≡ false }
+    {
+        PollPager {
+            pager: self,
+            has_ended: false,
+        }
+    }
+
     /// Drops what it is registered for, and wakes whom that answers; it is unregistered afterwards and can be used again.
     ///
     /// Does nothing where it isn't registered. May wait for the lock. A waiter's drop costs O(how many wait).
@@ -151,6 +184,24 @@ impl<'s, S: SyncResult> Pager<'s, S> {
             None
         };
         self.ticket = ticket;
+    }
+
+    // One poll for a task; an unregistered pager is answered without its primitive.
+    fn poll_task(&mut self, cx: &mut Context<'_>) -> Poll<S::Result>
+        ensures ready { IfReady result (λ answer. Polled self.old self.new Async (S.fault answer)) }
+        ensures waited { IfReady result (λ answer. is_not_ready (S.fault answer) ≡ false) }
+        ensures pending { OnPending result (self.new ≡ self.old) }
+        ensures armed { OnPending result (IsArmed cx.new) }
+        ensures kept { Keeps cx.old cx.new }
+    {
+        let Some(primitive) = self.at else {
+            return Poll::Ready(S::to_result(0, Some(Error::NotRegistered)));
+        };
+        let polled = primitive.poll_task(&mut self.ticket, cx);
+        if !self.ticket.is_registered() {
+            self.at = None;
+        }
+        polled
     }
 
     /// What it is registered as; for the tests of the forms above.
@@ -180,5 +231,30 @@ impl<S: SyncResult> Drop for Pager<'_, S> {
         if let Some(primitive) = at {
             primitive.cancel(&mut ticket);
         }
+    }
+}
+
+/// The future of a pager's answer: it polls as async for the task that polls it, and ends with the first answer.
+///
+/// `NotRegistered` where the pager isn't registered and `WrongMode` where it was registered as sync come at once, and
+/// leave the pager as it was. While the answer isn't there the future stays pending, and its task is woken once it is; of
+/// several tasks that polled it the last is woken. A poll after the end asks to be polled again, and changes nothing.
+/// Dropping it leaves the pager registered.
+#[derive(Drop)]
+pub struct PollPager<'p, 's, S: SyncResult> {
+    pager: &'p mut Pager<'s, S>,
+    has_ended: bool,
+}
+
+impl<'p, 's, S: SyncResult> Future for PollPager<'p, 's, S> {
+    type Output = S::Result;
+
+    fn poll(&mut self, cx: &mut Context<'_>) -> Poll<S::Result> {
+        if self.has_ended {
+            return cx.yield_now();
+        }
+        let polled = self.pager.poll_task(cx);
+        self.has_ended = matches!(polled, Poll::Ready(_));
+        polled
     }
 }

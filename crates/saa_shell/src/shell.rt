@@ -9,29 +9,43 @@
 
 ghost use Rattle.std.specs.Prelude.{◌≡◌, ◌||◌, true, false, [], Some, IsNone, IfSome, IfErr, slice_get};
 ghost use Rattle.saa_object.specs.declared.polling.Error.TheVariants.{NotRegistered};
-ghost use Rattle.saa_object.specs.declared.polling.How.TheVariants.{Sync};
+ghost use Rattle.saa_object.specs.declared.polling.How.TheVariants.{Sync, Async};
 ghost use Rattle.saa_tickets.specs.declared.ticket.Registration.TheVariants.{Unregistered};
 ghost use Rattle.saa_object.specs.Asking.{registered};
 ghost use Rattle.saa_object.specs.Polling.{polled};
 ghost use Rattle.saa_tickets.specs.Tickets.{Acts, Polled, dropping, fault_of, is_busy, is_yes};
 ghost use Rattle.saa_line.specs.Slots.{OwesAnswered, wake_told};
 ghost use Rattle.saa_tickets.specs.Beginning.{BeginOwes, alone, mode_of};
-ghost use Rattle.saa_shell.specs.Waits.{begun, has_joined, is_not_ready, registration_of};
+ghost use Rattle.saa_shell.specs.Waits.{begun, has_joined, is_not_ready, registration_of, slot_woken};
+ghost use Rattle.futures.specs.Task.{Hears, IsArmed, Keeps};
+ghost use Rattle.futures.specs.Poll.{IfReady, OnPending};
 
 use crate::seat::{Patience, Seat};
+use crate::wakers::Wakers;
+use futures::task::{Context, Poll, Source, Waker};
+use saa_futures::future::{Asking, Progress};
 use saa_tickets::bench::Primitive;
 use saa_tickets::ticket::{Error, Full, How, Registration, Ticket};
 use std::alloc::{AllocError, Global};
 use std::sync::{Mutex, MutexGuard, Wait};
 use std::thread::yield_now;
 
-/// Wakes that were taken out of the core under one lock: whoever waits at these slots' seats has an answer.
+/// A wake that was taken out of the core: who waits at this slot has an answer.
+#[derive(Drop)]
+pub struct Wake {
+    /// The slot, whose seat is to be rung for a thread.
+    pub slot: u16,
+    /// The waker of a task, which wakes it when it is dropped.
+    pub waker: Option<Waker>,
+}
+
+/// Wakes that were taken out of the core under one lock.
 #[derive(Drop)]
 pub struct Wakes {
-    /// The slot of the oldest.
-    pub first: u16,
-    /// That of the next, if there is one; then more may be owed.
-    pub second: Option<u16>,
+    /// The oldest.
+    pub first: Wake,
+    /// The next, if there is one; then more may be owed.
+    pub second: Option<Wake>,
 }
 
 /// What stands under the lock.
@@ -39,6 +53,8 @@ pub struct Wakes {
 pub struct Inside<P: Primitive> {
     /// The core, to be lent to one step at a time.
     pub core: P,
+    /// The wakers of the tasks that poll for an answer.
+    wakers: Wakers,
 }
 
 impl<P: Primitive> Inside<P> {
@@ -46,13 +62,24 @@ impl<P: Primitive> Inside<P> {
     #[inline(always)]
     pub fn next_wakes(&mut self) -> Option<Wakes>
         ensures none { IsNone result → (P.core self.old.core).slots.owed ≡ [] }
-        ensures first { IfSome result (λ wakes. slice_get (P.core self.old.core).slots.owed 0 ≡ Some wakes.first) }
-        ensures second { IfSome result (λ wakes. slice_get (P.core self.old.core).slots.owed 1 ≡ wakes.second) }
+        ensures first { IfSome result (λ wakes. slice_get (P.core self.old.core).slots.owed 0 ≡ Some wakes.first.slot) }
+        ensures second { IfSome result (λ wakes. slice_get (P.core self.old.core).slots.owed 1 ≡ slot_woken wakes.second) }
         ensures told { P.core self.new.core ≡ record (P.core self.old.core) { slots = wake_told (wake_told (P.core self.old.core).slots) } }
     {
-        let first = self.core.next_answered()?;
-        let second = self.core.next_answered();
+        let first = self.next_wake()?;
+        let second = self.next_wake();
         Some(Wakes { first, second })
+    }
+
+    // The oldest wake that the core owes, told and so taken out of its list, with the waker of the task that waits there.
+    #[inline(always)]
+    fn next_wake(&mut self) -> Option<Wake>
+        ensures oldest { slice_get (P.core self.old.core).slots.owed 0 ≡ slot_woken result }
+        ensures told { P.core self.new.core ≡ record (P.core self.old.core) { slots = wake_told (P.core self.old.core).slots } }
+    {
+        let slot = self.core.next_answered()?;
+        let waker = self.wakers.take(slot);
+        Some(Wake { slot, waker })
     }
 
     // Registers a ticket.
@@ -125,6 +152,8 @@ pub struct Shell<R: Wait + Drop, P: Primitive> {
     // One for each slot of the room.
     seats: Vec<Seat>,
     patience: Patience,
+    /// What tasks wait for.
+    pub source: Source,
 }
 
 impl<R: Wait + Drop, P: Primitive> Shell<R, P> {
@@ -142,11 +171,13 @@ impl<R: Wait + Drop, P: Primitive> Shell<R, P> {
         for _slot in 0..room {
             seats.push_reserved(Seat::new());
         }
+        let wakers = Wakers::with_room(alloc, room)?;
         Ok(Shell {
             rt,
-            lock: Mutex::new(Inside { core }),
+            lock: Mutex::new(Inside { core, wakers }),
             seats,
             patience,
+            source: Source::new(),
         })
     }
 
@@ -262,14 +293,96 @@ impl<R: Wait + Drop, P: Primitive> Shell<R, P> {
         answer
     }
 
+    /// Polls a ticket as async for a task: where the answer isn't there yet, the task's waker is kept in the slot's place,
+    /// so that it is woken once the answer is there, and the poll stays pending.
+    ///
+    /// Where no waker can be made, the task is woken at once. A waker of another task that polled for the same slot before
+    /// gives way to this one, and wakes that task for nothing.
+    pub fn poll_task(&self, ticket: &mut Ticket, cx: &mut Context<'_>) -> Poll<Result<u8, Error>>
+        ensures ready { IfReady result (λ answer. Polled ticket.old ticket.new Async (fault_of answer)) }
+        ensures waited { IfReady result (λ answer. is_not_ready (fault_of answer) ≡ false) }
+        ensures pending { OnPending result (ticket.new ≡ ticket.old) }
+        ensures armed { OnPending result (IsArmed cx.new) }
+        ensures heard { OnPending result (Hears cx.new self.now.source.id) }
+        ensures kept { Keeps cx.old cx.new }
+    {
+        let slot = slot_of(ticket);
+        let mut inside = self.lock();
+        let answer = inside.poll(ticket, How::Async);
+        if matches!(answer, Err(Error::NotReady)) {
+            return inside.wakers.keep(slot, &self.source, cx);
+        }
+        let _unused = inside.wakers.take_of(slot);
+        drop(inside);
+        Poll::Ready(answer)
+    }
+
     /// Drops what a ticket is registered for, and wakes whom that answered.
     pub fn cancel(&self, ticket: &mut Ticket)
         ensures { ticket.new ≡ Unregistered }
     {
-        let owed = {
+        let slot = slot_of(ticket);
+        let (_unused, owed) = {
             let mut inside = self.lock();
             inside.cancel(ticket);
-            inside.next_wakes()
+            (inside.wakers.take_of(slot), inside.next_wakes())
+        };
+        if let Some(wakes) = owed {
+            self.wake(wakes);
+        }
+    }
+
+    /// Polls a future for a task, and says whether it joined the line by that; wakes whom a first poll answered.
+    ///
+    /// Where it waits the task's waker is kept, as [`Self::poll_task`] does.
+    pub fn advance(
+        &self,
+        asking: &mut Asking<P>,
+        cx: &mut Context<'_>,
+    ) -> (Poll<Result<Option<u8>, Full>>, bool)
+        requires { asking.old.has_ended ≡ false }
+        ensures armed { OnPending result.0 (IsArmed cx.new) }
+        ensures heard { OnPending result.0 (Hears cx.new self.now.source.id) }
+        ensures kept { Keeps cx.old cx.new }
+    {
+        let slot = asking.slot();
+        let (polled, has_joined, _unused, owed) = {
+            let mut inside = self.lock();
+            let progress = asking.poll_on(&mut inside.core);
+            let now = asking.slot();
+            let mut unused = None;
+            let polled = match progress {
+                Progress::Done(answer) => {
+                    unused = inside.wakers.take_of(slot);
+                    Poll::Ready(Ok(answer))
+                }
+                Progress::Refused(full) => Poll::Ready(Err(full)),
+                _ => inside.wakers.keep(now, &self.source, cx),
+            };
+            let has_joined = matches!(progress, Progress::Joined);
+            if has_joined {
+                self.reset_seat(now);
+            }
+            (polled, has_joined, unused, inside.next_wakes())
+        };
+        if let Some(wakes) = owed {
+            self.wake(wakes);
+        }
+        (polled, has_joined)
+    }
+
+    /// Drops what a future is registered for, and wakes whom that answered. Takes no lock where it isn't registered.
+    pub fn give_up(&self, asking: &mut Asking<P>)
+        ensures { asking.new.ticket ≡ Unregistered }
+    {
+        let slot = asking.slot();
+        if slot.is_none() {
+            return;
+        }
+        let (_unused, owed) = {
+            let mut inside = self.lock();
+            asking.cancel_on(&mut inside.core);
+            (inside.wakers.take_of(slot), inside.next_wakes())
         };
         if let Some(wakes) = owed {
             self.wake(wakes);
@@ -344,9 +457,9 @@ impl<R: Wait + Drop, P: Primitive> Shell<R, P> {
         self.lock()
     }
 
-    // Rings the seat of a slot whose wake is owed.
-    fn ring(&self, slot: u16) {
-        if let Some(seat) = self.seat(slot) {
+    // Wakes who waits at a slot: a thread at its seat, and a task by its waker, which wakes it as it is dropped here.
+    fn ring(&self, wake: Wake) {
+        if let Some(seat) = self.seat(wake.slot) {
             seat.ring();
         }
     }
@@ -358,12 +471,18 @@ impl<R: Wait + Drop, P: Primitive> Shell<R, P> {
         }
     }
 
+    // Makes the seat of a slot that a future joined in ready for it.
+    fn reset_seat(&self, slot: Option<u16>) {
+        if let Some(slot) = slot {
+            if let Some(seat) = self.seat(slot) {
+                seat.reset();
+            }
+        }
+    }
+
     // The seat at which a ticket waits: that of its slot, if it has one.
     fn seat_of(&self, ticket: &Ticket) -> Option<&Seat> {
-        match ticket.registration() {
-            Registration::InSlot(slot, _request, _is_sync) => self.seat(slot),
-            _ => None,
-        }
+        self.seat(slot_of(ticket)?)
     }
 
     // The seat of a slot of the room; a slot past it has none.
@@ -388,5 +507,13 @@ impl<R: Wait + Drop, P: Primitive> Shell<R, P> {
     /// How many seats are rung; for the tests of the forms above.
     pub fn rung(&self) -> usize {
         self.seats.iter().filter(|seat| seat.is_rung()).count()
+    }
+}
+
+// The slot in which a ticket waits, or its answer stands, if it has one.
+fn slot_of(ticket: &Ticket) -> Option<u16> {
+    match ticket.registration() {
+        Registration::InSlot(slot, _request, _is_sync) => Some(slot),
+        _ => None,
     }
 }

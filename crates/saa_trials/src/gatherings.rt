@@ -7,7 +7,7 @@ use crate::sleepers::{By, Counts};
 use std::sync::Wait;
 use std::sync::atomic::{AtomicU64, Ordering};
 use std::thread;
-use std::thread::{Threads, yield_now};
+use std::thread::{Scope, Threads, yield_now};
 
 /// How all who wait are answered.
 #[derive(Clone, Copy)]
@@ -103,14 +103,7 @@ fn gathers<F: Gathering, R: Threads + Wait + Sync>(
     };
     let (counted, told_by) = (&counts, &told);
     thread::scope(thread::scope_env(), rt, |scope| {
-        for _ in 0..plan.count {
-            if scope
-                .spawn(move || wait_with_others(form, plan, counted, told_by))
-                .is_ok()
-            {
-                counted.started.fetch_add(1, Ordering::SeqCst);
-            }
-        }
+        start(scope, form, plan, counted, told_by);
         let started = counted.started.load(Ordering::SeqCst);
         counted.await_joined(rt);
         if !plan.is_patient {
@@ -129,6 +122,24 @@ fn gathers<F: Gathering, R: Threads + Wait + Sync>(
         let is_quiet = form.rung() as u64 == started && form.asleep() == 0;
         is_held_back && is_quiet && told_by.right.load(Ordering::SeqCst) == started
     }) && told.exact.load(Ordering::SeqCst) == 1
+}
+
+// Starts those who wait, and counts those that could be started.
+fn start<'s, E, F: Gathering>(
+    scope: &Scope<'s, E>,
+    form: &'s F,
+    plan: Plan,
+    counts: &'s Counts,
+    told: &'s Told,
+) {
+    for _ in 0..plan.count {
+        if scope
+            .spawn(move || wait_with_others(form, plan, counts, told))
+            .is_ok()
+        {
+            counts.started.fetch_add(1, Ordering::SeqCst);
+        }
+    }
 }
 
 // Waits with the others, and counts that it has its answer, and whether that was right.

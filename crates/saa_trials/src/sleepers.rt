@@ -8,7 +8,7 @@ use saa_tickets::ticket::Ticket;
 use std::sync::Wait;
 use std::sync::atomic::{AtomicU64, Ordering};
 use std::thread;
-use std::thread::{Threads, yield_now};
+use std::thread::{Scope, Threads, yield_now};
 
 /// Where a waiter stands.
 #[derive(Clone, Copy)]
@@ -131,27 +131,13 @@ pub fn a_call_wakes_all_whom_it_answers<F: Sleepers, R: Threads + Wait + Sync>(
     let mut wall = Ticket::new();
     let is_led = form.register_at(&mut head, Place::Ahead);
     thread::scope(thread::scope_env(), rt, |scope| {
-        for _ in 0..count {
-            if scope
-                .spawn(move || sleep(form, Place::Behind, by, near_by))
-                .is_ok()
-            {
-                near_by.started.fetch_add(1, Ordering::SeqCst);
-            }
-        }
+        start(scope, form, count, Place::Behind, by, near_by);
         near_by.await_joined(rt);
         if !is_patient {
             await_asleep(rt, form, count);
         }
         let is_walled = form.register_at(&mut wall, Place::Wall);
-        for _ in 0..BEYOND {
-            if scope
-                .spawn(move || sleep(form, Place::Behind, by, far_by))
-                .is_ok()
-            {
-                far_by.started.fetch_add(1, Ordering::SeqCst);
-            }
-        }
+        start(scope, form, BEYOND, Place::Behind, by, far_by);
         far_by.await_joined(rt);
         if !is_patient {
             await_asleep(rt, form, count.saturating_add(BEYOND));
@@ -181,14 +167,7 @@ pub fn each_call_wakes_one<F: Sleepers, R: Threads + Wait + Sync>(
     let counts = Counts::new();
     let counted = &counts;
     thread::scope(thread::scope_env(), rt, |scope| {
-        for _ in 0..count {
-            if scope
-                .spawn(move || sleep(form, Place::Ahead, by, counted))
-                .is_ok()
-            {
-                counted.started.fetch_add(1, Ordering::SeqCst);
-            }
-        }
+        start(scope, form, count, Place::Ahead, by, counted);
         counted.await_joined(rt);
         if !is_patient {
             await_asleep(rt, form, count);
@@ -202,6 +181,22 @@ pub fn each_call_wakes_one<F: Sleepers, R: Threads + Wait + Sync>(
         }
         is_exact
     })
+}
+
+// Starts so many sleepers at this place, and counts those that could be started.
+fn start<'s, E, F: Sleepers>(
+    scope: &Scope<'s, E>,
+    form: &'s F,
+    count: u64,
+    place: Place,
+    by: By,
+    counts: &'s Counts,
+) {
+    for _ in 0..count {
+        if scope.spawn(move || sleep(form, place, by, counts)).is_ok() {
+            counts.started.fetch_add(1, Ordering::SeqCst);
+        }
+    }
 }
 
 // Waits at this place, and counts that it joined the line and that it was granted.

@@ -1,7 +1,9 @@
-use Rattle.std.proofs.Common.{Ok, refl, sym, ap, ◌∙◌}
+use Rattle.std.proofs.Common.{rules, ◌≡◌, is_some, true, Ok, refl, sym, ap, ◌∙◌}
+use Rattle.saa_tickets.specs.Tickets.{is_busy}
 use Rattle.saa_tickets.specs.Beginning.{mode_of}
 use Rattle.saa_tickets.proofs.Modes.{begin-owes, registered-mode, reply-alone}
-use Rattle.saa_futures.proofs.Polls.{asked-polled}
+use Rattle.saa_futures.proofs.Polls.{asked-polled, waits-slotted}
+use Rattle.saa_futures.specs.Futures.{slot_of}
 use Rattle.saa_futures.proofs.future.ask_on.Goals as goal
 
 pub returns-in-Err-clause-registration : goal.returns-in-Err-clause-registration
@@ -39,3 +41,10 @@ pub returns-in-Err-poll_number-clause-mode : goal.returns-in-Err-poll_number-cla
 returns-in-Err-poll_number-clause-mode g c = λ joined.
     ap mode_of (c.in-Err-poll_number.ensures.ticket.same refl)
     ∙ registered-mode _ _ _ _ _ _ c.in-Ok-true.field-0-test (rw c.requires at c.in-Ok-true.ensures.acts)
+
+pub returns-in-Err-poll_number-clause-slot : goal.returns-in-Err-poll_number-clause-slot
+returns-in-Err-poll_number-clause-slot g c = λ joined.
+    let mode = registered-mode _ _ _ _ _ _ c.in-Ok-true.field-0-test (rw c.requires at c.in-Ok-true.ensures.acts) in
+    let busy : is_busy c.register.new.ticket ≡ true = search rules in
+    ap (λ t. is_some (slot_of t)) (c.in-Err-poll_number.ensures.ticket.same refl)
+    ∙ waits-slotted _ _ _ _ _ busy mode c.in-Err-poll_number.ensures.acts

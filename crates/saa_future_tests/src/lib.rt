@@ -1,0 +1,30 @@
+//! Tests of the named futures: in a core that is lent, and in tasks, which are polled by hand or by an executor.
+//!
+//! A contract says what a poll does to the core and answers. That a poll reaches the core under the lock, that a task's
+//! waker is kept and that an answer wakes exactly the tasks that it concerns is shown here.
+#![tactic(auto)]
+
+#[cfg(test)]
+mod callbacks;
+#[cfg(test)]
+mod drops;
+#[cfg(test)]
+mod lent;
+#[cfg(test)]
+mod lines;
+#[cfg(test)]
+mod pagers;
+#[cfg(test)]
+mod wakes;
+
+#[cfg(test)]
+use futures::task::Poll;
+
+// What a poll gave, if it was ready.
+#[cfg(test)]
+fn ready<T>(polled: Poll<T>) -> Option<T> {
+    match polled {
+        Poll::Ready(value) => Some(value),
+        Poll::Pending => None,
+    }
+}
