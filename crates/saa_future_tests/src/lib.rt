@@ -15,6 +15,8 @@ mod lines;
 #[cfg(test)]
 mod pagers;
 #[cfg(test)]
+mod places;
+#[cfg(test)]
 mod wakes;
 
 #[cfg(test)]

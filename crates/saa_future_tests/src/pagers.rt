@@ -179,3 +179,17 @@ fn each_form_answers_a_task_at_once(rt: HostRuntime) -> io::Result<()> {
     assert_eq!(rt; await_answer(&rt, &mut arrival)?, Ok(true));
     Ok(())
 }
+
+#[test]
+fn one_future_of_a_pager_waits_until_its_answer(rt: HostRuntime) -> io::Result<()> {
+    let semaphore = Semaphore::with_permits(&rt, rt.alloc(), 0, 1)?;
+    let task = MockTask::new(&rt)?;
+    let mut pager = Pager::new();
+    assert_eq!(rt; semaphore.register_pager(&mut pager, 1, false), Ok(true));
+    let mut polled = pager.poll_async();
+    assert_eq!(rt; ready(task.poll(&mut polled)), None);
+    assert!(rt; semaphore.release());
+    assert!(rt; task.is_woken());
+    assert_eq!(rt; ready(task.poll(&mut polled)), Some(Ok(())));
+    Ok(())
+}

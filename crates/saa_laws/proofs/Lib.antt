@@ -21,3 +21,4 @@ pub mod TurnsKept
 pub mod InHand
 pub mod Rows
 pub mod Witnesses
+pub mod Refusals

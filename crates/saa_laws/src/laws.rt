@@ -3,8 +3,9 @@
 //! They show that the definitions of `specs/` mean what they should. No program needs to call these functions;
 //! what they ensure is proved all the same. [`all`] names each.
 
-ghost use Rattle.std.specs.Prelude.{◌≡◌, ℕ, ◌+◌, ◌-◌, ◌/◌, ◌<◌, ◌≤◌, ◌↔◌, Bool, List, Result, All, IsTrue, min, sum};
+ghost use Rattle.std.specs.Prelude.{◌≡◌, ℕ, ◌+◌, ◌-◌, ◌/◌, ◌<◌, ◌≤◌, ◌↔◌, Bool, not, ◌||◌, false, List, Result, Ok, All, IsTrue, min, sum};
 ghost use Rattle.std.specs.List.{count_by, sum_by};
+ghost use Rattle.saa_object.specs.declared.request.Request.{Request};
 ghost use Rattle.saa_object.specs.declared.request.Request.TheVariants.{Permits};
 ghost use Rattle.saa_object.specs.declared.semaphore.SemaphoreCall.{SemaphoreCall};
 ghost use Rattle.saa_object.specs.declared.semaphore.SemaphoreAnswer.{SemaphoreAnswer};
@@ -17,12 +18,13 @@ ghost use Rattle.saa_object.specs.declared.barrier.BarrierCall.{BarrierCall};
 ghost use Rattle.saa_object.specs.declared.barrier.BarrierAnswer.{BarrierAnswer};
 ghost use Rattle.saa_object.specs.declared.run.CommandOf.{CommandOf};
 ghost use Rattle.saa_object.specs.declared.run.CommandOf.TheVariants.{Drop};
-ghost use Rattle.saa_object.specs.Held.{Held, OfSemaphore, OfLock, OfGate, OfBarrier, Free, Poisoned};
+ghost use Rattle.saa_object.specs.Held.{Held, LockState, OfSemaphore, OfLock, OfGate, OfBarrier, Free, Poisoned, asks_too_much};
+ghost use Rattle.saa_object.specs.Asking.{is_idle, registered};
 ghost use Rattle.saa_object.specs.declared.gate.State.{State};
 ghost use Rattle.saa_object.specs.declared.gate.State.TheVariants.{Controlled};
 ghost use Rattle.saa_object.specs.declared.gate.Error.{Error as GateError};
 ghost use Rattle.saa_object.specs.declared.polling.Error.{Error};
-ghost use Rattle.saa_object.specs.Object.{Object, Waiter, Answered, entry_at, newly_made};
+ghost use Rattle.saa_object.specs.Object.{Object, Waiter, Idle, Answered, entry_at, newly_made};
 ghost use Rattle.saa_object.specs.Settling.{fitting_front, settled};
 ghost use Rattle.saa_object.specs.Values.{semaphore_value, lock_value, gate_value, barrier_value, granted_value};
 ghost use Rattle.saa_object.specs.Semaphore.{semaphore_step, new_semaphore, out_of};
@@ -202,6 +204,25 @@ pub fn leaders()
         → IsTrue (names_leader step) }
 {}
 
+/// A registration is false exactly where its name isn't idle, or it asks a semaphore for more permits than there ever are.
+///
+/// So of an idle name none is false for one permit of a semaphore that has any, and none at a lock, a gate or a barrier: a
+/// future that asks for these ends with an answer, or because the room is full.
+pub fn false_registrations()
+    ensures exactly { (s : Object) (name : ℕ) (request : Request) (is_sync : Bool)
+        → (registered s name request is_sync).reply ≡ Ok false
+        ↔ IsTrue (not (is_idle (entry_at s.book name)) || asks_too_much s.held request) }
+    ensures one_permit { (s : Object) (name bound out : ℕ) (is_sync : Bool)
+        → s.held ≡ OfSemaphore bound out → 1 ≤ bound → entry_at s.book name ≡ Idle
+        → ¬ ((registered s name (Permits 1) is_sync).reply ≡ Ok false) }
+    ensures lock { (s : Object) (name : ℕ) (lock : LockState) (request : Request) (is_sync : Bool)
+        → s.held ≡ OfLock lock → entry_at s.book name ≡ Idle → ¬ ((registered s name request is_sync).reply ≡ Ok false) }
+    ensures gate { (s : Object) (name : ℕ) (gate : State) (request : Request) (is_sync : Bool)
+        → s.held ≡ OfGate gate → entry_at s.book name ≡ Idle → ¬ ((registered s name request is_sync).reply ≡ Ok false) }
+    ensures barrier { (s : Object) (name size : ℕ) (request : Request) (is_sync : Bool)
+        → s.held ≡ OfBarrier size → entry_at s.book name ≡ Idle → ¬ ((registered s name request is_sync).reply ≡ Ok false) }
+{}
+
 /// Every law, by its name.
 pub fn all() {
     settling();
@@ -216,4 +237,5 @@ pub fn all() {
     answers_once();
     permits_conserved();
     leaders();
+    false_registrations();
 }

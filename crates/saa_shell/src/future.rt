@@ -6,10 +6,12 @@
 ghost use Rattle.std.specs.Prelude.{◌≡◌, ◌&&◌, ℕ, not, true, false, Option, Some, IfSome};
 ghost use Rattle.saa_tickets.specs.declared.ticket.Registration.TheVariants.{Unregistered};
 ghost use Rattle.saa_line.specs.Slots.{OwesAnswered};
+ghost use Rattle.saa_object.specs.Asking.{registered};
 ghost use Rattle.saa_tickets.specs.Tickets.{Acts, dropping, is_busy};
+ghost use Rattle.saa_tickets.specs.Beginning.{BeginOwes, alone};
 ghost use Rattle.saa_futures.specs.Futures.{asked, has_joined, is_end, is_waiting, progress_as, waited};
 ghost use Rattle.futures.specs.Task.{Hears, IsArmed, Keeps};
-ghost use Rattle.futures.specs.Poll.{OnPending};
+ghost use Rattle.futures.specs.Poll.{IfReady, OnPending};
 
 use crate::shell::Shell;
 use futures::Future;
@@ -85,6 +87,12 @@ impl<'s, R: Wait + Drop, Q: Question> Asked<'s, R, Q> {
         ensures ticket { is_busy self.new.asking.ticket ≡ not (is_end result) }
         ensures joined { has_joined result ≡ (not (is_busy self.old.asking.ticket) && is_busy self.new.asking.ticket) }
         ensures waits { is_waiting result ≡ true → self.new.asking.ticket ≡ self.old.asking.ticket }
+        ensures begins { is_busy self.old.asking.ticket ≡ false
+            → BeginOwes (Q.Core.core core.old) (Q.Core.core core.new) self.old.asking.ticket self.old.asking.request false
+            (registered (alone (Q.Core.core core.old)) 0 self.old.asking.request false).reply }
+        ensures owed { is_busy self.old.asking.ticket ≡ true → (Q.Core.core core.new).slots.owed ≡ (Q.Core.core core.old).slots.owed }
+        ensures asking { self.new.asking.request ≡ self.old.asking.request }
+        ensures shell { self.new.shell ≡ self.old.shell }
     {
         self.asking.poll_on(core).map(|answer| Q::read(answer))
     }
@@ -97,6 +105,8 @@ impl<'s, R: Wait + Drop, Q: Question> Asked<'s, R, Q> {
         ensures unregistered { is_busy self.old.asking.ticket ≡ false → core.new ≡ core.old }
         ensures wakes { is_busy self.old.asking.ticket ≡ true
             → OwesAnswered (Q.Core.core core.old).slots (Q.Core.core core.new).slots }
+        ensures asking { self.new.asking.request ≡ self.old.asking.request }
+        ensures shell { self.new.shell ≡ self.old.shell }
     {
         self.asking.cancel_on(core);
     }
@@ -107,6 +117,10 @@ impl<'s, R: Wait + Drop, Q: Question> Asked<'s, R, Q> {
         ensures heard { OnPending result.0 (Hears cx.new self.old.shell.now.source.id) }
         ensures kept { Keeps cx.old cx.new }
         ensures shell { self.new.shell ≡ self.old.shell }
+        ensures ended { IfReady result.0 (λ answer. self.new.asking.has_ended ≡ true) }
+        ensures after_the_end { self.old.asking.has_ended ≡ true → self.new.asking ≡ self.old.asking }
+        ensures pending { OnPending result.0 (self.new.asking.has_ended ≡ self.old.asking.has_ended) }
+        ensures joined { result.1 ≡ (not (is_busy self.old.asking.ticket) && is_busy self.new.asking.ticket) }
     {
         if self.asking.has_ended() {
             return (cx.yield_now(), false);
@@ -176,6 +190,17 @@ impl<'s, R: Wait + Drop, Q: Question, F: FnOnce() + Drop> AskedWith<'s, R, Q, F>
             (λ s name. progress_as Q.read (waited s name)) result }
         ensures ended { self.new.asked.asking.has_ended ≡ is_end result }
         ensures ticket { is_busy self.new.asked.asking.ticket ≡ not (is_end result) }
+        ensures joined { has_joined result
+            ≡ (not (is_busy self.old.asked.asking.ticket) && is_busy self.new.asked.asking.ticket) }
+        ensures waits { is_waiting result ≡ true → self.new.asked.asking.ticket ≡ self.old.asked.asking.ticket }
+        ensures begins { is_busy self.old.asked.asking.ticket ≡ false
+            → BeginOwes (Q.Core.core core.old) (Q.Core.core core.new) self.old.asked.asking.ticket self.old.asked.asking.request
+            false (registered (alone (Q.Core.core core.old)) 0 self.old.asked.asking.request false).reply }
+        ensures owed { is_busy self.old.asked.asking.ticket ≡ true
+            → (Q.Core.core core.new).slots.owed ≡ (Q.Core.core core.old).slots.owed }
+        ensures asking { self.new.asked.asking.request ≡ self.old.asked.asking.request }
+        ensures shell { self.new.asked.shell ≡ self.old.asked.shell }
+        ensures callback { self.new.begin_wait ≡ self.old.begin_wait }
     {
         self.asked.poll_on(core)
     }
@@ -185,6 +210,12 @@ impl<'s, R: Wait + Drop, Q: Question, F: FnOnce() + Drop> AskedWith<'s, R, Q, F>
         ensures acts { Acts (Q.Core.core core.old) (Q.Core.core core.new) self.old.asked.asking.ticket self.new.asked.asking.ticket dropping result }
         ensures idle { self.new.asked.asking.ticket ≡ Unregistered }
         ensures ended { self.new.asked.asking.has_ended ≡ true }
+        ensures unregistered { is_busy self.old.asked.asking.ticket ≡ false → core.new ≡ core.old }
+        ensures wakes { is_busy self.old.asked.asking.ticket ≡ true
+            → OwesAnswered (Q.Core.core core.old).slots (Q.Core.core core.new).slots }
+        ensures asking { self.new.asked.asking.request ≡ self.old.asked.asking.request }
+        ensures shell { self.new.asked.shell ≡ self.old.asked.shell }
+        ensures callback { self.new.begin_wait ≡ self.old.begin_wait }
     {
         self.asked.cancel_on(core);
     }

@@ -7,7 +7,7 @@
 //! What nobody waits in is inlined, and the waiting and waking isn't: each register that a call saves in memory before it
 //! takes the lock is waited for there, which cost a lock some 10 ns.
 
-ghost use Rattle.std.specs.Prelude.{◌≡◌, ◌||◌, true, false, [], Some, IsNone, IfSome, IfErr, slice_get};
+ghost use Rattle.std.specs.Prelude.{◌≡◌, ◌||◌, ◌&&◌, not, true, false, Some, IfErr, slice_get};
 ghost use Rattle.saa_object.specs.declared.polling.Error.TheVariants.{NotRegistered};
 ghost use Rattle.saa_object.specs.declared.polling.How.TheVariants.{Sync, Async};
 ghost use Rattle.saa_tickets.specs.declared.ticket.Registration.TheVariants.{Unregistered};
@@ -58,28 +58,40 @@ pub struct Inside<P: Primitive> {
 }
 
 impl<P: Primitive> Inside<P> {
-    /// The two oldest wakes that the core owes, told and so taken out of its list; mostly there are none.
+    /// The slot of the oldest wake that the core owes, told and so taken out of its list; mostly there is none.
+    ///
+    /// Its waker is taken by [`Self::wakes_from`], in a call of its own: what a call that wakes nobody costs is this look.
     #[inline(always)]
-    pub fn next_wakes(&mut self) -> Option<Wakes>
-        ensures none { IsNone result → (P.core self.old.core).slots.owed ≡ [] }
-        ensures first { IfSome result (λ wakes. slice_get (P.core self.old.core).slots.owed 0 ≡ Some wakes.first.slot) }
-        ensures second { IfSome result (λ wakes. slice_get (P.core self.old.core).slots.owed 1 ≡ slot_woken wakes.second) }
-        ensures told { P.core self.new.core ≡ record (P.core self.old.core) { slots = wake_told (wake_told (P.core self.old.core).slots) } }
-    {
-        let first = self.next_wake()?;
-        let second = self.next_wake();
-        Some(Wakes { first, second })
-    }
-
-    // The oldest wake that the core owes, told and so taken out of its list, with the waker of the task that waits there.
-    #[inline(always)]
-    fn next_wake(&mut self) -> Option<Wake>
-        ensures oldest { slice_get (P.core self.old.core).slots.owed 0 ≡ slot_woken result }
+    pub fn next_answered(&mut self) -> Option<u16>
+        ensures oldest { slice_get (P.core self.old.core).slots.owed 0 ≡ result }
         ensures told { P.core self.new.core ≡ record (P.core self.old.core) { slots = wake_told (P.core self.old.core).slots } }
     {
-        let slot = self.core.next_answered()?;
+        self.core.next_answered()
+    }
+
+    /// The wake of a slot that was told, and the next that the core owes, told too; both with the waker of the task that
+    /// waits there, if one does.
+    #[inline(never)]
+    pub fn wakes_from(&mut self, slot: u16) -> Wakes
+        ensures first { result.first.slot ≡ slot }
+        ensures second { slice_get (P.core self.old.core).slots.owed 0 ≡ slot_woken result.second }
+        ensures told { P.core self.new.core ≡ record (P.core self.old.core) { slots = wake_told (P.core self.old.core).slots } }
+    {
+        let first = self.wake_at(slot);
+        let second = match self.next_answered() {
+            Some(next) => Some(self.wake_at(next)),
+            None => None,
+        };
+        Wakes { first, second }
+    }
+
+    // The wake of a slot, with the waker that is kept there.
+    fn wake_at(&mut self, slot: u16) -> Wake
+        ensures slot { result.slot ≡ slot }
+        ensures core { self.new.core ≡ self.old.core }
+    {
         let waker = self.wakers.take(slot);
-        Some(Wake { slot, waker })
+        Wake { slot, waker }
     }
 
     // Registers a ticket.
@@ -192,35 +204,42 @@ impl<R: Wait + Drop, P: Primitive> Shell<R, P> {
     pub fn step<A, F: FnOnce(&mut P) -> A + Drop>(&self, step: F) -> A
         requires { F.IsAlwaysCallable step }
     {
-        let (answer, owed) = {
-            let mut inside = self.lock();
-            let answer = step(&mut inside.core);
-            (answer, inside.next_wakes())
-        };
-        if let Some(wakes) = owed {
-            self.wake(wakes);
-        }
+        let mut inside = self.lock();
+        let answer = step(&mut inside.core);
+        self.leave(inside);
         answer
     }
 
-    /// Wakes as the core says, from these wakes on, with the lock free.
-    ///
-    /// Each costs a ring of its seat, which is a system call only where somebody sleeps there, and each second one a
-    /// short lock, to ask for more.
+    /// Lets the lock go, and wakes whom the core owes a wake, with the lock free.
+    #[inline(always)]
+    pub fn leave<'s>(&'s self, mut inside: MutexGuard<'s, Inside<P>>) {
+        match inside.next_answered() {
+            Some(slot) => self.wake(inside, slot),
+            None => drop(inside),
+        }
+    }
+
+    // Wakes as the core says, from this slot on, whose wake was told: lets the lock go before each wake.
+    //
+    // Each costs a ring of its seat, which is a system call only where somebody sleeps there, and each second one a
+    // short lock, to ask for more.
     #[inline(never)]
-    pub fn wake(&self, first: Wakes) {
-        let mut wakes = first;
+    fn wake<'s>(&'s self, inside: MutexGuard<'s, Inside<P>>, first: u16) {
+        let mut inside = inside;
+        let mut slot = first;
         for _ in self.rt.forever() {
+            let wakes = inside.wakes_from(slot);
+            drop(inside);
             self.ring(wakes.first);
             let Some(second) = wakes.second else {
                 return;
             };
             self.ring(second);
-            let more = self.lock().next_wakes();
-            let Some(more) = more else {
+            inside = self.lock();
+            let Some(next) = inside.next_answered() else {
                 return;
             };
-            wakes = more;
+            slot = next;
         }
     }
 
@@ -269,15 +288,10 @@ impl<R: Wait + Drop, P: Primitive> Shell<R, P> {
         ensures ticket { is_busy ticket.new ≡ (is_busy ticket.old || is_yes result) }
         ensures mode { ticket.old ≡ Unregistered → is_yes result ≡ true → mode_of ticket.new ≡ Some is_sync }
     {
-        let (answer, owed) = {
-            let mut inside = self.lock();
-            let answer = inside.register(ticket, ask, is_sync);
-            self.take_seat(ticket);
-            (answer, inside.next_wakes())
-        };
-        if let Some(wakes) = owed {
-            self.wake(wakes);
-        }
+        let mut inside = self.lock();
+        let answer = inside.register(ticket, ask, is_sync);
+        self.take_seat(ticket);
+        self.leave(inside);
         answer
     }
 
@@ -322,14 +336,10 @@ impl<R: Wait + Drop, P: Primitive> Shell<R, P> {
         ensures { ticket.new ≡ Unregistered }
     {
         let slot = slot_of(ticket);
-        let (_unused, owed) = {
-            let mut inside = self.lock();
-            inside.cancel(ticket);
-            (inside.wakers.take_of(slot), inside.next_wakes())
-        };
-        if let Some(wakes) = owed {
-            self.wake(wakes);
-        }
+        let mut inside = self.lock();
+        inside.cancel(ticket);
+        let _unused = inside.wakers.take_of(slot);
+        self.leave(inside);
     }
 
     /// Polls a future for a task, and says whether it joined the line by that; wakes whom a first poll answered.
@@ -344,30 +354,29 @@ impl<R: Wait + Drop, P: Primitive> Shell<R, P> {
         ensures armed { OnPending result.0 (IsArmed cx.new) }
         ensures heard { OnPending result.0 (Hears cx.new self.now.source.id) }
         ensures kept { Keeps cx.old cx.new }
+        ensures ended { IfReady result.0 (λ answer. asking.new.has_ended ≡ true) }
+        ensures pending { OnPending result.0 (asking.new.has_ended ≡ false) }
+        ensures joined { result.1 ≡ (not (is_busy asking.old.ticket) && is_busy asking.new.ticket) }
+        ensures asking { asking.new.request ≡ asking.old.request }
     {
         let slot = asking.slot();
-        let (polled, has_joined, _unused, owed) = {
-            let mut inside = self.lock();
-            let progress = asking.poll_on(&mut inside.core);
-            let now = asking.slot();
-            let mut unused = None;
-            let polled = match progress {
-                Progress::Done(answer) => {
-                    unused = inside.wakers.take_of(slot);
-                    Poll::Ready(Ok(answer))
-                }
-                Progress::Refused(full) => Poll::Ready(Err(full)),
-                _ => inside.wakers.keep(now, &self.source, cx),
-            };
-            let has_joined = matches!(progress, Progress::Joined);
-            if has_joined {
-                self.reset_seat(now);
+        let mut inside = self.lock();
+        let progress = asking.poll_on(&mut inside.core);
+        let now = asking.slot();
+        let mut _unused = None;
+        let polled = match progress {
+            Progress::Done(answer) => {
+                _unused = inside.wakers.take_of(slot);
+                Poll::Ready(Ok(answer))
             }
-            (polled, has_joined, unused, inside.next_wakes())
+            Progress::Refused(full) => Poll::Ready(Err(full)),
+            _ => inside.wakers.keep(now, &self.source, cx),
         };
-        if let Some(wakes) = owed {
-            self.wake(wakes);
+        let has_joined = matches!(progress, Progress::Joined);
+        if has_joined {
+            self.reset_seat(now);
         }
+        self.leave(inside);
         (polled, has_joined)
     }
 
@@ -379,14 +388,10 @@ impl<R: Wait + Drop, P: Primitive> Shell<R, P> {
         if slot.is_none() {
             return;
         }
-        let (_unused, owed) = {
-            let mut inside = self.lock();
-            asking.cancel_on(&mut inside.core);
-            (inside.wakers.take_of(slot), inside.next_wakes())
-        };
-        if let Some(wakes) = owed {
-            self.wake(wakes);
-        }
+        let mut inside = self.lock();
+        asking.cancel_on(&mut inside.core);
+        let _unused = inside.wakers.take_of(slot);
+        self.leave(inside);
     }
 
     // Registers a ticket as sync and polls it once, under one lock, and wakes whom that answered.
@@ -396,15 +401,10 @@ impl<R: Wait + Drop, P: Primitive> Shell<R, P> {
         ensures ticket { is_busy ticket.new ≡ has_joined result }
         ensures mode { has_joined result ≡ true → mode_of ticket.new ≡ Some true }
     {
-        let (begun, owed) = {
-            let mut inside = self.lock();
-            let begun = inside.begin(ticket, ask);
-            self.take_seat(ticket);
-            (begun, inside.next_wakes())
-        };
-        if let Some(wakes) = owed {
-            self.wake(wakes);
-        }
+        let mut inside = self.lock();
+        let begun = inside.begin(ticket, ask);
+        self.take_seat(ticket);
+        self.leave(inside);
         begun
     }
 

@@ -55,12 +55,16 @@ impl<R: Wait + Drop> Gate<R> {
     /// The gate on a shell that is handed in, for who wants another patience of those who wait, or has a core in use.
     ///
     /// Its room and its patience are the shell's. Takes no memory.
-    pub fn on_shell(shell: Shell<R, GateCore>) -> Self {
+    pub fn on_shell(shell: Shell<R, GateCore>) -> Self
+        ensures { result.shell ≡ shell }
+    {
         Gate { shell }
     }
 
     /// What it stands on; for tests and measurements.
-    pub fn shell(&self) -> &Shell<R, GateCore> {
+    pub fn shell(&self) -> &Shell<R, GateCore>
+        ensures { result.now ≡ self.now.shell }
+    {
         &self.shell
     }
 

@@ -54,12 +54,16 @@ impl<R: Wait + Drop> Lock<R> {
     /// The lock on a shell that is handed in, for who wants another patience of those who wait, or has a core in use.
     ///
     /// Its room and its patience are the shell's. Takes no memory.
-    pub fn on_shell(shell: Shell<R, LockCore>) -> Self {
+    pub fn on_shell(shell: Shell<R, LockCore>) -> Self
+        ensures { result.shell ≡ shell }
+    {
         Lock { shell }
     }
 
     /// What it stands on; for tests and measurements.
-    pub fn shell(&self) -> &Shell<R, LockCore> {
+    pub fn shell(&self) -> &Shell<R, LockCore>
+        ensures { result.now ≡ self.now.shell }
+    {
         &self.shell
     }
 

@@ -39,7 +39,7 @@ impl Question for OnePermit {
 
     ghost read = { one_permit };
 
-    /// Nothing: no registration for one permit is false.
+    /// Nothing: no registration for one permit is false (`false_registrations` of `saa_laws`).
     fn read(_answer: Option<u8>) {}
 }
 

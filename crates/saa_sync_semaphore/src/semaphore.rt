@@ -65,12 +65,16 @@ impl<R: Wait + Drop> Semaphore<R> {
     /// The semaphore on a shell that is handed in, for who wants another patience of those who wait, or has a core in use.
     ///
     /// Its room and its patience are the shell's. Takes no memory.
-    pub fn on_shell(shell: Shell<R, SemaphoreCore>) -> Self {
+    pub fn on_shell(shell: Shell<R, SemaphoreCore>) -> Self
+        ensures { result.shell ≡ shell }
+    {
         Semaphore { shell }
     }
 
     /// What it stands on; for tests and measurements.
-    pub fn shell(&self) -> &Shell<R, SemaphoreCore> {
+    pub fn shell(&self) -> &Shell<R, SemaphoreCore>
+        ensures { result.now ≡ self.now.shell }
+    {
         &self.shell
     }
 
