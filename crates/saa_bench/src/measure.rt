@@ -7,6 +7,8 @@ use crate::locks::{Exclusive, MostlyShared, Plain};
 use crate::permits::{Counter, PERMITS, TwoTurns};
 use crate::rounds::{Passage, PlainBarrier, PlainGate};
 use crate::tasks::{alone_nanos, idle_polls, line_nanos};
+use crate::values::{PlainMutex, PlainRwLock};
+use saa_guards::lock_api::{Mutex, RwLock};
 use saa_sync::barrier::Barrier;
 use saa_sync::gate::Gate;
 use saa_sync::lock::Lock;
@@ -51,8 +53,8 @@ const PASSES: usize = 9;
 // The room of what is measured: no less than there are threads that wait.
 const ROOM: u16 = 32;
 
-/// Prints for each number of threads what a turn costs at a semaphore beside a plain counter, at a lock beside std's,
-/// and at a barrier beside a plain one, and what a gate costs that lets so many pass; with the ratios. And then what one
+/// Prints for each number of threads what a turn costs at a semaphore beside a plain counter, at a lock beside std's, at a
+/// value behind a mutex or a reader-writer lock beside std's, and at a barrier beside a plain one, and what a gate costs that lets so many pass; with the ratios. And then what one
 /// thread's turn costs at a semaphore and a lock beside two bare turns at a `Mutex`; what a turn costs as a future beside a
 /// call that sleeps; a grant in a line of so many futures beside one in a line of 64; and how often tasks that contend are
 /// polled for nothing.
@@ -63,6 +65,7 @@ pub fn table<R: Runtime + RandomSource + AllocGlobal + Threads + Wait + Sync>(
     println!(rt; "what                    threads     ours ns      std ns  ratio")?;
     semaphores(rt, alloc)?;
     locks(rt, alloc)?;
+    values(rt, alloc)?;
     barriers(rt, alloc)?;
     gates(rt, alloc)?;
     shells(rt, alloc)?;
@@ -112,6 +115,33 @@ fn locks<R: Runtime + Threads + Wait + Sync>(rt: &R, alloc: Global) -> io::Resul
             times: TURNS,
         };
         let ours = MostlyShared { lock: &lock };
+        turns_row(rt, alloc, case, &ours, &MostlyShared { lock: &plain })?;
+    }
+    Ok(())
+}
+
+// A number behind our locks beside one behind std's.
+fn values<R: Runtime + Threads + Wait + Sync>(rt: &R, alloc: Global) -> io::Result<()> {
+    let mutex = Mutex::new(rt, alloc, 0u64, ROOM)?;
+    let plain = PlainMutex::new(rt);
+    for threads in [1, 2, 4] {
+        let case = Case {
+            what: "mutex, add 1",
+            threads,
+            times: TURNS,
+        };
+        let ours = Exclusive { lock: &mutex };
+        turns_row(rt, alloc, case, &ours, &Exclusive { lock: &plain })?;
+    }
+    let rwlock = RwLock::new(rt, alloc, 0u64, ROOM)?;
+    let plain = PlainRwLock::new(rt);
+    for threads in [1, 2, 4] {
+        let case = Case {
+            what: "rwlock, 3 of 4 read",
+            threads,
+            times: TURNS,
+        };
+        let ours = MostlyShared { lock: &rwlock };
         turns_row(rt, alloc, case, &ours, &MostlyShared { lock: &plain })?;
     }
     Ok(())

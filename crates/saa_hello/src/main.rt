@@ -1,32 +1,23 @@
-//! Two threads that share a semaphore of two permits.
+//! Two threads that add to one number behind a fair mutex.
 #![tactic(auto)]
 
-use saa_sync::semaphore::Semaphore;
+use saa::Mutex;
 use std::sync::Wait;
-use std::sync::atomic::Ordering;
 use std::{io, thread};
 
 fn main(rt: HostRuntime) -> io::Result<()> {
-    // Two permits are available, and up to eight tasks can wait for one.
-    let jobs = Semaphore::with_permits(&rt, rt.alloc(), 2, 8)?;
-    let shared = &jobs;
-    thread::scope(thread::scope_env(), &rt, |scope| {
-        for _ in 0..2 {
-            if scope.spawn(move || work(shared)).is_err() {
-                work(shared);
-            }
-        }
-    });
-    let left = jobs.available_permits(Ordering::SeqCst);
-    println!(rt; "{left} permits are available")?;
+    // Up to eight tasks can wait for it at once.
+    let turns = Mutex::new(&rt, rt.alloc(), 0u64, 8)?;
+    thread::join(&rt, || work(&turns), || work(&turns));
+    println!(rt; "{} turns were taken", turns.into_inner())?;
     Ok(())
 }
 
-fn work<R: Wait + Drop>(jobs: &Semaphore<R>) {
+fn work<R: Wait + Drop>(turns: &Mutex<R, u64>) {
     for _turn in 0..100 {
-        if jobs.acquire_sync().is_ok() {
-            // At most two threads are here at a time.
-            jobs.release();
+        // Waits in line while the other has it; the guard's drop lets the next one in.
+        if let Ok(mut taken) = turns.lock() {
+            *taken = taken.saturating_add(1);
         }
     }
 }

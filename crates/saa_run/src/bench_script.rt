@@ -11,7 +11,7 @@ use crate::command::{ScriptLine, parse_line};
 use crate::reply::Said;
 use crate::spoken::{Spoken, said};
 use crate::steps::Speaker;
-use saa_core::bench::{Bench, Primitive};
+use saa::bench::{Bench, Primitive};
 use std::alloc::{AllocError, Global};
 
 /// A bench of one primitive, with as many pagers as a line can name.

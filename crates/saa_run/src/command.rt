@@ -9,7 +9,7 @@ ghost use Rattle.saa_run.specs.Fields.{number_of};
 
 use crate::fields::{first_field, number};
 use crate::spoken::Spoken;
-use saa_core::bench::{CommandOf, Primitive};
+use saa::bench::{CommandOf, Primitive};
 
 /// The first line of a script: which primitive is made.
 #[derive(Clone, Copy, Debug)]

@@ -6,7 +6,7 @@ ghost use Rattle.saa_run.specs.Said.{said_words};
 
 use crate::reply::Said;
 use crate::spoken::{Spoken, nothing_asked};
-use saa_core::gate::{Error, GateAnswer, GateCall, GateCore, State};
+use saa::gate::{Error, GateAnswer, GateCall, GateCore, State};
 
 impl Spoken for GateCore {
     ghost readings = { gate_readings };

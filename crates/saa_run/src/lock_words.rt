@@ -8,8 +8,8 @@ ghost use Rattle.saa_run.specs.Said.{said_words};
 
 use crate::reply::Said;
 use crate::spoken::{Spoken, said_truth};
-use saa_core::lock::{LockAnswer, LockCall, LockCore, Mode, TryLockError};
-use saa_core::ticket::Error;
+use saa::lock::{LockAnswer, LockCall, LockCore, Mode, TryLockError};
+use saa::ticket::Error;
 
 impl Spoken for LockCore {
     ghost readings = { lock_readings };

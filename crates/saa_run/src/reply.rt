@@ -12,8 +12,8 @@ ghost use Rattle.saa_run.specs.Text.{bad_line, reply_line};
 use crate::transfer::{WriteFailed, put};
 use arrayvec::ArrayString;
 use itoa::Buffer;
-use saa_core::gate::{self, State};
-use saa_core::ticket::Error;
+use saa::gate::{self, State};
+use saa::ticket::Error;
 use std::io::Write;
 
 /// A line with a number in it, before it is written.

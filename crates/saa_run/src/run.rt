@@ -28,10 +28,10 @@ use crate::spoken::Spoken;
 use crate::steps::{end_at, run_lines};
 use crate::transfer::{Cut, LineBytes, put, read_line};
 pub use crate::wants::Wanted;
-use saa_core::barrier::BarrierCore;
-use saa_core::gate::GateCore;
-use saa_core::lock::LockCore;
-use saa_core::semaphore::SemaphoreCore;
+use saa::barrier::BarrierCore;
+use saa::gate::GateCore;
+use saa::lock::LockCore;
+use saa::semaphore::SemaphoreCore;
 use std::alloc::{AllocError, Global};
 use std::io::{Read, Write};
 

@@ -7,8 +7,8 @@ ghost use Rattle.saa_run.specs.SemaphoreWords.{semaphore_answer, semaphore_poll,
 use crate::command::count;
 use crate::reply::Said;
 use crate::spoken::Spoken;
-use saa_core::semaphore::{SemaphoreAnswer, SemaphoreCall, SemaphoreCore};
-use saa_core::ticket::Error;
+use saa::semaphore::{SemaphoreAnswer, SemaphoreCall, SemaphoreCore};
+use saa::ticket::Error;
 
 impl Spoken for SemaphoreCore {
     ghost readings = { semaphore_readings };

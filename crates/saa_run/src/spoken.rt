@@ -10,8 +10,8 @@ ghost use Rattle.saa_run.specs.Replies.{reply_words, no_ask, truth_poll};
 ghost use Rattle.saa_run.specs.Said.{said_words};
 
 use crate::reply::Said;
-use saa_core::bench::{Primitive, Reply, ReplyOf};
-use saa_core::ticket::Error;
+use saa::bench::{Primitive, Reply, ReplyOf};
+use saa::ticket::Error;
 
 /// A primitive that scripts speak to.
 pub trait Spoken: Primitive {

@@ -1,0 +1,3 @@
+//! Benches that run commands over any core.
+
+pub use saa_core::bench::{Bench, Command, CommandOf, Primitive, Reply, ReplyOf};

@@ -1,0 +1,27 @@
+//! Fair synchronization for threads and tasks that are polled: every public name, under one crate.
+//!
+//! A user's crate stands on this one alone. Nothing is defined here. The locks round a value are also at the root; the
+//! other types stand in the modules that bear their names, since a module and a type whose names differ only in case
+//! can't stand beside each other.
+#![tactic(auto)]
+
+pub mod barrier;
+pub mod bench;
+pub mod future;
+pub mod gate;
+pub mod lock;
+pub mod request;
+pub mod semaphore;
+
+pub use saa_core::lock::TryLockError;
+pub use saa_core::ticket;
+pub use saa_guards::lock_api;
+pub use saa_guards::lock_api::{
+    Mutex, MutexGuard, RwLock, RwLockReadGuard, RwLockWriteGuard, lock_async, read_async,
+    write_async,
+};
+pub use saa_journal::journal;
+pub use saa_laws::laws;
+pub use saa_line::line;
+pub use saa_shell::{seat, shell};
+pub use saa_sync::pager;

@@ -1,0 +1,13 @@
+//! A value behind a fair lock: `Mutex` and `RwLock`, their guards, and the futures that wait for a guard.
+//!
+//! The turn is the project's `Lock`, which serves in the order of asking. Its calls aren't handed out, so it is never
+//! poisoned. A guard gives up the value first and the turn afterwards. What stands under the lock is known by the value's
+//! type: each guard keeps every invariant of that type.
+
+mod future;
+mod mutex;
+mod rwlock;
+
+pub use future::{MutexFuture, ReadFuture, WriteFuture, lock_async, read_async, write_async};
+pub use mutex::{Mutex, MutexGuard};
+pub use rwlock::{RwLock, RwLockReadGuard, RwLockWriteGuard};
