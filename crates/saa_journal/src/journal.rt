@@ -5,7 +5,7 @@
 //! bench as it stands. Each thread has a share, which counts its own calls; the shares together count the history, so a
 //! thread that asks for all of them back knows that nothing is missing.
 
-ghost use Rattle.std.specs.Prelude.{◌≡◌, ℕ, ◌↔◌, ◌+◌, ◌<◌, ◌++◌, ◌∷◌, [], All, IfErr, IfOk, IfSome, IsSome, length, replicate, vec_capacity, vec_len, ◌≤◌};
+ghost use Rattle.std.specs.Prelude.{◌≡◌, ℕ, ◌↔◌, ◌+◌, ◌<◌, ◌++◌, ◌∷◌, [], All, IfErr, IfOk, IfSome, IsSome, length, replicate, sum_by, vec_capacity, vec_len, ◌≤◌};
 ghost use Rattle.saa_object.specs.Object.{Object};
 ghost use Rattle.saa_object.specs.Run.{IsWithin, done};
 ghost use Rattle.saa_tickets.specs.declared.ticket.Registration.TheVariants.{Unregistered};
@@ -171,11 +171,13 @@ impl<P: Primitive, J: Journal> Journalled<P, J> {
     }
 
     /// How many commands were done, by the shares alone: `Some` exactly where all shares that were dealt are handed in, and
-    /// then it is the length of the history. The shares end either way. Costs O(how many shares there are).
+    /// then it is the length of the history, and what the shares count together. The shares end either way. Costs O(how many
+    /// shares there are).
     pub fn gather(&mut self, shares: Vec<Share<J>>) -> Option<usize>
         requires one_each { J.dealt ≡ J.parts }
         ensures all { IsSome result ↔ (length shares.items ≡ J.parts) }
         ensures number { IfSome result (λ number. number ≡ length self.old.history.items) }
+        ensures counted { IfSome result (λ number. number ≡ sum_by (λ share. share.calls) shares.items) }
         ensures bench { self.new.bench ≡ self.old.bench }
         ensures history { self.new.history.items ≡ self.old.history.items }
     {

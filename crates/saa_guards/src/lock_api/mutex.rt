@@ -100,7 +100,7 @@ impl<R: Wait + Drop, T> Deref for MutexGuard<'_, R, T> {
 
     ghost deref_gives = { λ guard value. value ≡ mutex_value guard };
 
-    /// The value, as it was last written.
+    /// The value that stands behind the lock.
     fn deref(&self) -> &T
         ensures { result.now ≡ mutex_value self.now }
     {
@@ -113,7 +113,7 @@ impl<R: Wait + Drop, T> DerefMut for MutexGuard<'_, R, T> {
 
     ghost deref_mut_gives = { λ guard value. value ≡ mutex_value guard };
 
-    /// The value, as it was last written, to be written.
+    /// The value that stands behind the lock, to be written.
     fn deref_mut(&mut self) -> &mut T
         ensures value { result.now ≡ mutex_value self.old }
     {

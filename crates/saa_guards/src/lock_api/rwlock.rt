@@ -122,7 +122,7 @@ impl<R: Wait + Drop, T> Deref for RwLockReadGuard<'_, R, T> {
 
     ghost deref_gives = { λ guard value. value ≡ read_value guard };
 
-    /// The value, as it was last written.
+    /// The value that stands behind the lock.
     fn deref(&self) -> &T
         ensures { result.now ≡ read_value self.now }
     {
@@ -165,7 +165,7 @@ impl<R: Wait + Drop, T> Deref for RwLockWriteGuard<'_, R, T> {
 
     ghost deref_gives = { λ guard value. value ≡ write_value guard };
 
-    /// The value, as it was last written.
+    /// The value that stands behind the lock.
     fn deref(&self) -> &T
         ensures { result.now ≡ write_value self.now }
     {
@@ -178,7 +178,7 @@ impl<R: Wait + Drop, T> DerefMut for RwLockWriteGuard<'_, R, T> {
 
     ghost deref_mut_gives = { λ guard value. value ≡ write_value guard };
 
-    /// The value, as it was last written, to be written.
+    /// The value that stands behind the lock, to be written.
     fn deref_mut(&mut self) -> &mut T
         ensures value { result.now ≡ write_value self.old }
     {
