@@ -1,5 +1,6 @@
 pub mod AnswerLaws
 pub mod BarrierWords
+pub mod Counts
 pub mod Fields
 pub mod GateWords
 pub mod Language

@@ -1,4 +1,4 @@
-//! The program `saa-run`: reads a script of one primitive and answers its lines.
+//! The program `saa-run`: reads a script of one primitive and answers its lines, or runs workers on threads of their own.
 //!
 //! The top floor. `transfer` moves bytes, `fields` and `command` read lines, `reply` writes answers,
 //! `steps` answers the lines behind the first one by one, and `run` is the whole, over any reader and
@@ -11,6 +11,7 @@ mod arguments;
 mod barrier_words;
 mod bench_script;
 mod command;
+mod counts;
 mod ended;
 mod fields;
 mod gate_words;
@@ -65,6 +66,9 @@ fn main(rt: HostRuntime) -> ExitCode {
     let status = match asked(&rt, rt.alloc()) {
         None => run::no_memory(&mut writer),
         Some(Wanted::Script) => script(&rt, &mut writer),
+        Some(Wanted::Threads(count @ 1..=32)) => {
+            run::threads(&rt, rt.alloc(), count, &mut writer)
+        }
         Some(Wanted::Machine | Wanted::Threads(_) | Wanted::Usage) => run::usage(&mut writer),
     };
     ExitCode::from(status)

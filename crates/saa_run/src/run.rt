@@ -2,9 +2,10 @@
 //! program is asked to do.
 //!
 //! Held to `specs/Outcome.antt`, which speaks of the text of an input in `specs/Text.antt`.
-ghost use Rattle.std.specs.Prelude.{◌≡◌, ◌⊎◌, map, replicate, string_bytes};
+ghost use Rattle.std.specs.Prelude.{◌≡◌, ◌<◌, ◌≤◌, ◌⊎◌, map, replicate, string_bytes};
 ghost use Rattle.std.specs.Io.KnownBytes.{Keeps};
 ghost use Rattle.saa_run.specs.Outcome.{Opens, OpensWith, Starts, Scripts, Tells, Finishes, no_memory as no_memory_text, usage_text};
+ghost use Rattle.saa_run.specs.Counts.{Counted};
 ghost use Rattle.saa_tickets.specs.declared.ticket.Registration.TheVariants.{Unregistered};
 ghost use Rattle.saa_object.specs.Held.{max_permits};
 ghost use Rattle.saa_object.specs.Semaphore.{new_semaphore};
@@ -19,11 +20,14 @@ ghost use Rattle.saa_run.specs.LockWords.{lock_does, lock_readings};
 ghost use Rattle.saa_run.specs.GateWords.{gate_does, gate_readings};
 ghost use Rattle.saa_run.specs.BarrierWords.{barrier_does, barrier_readings};
 ghost use Rattle.saa_run.specs.Text.{answer_from, pagers};
-ghost use Rattle.saa_run.specs.Wants.{wanted_of};
+ghost use Rattle.saa_run.specs.Wants.{threads_of, wanted_of};
+ghost use Rattle.saa_run.specs.Fields.{number_of};
 
 use crate::bench_script::BenchScript;
 use crate::command::{FirstLine, parse_first};
+use crate::counts::written;
 use crate::ended::Ended;
+use crate::fields::number;
 use crate::spoken::Spoken;
 use crate::steps::{end_at, run_lines};
 use crate::transfer::{Cut, LineBytes, put, read_line};
@@ -32,8 +36,11 @@ use saa::barrier::BarrierCore;
 use saa::gate::GateCore;
 use saa::lock::LockCore;
 use saa::semaphore::SemaphoreCore;
+use saa_workers::workers;
 use std::alloc::{AllocError, Global};
 use std::io::{Read, Write};
+use std::sync::Wait;
+use std::thread::Threads;
 
 /// Flushes, and answers a status.
 fn flushed<W: Write>(writer: &mut W, status: u8) -> u8
@@ -71,11 +78,24 @@ pub fn usage<W: Write>(writer: &mut W) -> u8
 }
 
 /// What the program's arguments ask for, its name not among them.
+///
+/// Exactly `script`, or `threads` and a number from 1 to 32 in plain decimal; all else asks how the program is used.
 pub fn wanted(args: &[String]) -> Wanted
     ensures { result ≡ wanted_of (map string_bytes args.now) }
 {
     match args {
         [word] if word.as_str() == "script" => Wanted::Script,
+        [word, count] if word.as_str() == "threads" => threads_wanted(count.as_str()),
+        _ => Wanted::Usage,
+    }
+}
+
+/// So many threads as a text says, from 1 to 32.
+fn threads_wanted(count: &str) -> Wanted
+    ensures { result ≡ threads_of (number_of count.now) }
+{
+    match number(count.as_bytes()) {
+        Some(count @ 1..=32) => Wanted::Threads(count as u8),
         _ => Wanted::Usage,
     }
 }
@@ -233,4 +253,26 @@ pub fn script<R: Read, W: Write>(alloc: Global, reader: &mut R, writer: &mut W) 
 {
     let started = start(alloc, reader, writer);
     finish(started, writer)
+}
+
+/// Runs workers on so many threads, and writes what they counted. Answers the status of the program.
+///
+/// All start through one gate; each passes one barrier 4 times, takes and gives back 2 of 63 permits 100 times, and makes 50
+/// calls by one journal. What is written is how often a worker was the last at the barrier, `leaders 4`; how many permits
+/// are available in the end, `available 63`; and how many calls the journal has, 50 for each thread. The status is 0 then, 3
+/// with `no memory` where memory was refused or a thread couldn't be started, and 4 where a write or a flush failed.
+pub fn threads<R: Threads + Wait + Sync, W: Write>(
+    rt: &R,
+    alloc: Global,
+    count: u8,
+    writer: &mut W,
+) -> u8
+    requires some { 0 < count }
+    requires many { count ≤ 32 }
+    ensures { Counted result count (W.contents writer.old) (W.contents writer.new) }
+{
+    match workers::run(rt, alloc, count) {
+        Ok(counts) => tell(writer, written(counts).as_str().as_bytes(), 0),
+        Err(_) => no_memory(writer),
+    }
 }

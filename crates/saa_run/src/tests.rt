@@ -4,7 +4,7 @@
 use crate::asked;
 use crate::kind_rows::KIND_ROWS;
 use crate::reply::{Said, put_bad_line, put_reply};
-use crate::run::{Wanted, no_memory, script, usage, wanted};
+use crate::run::{Wanted, no_memory, script, threads, usage, wanted};
 use crate::spoken::said;
 use crate::transfer::{Cut, LineBytes, put, read_line};
 use saa::bench::ReplyOf;
@@ -598,6 +598,53 @@ fn last_words(rt: HostRuntime) {
     assert_eq!(rt; writer.taken.as_slice(), b"usage".as_slice());
     let mut writer = with_room(rt.alloc(), 0);
     assert_eq!(rt; no_memory(&mut writer), 4);
+}
+
+/// Two threads, and as many as there may be: what they counted is told, each count on a line of its own.
+#[test]
+fn threads_are_counted(rt: HostRuntime) {
+    let mut writer = Vec::new(rt.alloc());
+    assert_eq!(rt; threads(&rt, rt.alloc(), 2, &mut writer), 0);
+    assert_eq!(rt;
+        writer.as_slice(),
+        b"leaders 4\navailable 63\njournal 100\n".as_slice()
+    );
+    let mut writer = Vec::new(rt.alloc());
+    assert_eq!(rt; threads(&rt, rt.alloc(), 32, &mut writer), 0);
+    assert_eq!(rt;
+        writer.as_slice(),
+        b"leaders 4\navailable 63\njournal 1600\n".as_slice()
+    );
+    let mut writer = with_room(rt.alloc(), 8);
+    assert_eq!(rt; threads(&rt, rt.alloc(), 1, &mut writer), 4);
+    assert_eq!(rt; writer.taken.as_slice(), b"leaders ".as_slice());
+}
+
+/// The word `threads` and a number from 1 to 32 in plain decimal ask for so many threads.
+#[test]
+fn so_many_threads_are_wanted(rt: HostRuntime) -> Result<(), Fail> {
+    for (count, answer) in [
+        ("1", Wanted::Threads(1)),
+        ("2", Wanted::Threads(2)),
+        ("32", Wanted::Threads(32)),
+        ("33", Wanted::Usage),
+        ("0", Wanted::Usage),
+        ("02", Wanted::Usage),
+        ("002", Wanted::Usage),
+        ("257", Wanted::Usage),
+        ("+2", Wanted::Usage),
+        ("2 ", Wanted::Usage),
+        ("two", Wanted::Usage),
+        ("", Wanted::Usage),
+    ] {
+        let mut words = Vec::new(rt.alloc());
+        words.push(String::from_str(rt.alloc(), "threads")?)?;
+        words.push(String::from_str(rt.alloc(), count)?)?;
+        assert_eq!(rt; wanted(words.as_slice()), answer, "of {count:?}");
+        words.push(String::from_str(rt.alloc(), count)?)?;
+        assert_eq!(rt; wanted(words.as_slice()), Wanted::Usage, "of {count:?}");
+    }
+    Ok(())
 }
 
 /// Exactly the word `script` asks for a script.
