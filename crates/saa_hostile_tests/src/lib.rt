@@ -1,0 +1,16 @@
+//! Everything that a caller can do wrong: every list of four commands on each core beside a plain model, odd counts, and
+//! tickets where they don't belong.
+#![tactic(auto)]
+
+#[cfg(test)]
+mod counts;
+#[cfg(test)]
+mod kinds;
+#[cfg(test)]
+mod lists;
+#[cfg(test)]
+mod model;
+#[cfg(test)]
+mod threaded;
+#[cfg(test)]
+mod tickets;
