@@ -1,0 +1,36 @@
+//! What workers count, and the pool's calls one by one.
+
+use crate::pool::{Pool, Refused};
+use crate::work::share;
+use std::io;
+use std::process::Abort;
+
+#[test]
+fn one_connection_and_three(rt: HostRuntime) -> io::Result<()> {
+    assert!(rt; share(&rt, rt.alloc(), 1, 4)? == 200);
+    assert!(rt; share(&rt, rt.alloc(), 3, 16)? == 800);
+    Ok(())
+}
+
+#[test]
+fn a_pool_that_is_out_and_one_that_is_shut(rt: HostRuntime) -> io::Result<()> {
+    let pool = Pool::new(&rt, rt.alloc(), 2, 1)?;
+    let one = pool.try_check_out();
+    let two = pool.check_out();
+    assert!(rt; one.is_ok() && two.is_ok());
+    assert!(rt; pool.uses() == (0, 2));
+    assert!(rt; matches!(pool.try_check_out(), Err(Refused::WouldWait)));
+    drop(one);
+    assert!(rt; pool.uses() == (0, 1));
+    match pool.try_check_out() {
+        Ok(mut checkout) => checkout.connection().use_once(),
+        Err(_) => assert!(rt; false),
+    }
+    assert!(rt; pool.uses() == (1, 1));
+    pool.shut_down();
+    assert!(rt; matches!(pool.check_out(), Err(Refused::Shut)));
+    assert!(rt; matches!(pool.check_out(), Err(Refused::Shut)));
+    drop(two);
+    assert!(rt; pool.uses() == (1, 0));
+    Ok(())
+}

@@ -1,0 +1,110 @@
+//! Threads that push and pop, and what they count.
+
+use crate::queue::Queue;
+use saa::Mutex;
+use std::alloc::{AllocError, Global};
+use std::io;
+use std::sync::Wait;
+use std::thread::{self, Threads};
+
+/// How many items each producer pushes, and for how many the queue has places.
+const ITEMS: u16 = 100;
+
+const BOUND: u16 = 4;
+
+/// An item: who made it, and the how manieth of that maker it is.
+#[derive(Clone, Copy, Debug, Eq, PartialEq)]
+pub struct Item {
+    pub producer: u16,
+    pub number: u16,
+}
+
+/// What the consumers counted together.
+#[derive(Clone, Copy, Debug, Default, Drop, Eq, PartialEq)]
+pub struct Tally {
+    pub items: u64,
+    pub sum: u64,
+    /// How many items a consumer got behind a later one of the same producer.
+    pub out_of_order: u64,
+}
+
+// Counts an item, of which the consumer has seen these before, by producer.
+fn count(tally: &mut Tally, seen: &mut [u16; 16], item: Item) {
+    tally.items = tally.items.saturating_add(1);
+    tally.sum = tally.sum.saturating_add(u64::from(item.number));
+    if let Some(next) = seen.get_mut(usize::from(item.producer)) {
+        if item.number < *next {
+            tally.out_of_order = tally.out_of_order.saturating_add(1);
+        }
+        *next = item.number.saturating_add(1);
+    }
+}
+
+/// What producers and consumers share.
+#[derive(Drop)]
+struct Market<'r, R: Wait> {
+    rt: &'r R,
+    queue: Queue<&'r R, Item>,
+    tally: Mutex<&'r R, Tally>,
+}
+
+impl<R: Wait> Market<'_, R> {
+    // Pushes all items of one producer; a closed queue ends it.
+    fn produce(&self, producer: u16) {
+        for number in 0..ITEMS {
+            if self.queue.push(Item { producer, number }).is_err() {
+                return;
+            }
+        }
+    }
+
+    // Pops until the queue is closed and empty.
+    fn consume(&self) {
+        let mut seen = [0u16; 16];
+        for _item in self.rt.forever() {
+            let Ok(Some(item)) = self.queue.pop() else {
+                return;
+            };
+            if let Ok(mut tally) = self.tally.lock() {
+                count(&mut tally, &mut seen, item);
+            }
+        }
+    }
+}
+
+// Starts so many producers, and returns when all have ended. Whether all were started.
+fn all_produce<R: Threads + Wait + Sync>(rt: &R, market: &Market<'_, R>, pairs: u16) -> bool {
+    thread::scope(thread::scope_env(), rt, |scope| {
+        for producer in 0..pairs {
+            if scope.spawn(move || market.produce(producer)).is_err() {
+                return false;
+            }
+        }
+        true
+    })
+}
+
+/// Has so many producers push 100 items each, and as many consumers pop them; at most 16.
+///
+/// The error comes where memory was refused or a thread couldn't be started; all threads have ended then too.
+pub fn exchange<R: Threads + Wait + Sync>(rt: &R, alloc: Global, pairs: u16) -> io::Result<Tally> {
+    let made = Market {
+        rt,
+        queue: Queue::new(rt, alloc, BOUND, 32)?,
+        tally: Mutex::new(rt, alloc, Tally::default(), 32)?,
+    };
+    let market = &made;
+    let is_whole = thread::scope(thread::scope_env(), rt, |scope| {
+        let mut is_whole = true;
+        for _consumer in 0..pairs {
+            is_whole = scope.spawn(move || market.consume()).is_ok() && is_whole;
+        }
+        is_whole = is_whole && all_produce(rt, market, pairs);
+        market.queue.close().is_ok() && is_whole
+    });
+    if is_whole {
+        Ok(made.tally.into_inner())
+    } else {
+        Err(AllocError.into())
+    }
+}
