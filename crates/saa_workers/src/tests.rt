@@ -8,8 +8,18 @@ use std::sync::Wait;
 use std::sync::atomic::{AtomicBool, AtomicU64, Ordering};
 use std::thread::{Threads, yield_now};
 
-// How often worker 0 yields to wait for worker 1.
+// For how many turns worker 0 waits for worker 1, and how often it gives way in each: seconds in all, since a thread that was
+// just started may take milliseconds to come.
 const PATIENCE: u16 = 10_000;
+
+const YIELDS: u16 = 1_000;
+
+// Gives way for a while.
+fn turn() {
+    for _yield in 0..YIELDS {
+        yield_now();
+    }
+}
 
 // Holds worker 0 until worker 1 has begun, and fails where it doesn't in time.
 #[derive(Drop)]
@@ -26,7 +36,7 @@ impl<R: Abort> Watch for Pair<'_, R> {
                     if self.has_one_begun.load(Ordering::SeqCst) {
                         return;
                     }
-                    yield_now();
+                    turn();
                 }
                 panic!(self.rt; "worker 1 has not begun beside worker 0");
             }
