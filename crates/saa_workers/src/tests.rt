@@ -6,7 +6,7 @@ use std::io;
 use std::process::Abort;
 use std::sync::Wait;
 use std::sync::atomic::{AtomicBool, AtomicU64, Ordering};
-use std::thread::{Threads, yield_now};
+use std::thread::yield_now;
 
 // For how many turns worker 0 waits for worker 1, and how often it gives way in each: seconds in all, since a thread that was
 // just started may take milliseconds to come.

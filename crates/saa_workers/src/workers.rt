@@ -4,7 +4,7 @@
 //! of the journal is handed in. What the threads do at the three shared forms no contract can say. What the journal's
 //! shares count together is proved: a worker is done only with all its calls, and the count comes only where all are.
 
-ghost use Rattle.std.specs.Prelude.{◌≡◌, ◌<◌, ◌≤◌, ◌*◌, All, IfOk, IfSome, length, replicate};
+ghost use Rattle.std.specs.Prelude.{◌≡◌, ◌<◌, ◌*◌, All, IfOk, replicate};
 ghost use Rattle.saa_tickets.specs.declared.ticket.Registration.TheVariants.{Unregistered};
 ghost use Rattle.saa_tickets.specs.Tickets.{object_of};
 
