@@ -255,7 +255,8 @@ pub(crate) fn run_with<R: Threads + Wait + Sync, W: Watch + Sync>(
     run_over::<Brand, R, W>(rt, alloc, core, blank, workers, watch)
 }
 
-/// Starts so many workers, each on a thread of its own, and counts what they did when all are done.
+/// Starts so many workers, each on a thread of its own, and counts what they did when all are done. There are at most 63, since
+/// a barrier is for no more: of more, some would wait for ever.
 ///
 /// Each passes a barrier for all of them 4 times, takes and gives back 2 of 63 permits 100 times, and makes 50 calls by
 /// one journal. The error comes where memory was refused or a thread can't be started; no worker is left running then
