@@ -2,7 +2,7 @@
 
 ghost use Rattle.std.specs.Prelude.{◌≡◌, ◌+◌, ◌≤◌, ◌<◌, ◌↔◌, All, IfErr, IfSome, IsOk, IsSome, false, length, true, vec_capacity};
 
-use saa::semaphore::Semaphore;
+use saa::semaphore::{Permit, Semaphore};
 use saa::ticket::Full;
 use std::alloc::{AllocError, Global};
 use std::sync::{Mutex, Wait};
@@ -125,18 +125,17 @@ impl<'r, R: Wait> Pool<'r, R> {
 
     /// Checks a connection out, and waits for one where all are out.
     pub fn check_out(&self) -> Result<Checkout<'_, 'r, R>, Refused> {
-        match self.permits.acquire_sync() {
-            Ok(()) => self.take(),
+        match self.permits.acquire_permit() {
+            Ok(permit) => self.take(permit),
             Err(Full) => Err(Refused::TooMany),
         }
     }
 
     /// Checks a connection out if one is in and nobody waits for it.
     pub fn try_check_out(&self) -> Result<Checkout<'_, 'r, R>, Refused> {
-        if self.permits.try_acquire() {
-            self.take()
-        } else {
-            Err(Refused::WouldWait)
+        match self.permits.try_acquire_permit() {
+            Some(permit) => self.take(permit),
+            None => Err(Refused::WouldWait),
         }
     }
 
@@ -157,8 +156,8 @@ impl<'r, R: Wait> Pool<'r, R> {
         (uses, shelf.out)
     }
 
-    // Takes a connection by a permit that the caller has, which goes with it.
-    fn take(&self) -> Result<Checkout<'_, 'r, R>, Refused> {
+    // Takes a connection by a permit, which goes with it. Where the pool is shut the permit lets in the next who waits.
+    fn take<'p>(&'p self, permit: Permit<'p, &'r R>) -> Result<Checkout<'p, 'r, R>, Refused> {
         let taken = {
             let mut shelf = self.shelf.lock(self.rt);
             if shelf.is_shut { None } else { shelf.take() }
@@ -167,25 +166,23 @@ impl<'r, R: Wait> Pool<'r, R> {
             Some(connection) => Ok(Checkout {
                 pool: self,
                 connection,
+                permit,
             }),
-            None => {
-                let _ = self.permits.release();
-                Err(Refused::Shut)
-            }
+            None => Err(Refused::Shut),
         }
     }
 
-    // Takes a connection back, and lets the next task in.
+    // Takes a connection back.
     fn put(&self, connection: Connection) {
         let _ = self.shelf.lock(self.rt).put(connection);
-        let _ = self.permits.release();
     }
 }
 
-/// A connection that is checked out. Its drop returns it.
+/// A connection that is checked out, with its permit. Its drop returns both.
 pub struct Checkout<'p, 'r, R: Wait> {
     pool: &'p Pool<'r, R>,
     connection: Connection,
+    permit: Permit<'p, &'r R>,
 }
 
 impl<'p, 'r, R: Wait> Checkout<'p, 'r, R> {
@@ -197,7 +194,13 @@ impl<'p, 'r, R: Wait> Checkout<'p, 'r, R> {
 
 impl<R: Wait> Drop for Checkout<'_, '_, R> {
     fn drop(self) {
-        let Checkout { pool, connection } = self;
+        let Checkout {
+            pool,
+            connection,
+            permit,
+        } = self;
+        // The connection is in before the next task is let in for it.
         pool.put(connection);
+        drop(permit);
     }
 }

@@ -7,7 +7,7 @@ ghost use Rattle.saa_example_queue.specs.declared.queue.Refused.TheVariants.{Clo
 
 use circular_buffer::HeapCircularBuffer;
 use saa::Mutex;
-use saa::semaphore::Semaphore;
+use saa::semaphore::{Permit, Semaphore};
 use saa::ticket::Full;
 use std::alloc::{AllocError, Global};
 use std::sync::Wait;
@@ -88,18 +88,17 @@ impl<R: Wait + Drop + Copy, T: Drop> Queue<R, T> {
 
     /// Puts an item behind the others, and waits for a place where there is none.
     pub fn push(&self, item: T) -> Result<(), Refused<T>> {
-        match self.free.acquire_sync() {
-            Ok(()) => self.put(item),
+        match self.free.acquire_permit() {
+            Ok(place) => self.put(place, item),
             Err(Full) => Err(Refused::TooMany(item)),
         }
     }
 
     /// Puts an item behind the others if there is a place and nobody waits for one.
     pub fn try_push(&self, item: T) -> Result<(), Refused<T>> {
-        if self.free.try_acquire() {
-            self.put(item)
-        } else {
-            Err(Refused::WouldWait(item))
+        match self.free.try_acquire_permit() {
+            Some(place) => self.put(place, item),
+            None => Err(Refused::WouldWait(item)),
         }
     }
 
@@ -107,16 +106,15 @@ impl<R: Wait + Drop + Copy, T: Drop> Queue<R, T> {
     ///
     /// `None`: the queue is closed, and all items were taken. `Full`: as many tasks wait as the queue was made for.
     pub fn pop(&self) -> Result<Option<T>, Full> {
-        self.filled.acquire_sync()?;
-        self.take()
+        let filled = self.filled.acquire_permit()?;
+        self.take(filled)
     }
 
     /// Takes the oldest item if there is one and nobody waits for one.
     pub fn try_pop(&self) -> Result<Option<T>, Full> {
-        if self.filled.try_acquire() {
-            self.take()
-        } else {
-            Ok(None)
+        match self.filled.try_acquire_permit() {
+            Some(filled) => self.take(filled),
+            None => Ok(None),
         }
     }
 
@@ -131,29 +129,28 @@ impl<R: Wait + Drop + Copy, T: Drop> Queue<R, T> {
         Ok(())
     }
 
-    // Puts an item into a place that the caller has.
-    fn put(&self, item: T) -> Result<(), Refused<T>> {
-        let result = match self.items.lock() {
-            Ok(mut items) => items.put(item),
-            Err(Full) => Err(Refused::TooMany(item)),
-        };
-        let _ = match result {
-            Ok(()) => self.filled.release(),
-            Err(_) => self.free.release(),
-        };
-        result
+    // Puts an item into a place that the caller has. A place that stays free is given back.
+    fn put(&self, place: Permit<'_, R>, item: T) -> Result<(), Refused<T>> {
+        match self.items.lock() {
+            Ok(mut items) => items.put(item)?,
+            Err(Full) => return Err(Refused::TooMany(item)),
+        }
+        // Who takes the item gives the place back.
+        place.forget();
+        let _ = self.filled.release();
+        Ok(())
     }
 
     // Takes an item that the caller was let in for; there is none only where the queue was closed.
-    fn take(&self) -> Result<Option<T>, Full> {
-        let result = match self.items.lock() {
-            Ok(mut items) => Ok(items.take()),
-            Err(full) => Err(full),
+    fn take(&self, filled: Permit<'_, R>) -> Result<Option<T>, Full> {
+        let taken = {
+            let mut items = self.items.lock()?;
+            items.take()
         };
-        let _ = match result {
-            Ok(Some(_)) => self.free.release(),
-            Ok(None) | Err(_) => self.filled.release(),
-        };
-        result
+        if taken.is_some() {
+            filled.forget();
+            let _ = self.free.release();
+        }
+        Ok(taken)
     }
 }

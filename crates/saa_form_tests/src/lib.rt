@@ -1,9 +1,12 @@
-//! Tests of the threaded semaphore and lock: they answer as their cores do, and all who sleep are woken.
+//! Tests of the threaded semaphore and lock: they answer as their cores do, all who sleep are woken,
+//! and permits give themselves back.
 //!
 //! Every test joins its threads, ends by itself, and rests nothing on timing.
 #![tactic(auto)]
 
 #[cfg(test)]
 mod locks;
+#[cfg(test)]
+mod permits;
 #[cfg(test)]
 mod semaphores;

@@ -12,4 +12,4 @@ pub use saa_shell::pager;
 pub use saa_sync_barrier::barrier;
 pub use saa_sync_gate::gate;
 pub use saa_sync_lock::lock;
-pub use saa_sync_semaphore::semaphore;
+pub use saa_sync_semaphore::{permit, semaphore};

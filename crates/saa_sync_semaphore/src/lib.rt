@@ -2,4 +2,5 @@
 #![tactic(auto)]
 
 pub mod future;
+pub mod permit;
 pub mod semaphore;
