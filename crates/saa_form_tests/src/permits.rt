@@ -39,9 +39,12 @@ fn a_permit_is_given_back_when_it_goes(rt: HostRuntime) -> Result<(), Fail> {
 
 #[test]
 fn a_forgotten_permit_stays_out(rt: HostRuntime) -> Result<(), Fail> {
-    let semaphore = Semaphore::with_permits(&rt, rt.alloc(), 2, 1)?;
+    let semaphore = Semaphore::with_permits(&rt, rt.alloc(), 2, 2)?;
     let one = semaphore.acquire_permit();
     let two = semaphore.try_acquire_permit();
+
+    // There is room to wait, and a try doesn't.
+    assert!(rt; semaphore.try_acquire_permit().is_none());
     let mut pager = Pager::new();
     assert_eq!(rt; semaphore.register_pager(&mut pager, 1, true), Ok(true));
     match (one, two) {
