@@ -8,7 +8,7 @@ use Rattle.saa_object.specs.Object.{Waiter, one_if, times, without}
 use Rattle.saa_object.proofs.Counts.{one_if-same, same_number, times-append, times-without_other}
 use Rattle.saa_line.proofs.LineLemmas.{without-absent}
 use Rattle.saa_words.specs.declared.line_word.LineWord.{LineWord}
-use Rattle.saa_words.specs.Words.{request_number}
+use Rattle.saa_object.specs.Held.{request_number}
 use Rattle.saa_words.specs.Links.{first_link, last_link, IsChain, followed, AreRead}
 
 -- the first of a line stands in it

@@ -8,7 +8,7 @@ use Rattle.saa_object.specs.Object.{Waiter, one_if, times, without}
 use Rattle.saa_object.proofs.Counts.{one_if-same, same_number, length-without, times-without_same, times-without_other}
 use Rattle.saa_line.proofs.LineLemmas.{times-push}
 use Rattle.saa_words.specs.declared.line_word.LineWord.{LineWord}
-use Rattle.saa_words.specs.Words.{request_number}
+use Rattle.saa_object.specs.Held.{request_number}
 use Rattle.saa_words.specs.Links.{first_link, last_link, followed, words_in, IsLinked}
 use Rattle.saa_words.proofs.Chains.{chain-followed, chain-joined, chain-left, chain-older, chain-newer, last_link-push, first_link-left, last_link-left, AreRead-push, AreRead-without, IsUnlinked}
 

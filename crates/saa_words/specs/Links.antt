@@ -2,9 +2,10 @@
 -- The line words are a function of the place, so that they may stand in a list or in shared memory.
 use Rattle.std.specs.Prelude.{◌≡◌, ℕ, suc, zero, pred, ◌+◌, ◌<◌, List, [], ◌∷◌, length, slice_index_or}
 use Rattle.saa_object.specs.declared.request.Request.{Request}
+use Rattle.saa_object.specs.Held.{request_number}
 use Rattle.saa_object.specs.Object.{Waiter, times}
 use Rattle.saa_words.specs.declared.line_word.LineWord.{LineWord}
-use Rattle.saa_words.specs.Words.{line_word_of, request_number}
+use Rattle.saa_words.specs.Words.{line_word_of}
 
 -- the link to the oldest of a line, and to whoever is behind where nobody stands in it
 abbrev pub first_link : List Waiter → ℕ → ℕ

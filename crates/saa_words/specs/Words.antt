@@ -2,7 +2,7 @@
 -- A place that stands in a word stands there by its number plus 1; 0 is nobody.
 use Rattle.std.specs.Prelude.{ℕ, suc, zero, ◌+◌, ◌-◌, ◌*◌, ◌/◌, ◌%◌, ◌^◌, ◌==◌, if◌then◌else◌, Option, Some, None}
 use Rattle.saa_object.specs.declared.request.Request.{Request}
-use Rattle.saa_object.specs.declared.request.Request.TheVariants.{Exclusive, Shared, WaitExclusive, WaitShared, Permits, Enter, Arrive}
+use Rattle.saa_object.specs.declared.request.Request.TheVariants.{Exclusive, Shared, WaitExclusive, WaitShared, Permits}
 use Rattle.saa_object.specs.Object.{one_if}
 use Rattle.saa_words.specs.declared.word.Word.{Word}
 use Rattle.saa_words.specs.declared.line_word.LineWord.{LineWord}
@@ -44,16 +44,6 @@ answer_number (Some value) = value + 1
 -- the answer of a number
 abbrev pub answer_of : ℕ → Option ℕ
 answer_of number = if number == 0 then None else Some ((number - 1) % 256)
-
--- the number of what is asked
-abbrev pub request_number : Request → ℕ
-request_number (Permits count) = count
-request_number Exclusive = 0
-request_number Shared = 1
-request_number WaitExclusive = 2
-request_number WaitShared = 3
-request_number Enter = 0
-request_number Arrive = 0
 
 -- what a number asks of a semaphore
 abbrev pub permits_of : ℕ → Request

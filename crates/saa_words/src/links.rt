@@ -5,7 +5,7 @@
 
 ghost use Rattle.std.specs.Prelude.{◌≡◌, ℕ, ◌+◌, ◌<◌, ◌≤◌, [], ◌∷◌, ◌++◌, length, IsOk, IfOk, ◌==◌, if◌then◌else◌, slice_get};
 ghost use Rattle.saa_object.specs.Object.{times, without};
-ghost use Rattle.saa_words.specs.Words.{request_number};
+ghost use Rattle.saa_object.specs.Held.{request_number};
 ghost use Rattle.saa_words.specs.Links.{last_link, words_in};
 
 use crate::line_word::LineWord;

@@ -2,7 +2,8 @@
 
 ghost use Rattle.std.specs.Prelude.{◌≡◌, ℕ};
 ghost use Rattle.saa_object.specs.declared.request.Request.{Request};
-ghost use Rattle.saa_words.specs.Words.{request_number, permits_of, mode_of};
+ghost use Rattle.saa_object.specs.Held.{request_number};
+ghost use Rattle.saa_words.specs.Words.{permits_of, mode_of};
 
 use saa_object::request::Request;
 
