@@ -6,6 +6,7 @@
 //! it. What is measured here is proved nowhere. The counter is unfair: whoever comes first takes what is there.
 #![tactic(auto)]
 
+mod lines;
 mod locks;
 mod measure;
 mod permits;

@@ -3,10 +3,11 @@
 //! What is compared is measured in turn, several times, so that whatever else the machine does hurts both alike. Of
 //! one thread the best time counts, since all that disturbs it makes it longer; of several threads the median.
 
+use crate::lines;
 use crate::locks::{Exclusive, MostlyShared, Plain};
 use crate::permits::{Counter, PERMITS, TwoTurns};
 use crate::rounds::{Passage, PlainBarrier, PlainGate};
-use crate::tasks::{alone_nanos, idle_polls, line_nanos};
+use crate::tasks::{alone_nanos, idle_polls};
 use crate::values::{PlainMutex, PlainRwLock};
 use saa_guards::lock_api::{Mutex, RwLock};
 use saa_sync::barrier::Barrier;
@@ -38,26 +39,17 @@ const PASSINGS: u64 = 1_000;
 // How often a future is granted, takes its answer and joins anew in one measurement.
 const GRANTS: u64 = 50_000;
 
-// How many futures wait in the shortest line, and in the others.
-const SHORTEST: u16 = 64;
-
-const LINES: [(&str, u16); 3] = [
-    ("64 futures in line", SHORTEST),
-    ("1,024 futures in line", 1_024),
-    ("4,096 futures in line", 4_096),
-];
-
-// How often each measurement is made.
-const PASSES: usize = 9;
+/// How often each measurement is made.
+pub const PASSES: usize = 9;
 
 // The room of what is measured: no less than there are threads that wait.
 const ROOM: u16 = 32;
 
 /// Prints for each number of threads what a turn costs at a semaphore beside a plain counter, at a lock beside std's, at a
-/// value behind a mutex or a reader-writer lock beside std's, and at a barrier beside a plain one, and what a gate costs that lets so many pass; with the ratios. And then what one
-/// thread's turn costs at a semaphore and a lock beside two bare turns at a `Mutex`; what a turn costs as a future beside a
-/// call that sleeps; a grant in a line of so many futures beside one in a line of 64; and how often tasks that contend are
-/// polled for nothing.
+/// value behind a mutex or a reader-writer lock beside std's, and at a barrier beside a plain one, and what a gate costs that
+/// lets so many pass; with the ratios. Then what one thread's turn costs at a semaphore and a lock beside two bare turns at a
+/// `Mutex`, and as a future beside a call that sleeps; how often tasks that contend are polled for nothing; and what happens in
+/// lines where many wait.
 pub fn table<R: Runtime + RandomSource + AllocGlobal + Threads + Wait + Sync>(
     rt: &R,
     alloc: Global,
@@ -69,15 +61,19 @@ pub fn table<R: Runtime + RandomSource + AllocGlobal + Threads + Wait + Sync>(
     barriers(rt, alloc)?;
     gates(rt, alloc)?;
     shells(rt, alloc)?;
-    futures(rt, alloc)
+    futures(rt, alloc)?;
+    lines::rows(rt, alloc)
 }
 
-// What one line tells of: its name, how many threads there are, and how often it happens in one measurement.
+/// What one line tells of.
 #[derive(Clone, Copy)]
-struct Case<'n> {
-    what: &'n str,
-    threads: u64,
-    times: u64,
+pub struct Case<'n> {
+    /// Its name.
+    pub what: &'n str,
+    /// How many threads there are.
+    pub threads: u64,
+    /// How often it happens in one measurement.
+    pub times: u64,
 }
 
 // A semaphore beside a plain counter.
@@ -196,7 +192,7 @@ fn shells<R: Runtime + Threads + Wait + Sync>(rt: &R, alloc: Global) -> io::Resu
     turns_row(rt, alloc, case, &Exclusive { lock: &lock }, &two_turns)
 }
 
-// A turn as a future beside one as a call; and a grant, its answer and a join in a line of so many beside a short line.
+// A turn as a future beside one as a call; and how often tasks that contend are polled for nothing.
 fn futures<R: Runtime + RandomSource + AllocGlobal + Threads + Wait + Sync>(
     rt: &R,
     alloc: Global,
@@ -214,35 +210,11 @@ fn futures<R: Runtime + RandomSource + AllocGlobal + Threads + Wait + Sync>(
         their_times.push(turns_nanos(rt, &one, case)?)?;
     }
     print_row(rt, case, &mut our_times, &mut their_times)?;
-    for (what, waiting) in LINES {
-        line_row(rt, alloc, what, waiting)?;
-    }
     for threads in [2, 4, 8] {
         let idle = idle_polls(rt, alloc, threads, GRANTS)?;
         println!(rt; "tasks in {threads} threads, {GRANTS} turns: {idle} polls for nothing")?;
     }
     Ok(())
-}
-
-// A grant in a line of so many futures, beside one in the shortest.
-fn line_row<R: Runtime + RandomSource + AllocGlobal + Wait>(
-    rt: &R,
-    alloc: Global,
-    what: &str,
-    waiting: u16,
-) -> io::Result<()> {
-    let case = Case {
-        what,
-        threads: 1,
-        times: GRANTS,
-    };
-    let mut our_times = Vec::with_capacity(alloc, PASSES)?;
-    let mut their_times = Vec::with_capacity(alloc, PASSES)?;
-    for _ in 0..PASSES {
-        our_times.push(line_nanos(rt, alloc, waiting, GRANTS)?)?;
-        their_times.push(line_nanos(rt, alloc, SHORTEST, GRANTS)?)?;
-    }
-    print_row(rt, case, &mut our_times, &mut their_times)
 }
 
 // Measures turns at two in turn, and prints a line.
@@ -279,8 +251,8 @@ fn passings_row<R: Runtime + Threads + Wait + Sync, A: Passage, B: Passage>(
     print_row(rt, case, &mut our_times, &mut their_times)
 }
 
-// Prints a line.
-fn print_row<R: Runtime>(
+/// Prints a line.
+pub fn print_row<R: Runtime>(
     rt: &R,
     case: Case<'_>,
     our_times: &mut [u64],

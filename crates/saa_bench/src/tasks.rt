@@ -1,14 +1,13 @@
-//! Futures that are measured, in one task that polls them itself: alone, and in a line where so many wait; and how often
-//! tasks that contend are polled for nothing.
+//! Futures that are measured: one that is granted at once, polled by hand; and how often tasks that contend are polled for
+//! nothing.
 
 use crate::permits::{PERMITS, TAKEN};
 use futures::Future;
 use futures::executor::block_on;
 use futures::task::{Context, Poll};
 use futures::test::MockTask;
-use saa_sync::future::Acquire;
 use saa_sync::semaphore::Semaphore;
-use std::alloc::{AllocError, AllocGlobal, Global};
+use std::alloc::{AllocGlobal, Global};
 use std::random::RandomSource;
 use std::rt::Runtime;
 use std::sync::Wait;
@@ -40,59 +39,6 @@ fn take_turns<R: Wait + Drop>(cx: &mut Context<'_>, semaphore: &Semaphore<R>, ti
         let _granted = one.poll(cx);
         drop(one);
         semaphore.release();
-    }
-}
-
-/// How long it takes so often, in a line of so many futures, to grant the oldest, to take its answer and to join anew.
-pub fn line_nanos<R: Runtime + RandomSource + AllocGlobal + Wait>(
-    rt: &R,
-    alloc: Global,
-    waiting: u16,
-    times: u64,
-) -> io::Result<u64> {
-    let task = MockTask::new(rt)?;
-    let semaphore = Semaphore::with_permits(rt, alloc, 0, waiting)?;
-    let mut line = Vec::with_capacity(alloc, usize::from(waiting))?;
-    task.enter(|cx| join(cx, &semaphore, &mut line, waiting))?;
-    let start = Instant::now(rt)?;
-    task.enter(|cx| go_round(cx, &semaphore, &mut line, times));
-    Ok(u64::try_from(start.elapsed(rt)?.as_nanos()).unwrap_or(u64::MAX))
-}
-
-// Has so many futures join the line.
-fn join<'s, R: Wait + Drop>(
-    cx: &mut Context<'_>,
-    semaphore: &'s Semaphore<R>,
-    line: &mut Vec<Acquire<'s, R>>,
-    waiting: u16,
-) -> Result<(), AllocError> {
-    for _place in 0..waiting {
-        let mut one = semaphore.acquire_async();
-        let _joined = one.poll(cx);
-        line.push(one)?;
-    }
-    Ok(())
-}
-
-// Grants the oldest, takes its answer, and has another join in its place, so often.
-fn go_round<'s, R: Wait + Drop>(
-    cx: &mut Context<'_>,
-    semaphore: &'s Semaphore<R>,
-    line: &mut Vec<Acquire<'s, R>>,
-    times: u64,
-) {
-    let mut place = 0;
-    for _turn in 0..times {
-        if place >= line.len() {
-            place = 0;
-        }
-        semaphore.release();
-        if let Some(oldest) = line.get_mut(place) {
-            let _granted = oldest.poll(cx);
-            *oldest = semaphore.acquire_async();
-            let _joined = oldest.poll(cx);
-        }
-        place = place.wrapping_add(1);
     }
 }
 

@@ -1,4 +1,5 @@
 pub mod CoreParts
+pub mod MainWord
 pub use Rattle.saa_object.specs.Held
 pub use Rattle.saa_object.specs.Object
 pub use Rattle.saa_object.specs.Values

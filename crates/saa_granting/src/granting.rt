@@ -15,13 +15,17 @@ ghost use Rattle.saa_tickets.specs.declared.ticket.Registration.TheVariants.{Unr
 ghost use Rattle.saa_tickets.specs.Tickets.{Core, Acts, Calls, IsCoreSettled, Polled, IsForeign, dropping, fault_of, is_busy, is_yes};
 ghost use Rattle.saa_granting.specs.CoreParts.{core_settled, core_given, core_undone, core_vacated, takes_now, oldest_fitting, IsGranting, answer_to_all};
 
-use saa_line::line::Line;
+use saa_line::line::LineOf;
+use saa_line::order::Order;
 use saa_object::request::Request;
 use saa_tickets::ticket::{Error, Full, How, Registration, Ticket};
 use std::marker::Model;
 
 /// What is held by those who were granted: which request fits, what it takes, and what giving back leaves.
 pub trait Needs: Drop {
+    /// How the line keeps the order of those who wait.
+    type Order: Order;
+
     // What contracts see of it.
     ghost held: { Self → Held };
 
@@ -50,7 +54,7 @@ pub trait Needs: Drop {
 #[derive(Drop)]
 pub struct Granting<N: Needs> {
     needs: N,
-    line: Line,
+    line: LineOf<N::Order>,
 }
 
 impl<N: Needs> Model for Granting<N> {
@@ -73,7 +77,7 @@ impl<N: Needs> Model for Granting<N> {
 
 impl<N: Needs> Granting<N> {
     /// A line at which nobody waits, and what is held.
-    pub fn new(needs: N, line: Line) -> Self
+    pub fn new(needs: N, line: LineOf<N::Order>) -> Self
         requires sound { IsSound line }
         requires nobody { line.line ≡ [] }
         ensures { result ≡ record { held = N.held needs; slots = line } }
@@ -99,6 +103,13 @@ impl<N: Needs> Granting<N> {
         ensures unpoisoned { self.now.held ≡ OfLock Poisoned → self.now.slots.line ≡ [] }
     {
         self.line.waiting()
+    }
+
+    /// Those who wait, as their order keeps them.
+    pub fn waiters(&self) -> &N::Order
+        ensures { N.Order.waiters result.now ≡ record { line = self.now.slots.line; room = room_of self.now.slots } }
+    {
+        self.line.waiters()
     }
 
     /// Takes what a request takes if nobody waits and it fits; else `false`, and nothing changes. Costs O(1).
@@ -139,7 +150,7 @@ impl<N: Needs> Granting<N> {
         true
     }
 
-    /// Registers an idle ticket. What it asks isn't more than there ever is. Costs O(1).
+    /// Registers an idle ticket. What it asks isn't more than there ever is, and the line can keep it. Costs O(1).
     ///
     /// `Ok(true)`: it is answered at once, as everybody is, or granted where nobody waits and it fits; or it waits, last
     /// in the line. `Ok(false)`: the ticket isn't idle. `Err(Full)`: it would have to wait, and as many slots are held as
@@ -150,7 +161,8 @@ impl<N: Needs> Granting<N> {
         request: Request,
         is_sync: bool,
     ) -> Result<bool, Full>
-        requires { asks_too_much self.old.held request ≡ false }
+        requires small { asks_too_much self.old.held request ≡ false }
+        requires kept { N.Order.keeps request }
         ensures acts { Acts self.old self.new ticket.old ticket.new (λ s name. registered s name request is_sync) result }
         ensures ticket { is_busy ticket.new ≡ (is_busy ticket.old || is_yes result) }
         ensures busy { is_busy ticket.old ≡ true
@@ -196,8 +208,8 @@ impl<N: Needs> Granting<N> {
     /// Drops what a ticket is registered for: it is idle afterwards in every case.
     ///
     /// A waiter leaves the line, and those behind it are granted while they fit. A grant that wasn't consumed is given
-    /// back. A ticket whose slot isn't held here changes nothing. Costs O(how many wait) for a waiter, and else
-    /// O(how many are granted).
+    /// back. A ticket whose slot isn't held here changes nothing. Costs O(how many are granted), and for a waiter what it
+    /// costs the line to let one leave.
     pub fn cancel(&mut self, ticket: &mut Ticket)
         ensures acts { Acts self.old self.new ticket.old ticket.new dropping result }
         ensures idle { ticket.new ≡ Unregistered }
@@ -293,7 +305,7 @@ fn is_for_nothing(request: Request) -> bool
 }
 
 // Grants the oldest waiters while they fit.
-fn settle<N: Needs>(needs: &mut N, line: &mut Line)
+fn settle<N: Needs>(needs: &mut N, line: &mut LineOf<N::Order>)
     requires { IsSound line.old }
     ensures settled { record { held = N.held needs.new; slots = line.new }
         ≡ core_settled (record { held = N.held needs.old; slots = line.old }) }
@@ -306,7 +318,7 @@ fn settle<N: Needs>(needs: &mut N, line: &mut Line)
 }
 
 // What the oldest waiter asks, if that fits.
-fn oldest_fitting<N: Needs>(needs: &N, line: &Line) -> Option<Request>
+fn oldest_fitting<N: Needs>(needs: &N, line: &LineOf<N::Order>) -> Option<Request>
     ensures { result ≡ oldest_fitting (N.held needs.now) line.now.line }
 {
     let (_slot, request) = line.oldest()?;

@@ -11,6 +11,8 @@ mod lists;
 #[cfg(test)]
 mod model;
 #[cfg(test)]
+mod orders;
+#[cfg(test)]
 mod threaded;
 #[cfg(test)]
 mod tickets;

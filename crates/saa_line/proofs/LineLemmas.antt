@@ -10,7 +10,7 @@ use Rattle.saa_object.specs.Object.{Waiter, one_if, times, without}
 use Rattle.saa_line.specs.Slots.{answer_in, answer_count, IsSound, answered_slots, count_of, owed_after}
 use Rattle.saa_line.specs.LineParts.{mark_of, IsLine, AreOwed}
 use Rattle.saa_line.proofs.WakesLemmas.{count_of-push, get_or-set_cases, mark_of-replicate}
-use Rattle.saa_object.proofs.Counts.{one_if-le, one_if-same, times-without_same, times-without_other, length-without}
+use Rattle.saa_object.proofs.Counts.{one_if-le, one_if-same, times-push, without-absent, times-without_same, times-without_other, length-without}
 
 -- a test that counts holds
 pub one_if-nat_lt : (a b : ℕ) → 0 < one_if (nat_lt a b) → a < b
@@ -20,22 +20,6 @@ one_if-nat_lt a b counts =
       | inr above ↦
           let none : one_if (nat_lt a b) ≡ 0 = ap one_if above in
           absurd (omega (arith, none))
-    ]
-
--- the end of a line counts as its start does
-pub times-push : (slot : ℕ) (line : List Waiter) (last : Waiter) → times slot (line ++ last ∷ []) ≡ times slot line + one_if (last.0 == slot)
-times-push slot [] last = omega arith
-times-push slot (first ∷ rest) last = omega (arith, times-push slot rest last)
-
--- a line without a slot that isn't in it is the line
-pub without-absent : (slot : ℕ) (line : List Waiter) → times slot line ≡ 0 → without slot line ≡ line
-without-absent slot [] absent = refl
-without-absent slot (first ∷ rest) absent =
-    elim (cases_Bool (first.0 == slot)) [
-      | inl same ↦
-          let test : one_if (first.0 == slot) ≡ 1 = ap one_if same in
-          absurd (omega (arith, test))
-      | inr apart ↦ rw apart (ap (λ (ws : List Waiter). first ∷ ws) (without-absent slot rest (omega arith)))
     ]
 
 -- who stands at a place of the line stands in the line
@@ -131,6 +115,11 @@ IsLine-joined line answers free rest waiting slot request is h =
           ];
       marks = length-set waiting slot true ∙ h.marks;
     }
+
+-- a line begins with its oldest
+pub line-front : (line : List Waiter) (oldest : Waiter) → Some oldest ≡ slice_get line 0 → line ≡ oldest ∷ drop 1 line
+line-front [] oldest is = absurd (cc)
+line-front (first ∷ rest) oldest is = let same : first ≡ oldest = cc in ap (λ (w : Waiter). w ∷ rest) same
 
 -- the oldest is answered, and leaves the line
 pub IsLine-answered : (line rest : List Waiter) (answers : List (Option ℕ)) (free : List ℕ) (waiting : List Bool) (slot value : ℕ) (request : Request)

@@ -6,4 +6,5 @@
 
 pub mod laws;
 pub mod line;
+pub mod order;
 mod wakes;

@@ -2,75 +2,82 @@
 //!
 //! A slot is held from `join` until its answer is taken (`take`) or it gives up (`leave`). Whoever is answered is owed a
 //! wake until it is told (`next_answered`). All memory is reserved when a line is made, and no later call takes any or
-//! can fail. What is seen of a line is `specs/Slots.antt`; how its parts agree is `specs/LineParts.antt`. Which
-//! requests fit is left to the cores, and the waking to the threaded forms.
+//! can fail. What is seen of a line is `specs/Slots.antt`; how its parts agree is `specs/LineParts.antt`. How it keeps the
+//! order of those who wait is left to an `Order`, which requests fit to the cores, and the waking to the threaded forms.
 
 ghost use Rattle.std.specs.Prelude.{◌≡◌, ◌<◌, ◌≤◌, ◌↔◌, [], ◌∷◌, ◌++◌, length, nat_lt, IsTrue, IsNone, IsOk, IfOk, IfSome, IfNone, slice_get, slice_set};
 ghost use Rattle.std.specs.Bool.{OnTrue, OnFalse};
-ghost use Rattle.std.specs.VecDeque.{deque_capacity};
 ghost use Rattle.saa_object.specs.Object.{times, without};
 ghost use Rattle.saa_line.specs.Slots.{room_of, answer_in, held_slots, held_times, IsSound, empty_slots, slots_answered, all_slots_answered, wake_told};
 ghost use Rattle.saa_line.specs.LineParts.{with_owed};
 
+use crate::order::{Order, Queue};
 use crate::wakes::Wakes;
 use saa_object::request::Request;
+use saa_words::answer_word::AnswerWord;
+use saa_words::links::Links;
 use std::alloc::{AllocError, Global};
-use std::collections::VecDeque;
 use std::marker::Model;
+
+/// A line that keeps who waits in a list.
+pub type Line = LineOf<Queue>;
+
+/// A line that keeps who waits by links, so that a slot leaves at one cost wherever it stands; its requests are those of
+/// one form.
+pub type LinkedLine<K> = LineOf<Links<K>>;
 
 /// The slots of those who wait, oldest first, and the answers that aren't taken yet.
 ///
 /// A slot is a number below the room. It is free, or waits, or has an answer.
 #[derive(Drop)]
-pub struct Line {
-    order: VecDeque<(u16, Request)>,
-    answers: Vec<Option<u8>>,
+pub struct LineOf<O: Order> {
+    order: O,
+    answers: Vec<AnswerWord>,
     waiting: Vec<bool>,
     free: Vec<u16>,
     wakes: Wakes,
 }
 
-impl Model for Line {
+impl<O: Order> Model for LineOf<O> {
     ghost use Rattle.std.specs.Prelude.{◌≡◌, ◌≤◌, length, vec_capacity};
-    ghost use Rattle.std.specs.VecDeque.{deque_capacity};
     ghost use Rattle.saa_line.specs.Slots.{Slots};
     ghost use Rattle.saa_line.specs.LineParts.{IsLine, AreOwed};
 
     ghost Value = { Slots };
 
-    ghost view = { λ l. record { line = l.order.items; answers = l.answers.items; owed = l.wakes.slots } };
+    ghost view = { λ l. record { line = (O.waiters l.order).line; answers = l.answers.items; owed = l.wakes.slots } };
 
     ghost invariant = { λ l. record {
-      agrees : IsLine l.order.items l.answers.items l.free.items l.waiting.items;
-      order_reserved : length l.answers.items ≤ deque_capacity l.order;
+      agrees : IsLine (O.waiters l.order).line l.answers.items l.free.items l.waiting.items;
+      order_room : (O.waiters l.order).room ≡ length l.answers.items;
       free_reserved : length l.answers.items ≤ vec_capacity l.free;
       wakes_room : l.wakes.room ≡ length l.answers.items;
       owed : AreOwed l.wakes.slots (length l.answers.items);
     } };
 }
 
-impl Line {
+impl<O: Order> LineOf<O> {
     /// A line of `room` slots, none of them held. Costs O(`room`).
     ///
     /// Reserves all the memory that the line will ever need; the error comes only where that was refused, and so never
     /// for room 0, which takes none.
-    pub fn with_room(alloc: Global, room: u16) -> Result<Line, AllocError>
+    pub fn with_room(alloc: Global, room: u16) -> Result<Self, AllocError>
         ensures made { IfOk result (λ line. line ≡ empty_slots room) }
         ensures no_room { room ≡ 0 → IsOk result }
         ensures sound { IfOk result IsSound }
     {
         let places = usize::from(room);
-        let order = VecDeque::with_capacity(alloc, places)?;
+        let order = O::with_room(alloc, room)?;
         let wakes = Wakes::with_room(alloc, room)?;
         let mut answers = Vec::with_capacity(alloc, places)?;
         let mut waiting = Vec::with_capacity(alloc, places)?;
         let mut free = Vec::with_capacity(alloc, places)?;
         for slot in 0..room {
-            answers.push_reserved(None);
+            answers.push_reserved(AnswerWord::new(None));
             waiting.push_reserved(false);
             free.push_reserved(slot);
         }
-        Ok(Line {
+        Ok(LineOf {
             order,
             answers,
             waiting,
@@ -81,8 +88,10 @@ impl Line {
 
     /// Joins the line as its last, and answers the slot, which nobody held. Costs O(1).
     ///
-    /// `None` comes exactly where every slot of the room is held, and changes nothing.
+    /// `None` comes exactly where every slot of the room is held, and changes nothing. Asks for nothing that the order can't
+    /// keep.
     pub fn join(&mut self, request: Request) -> Option<u16>
+        requires { O.keeps request }
         ensures full { IsNone result ↔ (held_slots self.old ≡ room_of self.old) }
         ensures unchanged { IfNone result (self.new ≡ self.old) }
         ensures was_free { IfSome result (λ slot. held_times self.old slot ≡ 0) }
@@ -93,7 +102,7 @@ impl Line {
     {
         let slot = self.free.pop()?;
         self.waiting[usize::from(slot)] = true;
-        self.order.push_back_reserved((slot, request));
+        self.order.push(slot, request);
         Some(slot)
     }
 
@@ -101,7 +110,7 @@ impl Line {
     pub fn oldest(&self) -> Option<(u16, Request)>
         ensures { result ≡ slice_get self.now.line 0 }
     {
-        self.order.front().copied()
+        self.order.oldest()
     }
 
     /// Answers the `k` oldest with 0: they leave the line, hold their slots still, and are owed a wake. Costs O(`k`).
@@ -124,7 +133,8 @@ impl Line {
         self.answer_front(self.waiting(), value);
     }
 
-    /// Takes a slot that waits out of the line and frees it. The wakes that are owed stay so. Costs O(how many wait).
+    /// Takes a slot that waits out of the line and frees it. The wakes that are owed stay so. Costs what it costs the order:
+    /// O(1) by links, O(how many wait) in a list.
     ///
     /// `false` comes exactly where the slot doesn't wait, and changes nothing.
     pub fn leave(&mut self, slot: u16) -> bool
@@ -136,7 +146,7 @@ impl Line {
         if !self.waits(slot) {
             return false;
         }
-        remove_slot(&mut self.order, slot);
+        self.order.remove(slot);
         self.waiting[usize::from(slot)] = false;
         self.free.push_reserved(slot);
         true
@@ -152,7 +162,7 @@ impl Line {
         ensures sound { IsSound self.new }
     {
         let value = self.answer(slot)?;
-        self.answers[usize::from(slot)] = None;
+        self.answers[usize::from(slot)] = AnswerWord::new(None);
         self.free.push_reserved(slot);
         Some(value)
     }
@@ -168,7 +178,7 @@ impl Line {
     pub fn waiting(&self) -> u16
         ensures { result ≡ length self.now.line }
     {
-        self.order.len() as u16
+        self.order.waiting() as u16
     }
 
     /// How many slots there are, held or free. Costs O(1).
@@ -178,12 +188,20 @@ impl Line {
         self.answers.len() as u16
     }
 
+    /// Those who wait, as their order keeps them. Costs O(1).
+    pub fn waiters(&self) -> &O
+        ensures { O.waiters result.now ≡ record { line = self.now.line; room = room_of self.now } }
+    {
+        &self.order
+    }
+
     /// The answer of a slot, which stays; `None` where it has none. Costs O(1).
     pub fn answer(&self, slot: u16) -> Option<u8>
         ensures answer { result ≡ answer_in self.now.answers slot }
         ensures sound { IsSound self.now }
     {
-        self.answers.get(usize::from(slot)).copied().flatten()
+        let word = self.answers.get(usize::from(slot))?;
+        word.answer()
     }
 
     /// Whether a slot waits. Costs O(1).
@@ -229,7 +247,7 @@ impl Line {
         requires { 0 < length self.old.line }
         ensures { self.new ≡ slots_answered value 1 self.old }
     {
-        let Some((slot, _request)) = self.order.pop_front() else {
+        let Some((slot, _request)) = self.order.pop() else {
             return;
         };
         self.waiting[usize::from(slot)] = false;
@@ -238,33 +256,20 @@ impl Line {
 }
 
 // Writes the answer of a slot, whose wake is then owed: no answer is written without.
-fn give(answers: &mut Vec<Option<u8>>, wakes: &mut Wakes, slot: u16, value: u8)
+fn give(answers: &mut Vec<AnswerWord>, wakes: &mut Wakes, slot: u16, value: u8)
     requires within { slot < length answers.old.items }
     requires within_wakes { slot < wakes.old.room }
     ensures given { answers.new.items ≡ slice_set answers.old.items slot (Some value) }
     ensures owed { wakes.new ≡ with_owed slot wakes.old }
 {
-    answers[usize::from(slot)] = Some(value);
+    answers[usize::from(slot)] = AnswerWord::new(Some(value));
     wakes.owe(slot);
-}
-
-// Takes a slot that stands once in the line out of it.
-fn remove_slot(order: &mut VecDeque<(u16, Request)>, slot: u16)
-    requires { times slot order.old.items ≡ 1 }
-    ensures removed { order.new.items ≡ without slot order.old.items }
-    ensures reserved { deque_capacity order.new ≡ deque_capacity order.old }
-{
-    for place in 0..order.len() {
-        if order[place].0 == slot {
-            let _waiter = order.remove(place);
-            return;
-        }
-    }
 }
 
 #[cfg(test)]
 mod tests {
     use super::*;
+    use saa_words::requests::ForPermits;
     use std::test::Fail;
 
     #[test]
@@ -331,6 +336,42 @@ mod tests {
         assert_eq!(rt;
             (line.next_answered(), line.next_answered()),
             (Some(second), None)
+        );
+        Ok(())
+    }
+
+    #[test]
+    fn a_slot_of_a_linked_line_leaves_wherever_it_stands(rt: HostRuntime) -> Result<(), Fail> {
+        let mut line = LinkedLine::<ForPermits>::with_room(rt.alloc(), 3)?;
+        let first = line.join(Request::Permits(1)).ok_or("no first slot")?;
+        let second = line.join(Request::Permits(2)).ok_or("no second slot")?;
+        let third = line.join(Request::Permits(3)).ok_or("no third slot")?;
+        assert_eq!(rt; line.join(Request::Permits(4)), None);
+        assert_eq!(rt; line.waiters().tail(), third + 1);
+
+        assert!(rt; line.leave(second));
+        assert!(rt; !line.leave(second));
+        assert_eq!(rt;
+            (line.waiting(), line.oldest()),
+            (2, Some((first, Request::Permits(1))))
+        );
+        assert_eq!(rt; line.join(Request::Permits(5)), Some(second));
+        assert_eq!(rt; line.waiters().tail(), second + 1);
+
+        line.grant_front(1);
+        assert_eq!(rt; (line.take(first), line.take(third)), (Some(0), None));
+        assert_eq!(rt; line.oldest(), Some((third, Request::Permits(3))));
+        assert!(rt; line.leave(third));
+        line.answer_all(2);
+        assert_eq!(rt; (line.waiting(), line.waiters().tail()), (0, 0));
+        assert_eq!(rt; (line.take(second), line.used()), (Some(2), 0));
+        assert_eq!(rt;
+            (
+                line.next_answered(),
+                line.next_answered(),
+                line.next_answered()
+            ),
+            (Some(first), Some(second), None)
         );
         Ok(())
     }

@@ -3,7 +3,7 @@
 //! The core is held to `specs/Lock.antt` of `saa_object` by every call, with any tickets that are registered in it. It is
 //! thin: asking, settling and dropping stand in `granting`; who has the lock, and poison, stand here.
 
-ghost use Rattle.std.specs.Prelude.{true, false, ◌≡◌, ℕ, ◌-◌, ◌<◌, ◌≤◌, ◌==◌, ◌||◌, [], if◌then◌else◌, replicate, slice_get, IsOk, IfOk, IfSome, IfNone, OnErr, IsErr, Ok, Err, Some, None};
+ghost use Rattle.std.specs.Prelude.{true, false, ◌≡◌, ℕ, ◌-◌, ◌<◌, ◌≤◌, ◌↔◌, ◌==◌, ◌||◌, [], if◌then◌else◌, replicate, slice_get, IsOk, IfOk, IfSome, IfNone, OnErr, IsErr, Ok, Err, Some, None};
 ghost use Rattle.std.specs.Bool.{OnFalse};
 ghost use Rattle.saa_object.specs.declared.request.Request.TheVariants.{Exclusive as AskExclusive, Shared as AskShared};
 ghost use Rattle.saa_object.specs.declared.polling.Error.TheVariants.{NotRegistered};
@@ -15,16 +15,21 @@ ghost use Rattle.saa_object.specs.Values.{lock_value, poisoned_value};
 ghost use Rattle.saa_object.specs.Lock.{mode_request, is_free, is_locked, is_shared, is_poisoned, poisoned_of, cleared_of, try_error, new_lock};
 ghost use Rattle.saa_line.specs.Slots.{OwesAnswered, empty_slots, held_slots, room_of, wake_told, all_slots_answered};
 ghost use Rattle.saa_tickets.specs.declared.ticket.Registration.TheVariants.{Unregistered};
+ghost use Rattle.saa_words.specs.Words.{count_bits, lock_count, word_number, word_of};
+ghost use Rattle.saa_granting.specs.MainWord.{core_word};
 ghost use Rattle.saa_tickets.specs.Tickets.{Acts, Calls, Belong, IsCoreSettled, Polled, IsForeign, dropping, fault_of, is_busy, is_yes, object_of};
 ghost use Rattle.saa_granting.specs.CoreParts.{takes_now};
 ghost use Rattle.saa_locks.specs.LockCalls.{lock_tried};
 
 use saa_granting::granting::{Granting, Needs};
-use saa_line::line::Line;
+use saa_line::line::LinkedLine;
 pub use saa_object::lock::{LockAnswer, LockCall, Mode, TryLockError};
 use saa_object::request::Request;
 use saa_tickets::bench::Primitive;
 use saa_tickets::ticket::{Error, Full, How, Ticket};
+use saa_words::links::Links;
+use saa_words::requests::ForModes;
+use saa_words::word::Word;
 use std::alloc::{AllocError, Global};
 use std::fmt;
 use std::marker::Model;
@@ -65,7 +70,7 @@ impl LockCore {
         ensures object { IfOk result (λ core. (names : ℕ)
             → object_of core (replicate names Unregistered) ≡ new_lock room names) }
     {
-        let line = Line::with_room(alloc, room)?;
+        let line = LinkedLine::<ForModes>::with_room(alloc, room)?;
         let needs = Owners::new(Owner::Free);
         Ok(LockCore {
             core: Granting::new(needs, line),
@@ -98,6 +103,25 @@ impl LockCore {
         ensures { result ≡ is_poisoned self.now.held }
     {
         matches!(self.core.needs().owner(), Owner::Poisoned)
+    }
+
+    /// The lock in one number, laid out as `docs/WORDS.md` draws it: from bit 0 how many share it, in 6 bits, or 63 for one
+    /// owner alone; bit 6 clear; bit 7 set exactly where it is poisoned; from bit 8 the newest who waits, by its slot plus
+    /// 1, and 0 where nobody waits. Costs O(1).
+    pub fn word(&self) -> u64
+        ensures number { result ≡ word_number count_bits (core_word self.now) }
+        ensures read { word_of count_bits result ≡ core_word self.now }
+        ensures nobody { ((word_of count_bits result).tail ≡ 0) ↔ (self.now.slots.line ≡ []) }
+        ensures within { (word_of count_bits result).tail ≤ room_of self.now.slots }
+    {
+        let owner = self.core.needs().owner();
+        let word = Word {
+            count: count_of(owner),
+            is_flagged: false,
+            is_poisoned: matches!(owner, Owner::Poisoned),
+            tail: self.core.waiters().tail(),
+        };
+        word.pack()
     }
 
     /// Takes the lock for one owner alone if nobody waits and it is free; never waits itself. Costs O(1).
@@ -258,7 +282,7 @@ impl LockCore {
     /// A waiter leaves the line, and those behind it are granted while they fit. A grant that wasn't consumed is given
     /// back as by the release of its mode, which changes nothing where the lock is poisoned by then; a granted wait mode
     /// and a Poisoned answer give nothing back. A ticket whose slot isn't held in this core changes nothing here.
-    /// Costs O(how many wait) for a waiter, and else O(how many are granted).
+    /// Costs O(how many are granted), wherever a waiter stands.
     pub fn cancel(&mut self, ticket: &mut Ticket)
         ensures acts { Acts self.old self.new ticket.old ticket.new dropping result }
         ensures idle { ticket.new ≡ Unregistered }
@@ -366,6 +390,8 @@ impl Owners {
 impl Needs for Owners {
     ghost use Rattle.saa_object.specs.Held.{OfLock};
 
+    type Order = Links<ForModes>;
+
     ghost held = { λ owners. OfLock owners };
 
     ghost grants = { λ owners. tt };
@@ -395,6 +421,17 @@ impl Needs for Owners {
             Owner::Poisoned => Some(POISONED),
             Owner::Free | Owner::Exclusive | Owner::Shared(_) => None,
         }
+    }
+}
+
+// The count of a lock in its word.
+fn count_of(owner: Owner) -> u16
+    ensures { result ≡ lock_count (lock_state owner) }
+{
+    match owner {
+        Owner::Free | Owner::Poisoned => 0,
+        Owner::Exclusive => 63,
+        Owner::Shared(owners) => u16::from(owners),
     }
 }
 

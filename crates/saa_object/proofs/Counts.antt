@@ -82,3 +82,19 @@ times-without_other slot other (w ∷ line) apart =
           rw e (omega (arith, times-without_other slot other line apart, ap one_if differ))
       | inr e ↦ rw e (omega (arith, times-without_other slot other line apart))
     ]
+
+-- the end of a line counts as its start does
+pub times-push : (slot : ℕ) (line : List Waiter) (last : Waiter) → times slot (line ++ last ∷ []) ≡ times slot line + one_if (last.0 == slot)
+times-push slot [] last = omega arith
+times-push slot (first ∷ rest) last = omega (arith, times-push slot rest last)
+
+-- a line without a slot that isn't in it is the line
+pub without-absent : (slot : ℕ) (line : List Waiter) → times slot line ≡ 0 → without slot line ≡ line
+without-absent slot [] absent = refl
+without-absent slot (first ∷ rest) absent =
+    elim (bool_cases (first.0 == slot)) [
+      | inl same ↦
+          let test : one_if (first.0 == slot) ≡ 1 = ap one_if same in
+          absurd (omega (arith, test))
+      | inr apart ↦ rw apart (ap (λ (ws : List Waiter). first ∷ ws) (without-absent slot rest (omega arith)))
+    ]

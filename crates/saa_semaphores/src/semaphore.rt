@@ -14,14 +14,19 @@ ghost use Rattle.saa_object.specs.Polling.{polled, given_back, read_as};
 ghost use Rattle.saa_object.specs.Values.{semaphore_value};
 ghost use Rattle.saa_object.specs.Semaphore.{bound_of, out_of, available, new_semaphore};
 ghost use Rattle.saa_line.specs.Slots.{OwesAnswered, empty_slots, held_slots, room_of, wake_told};
+ghost use Rattle.saa_words.specs.Words.{count_bits, word_number, word_of};
+ghost use Rattle.saa_granting.specs.MainWord.{core_word};
 ghost use Rattle.saa_tickets.specs.Tickets.{Acts, Calls, Belong, IsCoreSettled, Polled, IsForeign, dropping, fault_of, is_busy, is_yes, object_of};
 
 use saa_granting::granting::{Granting, Needs};
-use saa_line::line::Line;
+use saa_line::line::LinkedLine;
 use saa_object::request::Request;
 pub use saa_object::semaphore::{SemaphoreAnswer, SemaphoreCall};
 use saa_tickets::bench::Primitive;
 use saa_tickets::ticket::{Error, Full, How, Ticket};
+use saa_words::links::Links;
+use saa_words::requests::ForPermits;
+use saa_words::word::Word;
 use std::alloc::{AllocError, Global};
 use std::fmt;
 use std::marker::Model;
@@ -49,6 +54,23 @@ impl<const MAX: usize> Model for SemaphoreCoreOf<MAX> {
 impl SemaphoreCoreOf<63> {
     /// The most permits of a semaphore.
     pub const MAX_PERMITS: usize = 63;
+
+    /// The semaphore in one number, laid out as `docs/WORDS.md` draws it: from bit 0 the permits that are out, in 6 bits;
+    /// bits 6 and 7 clear; from bit 8 the newest who waits, by its slot plus 1, and 0 where nobody waits. Costs O(1).
+    pub fn word(&self) -> u64
+        ensures number { result ≡ word_number count_bits (core_word self.now) }
+        ensures read { word_of count_bits result ≡ core_word self.now }
+        ensures nobody { ((word_of count_bits result).tail ≡ 0) ↔ (self.now.slots.line ≡ []) }
+        ensures within { (word_of count_bits result).tail ≤ room_of self.now.slots }
+    {
+        let word = Word {
+            count: self.core.needs().out as u16,
+            is_flagged: false,
+            is_poisoned: false,
+            tail: self.core.waiters().tail(),
+        };
+        word.pack()
+    }
 }
 
 impl<const MAX: usize> SemaphoreCoreOf<MAX> {
@@ -83,7 +105,7 @@ impl<const MAX: usize> SemaphoreCoreOf<MAX> {
         ensures object { IfOk result (λ core. (names : ℕ)
             → object_of core (replicate names Unregistered) ≡ new_semaphore MAX permits room names) }
     {
-        let line = Line::with_room(alloc, room)?;
+        let line = LinkedLine::<ForPermits>::with_room(alloc, room)?;
         let needs = PermitsOut {
             out: MAX - permits.min(MAX),
         };
@@ -236,7 +258,7 @@ impl<const MAX: usize> SemaphoreCoreOf<MAX> {
     ///
     /// A waiter leaves the line, and those behind it are granted while they fit. A grant that wasn't consumed is given
     /// back as [`Self::release_many`] would. A ticket whose slot isn't held in this core changes nothing here.
-    /// Costs O(how many wait) for a waiter, and else O(how many are granted).
+    /// Costs O(how many are granted), wherever a waiter stands.
     pub fn cancel(&mut self, ticket: &mut Ticket)
         ensures acts { Acts self.old self.new ticket.old ticket.new dropping result }
         ensures idle { ticket.new ≡ Unregistered }
@@ -285,6 +307,8 @@ struct PermitsOut<const MAX: usize> {
 
 impl<const MAX: usize> Needs for PermitsOut<MAX> {
     ghost use Rattle.saa_object.specs.Held.{OfSemaphore};
+
+    type Order = Links<ForPermits>;
 
     ghost held = { λ permits. OfSemaphore MAX permits.out };
 

@@ -163,7 +163,8 @@ impl<'s, S: SyncResult> Pager<'s, S> {
 
     /// Drops what it is registered for, and wakes whom that answers; it is unregistered afterwards and can be used again.
     ///
-    /// Does nothing where it isn't registered. May wait for the lock. A waiter's drop costs O(how many wait).
+    /// Does nothing where it isn't registered. May wait for the lock. A waiter's drop costs
+    /// O(how many wait) at a gate and a barrier.
     pub fn cancel(&mut self)
         ensures { self.new ≡ Unregistered }
     {

@@ -291,7 +291,7 @@ impl<R: Wait + Drop> SyncResult for Lock<R> {
 
     /// A waiter leaves the line, and those behind it are granted while they fit; what was granted and not consumed is
     /// given back as by the release of its mode, and nothing where the lock is poisoned by then. A granted wait mode and
-    /// a Poisoned answer give nothing back. Costs O(how many wait) for a waiter, and a wake for each who is granted.
+    /// a Poisoned answer give nothing back. Costs O(1), wherever a waiter stands, and a wake for each who is granted.
     fn cancel(&self, ticket: &mut Ticket) {
         self.shell.cancel(ticket);
     }

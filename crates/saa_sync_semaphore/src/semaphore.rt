@@ -300,7 +300,8 @@ impl<R: Wait + Drop> SyncResult for Semaphore<R> {
     }
 
     /// A waiter leaves the line, and those behind it are granted while they fit; what was granted and not consumed is
-    /// given back, as by `release_many`. Costs O(how many wait) for a waiter, and a wake for each who is granted.
+    /// given back, as by `release_many`. Costs O(1), wherever a waiter stands, and a wake for each
+    /// who is granted.
     fn cancel(&self, ticket: &mut Ticket) {
         self.shell.cancel(ticket);
     }

@@ -12,7 +12,8 @@ ghost use Rattle.saa_line.specs.Slots.{IsSound};
 ghost use Rattle.saa_tickets.specs.SlotStates.{IsSlotState};
 ghost use Rattle.saa_tickets.specs.Tickets.{Acts, IsForeign, Polled, fault_of, is_busy};
 
-use saa_line::line::Line;
+use saa_line::line::LineOf;
+use saa_line::order::Order;
 pub use saa_object::polling::{Error, How};
 pub use saa_object::request::{Full, Request};
 use std::marker::Model;
@@ -78,7 +79,7 @@ impl Ticket {
     }
 
     // The poll of every core: of this ticket in a line, whatever is held. O(1).
-    pub fn poll_in(&mut self, line: &mut Line, how: How) -> Result<u8, Error>
+    pub fn poll_in<O: Order>(&mut self, line: &mut LineOf<O>, how: How) -> Result<u8, Error>
         requires { IsSound line.old }
         ensures acts { (held : Held) → Acts (record { held = held; slots = line.old }) (record { held = held; slots = line.new })
             self.old self.new (λ s name. polled s name how) result }
@@ -106,9 +107,9 @@ impl Ticket {
     }
 
     // The poll of a ticket that has a slot. A slot that isn't held in this line was registered elsewhere.
-    fn poll_slot(
+    fn poll_slot<O: Order>(
         &mut self,
-        line: &mut Line,
+        line: &mut LineOf<O>,
         how: How,
         slot: u16,
         _request: Request,
@@ -157,7 +158,7 @@ enum SlotState {
 }
 
 // What a slot of a line is.
-fn slot_state(line: &Line, slot: u16) -> SlotState
+fn slot_state<O: Order>(line: &LineOf<O>, slot: u16) -> SlotState
     ensures { IsSlotState line.now slot result }
 {
     if let Some(value) = line.answer(slot) {

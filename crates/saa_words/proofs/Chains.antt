@@ -1,12 +1,11 @@
 -- Lines that are held by links: what reads them, and what each change of a link keeps. Each lemma is over the line words as a
 -- function of the place, before and after.
-use Rattle.std.proofs.Common.{◌≡◌, ◌⊎◌, ◌≢◌, ℕ, pred, ◌+◌, ◌<◌, false, List, [], ◌∷◌, ◌++◌, length, ◌==◌, if◌then◌else◌, refl, sym, ap, ◌∙◌, arith, inl, inr}
+use Rattle.std.proofs.Common.{◌≡◌, ◌⊎◌, ◌≢◌, ℕ, pred, ◌+◌, ◌<◌, true, false, Some, drop, slice_get, List, [], ◌∷◌, ◌++◌, length, ◌==◌, if◌then◌else◌, refl, sym, ap, ◌∙◌, arith, inl, inr}
 use Rattle.std.proofs.lemmas.Bool.{cases_Bool}
 use Rattle.std.proofs.lemmas.Bool.Decides.{nat_tests}
 use Rattle.saa_object.specs.declared.request.Request.{Request}
 use Rattle.saa_object.specs.Object.{Waiter, one_if, times, without}
-use Rattle.saa_object.proofs.Counts.{one_if-same, same_number, times-append, times-without_other}
-use Rattle.saa_line.proofs.LineLemmas.{without-absent}
+use Rattle.saa_object.proofs.Counts.{one_if-same, number_same, same_number, times-append, times-without_other, without-absent}
 use Rattle.saa_words.specs.declared.line_word.LineWord.{LineWord}
 use Rattle.saa_object.specs.Held.{request_number}
 use Rattle.saa_words.specs.Links.{first_link, last_link, IsChain, followed, AreRead}
@@ -52,6 +51,19 @@ chain-followed words read older (waiter ∷ rest) newer asked h =
     let place : pred (waiter.0 + 1) ≡ waiter.0 = omega arith in
     let tail = chain-followed words read (waiter.0 + 1) rest newer asked.1 h.2 in
     rw (place, h.0, asked.0) (ap (λ (ws : List Waiter). waiter ∷ ws) tail)
+
+-- nobody stands twice in a line that is held
+pub chain-once : (words : ℕ → LineWord) (older : ℕ) (waiter : Waiter) (rest : List Waiter) (newer : ℕ) → IsChain words older (waiter ∷ rest) newer → times waiter.0 (waiter ∷ rest) ≡ 1
+chain-once words older waiter rest newer h = omega (arith, one_if-same waiter.0, h.1)
+
+-- a line without its oldest, who stands in it once, is what stands behind
+pub without-oldest : (line : List Waiter) (oldest : Waiter) → slice_get line 0 ≡ Some oldest → times oldest.0 line ≡ 1 → without oldest.0 line ≡ drop 1 line
+without-oldest [] oldest is once = absurd (cc)
+without-oldest (waiter ∷ rest) oldest is once =
+    let same : waiter ≡ oldest = cc in
+    let test : waiter.0 == oldest.0 ≡ true = ap (λ (w : Waiter). waiter.0 == w.0) (sym same) ∙ number_same waiter.0 in
+    let none : times oldest.0 rest ≡ 0 = omega (arith, once, ap one_if test) in
+    rw test (without-absent oldest.0 rest none)
 
 -- the newest of a line that one more joined is that one
 pub last_link-push : (older : ℕ) (line : List Waiter) (last : Waiter) → last_link older (line ++ last ∷ []) ≡ last.0 + 1

@@ -1,16 +1,15 @@
 -- What each call keeps of a line that is held by links, in the numbers of its line words.
-use Rattle.std.proofs.Common.{◌≡◌, ℕ, ◌+◌, ◌-◌, ◌<◌, ◌≤◌, true, false, List, [], ◌∷◌, ◌++◌, length, ◌==◌, if◌then◌else◌, refl, sym, ap, subst, ◌∙◌, arith, inl, inr}
+use Rattle.std.proofs.Common.{◌≡◌, ◌↔◌, ℕ, ◌+◌, ◌-◌, ◌<◌, ◌≤◌, true, false, List, [], ◌∷◌, ◌++◌, length, ◌==◌, if◌then◌else◌, refl, sym, ap, subst, ◌∙◌, arith, inl, inr}
 use Rattle.std.proofs.lemmas.Bool.{cases_Bool}
 use Rattle.std.proofs.lemmas.Bool.Decides.{nat_tests}
 use Rattle.std.proofs.lemmas.List.{length_push}
 use Rattle.saa_object.specs.declared.request.Request.{Request}
 use Rattle.saa_object.specs.Object.{Waiter, one_if, times, without}
-use Rattle.saa_object.proofs.Counts.{one_if-same, same_number, length-without, times-without_same, times-without_other}
-use Rattle.saa_line.proofs.LineLemmas.{times-push}
+use Rattle.saa_object.proofs.Counts.{one_if-same, same_number, length-without, times-push, times-without_same, times-without_other}
 use Rattle.saa_words.specs.declared.line_word.LineWord.{LineWord}
 use Rattle.saa_object.specs.Held.{request_number}
 use Rattle.saa_words.specs.Links.{first_link, last_link, followed, words_in, IsLinked}
-use Rattle.saa_words.proofs.Chains.{chain-followed, chain-joined, chain-left, chain-older, chain-newer, last_link-push, first_link-left, last_link-left, AreRead-push, AreRead-without, IsUnlinked}
+use Rattle.saa_words.proofs.Chains.{chain-followed, chain-once, chain-joined, chain-left, chain-older, chain-newer, last_link-push, first_link-left, last_link-left, AreRead-push, AreRead-without, IsUnlinked}
 
 -- what is met along the links is the line
 pub IsLinked-followed : (read : ℕ → Request) (numbers : List ℕ) (oldest newest waiting : ℕ) (line : List Waiter)
@@ -147,3 +146,22 @@ pub IsLinked-oldest : (read : ℕ → Request) (numbers : List ℕ) (oldest newe
 IsLinked-oldest read numbers oldest newest waiting [] h some = absurd (omega (arith, h.size, some))
 IsLinked-oldest read numbers oldest newest waiting (waiter ∷ rest) h some =
     (omega (arith, h.first), omega (arith, h.first, h.within waiter.0 (omega (arith, one_if-same waiter.0))))
+
+-- and stands in the line once
+pub IsLinked-once : (read : ℕ → Request) (numbers : List ℕ) (oldest newest waiting : ℕ) (line : List Waiter)
+    → IsLinked read numbers oldest newest waiting line → 0 < waiting → times (oldest - 1) line ≡ 1
+IsLinked-once read numbers oldest newest waiting [] h some = absurd (omega (arith, h.size, some))
+IsLinked-once read numbers oldest newest waiting (waiter ∷ rest) h some =
+    let place : oldest - 1 ≡ waiter.0 = omega (arith, h.first) in
+    ap (λ (n : ℕ). times n (waiter ∷ rest)) place ∙ chain-once (words_in numbers) 0 waiter rest 0 h.chain
+
+-- the newest is nobody exactly where nobody waits
+pub last_link-nobody : (older : ℕ) (waiter : Waiter) (rest : List Waiter) → 0 < last_link older (waiter ∷ rest)
+last_link-nobody older waiter [] = omega arith
+last_link-nobody older waiter (next ∷ rest) = last_link-nobody (waiter.0 + 1) next rest
+
+pub IsLinked-nobody : (read : ℕ → Request) (numbers : List ℕ) (oldest newest waiting : ℕ) (line : List Waiter)
+    → IsLinked read numbers oldest newest waiting line → (newest ≡ 0) ↔ (line ≡ [])
+IsLinked-nobody read numbers oldest newest waiting [] h = (λ zero. refl, λ none. h.last)
+IsLinked-nobody read numbers oldest newest waiting (waiter ∷ rest) h =
+    (λ zero. absurd (omega (arith, zero, h.last, last_link-nobody 0 waiter rest)), λ none. absurd (cc))

@@ -41,7 +41,7 @@ abbrev pub words_in : List ℕ → ℕ → LineWord
 words_in numbers place = line_word_of (slice_index_or numbers place 0)
 
 -- What is seen of a line that is held by links: who waits, oldest first, and how many places there are
-pub record Linked : Type 0 where
+pub record Waiters : Type 0 where
   pub line : List Waiter
   pub room : ℕ
 

@@ -3,6 +3,7 @@
 use Rattle.std.specs.Prelude.{ℕ, suc, zero, ◌+◌, ◌-◌, ◌*◌, ◌/◌, ◌%◌, ◌^◌, ◌==◌, if◌then◌else◌, Option, Some, None}
 use Rattle.saa_object.specs.declared.request.Request.{Request}
 use Rattle.saa_object.specs.declared.request.Request.TheVariants.{Exclusive, Shared, WaitExclusive, WaitShared, Permits}
+use Rattle.saa_object.specs.Held.{Held, OfSemaphore, OfLock, OfGate, OfBarrier, LockState, Free, Exclusive as Alone, Shared as Sharing, Poisoned}
 use Rattle.saa_object.specs.Object.{one_if}
 use Rattle.saa_words.specs.declared.word.Word.{Word}
 use Rattle.saa_words.specs.declared.line_word.LineWord.{LineWord}
@@ -23,6 +24,20 @@ word_of bits number = record {
   is_poisoned = number / 2 ^ bits / 2 % 2 == 1;
   tail = number / 2 ^ bits / 4 % 65536;
 }
+
+-- the count of a lock in a main word: how many share it, and 63 for one owner alone
+abbrev pub lock_count : LockState → ℕ
+lock_count Free = 0
+lock_count Alone = 63
+lock_count Poisoned = 0
+lock_count (Sharing owners) = owners
+
+-- the count of what is held: the permits that are out, or the owners of a lock
+abbrev pub held_count : Held → ℕ
+held_count (OfSemaphore bound out) = out
+held_count (OfLock lock) = lock_count lock
+held_count (OfGate gate) = 0
+held_count (OfBarrier size) = 0
 
 -- the number of a line word: what is asked, the older neighbour, the newer one
 abbrev pub line_number : LineWord → ℕ

@@ -3,7 +3,7 @@
 //! Joining, leaving and being answered write the words of a place and of its neighbours alone, wherever the place stands, so
 //! none of them walks the line. What is seen of it is a list; how the words hold it stands in `specs/Links.antt`.
 
-ghost use Rattle.std.specs.Prelude.{◌≡◌, ℕ, ◌+◌, ◌<◌, ◌≤◌, [], ◌∷◌, ◌++◌, length, IsOk, IfOk, ◌==◌, if◌then◌else◌, slice_get};
+ghost use Rattle.std.specs.Prelude.{◌≡◌, ℕ, ◌+◌, ◌<◌, ◌≤◌, ◌↔◌, [], ◌∷◌, ◌++◌, length, drop, IsOk, IfOk, IfSome, ◌==◌, if◌then◌else◌, slice_get};
 ghost use Rattle.saa_object.specs.Object.{times, without};
 ghost use Rattle.saa_object.specs.Held.{request_number};
 ghost use Rattle.saa_words.specs.Links.{last_link, words_in};
@@ -26,9 +26,9 @@ pub struct Links<K: Requests> {
 
 impl<K: Requests> Model for Links<K> {
     ghost use Rattle.std.specs.Prelude.{length};
-    ghost use Rattle.saa_words.specs.Links.{Linked, IsLinked, followed, words_in};
+    ghost use Rattle.saa_words.specs.Links.{Waiters, IsLinked, followed, words_in};
 
-    ghost Value = { Linked };
+    ghost Value = { Waiters };
 
     ghost view = { λ l. record {
       line = followed (words_in l.words.items) K.read l.waiting l.oldest;
@@ -96,9 +96,20 @@ impl<K: Requests> Links<K> {
         self.waiting -= 1;
     }
 
+    /// The oldest who waits leaves; `None` where nobody waits. Costs O(1).
+    pub fn pop(&mut self) -> Option<(u16, Request)>
+        ensures oldest { result ≡ slice_get self.old.line 0 }
+        ensures left { self.new ≡ record self.old { line = drop 1 self.old.line } }
+    {
+        let (place, request) = self.oldest()?;
+        self.remove(place);
+        Some((place, request))
+    }
+
     /// The oldest who waits, with what it asks; `None` where nobody waits. Costs O(1).
     pub fn oldest(&self) -> Option<(u16, Request)>
-        ensures { result ≡ slice_get self.now.line 0 }
+        ensures oldest { result ≡ slice_get self.now.line 0 }
+        ensures once { IfSome result (λ waiter. times waiter.0 self.now.line ≡ 1) }
     {
         if self.waiting == 0 {
             return None;
@@ -109,7 +120,9 @@ impl<K: Requests> Links<K> {
 
     /// The newest who waits, by its place plus 1; 0 where nobody waits. Costs O(1).
     pub fn tail(&self) -> u16
-        ensures { result ≡ last_link 0 self.now.line }
+        ensures newest { result ≡ last_link 0 self.now.line }
+        ensures nobody { (result ≡ 0) ↔ (self.now.line ≡ []) }
+        ensures within { result ≤ self.now.room }
     {
         let Links { newest, .. } = self;
         *newest

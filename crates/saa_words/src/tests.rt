@@ -2,7 +2,7 @@
 
 ghost use Rattle.std.specs.Prelude.{◌≡◌};
 
-use crate::answer_word;
+use crate::answer_word::{self, AnswerWord};
 use crate::line_word::LineWord;
 use crate::links::Links;
 use crate::requests::{ForModes, ForPermits, Requests, request_number};
@@ -64,6 +64,13 @@ fn an_answer_word_is_its_value_and_one(rt: HostRuntime) {
 }
 
 #[test]
+fn an_answer_word_answers_what_it_was_made_of(rt: HostRuntime) {
+    for answer in [None, Some(0), Some(2), Some(255)] {
+        assert_eq!(rt; AnswerWord::new(answer).answer(), answer);
+    }
+}
+
+#[test]
 fn each_request_has_its_number(rt: HostRuntime) {
     let modes = [
         Request::Exclusive,
@@ -109,5 +116,13 @@ fn a_place_leaves_wherever_it_stands(rt: HostRuntime) -> Result<(), Fail> {
     links.remove(1);
     assert_eq!(rt; (links.waiting(), links.tail()), (0, 0));
     assert_eq!(rt; links.oldest(), None);
+
+    // The oldest is taken, and taken again.
+    links.push(1, Request::Permits(9));
+    links.push(0, Request::Permits(1));
+    assert_eq!(rt; links.pop(), Some((1, Request::Permits(9))));
+    assert_eq!(rt; (links.waiting(), links.tail()), (1, 1));
+    assert_eq!(rt; links.pop(), Some((0, Request::Permits(1))));
+    assert_eq!(rt; (links.pop(), links.tail()), (None, 0));
     Ok(())
 }

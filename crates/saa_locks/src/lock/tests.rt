@@ -127,6 +127,27 @@ fn a_poll_in_the_wrong_mode_leaves_the_answer(rt: HostRuntime) -> Result<(), Fai
 }
 
 #[test]
+fn the_word_shows_the_owners_poison_and_the_newest_who_waits(rt: HostRuntime) -> Result<(), Fail> {
+    let mut core = LockCore::new(rt.alloc(), 1)?;
+    let mut one = Ticket::new();
+    assert_eq!(rt; core.try_share(), Ok(()));
+    assert_eq!(rt; core.try_share(), Ok(()));
+    assert_eq!(rt; core.word(), 2);
+    assert!(rt; core.release_share());
+    assert!(rt; core.release_share());
+    assert_eq!(rt; core.word(), 0);
+    assert_eq!(rt; core.try_lock(), Ok(()));
+    assert_eq!(rt; core.word(), 63);
+    assert_eq!(rt; core.register(&mut one, Mode::Shared, true), Ok(true));
+    assert_eq!(rt; core.word(), 319);
+    assert!(rt; core.poison_lock());
+    assert_eq!(rt; core.word(), 128);
+    assert!(rt; core.clear_poison());
+    assert_eq!(rt; core.word(), 0);
+    Ok(())
+}
+
+#[test]
 fn a_lock_shows_its_state(rt: HostRuntime) -> Result<(), Fail> {
     let mut core = LockCore::new(rt.alloc(), 4)?;
     assert_eq!(rt; core.try_share(), Ok(()));

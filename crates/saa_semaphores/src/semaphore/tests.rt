@@ -77,6 +77,22 @@ fn no_permits_wait_in_turn(rt: HostRuntime) -> Result<(), Fail> {
 }
 
 #[test]
+fn the_word_shows_what_is_out_and_the_newest_who_waits(rt: HostRuntime) -> Result<(), Fail> {
+    let mut core = SemaphoreCore::new(rt.alloc(), 1)?;
+    let mut first = Ticket::new();
+    assert_eq!(rt; core.word(), 0);
+    assert!(rt; core.try_acquire_many(63));
+    assert_eq!(rt; core.word(), 63);
+    assert_eq!(rt; core.register(&mut first, 1, true), Ok(true));
+    assert_eq!(rt; core.word(), 319);
+    assert!(rt; core.release());
+    assert_eq!(rt; core.word(), 63);
+    assert_eq!(rt; core.poll(&mut first, How::Sync), Ok(()));
+    assert_eq!(rt; core.word(), 63);
+    Ok(())
+}
+
+#[test]
 fn odd_counts_change_nothing(rt: HostRuntime) -> Result<(), Fail> {
     let mut core = SemaphoreCore::with_permits(rt.alloc(), 100, 4)?;
     let mut ticket = Ticket::new();

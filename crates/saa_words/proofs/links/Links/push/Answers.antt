@@ -1,13 +1,13 @@
 -- The newest gets the place as its newer neighbour, and the place the newest as its older one.
 use Rattle.std.proofs.Common.{◌≡◌, ℕ, length, refl, ap, ◌∙◌, arith}
 use Rattle.saa_words.specs.declared.line_word.LineWord.{LineWord}
-use Rattle.saa_words.specs.Links.{Linked, IsLinked, followed, words_in}
+use Rattle.saa_words.specs.Links.{Waiters, IsLinked, followed, words_in}
 use Rattle.saa_words.proofs.Linking.{IsLinked-followed, IsLinked-joined, IsLinked-newest}
 use Rattle.saa_words.proofs.links.Links.push.Goals as goal
 
 pub overflow_add-link : goal.overflow_add-link
 overflow_add-link g c =
-    let room : length c.self.inside.words.items ≡ c.args.self.now.room = ap (λ (s : Linked). s.room) c.self.view_is in
+    let room : length c.self.inside.words.items ≡ c.args.self.now.room = ap (λ (s : Waiters). s.room) c.self.view_is in
     omega (arith, c.requires.within, room, c.self.invariant.small)
 
 pub set_newer-requires : goal.set_newer-requires
@@ -15,8 +15,8 @@ set_newer-requires g c = IsLinked-newest _ _ _ _ _ _ c.self.invariant
 
 pub invariant_of-self : goal.invariant_of-self
 invariant_of-self g c =
-    let lines : followed (words_in c.self.inside.words.items) g.K.Requests.read c.self.inside.waiting c.self.inside.oldest ≡ c.args.self.now.line = ap (λ (s : Linked). s.line) c.self.view_is in
-    let room : length c.self.inside.words.items ≡ c.args.self.now.room = ap (λ (s : Linked). s.room) c.self.view_is in
+    let lines : followed (words_in c.self.inside.words.items) g.K.Requests.read c.self.inside.waiting c.self.inside.oldest ≡ c.args.self.now.line = ap (λ (s : Waiters). s.line) c.self.view_is in
+    let room : length c.self.inside.words.items ≡ c.args.self.now.room = ap (λ (s : Waiters). s.room) c.self.view_is in
     let was : IsLinked g.K.Requests.read c.self.inside.words.items c.self.inside.oldest c.self.inside.newest c.self.inside.waiting c.args.self.now.line = rw (← lines) c.self.invariant in
     let is = IsLinked-joined g.K.Requests.read c.self.inside.words.items c.store.new.words.items c.self.inside.oldest c.self.inside.newest c.self.inside.waiting
     c.args.self.now.line c.args.place c.args.request was
@@ -29,8 +29,8 @@ invariant_of-self g c =
 
 pub returns : goal.returns
 returns g c =
-    let lines : followed (words_in c.self.inside.words.items) g.K.Requests.read c.self.inside.waiting c.self.inside.oldest ≡ c.args.self.now.line = ap (λ (s : Linked). s.line) c.self.view_is in
-    let room : length c.self.inside.words.items ≡ c.args.self.now.room = ap (λ (s : Linked). s.room) c.self.view_is in
+    let lines : followed (words_in c.self.inside.words.items) g.K.Requests.read c.self.inside.waiting c.self.inside.oldest ≡ c.args.self.now.line = ap (λ (s : Waiters). s.line) c.self.view_is in
+    let room : length c.self.inside.words.items ≡ c.args.self.now.room = ap (λ (s : Waiters). s.room) c.self.view_is in
     let was : IsLinked g.K.Requests.read c.self.inside.words.items c.self.inside.oldest c.self.inside.newest c.self.inside.waiting c.args.self.now.line = rw (← lines) c.self.invariant in
     let is = IsLinked-joined g.K.Requests.read c.self.inside.words.items c.store.new.words.items c.self.inside.oldest c.self.inside.newest c.self.inside.waiting
     c.args.self.now.line c.args.place c.args.request was

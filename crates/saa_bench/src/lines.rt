@@ -1,0 +1,277 @@
+//! Lines in which many wait: what it costs to drop one from the middle, to drop the newest, and to grant the oldest, with its
+//! release and its poll, at the core and at the form that threads share; and what a core costs whose line is held by links
+//! beside one whose line is a list, where nobody waits and where one does.
+
+use crate::measure::{Case, PASSES, print_row};
+use futures::Future;
+use futures::task::Context;
+use futures::test::MockTask;
+use saa_core::semaphore::SemaphoreCore;
+use saa_core::ticket::{How, Ticket};
+use saa_listed::ListedSemaphore;
+use saa_sync::future::Acquire;
+use saa_sync::semaphore::Semaphore;
+use std::alloc::{AllocError, AllocGlobal, Global};
+use std::io;
+use std::random::RandomSource;
+use std::rt::Runtime;
+use std::sync::Wait;
+use std::time::Instant;
+
+// How often it happens in one measurement; of what takes a nanosecond, more often.
+const TIMES: u64 = 50_000;
+
+const TRIES: u64 = 5_000_000;
+
+// How many wait in the shortest line, and in all of them.
+const SHORTEST: u16 = 64;
+
+const LENGTHS: [u16; 4] = [SHORTEST, 1_024, 4_096, 16_384];
+
+// What happens in a line.
+#[derive(Clone, Copy)]
+enum Action {
+    // One in the middle gives up, and joins as the newest.
+    DropMiddle,
+    // The newest gives up, and joins anew.
+    DropNewest,
+    // The oldest is granted, takes its answer, and joins as the newest.
+    Grant,
+}
+
+const ACTIONS: [Action; 3] = [Action::DropMiddle, Action::DropNewest, Action::Grant];
+
+impl Action {
+    // What the row says of it.
+    fn name(self) -> &'static str {
+        match self {
+            Action::DropMiddle => "drop the middle",
+            Action::DropNewest => "drop the newest",
+            Action::Grant => "grant the oldest",
+        }
+    }
+
+    // The place among those who joined of whom it happens to, at a turn.
+    fn place(self, turn: u64, waiting: u16) -> usize {
+        let all = usize::from(waiting);
+        let half = all / 2;
+        let turn = turn as usize;
+        match self {
+            // The first half stays, so that whoever is next in the second half stands in the middle.
+            Action::DropMiddle => half.saturating_add(turn.checked_rem(half).unwrap_or(0)),
+            Action::DropNewest => all.saturating_sub(1),
+            Action::Grant => turn.checked_rem(all).unwrap_or(0),
+        }
+    }
+}
+
+// Where the line is: in a core, or in the form that threads share.
+#[derive(Clone, Copy)]
+enum Form {
+    Core,
+    Shared,
+}
+
+/// Prints what each action costs in each line, at both forms, beside the shortest line; and a core of links beside a list.
+pub fn rows<R: Runtime + RandomSource + AllocGlobal + Wait>(
+    rt: &R,
+    alloc: Global,
+) -> io::Result<()> {
+    println!(rt; "in the line of a core   waiting          ns    of 64 ns  ratio")?;
+    for action in ACTIONS {
+        for waiting in LENGTHS {
+            row(rt, alloc, Form::Core, action, waiting)?;
+        }
+    }
+    println!(rt; "in one that is shared   waiting          ns    of 64 ns  ratio")?;
+    for action in ACTIONS {
+        for waiting in LENGTHS {
+            row(rt, alloc, Form::Shared, action, waiting)?;
+        }
+    }
+    println!(rt; "at a core               threads    links ns     list ns  ratio")?;
+    uncontended(rt, alloc)?;
+    one_waits(rt, alloc)
+}
+
+// An action in a line of so many, beside the shortest; how many wait stands where the threads do.
+fn row<R: Runtime + RandomSource + AllocGlobal + Wait>(
+    rt: &R,
+    alloc: Global,
+    form: Form,
+    action: Action,
+    waiting: u16,
+) -> io::Result<()> {
+    let case = Case {
+        what: action.name(),
+        threads: u64::from(waiting),
+        times: TIMES,
+    };
+    let mut times = Vec::with_capacity(alloc, PASSES)?;
+    let mut shortest = Vec::with_capacity(alloc, PASSES)?;
+    for _ in 0..PASSES {
+        times.push(nanos(rt, alloc, form, action, waiting)?)?;
+        shortest.push(nanos(rt, alloc, form, action, SHORTEST)?)?;
+    }
+    print_row(rt, case, &mut times, &mut shortest)
+}
+
+// How long an action takes so often, in nanoseconds.
+fn nanos<R: Runtime + RandomSource + AllocGlobal + Wait>(
+    rt: &R,
+    alloc: Global,
+    form: Form,
+    action: Action,
+    waiting: u16,
+) -> io::Result<u64> {
+    match form {
+        Form::Core => core_nanos(rt, alloc, action, waiting),
+        Form::Shared => shared_nanos(rt, alloc, action, waiting),
+    }
+}
+
+// How long it takes so often at a core, in nanoseconds.
+fn core_nanos<R: Runtime>(rt: &R, alloc: Global, action: Action, waiting: u16) -> io::Result<u64> {
+    let mut core = SemaphoreCore::with_permits(alloc, 0, waiting)?;
+    let mut line = Vec::with_capacity(alloc, usize::from(waiting))?;
+    for _place in 0..waiting {
+        let mut ticket = Ticket::new();
+        let _joined = core.register(&mut ticket, 1, true);
+        line.push(ticket)?;
+    }
+    let start = Instant::now(rt)?;
+    for turn in 0..TIMES {
+        if let Some(ticket) = line.get_mut(action.place(turn, waiting)) {
+            act(&mut core, ticket, action);
+        }
+    }
+    nanos_since(rt, start)
+}
+
+// One turn of an action at a core.
+fn act(core: &mut SemaphoreCore, ticket: &mut Ticket, action: Action) {
+    match action {
+        Action::DropMiddle | Action::DropNewest => core.cancel(ticket),
+        Action::Grant => {
+            core.release();
+            let _told = core.next_answered();
+            let _granted = core.poll(ticket, How::Sync);
+        }
+    }
+    let _joined = core.register(ticket, 1, true);
+}
+
+// How long it takes so often at the form that threads share, by futures in one task, in nanoseconds.
+fn shared_nanos<R: Runtime + RandomSource + AllocGlobal + Wait>(
+    rt: &R,
+    alloc: Global,
+    action: Action,
+    waiting: u16,
+) -> io::Result<u64> {
+    let task = MockTask::new(rt)?;
+    let semaphore = Semaphore::with_permits(rt, alloc, 0, waiting)?;
+    let mut line = Vec::with_capacity(alloc, usize::from(waiting))?;
+    task.enter(|cx| join(cx, &semaphore, &mut line, waiting))?;
+    let start = Instant::now(rt)?;
+    task.enter(|cx| act_often(cx, &semaphore, &mut line, action));
+    nanos_since(rt, start)
+}
+
+// Has so many futures join the line.
+fn join<'s, R: Wait + Drop>(
+    cx: &mut Context<'_>,
+    semaphore: &'s Semaphore<R>,
+    line: &mut Vec<Acquire<'s, R>>,
+    waiting: u16,
+) -> Result<(), AllocError> {
+    for _place in 0..waiting {
+        let mut one = semaphore.acquire_async();
+        let _joined = one.poll(cx);
+        line.push(one)?;
+    }
+    Ok(())
+}
+
+// Does it so often. Whoever is replaced gives up by its drop, unless it took its answer.
+fn act_often<'s, R: Wait + Drop>(
+    cx: &mut Context<'_>,
+    semaphore: &'s Semaphore<R>,
+    line: &mut Vec<Acquire<'s, R>>,
+    action: Action,
+) {
+    let waiting = u16::try_from(line.len()).unwrap_or(u16::MAX);
+    for turn in 0..TIMES {
+        if let Some(one) = line.get_mut(action.place(turn, waiting)) {
+            if matches!(action, Action::Grant) {
+                semaphore.release();
+                let _granted = one.poll(cx);
+            }
+            *one = semaphore.acquire_async();
+            let _joined = one.poll(cx);
+        }
+    }
+}
+
+// A try with its release, at a core whose line is held by links beside one whose line is a list.
+fn uncontended<R: Runtime>(rt: &R, alloc: Global) -> io::Result<()> {
+    let mut linked = SemaphoreCore::new(alloc, SHORTEST)?;
+    let mut listed = ListedSemaphore::new(alloc, SHORTEST)?;
+    let mut linked_times = Vec::with_capacity(alloc, PASSES)?;
+    let mut listed_times = Vec::with_capacity(alloc, PASSES)?;
+    for _ in 0..PASSES {
+        let start = Instant::now(rt)?;
+        for _turn in 0..TRIES {
+            let _taken = linked.try_acquire_many(40) && linked.release_many(40);
+        }
+        linked_times.push(nanos_since(rt, start)?)?;
+        let start = Instant::now(rt)?;
+        for _turn in 0..TRIES {
+            let _taken = listed.try_acquire_many(40) && listed.release_many(40);
+        }
+        listed_times.push(nanos_since(rt, start)?)?;
+    }
+    let case = Case {
+        what: "try and release",
+        threads: 1,
+        times: TRIES,
+    };
+    print_row(rt, case, &mut linked_times, &mut listed_times)
+}
+
+// A task that waits alone, is granted and takes its answer, at the same two cores.
+fn one_waits<R: Runtime>(rt: &R, alloc: Global) -> io::Result<()> {
+    let mut linked = SemaphoreCore::with_permits(alloc, 0, SHORTEST)?;
+    let mut listed = ListedSemaphore::new(alloc, SHORTEST)?;
+    let _all = listed.try_acquire_many(63);
+    let (mut one, mut other) = (Ticket::new(), Ticket::new());
+    let _joined = linked.register(&mut one, 1, true);
+    let _joined = listed.register(&mut other, 1, true);
+    let mut linked_times = Vec::with_capacity(alloc, PASSES)?;
+    let mut listed_times = Vec::with_capacity(alloc, PASSES)?;
+    for _ in 0..PASSES {
+        let start = Instant::now(rt)?;
+        for _turn in 0..TIMES {
+            act(&mut linked, &mut one, Action::Grant);
+        }
+        linked_times.push(nanos_since(rt, start)?)?;
+        let start = Instant::now(rt)?;
+        for _turn in 0..TIMES {
+            listed.release_many(1);
+            let _told = listed.next_answered();
+            let _granted = listed.poll(&mut other, How::Sync);
+            let _joined = listed.register(&mut other, 1, true);
+        }
+        listed_times.push(nanos_since(rt, start)?)?;
+    }
+    let case = Case {
+        what: "wait and be granted",
+        threads: 1,
+        times: TIMES,
+    };
+    print_row(rt, case, &mut linked_times, &mut listed_times)
+}
+
+// How long it is since then, in nanoseconds.
+fn nanos_since<R: Runtime>(rt: &R, start: Instant) -> io::Result<u64> {
+    Ok(u64::try_from(start.elapsed(rt)?.as_nanos()).unwrap_or(u64::MAX))
+}
