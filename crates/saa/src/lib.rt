@@ -14,7 +14,7 @@ pub mod request;
 pub mod semaphore;
 
 pub use saa_core::lock::TryLockError;
-pub use saa_core::ticket;
+pub use saa_core::{ticket, words};
 pub use saa_guards::lock_api;
 pub use saa_guards::lock_api::{
     Mutex, MutexGuard, RwLock, RwLockReadGuard, RwLockWriteGuard, lock_async, read_async,
