@@ -1,0 +1,2 @@
+pub mod LazyRuns
+pub mod Ranges

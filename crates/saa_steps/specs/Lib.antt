@@ -1,0 +1,3 @@
+pub mod Needs
+pub mod Lazy
+pub mod Steps
