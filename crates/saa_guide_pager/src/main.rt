@@ -1,0 +1,31 @@
+//! Two pagers that wait in one line while their owner does other things; one gives up.
+#![tactic(auto)]
+
+use saa::pager::{Error, Pager};
+use saa::semaphore::Semaphore;
+use saa::ticket::Full;
+use std::io;
+use std::sync::Wait;
+
+fn main(rt: HostRuntime) -> io::Result<()> {
+    // One permit, which is out, and room for two who wait.
+    let printer = Semaphore::with_permits(&rt, rt.alloc(), 0, 2)?;
+    match queue(&printer) {
+        Ok(is_granted) => println!(rt; "the second has the printer: {is_granted}"),
+        Err(Full) => println!(rt; "nobody else can wait here"),
+    }
+}
+
+// Puts two pagers into the line, takes the first out of it, and gives the printer back.
+fn queue<R: Wait + Drop>(printer: &Semaphore<R>) -> Result<bool, Full> {
+    let (mut first, mut second) = (Pager::new(), Pager::new());
+    let _ = printer.register_pager(&mut first, 1, true)?;
+    let _ = printer.register_pager(&mut second, 1, true)?;
+    // Nothing sleeps here: a poll that finds no answer says so.
+    let waits = second.try_poll() == Err(Error::NotReady);
+    // The first leaves the line; so would it where it is dropped.
+    first.cancel();
+    printer.release();
+    // Sleeps until the answer is there, which it is.
+    Ok(waits && second.poll_sync() == Ok(()))
+}
