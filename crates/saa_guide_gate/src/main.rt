@@ -9,7 +9,7 @@ fn main(rt: HostRuntime) -> io::Result<()> {
     // A controlled gate, and room for two who wait.
     let gate = Gate::new(&rt, rt.alloc(), 2)?;
     // Who comes first waits; who comes when it is open passes at once.
-    let (_before, started) = thread::join(&rt, || gate.open(), || both(&rt, &gate));
+    let (started, _before) = thread::join(&rt, || both(&rt, &gate), || gate.open());
     println!(rt; "{started} started")?;
     let (_before, waiting) = gate.seal();
     println!(rt; "{waiting} waited when it was sealed")?;
