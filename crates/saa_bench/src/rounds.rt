@@ -1,5 +1,5 @@
 //! Rounds that are measured: a barrier's, and a gate that lets all who wait pass; and each by a counter under std's
-//! `Mutex` and `Condvar`, since std here has no barrier.
+//! `Mutex` and `Condvar`.
 
 use crate::measure::Turn;
 use saa_sync::barrier::Barrier;
