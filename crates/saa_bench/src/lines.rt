@@ -220,13 +220,15 @@ fn uncontended<R: Runtime>(rt: &R, alloc: Global) -> io::Result<()> {
     let mut listed_times = Vec::with_capacity(alloc, PASSES)?;
     for _ in 0..PASSES {
         let start = Instant::now(rt)?;
-        for _turn in 0..TRIES {
-            let _taken = linked.try_acquire_many(40) && linked.release_many(40);
+        for turn in 0..TRIES {
+            let count = count_of(turn);
+            let _taken = linked.try_acquire_many(count) && linked.release_many(count);
         }
         linked_times.push(nanos_since(rt, start)?)?;
         let start = Instant::now(rt)?;
-        for _turn in 0..TRIES {
-            let _taken = listed.try_acquire_many(40) && listed.release_many(40);
+        for turn in 0..TRIES {
+            let count = count_of(turn);
+            let _taken = listed.try_acquire_many(count) && listed.release_many(count);
         }
         listed_times.push(nanos_since(rt, start)?)?;
     }
@@ -269,6 +271,11 @@ fn one_waits<R: Runtime>(rt: &R, alloc: Global) -> io::Result<()> {
         times: TIMES,
     };
     print_row(rt, case, &mut linked_times, &mut listed_times)
+}
+
+// How many permits a turn asks for: not always as many, so that a call isn't worked out before it is made.
+fn count_of(turn: u64) -> usize {
+    (turn % 64) as usize
 }
 
 // How long it is since then, in nanoseconds.
