@@ -22,6 +22,7 @@ ghost use Rattle.futures.specs.Poll.{IfReady, OnPending};
 
 use crate::seat::{Patience, Seat};
 use crate::wakers::Wakers;
+use crossbeam_utils::CachePadded;
 use futures::task::{Context, Poll, Source, Waker};
 use saa_futures::future::{Asking, Progress};
 use saa_tickets::bench::Primitive;
@@ -161,8 +162,9 @@ pub(crate) enum Begun {
 pub struct Shell<R: Wait + Drop, P: Primitive> {
     rt: R,
     lock: Mutex<Inside<P>>,
-    // One for each slot of the room.
-    seats: Vec<Seat>,
+    // One for each slot of the room, each on cache lines of its own: a task that looks at its seat would be held up by every ring
+    // of its neighbours, which cost two threads that take turns a third of the time.
+    seats: Vec<CachePadded<Seat>>,
     patience: Patience,
     /// What tasks wait for.
     pub source: Source,
@@ -181,7 +183,7 @@ impl<R: Wait + Drop, P: Primitive> Shell<R, P> {
     ) -> Result<Self, AllocError> {
         let mut seats = Vec::with_capacity(alloc, usize::from(room))?;
         for _slot in 0..room {
-            seats.push_reserved(Seat::new());
+            seats.push_reserved(CachePadded::new(Seat::new()));
         }
         let wakers = Wakers::with_room(alloc, room)?;
         Ok(Shell {
@@ -487,7 +489,8 @@ impl<R: Wait + Drop, P: Primitive> Shell<R, P> {
 
     // The seat of a slot of the room; a slot past it has none.
     fn seat(&self, slot: u16) -> Option<&Seat> {
-        self.seats.get(usize::from(slot))
+        let seat = self.seats.get(usize::from(slot))?;
+        Some(seat)
     }
 
     /// Whether the seat of a slot is rung; for the tests of the forms above.
