@@ -147,6 +147,11 @@ impl Lazy {
         is_allowed
     }
 
+    /// Whether an answer is to be shown still.
+    pub fn owes_an_answer(&self) -> bool {
+        self.due.iter().any(|due| *due)
+    }
+
     /// Whether a place has no answer yet that it could take.
     pub fn is_unanswered(&self, link: u16) -> bool {
         self.waits(link) || self.is_due(link)
