@@ -4,7 +4,7 @@
 //! Those who wait stand in a line; the last arrival of a round never does. That a round stays incomplete while tasks
 //! wait is `specs/Standing.antt`.
 
-ghost use Rattle.std.specs.Prelude.{true, false, ◌≡◌, ℕ, ◌+◌, ◌-◌, ◌<◌, ◌==◌, ◌||◌, length, min, replicate, slice_get, IsOk, IfOk, IfSome, OnErr, IsErr};
+ghost use Rattle.std.specs.Prelude.{true, false, ◌≡◌, ℕ, ◌+◌, ◌-◌, ◌<◌, ◌≤◌, ◌==◌, ◌||◌, length, min, replicate, slice_get, IsOk, IfOk, IfSome, OnErr, IsErr};
 ghost use Rattle.saa_object.specs.declared.request.Request.TheVariants.{Arrive};
 ghost use Rattle.saa_object.specs.declared.polling.Error.TheVariants.{NotRegistered};
 ghost use Rattle.saa_tickets.specs.declared.ticket.Registration.TheVariants.{Unregistered, AtOnce};
@@ -91,6 +91,7 @@ impl BarrierCore {
     pub fn count(&self) -> usize
         ensures calls { Calls self.now self.now (barrier_step BarrierCall.Count) (BarrierAnswer.Count result) }
         ensures answer { result ≡ size_of self.now.held - length self.now.slots.line }
+        ensures within { result ≤ max_tasks }
     {
         self.size.saturating_sub(usize::from(self.line.waiting()))
     }

@@ -116,7 +116,8 @@ impl<const MAX: usize> SemaphoreCoreOf<MAX> {
 
     /// How many permits are available. Costs O(1).
     pub fn available_permits(&self) -> usize
-        ensures { result ≡ available self.now.held }
+        ensures answer { result ≡ available self.now.held }
+        ensures within { result ≤ MAX }
     {
         MAX - self.core.needs().out
     }
@@ -153,6 +154,7 @@ impl<const MAX: usize> SemaphoreCoreOf<MAX> {
     pub fn try_acquire_many(&mut self, count: usize) -> bool
         ensures calls { Calls self.old self.new (λ s. tried s (Permits count)) result }
         ensures answer { IsTrue result ↔ ((self.old.slots.line ≡ []) × (count ≤ available self.old.held)) }
+        ensures too_many { MAX < count → result ≡ false }
         ensures taken { OnTrue result (available self.new.held + count ≡ available self.old.held) }
         ensures refused { OnFalse result (self.new ≡ self.old) }
         ensures wakes { OwesAnswered self.old.slots self.new.slots }
@@ -182,6 +184,7 @@ impl<const MAX: usize> SemaphoreCoreOf<MAX> {
     pub fn release_many(&mut self, count: usize) -> bool
         ensures calls { Calls self.old self.new (λ s. given_back s (Permits count)) result }
         ensures answer { IsTrue result ↔ (count ≤ out_of self.old.held) }
+        ensures too_many { MAX < count → result ≡ false }
         ensures refused { OnFalse result (self.new ≡ self.old) }
         ensures wakes { OwesAnswered self.old.slots self.new.slots }
         ensures settled { IsCoreSettled self.new }
