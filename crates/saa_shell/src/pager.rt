@@ -206,7 +206,9 @@ impl<'s, S: SyncResult> Pager<'s, S> {
     }
 
     /// What it is registered as; for the tests of the forms above.
-    pub fn registration(&self) -> Registration {
+    pub fn registration(&self) -> Registration
+        ensures { result ≡ self.now }
+    {
         self.ticket.registration()
     }
 

@@ -7,7 +7,7 @@
 //! What nobody waits in is inlined, and the waiting and waking isn't: each register that a call saves in memory before it
 //! takes the lock is waited for there, which cost a lock some 10 ns.
 
-ghost use Rattle.std.specs.Prelude.{◌≡◌, ◌||◌, ◌&&◌, not, true, false, Some, IfErr, slice_get};
+ghost use Rattle.std.specs.Prelude.{◌≡◌, ◌||◌, ◌&&◌, not, true, false, Some, IfErr, IsOk, slice_get};
 ghost use Rattle.saa_object.specs.declared.polling.Error.TheVariants.{NotRegistered};
 ghost use Rattle.saa_object.specs.declared.polling.How.TheVariants.{Sync, Async};
 ghost use Rattle.saa_tickets.specs.declared.ticket.Registration.TheVariants.{Unregistered};
@@ -173,14 +173,17 @@ pub struct Shell<R: Wait + Drop, P: Primitive> {
 impl<R: Wait + Drop, P: Primitive> Shell<R, P> {
     /// The core that is handed in, whose slots are those of so large a room. Costs O(`room`).
     ///
-    /// Only this takes memory; the error comes only where that was refused, and the core is dropped then.
+    /// Only this takes memory; the error comes only where that was refused, and so never for room 0, which takes none. Where
+    /// it comes, the core is dropped.
     pub fn new(
         rt: R,
         alloc: Global,
         core: P,
         room: u16,
         patience: Patience,
-    ) -> Result<Self, AllocError> {
+    ) -> Result<Self, AllocError>
+        ensures no_room { room ≡ 0 → IsOk result }
+    {
         let mut seats = Vec::with_capacity(alloc, usize::from(room))?;
         for _slot in 0..room {
             seats.push_reserved(CachePadded::new(Seat::new()));
@@ -202,9 +205,12 @@ impl<R: Wait + Drop, P: Primitive> Shell<R, P> {
     }
 
     /// Makes one step of the core under the lock, and wakes whom the core owes a wake by then, with the lock free.
+    ///
+    /// The answer is one that the step gives at some core.
     #[inline(always)]
     pub fn step<A, F: FnOnce(&mut P) -> A + Drop>(&self, step: F) -> A
         requires { F.IsAlwaysCallable step }
+        ensures { (lent : _) × (left : _) × F.post step lent result left }
     {
         let mut inside = self.lock();
         let answer = step(&mut inside.core);

@@ -3,7 +3,7 @@
 //! They stand under the lock, in places that are reserved at making. A waker wakes its task when it is dropped, so it is
 //! taken out under the lock and dropped with the lock free.
 
-ghost use Rattle.std.specs.Prelude.{◌≡◌};
+ghost use Rattle.std.specs.Prelude.{◌≡◌, IsOk};
 ghost use Rattle.futures.specs.Task.{Hears, IsArmed, Keeps};
 ghost use Rattle.futures.specs.declared.task.Poll.TheVariants.{Pending};
 
@@ -18,7 +18,9 @@ pub(crate) struct Wakers {
 
 impl Wakers {
     /// A place for each of so many slots, with no waker in it. Only this takes memory.
-    pub(crate) fn with_room(alloc: Global, room: u16) -> Result<Self, AllocError> {
+    pub(crate) fn with_room(alloc: Global, room: u16) -> Result<Self, AllocError>
+        ensures no_room { room ≡ 0 → IsOk result }
+    {
         let mut places = Vec::with_capacity(alloc, usize::from(room))?;
         for _slot in 0..room {
             places.push_reserved(None);
