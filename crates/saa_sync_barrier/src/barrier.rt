@@ -4,8 +4,9 @@
 //! the end of this file, and an arrival is the shell's registration; both are held to `specs/Barrier.antt` and
 //! `specs/Asking.antt` of `saa_object` through the core's calls.
 
-ghost use Rattle.std.specs.Prelude.{◌≡◌, ◌-◌, ◌||◌, ◌==◌, true, false, length, Ok, Some};
+ghost use Rattle.std.specs.Prelude.{◌≡◌, ◌-◌, ◌≤◌, ◌||◌, ◌==◌, true, false, length, IsOk, Ok, Some};
 ghost use Rattle.saa_object.specs.Barrier.{size_of};
+ghost use Rattle.saa_object.specs.Held.{max_tasks};
 ghost use Rattle.saa_object.specs.declared.request.Request.TheVariants.{Arrive as AskArrive};
 ghost use Rattle.saa_tickets.specs.declared.ticket.Registration.TheVariants.{Unregistered};
 ghost use Rattle.saa_tickets.specs.Tickets.{is_busy, is_yes};
@@ -46,8 +47,10 @@ impl<R: Wait + Drop> Barrier<R> {
     ///
     /// A round of `count` tasks needs room for one fewer, and where its tasks go on to the next round at once, for as many
     /// as there are tasks: a slot is held until its task has its answer. Reserves all the memory that it will ever need;
-    /// the error comes only where that was refused.
-    pub fn with_count(rt: R, alloc: Global, count: usize, room: u16) -> Result<Self, AllocError> {
+    /// the error comes only where that was refused, and so never for room 0, which takes none.
+    pub fn with_count(rt: R, alloc: Global, count: usize, room: u16) -> Result<Self, AllocError>
+        ensures no_room { room ≡ 0 → IsOk result }
+    {
         let core = BarrierCore::with_count(alloc, count, room)?;
         Ok(Self::on_shell(Shell::new(rt, alloc, core, room, PATIENCE)?))
     }
@@ -70,7 +73,9 @@ impl<R: Wait + Drop> Barrier<R> {
 
     /// How many arrivals the round still waits for: the size less those who wait, and 0 at a barrier of size 0. Every
     /// ordering acts as the sequentially consistent one; none panics.
-    pub fn count(&self, _mo: Ordering) -> usize {
+    pub fn count(&self, _mo: Ordering) -> usize
+        ensures { result ≤ max_tasks }
+    {
         count_missing(&self.shell.lock().core)
     }
 
@@ -203,7 +208,8 @@ pub(crate) fn is_leader(value: u8) -> bool
 
 // How many arrivals are missing, of the core that is lent.
 fn count_missing(core: &BarrierCore) -> usize
-    ensures { result ≡ size_of core.now.held - length core.now.slots.line }
+    ensures number { result ≡ size_of core.now.held - length core.now.slots.line }
+    ensures within { result ≤ max_tasks }
 {
     core.count()
 }

@@ -46,8 +46,11 @@ pub struct Gate<R: Wait + Drop> {
 impl<R: Wait + Drop> Gate<R> {
     /// A controlled gate, and room for so many slots of those who wait. Costs O(`room`).
     ///
-    /// Reserves all the memory that it will ever need; the error comes only where that was refused.
-    pub fn new(rt: R, alloc: Global, room: u16) -> Result<Self, AllocError> {
+    /// Reserves all the memory that it will ever need; the error comes only where that was refused, and so never for
+    /// room 0, which takes none.
+    pub fn new(rt: R, alloc: Global, room: u16) -> Result<Self, AllocError>
+        ensures no_room { room ≡ 0 → IsOk result }
+    {
         let core = GateCore::new(alloc, room)?;
         Ok(Self::on_shell(Shell::new(rt, alloc, core, room, PATIENCE)?))
     }
@@ -76,7 +79,9 @@ impl<R: Wait + Drop> Gate<R> {
     /// Makes a sealed or open gate controlled, and answers the state that it was in. Nobody waits at one; wakes nobody.
     ///
     /// `None` comes exactly where it was controlled, and changes nothing.
-    pub fn reset(&self) -> Option<State> {
+    pub fn reset(&self) -> Option<State>
+        ensures { IfSome result (λ before. ¬ (before ≡ Controlled)) }
+    {
         control(&mut self.shell.lock().core)
     }
 
@@ -84,14 +89,18 @@ impl<R: Wait + Drop> Gate<R> {
     ///
     /// An error says that the gate is sealed or open, and changes nothing. Each who passes costs a ring at its seat, and
     /// each second one of them a short lock more.
-    pub fn permit(&self) -> Result<usize, State> {
+    pub fn permit(&self) -> Result<usize, State>
+        ensures { IfErr result (λ state. ¬ (state ≡ Controlled)) }
+    {
         self.shell.step(let_pass)
     }
 
     /// Rejects all who wait at a controlled gate, wakes exactly those, and answers how many they were.
     ///
     /// An error says that the gate is sealed or open, and changes nothing. Costs what [`Self::permit`] does.
-    pub fn reject(&self) -> Result<usize, State> {
+    pub fn reject(&self) -> Result<usize, State>
+        ensures { IfErr result (λ state. ¬ (state ≡ Controlled)) }
+    {
         self.shell.step(turn_away)
     }
 
@@ -278,6 +287,7 @@ fn let_pass(core: &mut GateCore) -> Result<usize, State>
     ensures permitted { IfOk result (λ count. (count ≡ length core.old.slots.line)
         × (core.new ≡ record core.old { slots = all_slots_answered permitted_value core.old.slots })) }
     ensures refused { IfErr result (λ state. (state ≡ gate_state core.old.held) × (core.new ≡ core.old)) }
+    ensures told { IfErr result (λ state. ¬ (state ≡ Controlled)) }
 {
     core.permit()
 }
@@ -289,6 +299,7 @@ fn turn_away(core: &mut GateCore) -> Result<usize, State>
     ensures rejected { IfOk result (λ count. (count ≡ length core.old.slots.line)
         × (core.new ≡ record core.old { slots = all_slots_answered rejected_value core.old.slots })) }
     ensures refused { IfErr result (λ state. (state ≡ gate_state core.old.held) × (core.new ≡ core.old)) }
+    ensures told { IfErr result (λ state. ¬ (state ≡ Controlled)) }
 {
     core.reject()
 }

@@ -3,7 +3,7 @@
 //! Each call is one lock round the core, one step of it, and the wakes that it owes. The steps stand at the end of this
 //! file as functions that are lent the core, and are held to `specs/Lock.antt` of `saa_object` through its calls.
 
-ghost use Rattle.std.specs.Prelude.{◌≡◌, ◌⊎◌, ◌||◌, ◌==◌, true, false, Ok, Some};
+ghost use Rattle.std.specs.Prelude.{◌≡◌, ◌⊎◌, ◌||◌, ◌==◌, true, false, IsOk, Ok, Some};
 ghost use Rattle.std.specs.Bool.{OnFalse};
 ghost use Rattle.saa_object.specs.declared.request.Request.TheVariants.{Exclusive as AskExclusive, Shared as AskShared};
 ghost use Rattle.saa_object.specs.Polling.{given_back};
@@ -45,8 +45,11 @@ impl<R: Wait + Drop> Lock<R> {
 
     /// A free lock, and room for so many slots of those who wait. Costs O(`room`).
     ///
-    /// Reserves all the memory that it will ever need; the error comes only where that was refused.
-    pub fn new(rt: R, alloc: Global, room: u16) -> Result<Self, AllocError> {
+    /// Reserves all the memory that it will ever need; the error comes only where that was refused, and so never for
+    /// room 0, which takes none.
+    pub fn new(rt: R, alloc: Global, room: u16) -> Result<Self, AllocError>
+        ensures no_room { room ≡ 0 → IsOk result }
+    {
         let core = LockCore::new(alloc, room)?;
         Ok(Self::on_shell(Shell::new(rt, alloc, core, room, PATIENCE)?))
     }

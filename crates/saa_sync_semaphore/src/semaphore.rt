@@ -3,7 +3,7 @@
 //! Each call is one lock, one step of the core, and the wakes that the core owes. The steps stand at the end of this
 //! file as functions that are lent the core, and are held to `specs/Semaphore.antt` of `saa_object` through its calls.
 
-ghost use Rattle.std.specs.Prelude.{◌≡◌, ◌↔◌, ◌≤◌, ◌<◌, ◌||◌, ◌==◌, true, false, [], nat_lt, IfOk, IsTrue, Ok, Some};
+ghost use Rattle.std.specs.Prelude.{◌≡◌, ◌↔◌, ◌≤◌, ◌<◌, ◌||◌, ◌==◌, true, false, [], nat_lt, IfOk, IsOk, IsTrue, Ok, Some};
 ghost use Rattle.std.specs.Bool.{OnFalse};
 ghost use Rattle.saa_object.specs.declared.request.Request.TheVariants.{Permits};
 ghost use Rattle.saa_object.specs.Asking.{tried};
@@ -43,21 +43,22 @@ impl<R: Wait + Drop> Semaphore<R> {
 
     /// A semaphore with all its permits available, and room for so many slots of those who wait. Costs O(`room`).
     ///
-    /// Reserves all the memory that it will ever need; the error comes only where that was refused.
-    pub fn new(rt: R, alloc: Global, room: u16) -> Result<Self, AllocError> {
+    /// Reserves all the memory that it will ever need; the error comes only where that was refused, and so never for
+    /// room 0, which takes none.
+    pub fn new(rt: R, alloc: Global, room: u16) -> Result<Self, AllocError>
+        ensures no_room { room ≡ 0 → IsOk result }
+    {
         Self::with_permits(rt, alloc, Self::MAX_PERMITS, room)
     }
 
     /// A semaphore with at most so many permits available; the others count as out, and may be released.
     /// A number above [`Self::MAX_PERMITS`] is cut to it. Costs O(`room`).
     ///
-    /// Reserves all the memory that it will ever need; the error comes only where that was refused.
-    pub fn with_permits(
-        rt: R,
-        alloc: Global,
-        permits: usize,
-        room: u16,
-    ) -> Result<Self, AllocError> {
+    /// Reserves all the memory that it will ever need; the error comes only where that was refused, and so never for
+    /// room 0, which takes none.
+    pub fn with_permits(rt: R, alloc: Global, permits: usize, room: u16) -> Result<Self, AllocError>
+        ensures no_room { room ≡ 0 → IsOk result }
+    {
         let core = SemaphoreCore::with_permits(alloc, permits, room)?;
         Ok(Self::on_shell(Shell::new(rt, alloc, core, room, PATIENCE)?))
     }
@@ -89,7 +90,9 @@ impl<R: Wait + Drop> Semaphore<R> {
     }
 
     /// How many permits are available, 0 to 63. Every ordering acts as the sequentially consistent one; none panics.
-    pub fn available_permits(&self, _mo: Ordering) -> usize {
+    pub fn available_permits(&self, _mo: Ordering) -> usize
+        ensures { result ≤ 63 }
+    {
         count_available(&self.shell.lock().core)
     }
 
@@ -102,7 +105,9 @@ impl<R: Wait + Drop> Semaphore<R> {
     ///
     /// A count above [`Self::MAX_PERMITS`] is never granted. 0 permits are refused too while somebody waits.
     /// A `false` changes nothing.
-    pub fn try_acquire_many(&self, count: usize) -> bool {
+    pub fn try_acquire_many(&self, count: usize) -> bool
+        ensures too_many { 63 < count → result ≡ false }
+    {
         take_now(&mut self.shell.lock().core, count)
     }
 
@@ -117,7 +122,10 @@ impl<R: Wait + Drop> Semaphore<R> {
     /// change nothing. Each who is granted costs a ring at its seat, which is a system call only where it sleeps, and
     /// each second one of them a short lock more; where nobody is granted nothing is added.
     #[inline(always)]
-    pub fn release_many(&self, count: usize) -> bool {
+    pub fn release_many(&self, count: usize) -> bool
+        ensures none { count ≡ 0 → result ≡ true }
+        ensures too_many { 63 < count → result ≡ false }
+    {
         self.shell.step(|core| give_back(core, count))
     }
 
@@ -330,7 +338,8 @@ fn tell_closed(core: &SemaphoreCore) -> bool
 
 // How many permits are available, of the core that is lent.
 fn count_available(core: &SemaphoreCore) -> usize
-    ensures { result ≡ available core.now.held }
+    ensures number { result ≡ available core.now.held }
+    ensures within { result ≤ 63 }
 {
     core.available_permits()
 }
@@ -339,6 +348,7 @@ fn count_available(core: &SemaphoreCore) -> usize
 fn take_now(core: &mut SemaphoreCore, count: usize) -> bool
     ensures calls { Calls core.old core.new (λ s. tried s (Permits count)) result }
     ensures answer { IsTrue result ↔ ((core.old.slots.line ≡ []) × (count ≤ available core.old.held)) }
+    ensures too_many { 63 < count → result ≡ false }
     ensures refused { OnFalse result (core.new ≡ core.old) }
     ensures wakes { OwesAnswered core.old.slots core.new.slots }
 {
@@ -349,6 +359,8 @@ fn take_now(core: &mut SemaphoreCore, count: usize) -> bool
 fn give_back(core: &mut SemaphoreCore, count: usize) -> bool
     ensures calls { Calls core.old core.new (λ s. given_back s (Permits count)) result }
     ensures answer { IsTrue result ↔ (count ≤ out_of core.old.held) }
+    ensures none { count ≡ 0 → result ≡ true }
+    ensures too_many { 63 < count → result ≡ false }
     ensures refused { OnFalse result (core.new ≡ core.old) }
     ensures wakes { OwesAnswered core.old.slots core.new.slots }
 {
