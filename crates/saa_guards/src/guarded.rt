@@ -3,7 +3,7 @@
 //! The value stands in a lock of std, which keeps it from whoever has no guard. It is asked only by who has the turn, and
 //! given up before the turn is passed on, so nobody ever waits for it.
 
-ghost use Rattle.std.specs.Prelude.{◌≡◌, IfOk, IfSome};
+ghost use Rattle.std.specs.Prelude.{◌≡◌, IfOk, IfSome, IsOk};
 
 use crate::turn::{Alone, Leave, Shared};
 use saa_sync_lock::lock::Lock;
@@ -25,6 +25,7 @@ impl<R: Wait + Drop, T> Guarded<R, T> {
     pub(crate) fn new(rt: R, alloc: Global, value: T, room: u16) -> Result<Self, AllocError>
     where
         T: Drop,
+        ensures no_room { room ≡ 0 → IsOk result }
     {
         let turn = Lock::new(Leave::of(&rt), alloc, room)?;
         Ok(Guarded {

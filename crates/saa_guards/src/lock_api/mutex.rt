@@ -1,6 +1,6 @@
 //! A mutex that is taken in the order of asking, and its guard.
 
-ghost use Rattle.std.specs.Prelude.{◌≡◌, IfOk, IfSome};
+ghost use Rattle.std.specs.Prelude.{◌≡◌, IfOk, IfSome, IsOk};
 
 use crate::guarded::Guarded;
 use crate::turn::{Alone, PutDown};
@@ -21,11 +21,12 @@ pub struct Mutex<R: Wait + Drop, T> {
 impl<R: Wait + Drop, T> Mutex<R, T> {
     /// A mutex that nobody has, and room for so many slots of those who wait. Costs O(`room`).
     ///
-    /// Reserves all the memory that it will ever need; the error comes only where that was refused, and the value is
-    /// dropped then.
+    /// Reserves all the memory that it will ever need; the error comes only where that was refused, and so never for
+    /// room 0, which takes none. Where it comes, the value is dropped.
     pub fn new(rt: R, alloc: Global, value: T, room: u16) -> Result<Self, AllocError>
     where
         T: Drop,
+        ensures no_room { room ≡ 0 → IsOk result }
     {
         Ok(Mutex {
             guarded: Guarded::new(rt, alloc, value, room)?,
