@@ -28,7 +28,7 @@ empty-not [] closed = refl
 empty-not (asker ∷ rest) closed = absurd (cc)
 
 -- who joins must wait, so a line that was settled still is
-joined-settled : (needs : Needs) (count place request : ℕ) (line : List (ℕ × ℕ))
+pub joined-settled : (needs : Needs) (count place request : ℕ) (line : List (ℕ × ℕ))
     → not (is_empty line) || not (fits_count needs count request) ≡ true → IsSettledAt needs count line → IsSettledAt needs count (line ++ (place, request) ∷ [])
 joined-settled needs count place request [] waits settled =
     elim (cases_Bool (fits_count needs count request)) [
@@ -68,7 +68,7 @@ run-settled needs lazy events last run was =
 -- No more is held than there ever is
 
 -- a front that fits stays within the greatest count
-front-bounded : (needs : Needs) → AreNeeds needs → (count : ℕ) (front : List (ℕ × ℕ)) → IsFront needs count front → count ≤ needs.top → count + takes_of needs front ≤ needs.top
+pub front-bounded : (needs : Needs) → AreNeeds needs → (count : ℕ) (front : List (ℕ × ℕ)) → IsFront needs count front → count ≤ needs.top → count + takes_of needs front ≤ needs.top
 front-bounded needs lawful count [] fits small = omega (arith, small)
 front-bounded needs lawful count (asker ∷ rest) fits small =
     omega (arith, front-bounded needs lawful (count + needs.takes asker.1) rest fits.1 (lawful.bounded count asker.1 fits.0))
@@ -102,7 +102,7 @@ run-bounded needs lawful lazy events last run was = run-keeps needs (λ z. z.cou
 -- Each place is held once at most
 
 -- a place that isn't seen in a line doesn't wait there, and one that is does
-waits-none : (place : ℕ) (line : List (ℕ × ℕ)) → is_in place line ≡ false → waits_times place line ≡ 0
+pub waits-none : (place : ℕ) (line : List (ℕ × ℕ)) → is_in place line ≡ false → waits_times place line ≡ 0
 waits-none place [] none = refl
 waits-none place (asker ∷ rest) none =
     elim (cases_Bool (asker.0 == place)) [
@@ -110,7 +110,7 @@ waits-none place (asker ∷ rest) none =
       | inr apart ↦ omega (arith, ap one_if apart, waits-none place rest (rw apart at none))
     ]
 
-waits-some : (place : ℕ) (line : List (ℕ × ℕ)) → is_in place line ≡ true → 0 < waits_times place line
+pub waits-some : (place : ℕ) (line : List (ℕ × ℕ)) → is_in place line ≡ true → 0 < waits_times place line
 waits-some place [] some = absurd (cc)
 waits-some place (asker ∷ rest) some =
     elim (cases_Bool (asker.0 == place)) [
@@ -136,7 +136,7 @@ waits-parts place (suc askers) [] = omega arith
 waits-parts place (suc askers) (asker ∷ rest) = omega (arith, waits-parts place askers rest)
 
 -- who is answered out of the line was held there
-answered-once : (place value : ℕ) (askers : List (ℕ × ℕ)) (answers : ℕ → Option ℕ) (others : ℕ)
+pub answered-once : (place value : ℕ) (askers : List (ℕ × ℕ)) (answers : ℕ → Option ℕ) (others : ℕ)
     → waits_times place askers + others + one_if (is_some (answers place)) ≤ 1
     → others + one_if (is_some (answered_with value askers answers place)) ≤ 1
 answered-once place value askers answers others was =

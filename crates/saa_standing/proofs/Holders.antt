@@ -1,0 +1,93 @@
+-- Where nobody waits nobody holds the flag; and the main word as an exchange has written it.
+use Rattle.std.proofs.Common.{◌≡◌, ℕ, ◌+◌, ◌<◌, ◌≤◌, pred, true, false, not, List, [], ◌∷◌, ◌++◌, ◌==◌, if◌then◌else◌, refl, sym, ap, ◌∙◌, arith, inl, inr}
+use Rattle.std.proofs.lemmas.Bool.{cases_Bool}
+use Rattle.std.proofs.lemmas.Bool.Decides.{nat_tests}
+use Rattle.saa_words.specs.declared.word.Word.{Word}
+use Rattle.saa_words.specs.declared.line_word.LineWord.{LineWord}
+use Rattle.saa_words.specs.Words.{count_bits, word_number}
+use Rattle.saa_words.proofs.Words.{word-read}
+use Rattle.saa_steps.specs.declared.place.Place.{Place}
+use Rattle.saa_steps.specs.declared.place.Afterwards.TheVariants.{Ends, Again}
+use Rattle.saa_steps.specs.declared.place.Stage.{Stage}
+use Rattle.saa_steps.specs.declared.place.Stage.TheVariants.{Quiet, ReadLoad, AskLoad, AskExchange, Prepare, Join, ReleaseLoad, ReleaseExchange, BackLoad, BackStore, Forward, CutToClose, CutToGoRound, Close, Empty, GoRound, ShowLoad, ShowStore, Take}
+use Rattle.saa_steps.specs.Needs.{Needs}
+use Rattle.saa_steps.specs.Lazy.{Lazy, is_empty, IsSettledAt}
+use Rattle.saa_steps.specs.Steps.{IsSmall}
+use Rattle.saa_standing.specs.Standing.{updated, line_of, newest, Work, IsHolding, IsMain, Stands}
+use Rattle.saa_standing.proofs.Rows.{word-whole, loaded}
+
+-- a line whose front or whose rest isn't empty isn't empty
+some-front : (front behind : List (ℕ × ℕ)) → is_empty front ≡ false → is_empty (front ++ behind) ≡ false
+some-front [] behind some = absurd (cc)
+some-front (asker ∷ rest) behind some = refl
+
+some-behind : (front behind : List (ℕ × ℕ)) → is_empty behind ≡ false → is_empty (front ++ behind) ≡ false
+some-behind [] behind some = some
+some-behind (asker ∷ rest) behind some = refl
+
+front-waits : (held : ℕ) (line : List (ℕ × ℕ)) (seen : Word) (work : Work held line seen) → is_empty work.front ≡ false → is_empty line ≡ false
+front-waits held line seen work some = rw work.parts (some-front work.front (work.behind ++ work.joined) some)
+
+behind-waits : (held : ℕ) (line : List (ℕ × ℕ)) (seen : Word) (work : Work held line seen) → is_empty work.behind ≡ false → is_empty line ≡ false
+behind-waits held line seen work some = rw work.parts (some-behind work.front (work.behind ++ work.joined) (some-front work.behind work.joined some))
+
+-- somebody waits wherever the flag is held
+pub holding-some : (needs : Needs) (words : ℕ → LineWord) (held : ℕ) (line cut : List (ℕ × ℕ)) (stage : Stage)
+    → IsHolding needs words held line cut stage → is_empty line ≡ false
+holding-some needs words held line cut Quiet h = absurd h
+holding-some needs words held line cut ReadLoad h = absurd h
+holding-some needs words held line cut (AskLoad ask) h = absurd h
+holding-some needs words held line cut (AskExchange ask seen) h = absurd h
+holding-some needs words held line cut (Prepare request seen) h = absurd h
+holding-some needs words held line cut (Join request seen) h = absurd h
+holding-some needs words held line cut (ReleaseLoad given) h = absurd h
+holding-some needs words held line cut (ReleaseExchange given seen) h = absurd h
+holding-some needs words held line cut (BackLoad seen current newer) h = front-waits held line seen h.0 h.2.1
+holding-some needs words held line cut (BackStore seen current newer word) h = front-waits held line seen h.0 h.2.1
+holding-some needs words held line cut (Forward seen current count) h = behind-waits held line seen h.0 h.3.1
+holding-some needs words held line cut (CutToClose seen current count word) h = behind-waits held line seen h.0 h.3.1
+holding-some needs words held line cut (CutToGoRound seen current count word) h = behind-waits held line seen h.0 h.3.1
+holding-some needs words held line cut (Close seen count top) h = behind-waits held line seen h.0 h.4
+holding-some needs words held line cut (Empty seen current count word) h = behind-waits held line seen h.0 h.3.1
+holding-some needs words held line cut (GoRound seen count top) h = behind-waits held line seen h.0 h.4
+holding-some needs words held line cut (ShowLoad current value Ends) h = absurd h
+holding-some needs words held line cut (ShowStore current next value Ends) h = absurd h
+holding-some needs words held line cut (ShowLoad current value (Again seen)) h = behind-waits held line seen h.0 h.3
+holding-some needs words held line cut (ShowStore current next value (Again seen)) h = behind-waits held line seen h.0 h.3
+holding-some needs words held line cut (Take waits) h = absurd h
+
+-- where nobody waits nobody holds the flag
+pub nobody-holds : (needs : Needs) (places : ℕ) (row : ℕ → ℕ) (standing : ℕ → Place) (lazy : Lazy) (s : Stands needs places row standing lazy)
+    → is_empty lazy.line ≡ true → s.holder == 0 ≡ true
+nobody-holds needs places row standing lazy s none =
+    elim (cases_Bool (s.holder == 0)) [
+      | inl nobody ↦ nobody
+      | inr somebody ↦
+          let is : s.holder ≡ pred s.holder + 1 = grind (arith, nat_tests, somebody) in
+          let some = holding-some needs (line_of row) lazy.count lazy.line s.cut (standing (pred s.holder)).stage (s.stages.holding (pred s.holder) is) in
+          let wrong : true ≡ false = sym none ∙ some in
+          absurd (cc)
+    ]
+
+-- the main word that an exchange has written
+pub main-now : (needs : Needs) (lazy : Lazy) (holder : ℕ) (word : Word) → IsSmall word → word.tail < 65536
+    → word.count ≡ lazy.count → word.tail ≡ newest 0 lazy.line → word.is_flagged ≡ not (holder == 0) → word.is_poisoned ≡ false
+    → lazy.poisoned ≡ false → lazy.count ≤ needs.top → ((holder == 0) ≡ true → lazy.unclosed ≡ false)
+    → (lazy.unclosed ≡ false → IsSettledAt needs lazy.count lazy.line) → IsMain needs (word_number count_bits word) lazy holder
+main-now needs lazy holder word small tail_small count tail flag poison calm bounded closed settled =
+    let read = word-read count_bits word small tail_small in record {
+      whole = word-whole word small tail_small;
+      count = ap (λ (w : Word). w.count) read ∙ count;
+      tail = ap (λ (w : Word). w.tail) read ∙ tail;
+      flag = ap (λ (w : Word). w.is_flagged) read ∙ flag;
+      poison = ap (λ (w : Word). w.is_poisoned) read ∙ poison;
+      calm = calm;
+      bounded = bounded;
+      closed = closed;
+      settled = settled;
+    }
+
+-- an exchange that fails leaves the row
+pub failed : (needs : Needs) (places : ℕ) (row : ℕ → ℕ) (standing : ℕ → Place) (lazy : Lazy) (old new : ℕ) → row 0 == old ≡ false
+    → Stands needs places row standing lazy → Stands needs places (updated row 0 (if row 0 == old then new else row 0)) standing lazy
+failed needs places row standing lazy old new test s = rw test (loaded needs places row standing lazy 0 s)

@@ -1,0 +1,75 @@
+-- Every step of every place keeps how words, places and the lazy object stand together.
+use Rattle.std.proofs.Common.{◌≡◌, ℕ, ◌<◌, [], refl, sym, subst, arith}
+use Rattle.saa_steps.specs.declared.place.Place.{Place}
+use Rattle.saa_steps.specs.declared.place.Stage.{Stage}
+use Rattle.saa_steps.specs.declared.place.Stage.TheVariants.{Quiet, ReadLoad, AskLoad, AskExchange, Prepare, Join, ReleaseLoad, ReleaseExchange, BackLoad, BackStore, Forward, CutToClose, CutToGoRound, Close, Empty, GoRound, ShowLoad, ShowStore, Take}
+use Rattle.saa_steps.specs.Needs.{Needs, AreNeeds}
+use Rattle.saa_steps.specs.Lazy.{Lazy}
+use Rattle.saa_standing.specs.Standing.{updated, Stands}
+use Rattle.saa_standing.specs.Stepped.{Stepped}
+use Rattle.saa_standing.proofs.Lists.{updated-same}
+use Rattle.saa_standing.proofs.Rows.{loaded}
+use Rattle.saa_standing.proofs.Asking.{step-ReadLoad, step-AskLoad}
+use Rattle.saa_standing.proofs.Joining.{step-AskExchange, step-Prepare, step-Join}
+use Rattle.saa_standing.proofs.Releasing.{step-ReleaseLoad, step-ReleaseExchange}
+use Rattle.saa_standing.proofs.Walking.{step-BackLoad, step-BackStore, step-Forward}
+use Rattle.saa_standing.proofs.Cutting.{step-CutToClose, step-CutToGoRound}
+use Rattle.saa_standing.proofs.Closing.{step-Close}
+use Rattle.saa_standing.proofs.Emptying.{step-Empty}
+use Rattle.saa_standing.proofs.GoingRound.{step-GoRound}
+use Rattle.saa_standing.proofs.Showing.{step-ShowLoad}
+use Rattle.saa_standing.proofs.Taking.{step-ShowStore, step-Take}
+
+-- a place that is in no call stays as it is
+step-Quiet : (needs : Needs) (places : ℕ) (row : ℕ → ℕ) (standing : ℕ → Place) (lazy : Lazy) (me : ℕ)
+    → Stands needs places row standing lazy → Stepped needs places row standing lazy me Quiet
+step-Quiet needs places row standing lazy me s = record {
+  events = [];
+  last = lazy;
+  run = refl;
+  names = refl;
+  calm = refl;
+  inside = omega arith;
+  stands = loaded needs places row (updated standing me (standing me)) lazy 0
+      (subst (λ (f : ℕ → Place). Stands needs places row f lazy) (sym (updated-same standing me (standing me) refl)) s);
+}
+
+-- The step of a place, whatever its stage
+pub step : (needs : Needs) → AreNeeds needs → needs.top < 64 → (places : ℕ) (row : ℕ → ℕ) (standing : ℕ → Place) (lazy : Lazy) (me : ℕ)
+    → places < 65536 → me < places → Stands needs places row standing lazy
+    → (stage : Stage) → (standing me).stage ≡ stage → Stepped needs places row standing lazy me stage
+step needs lawful wide places row standing lazy me room here s Quiet at = step-Quiet needs places row standing lazy me s
+step needs lawful wide places row standing lazy me room here s ReadLoad at = step-ReadLoad needs lawful wide places row standing lazy me room here s at
+step needs lawful wide places row standing lazy me room here s (AskLoad ask) at = step-AskLoad needs lawful wide places row standing lazy me room here s ask at
+step needs lawful wide places row standing lazy me room here s (AskExchange ask seen) at =
+    step-AskExchange needs lawful wide places row standing lazy me room here s ask seen at
+step needs lawful wide places row standing lazy me room here s (Prepare request seen) at =
+    step-Prepare needs lawful wide places row standing lazy me room here s request seen at
+step needs lawful wide places row standing lazy me room here s (Join request seen) at =
+    step-Join needs lawful wide places row standing lazy me room here s request seen at
+step needs lawful wide places row standing lazy me room here s (ReleaseLoad given) at =
+    step-ReleaseLoad needs lawful wide places row standing lazy me room here s given at
+step needs lawful wide places row standing lazy me room here s (ReleaseExchange given seen) at =
+    step-ReleaseExchange needs lawful wide places row standing lazy me room here s given seen at
+step needs lawful wide places row standing lazy me room here s (BackLoad seen current newer) at =
+    step-BackLoad needs lawful wide places row standing lazy me room here s seen current newer at
+step needs lawful wide places row standing lazy me room here s (BackStore seen current newer line) at =
+    step-BackStore needs lawful wide places row standing lazy me room here s seen current newer line at
+step needs lawful wide places row standing lazy me room here s (Forward seen current count) at =
+    step-Forward needs lawful wide places row standing lazy me room here s seen current count at
+step needs lawful wide places row standing lazy me room here s (CutToClose seen current count line) at =
+    step-CutToClose needs lawful wide places row standing lazy me room here s seen current count line at
+step needs lawful wide places row standing lazy me room here s (CutToGoRound seen current count line) at =
+    step-CutToGoRound needs lawful wide places row standing lazy me room here s seen current count line at
+step needs lawful wide places row standing lazy me room here s (Close seen count top) at =
+    step-Close needs lawful wide places row standing lazy me room here s seen count top at
+step needs lawful wide places row standing lazy me room here s (Empty seen current count line) at =
+    step-Empty needs lawful wide places row standing lazy me room here s seen current count line at
+step needs lawful wide places row standing lazy me room here s (GoRound seen count top) at =
+    step-GoRound needs lawful wide places row standing lazy me room here s seen count top at
+step needs lawful wide places row standing lazy me room here s (ShowLoad current value afterwards) at =
+    step-ShowLoad needs lawful wide places row standing lazy me room here s current value afterwards at
+step needs lawful wide places row standing lazy me room here s (ShowStore current next value afterwards) at =
+    step-ShowStore needs lawful wide places row standing lazy me room here s current next value afterwards at
+step needs lawful wide places row standing lazy me room here s (Take waits) at =
+    step-Take needs lawful wide places row standing lazy me room here s waits at

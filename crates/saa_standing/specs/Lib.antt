@@ -1,0 +1,4 @@
+pub mod Standing
+pub mod Stepped
+pub mod Calls
+pub mod Promises
