@@ -1,0 +1,9 @@
+pub mod Quiet
+pub mod Fronts
+pub mod Mirroring
+pub mod Events
+pub mod Paths
+pub mod Alone
+pub mod Waiting
+pub mod Books
+pub mod Ends

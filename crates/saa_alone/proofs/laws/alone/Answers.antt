@@ -1,0 +1,25 @@
+use Rattle.saa_alone.proofs.Alone.{alone}
+use Rattle.saa_alone.proofs.Books.{mirrored, opened}
+use Rattle.saa_alone.proofs.Mirroring.{unready}
+use Rattle.saa_alone.proofs.Waiting.{left-waiting, only-polls}
+use Rattle.saa_alone.proofs.laws.alone.Goals as goal
+
+pub returns-clause-calls : goal.returns-clause-calls
+returns-clause-calls c = λ bound places me is_sync call now s steps answer last begins takes h.
+    alone bound places me is_sync call now s begins steps answer last takes h
+
+pub returns-clause-waits : goal.returns-clause-waits
+returns-clause-waits c = λ needs places me now lazy stands here there. left-waiting needs places me now lazy stands here there
+
+pub returns-clause-only : goal.returns-clause-only
+returns-clause-only c = only-polls
+
+pub returns-clause-unready : goal.returns-clause-unready
+returns-clause-unready c = λ needs places me is_sync now lazy s stands mirrors here there.
+    unready needs places me is_sync now.standing lazy s mirrors stands.seats here there
+
+pub returns-clause-exists : goal.returns-clause-exists
+returns-clause-exists c = mirrored
+
+pub returns-clause-opening : goal.returns-clause-opening
+returns-clause-opening c = opened

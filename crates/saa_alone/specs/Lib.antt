@@ -1,0 +1,4 @@
+pub mod Alone
+pub mod Mirrors
+pub mod Agrees
+pub mod Ends
