@@ -12,6 +12,7 @@ pub mod gate;
 pub mod lock;
 pub mod request;
 pub mod semaphore;
+pub mod word;
 
 pub use saa_core::lock::TryLockError;
 pub use saa_core::{ticket, words};

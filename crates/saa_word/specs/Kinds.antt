@@ -1,0 +1,28 @@
+-- Which kind of atomic step is made at each stage.
+use Rattle.std.specs.Prelude.{Option, Some, None}
+use Rattle.saa_steps.specs.declared.place.Stage.{Stage}
+use Rattle.saa_steps.specs.declared.place.Stage.TheVariants.{Quiet, ReadLoad, AskLoad, AskExchange, Prepare as Preparing, Join as Joining, ReleaseLoad, ReleaseExchange, BackLoad, BackStore, Forward, CutToClose, CutToGoRound, Close, Empty, GoRound, ShowLoad, ShowStore, Take as Taking}
+use Rattle.saa_word.specs.declared.kind.Kind.{Kind}
+use Rattle.saa_word.specs.declared.kind.Kind.TheVariants.{Ask, Prepare, Join, Release, Walk, Publish, Show, Take}
+
+-- the kind of the step that is made at a stage; none where the place is in no call
+abbrev pub kind_at : Stage → Option Kind
+kind_at Quiet = None
+kind_at ReadLoad = Some Ask
+kind_at (AskLoad ask) = Some Ask
+kind_at (AskExchange ask seen) = Some Ask
+kind_at (Preparing request seen) = Some Prepare
+kind_at (Joining request seen) = Some Join
+kind_at (ReleaseLoad given) = Some Release
+kind_at (ReleaseExchange given seen) = Some Release
+kind_at (BackLoad seen current newer) = Some Walk
+kind_at (BackStore seen current newer line) = Some Walk
+kind_at (Forward seen current count) = Some Walk
+kind_at (CutToClose seen current count line) = Some Walk
+kind_at (CutToGoRound seen current count line) = Some Walk
+kind_at (Close seen count top) = Some Publish
+kind_at (Empty seen current count line) = Some Publish
+kind_at (GoRound seen count top) = Some Publish
+kind_at (ShowLoad current value afterwards) = Some Show
+kind_at (ShowStore current next value afterwards) = Some Show
+kind_at (Taking waits) = Some Take

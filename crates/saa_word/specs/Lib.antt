@@ -1,0 +1,5 @@
+pub mod Kinds
+pub mod Machine
+pub mod Moves
+pub mod Story
+pub mod Alone

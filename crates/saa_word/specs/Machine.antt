@@ -1,0 +1,51 @@
+-- A form in words as contracts see it: its rules, the row of words, the places, and how many operations were made on the words.
+-- The row is the main word, then the line word of each place, then the answer word of each.
+use Rattle.std.specs.Prelude.{◌≡◌, ℕ, ◌+◌, ◌*◌, ◌<◌, ◌^◌, List, ◌∷◌, length, min, replicate, slice_index, slice_index_or}
+use Rattle.saa_steps.specs.declared.rules.Rules.{Rules}
+use Rattle.saa_steps.specs.declared.rules.Rules.TheVariants.{Permits}
+use Rattle.saa_steps.specs.declared.place.Place.{Place}
+use Rattle.saa_steps.specs.Lazy.{Lazy}
+use Rattle.saa_steps.specs.Steps.{needs_of}
+use Rattle.saa_standing.specs.Standing.{Stands}
+use Rattle.saa_standing.specs.Promises.{idle_place}
+
+pub record State : Type 0 where
+  pub rules : Rules
+  pub row : List ℕ
+  pub places : List Place
+  pub operations : ℕ
+
+-- the place of this number
+abbrev pub place_in : List Place → ℕ → Place
+place_in places me = slice_index_or places me idle_place
+
+abbrev pub place_of : State → ℕ → Place
+place_of state me = place_in state.places me
+
+-- a semaphore of so many permits, of which some are withheld, with so many idle places: the words are 0, but for the main word's count
+abbrev pub opened : ℕ → ℕ → ℕ → State
+opened bound withheld places = record {
+  rules = Permits bound;
+  row = min withheld bound ∷ replicate (2 * places) 0;
+  places = replicate places idle_place;
+  operations = 0;
+}
+
+-- the row as a function of the index, and a machine that stands together with a lazy object
+abbrev pub row_of : State → ℕ → ℕ
+row_of state index = slice_index state.row index
+
+abbrev pub StandsAs : State → Lazy → Type 0
+StandsAs state lazy = Stands (needs_of state.rules) (length state.places) (row_of state) (place_of state) lazy
+
+-- a machine is of few places, each with its words
+pub record IsSized (state : State) : Type 0 where
+  pub wide : (needs_of state.rules).top < 64
+  pub few : length state.places < 2 ^ 16
+  pub words : length state.row ≡ 1 + 2 * length state.places
+
+-- What a machine always is: words and places stand together with a lazy object
+pub record IsMachine (state : State) : Type 0 where
+  pub sized : IsSized state
+  pub lazy : Lazy
+  pub stands : StandsAs state lazy

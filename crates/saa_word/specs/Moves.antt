@@ -1,0 +1,93 @@
+-- What a move of a machine does, and a list of moves.
+use Rattle.std.specs.Prelude.{◌≡◌, ℕ, ◌+◌, ◌<◌, ◌≤◌, Bool, true, false, List, [], ◌∷◌, length, slice_index, slice_set, if◌then◌else◌}
+use Rattle.saa_steps.specs.declared.call.WordCall.{WordCall}
+use Rattle.saa_steps.specs.declared.place.Stage.{Stage}
+use Rattle.saa_steps.specs.declared.place.Stage.TheVariants.{Quiet}
+use Rattle.saa_steps.specs.declared.place.Next.{Next}
+use Rattle.saa_steps.specs.declared.place.Next.TheVariants.{Going as GoesOn, Waits as HasToWait, Done as IsDone}
+use Rattle.saa_steps.specs.declared.operation.Operation.{Operation}
+use Rattle.saa_steps.specs.Steps.{is_taken, needs_of, next_of, operation_of, started, word_at, written_by}
+use Rattle.saa_standing.specs.Stepped.{place_after}
+use Rattle.saa_word.specs.declared.moves.Move.{Move}
+use Rattle.saa_word.specs.declared.moves.Move.TheVariants.{Start, Go}
+use Rattle.saa_word.specs.declared.moves.Step.{Step}
+use Rattle.saa_word.specs.declared.moves.Step.TheVariants.{Idle, Busy, Going, Waits, Done}
+use Rattle.saa_word.specs.Machine.{State, place_of}
+
+-- a move of a place that there is, and of a call that is taken
+abbrev pub IsMove : ℕ → Move → Type 0
+IsMove places (Start me call) = (me < places) × (is_taken call ≡ true)
+IsMove places (Go me) = me < places
+
+-- what a move did, and the machine behind it
+pub record Moved : Type 0 where
+  pub step : Step
+  pub machine : State
+
+-- what a place did that goes on so
+abbrev pub step_of : Next → Step
+step_of (GoesOn place) = Going
+step_of HasToWait = Waits
+step_of (IsDone place answer) = Done answer
+
+-- a place that goes on so
+abbrev pub followed : State → ℕ → Next → Moved
+followed state me next =
+    record { step = step_of next; machine = record state { places = slice_set state.places me (place_after (place_of state me) next) } }
+
+-- whether a stage is that of a place in no call
+abbrev pub is_quiet : Stage → Bool
+is_quiet Quiet = true
+is_quiet _ = false
+
+-- the word that an operation is made on, and the machine with it made
+abbrev pub found_by : State → Operation → ℕ
+found_by state operation = slice_index state.row (word_at operation)
+
+abbrev pub performed : State → Operation → State
+performed state operation = record state {
+  row = slice_set state.row (word_at operation) (written_by operation (found_by state operation));
+  operations = state.operations + 1;
+}
+
+-- the operation that a place makes next
+abbrev pub operation_at : State → ℕ → Operation
+operation_at state me = operation_of (needs_of state.rules) (length state.places) me (place_of state me).stage
+
+-- a place in the middle of a call makes one operation, and goes on with the number that it found
+abbrev pub worked_at : State → ℕ → Moved
+worked_at state me =
+    followed (performed state (operation_at state me)) me
+    (next_of (needs_of state.rules) (place_of state me) (place_of state me).stage (found_by state (operation_at state me)))
+
+-- a Go: nothing at a place in no call
+abbrev pub stepped_at : State → ℕ → Moved
+stepped_at state me = if is_quiet (place_of state me).stage then record { step = Idle; machine = state } else worked_at state me
+
+-- a Start: nothing at a place in the middle of a call; it makes no operation
+abbrev pub started_at : State → ℕ → WordCall → Moved
+started_at state me call =
+    if is_quiet (place_of state me).stage
+    then followed state me (started (needs_of state.rules) (place_of state me) call)
+    else record { step = Busy; machine = state }
+
+-- a move
+abbrev pub gone : State → Move → Moved
+gone state (Start me call) = started_at state me call
+gone state (Go me) = stepped_at state me
+
+-- how many operations on words a move has made: a Start none, a Go one at most
+abbrev pub HasMade : Move → ℕ → ℕ → Type 0
+HasMade (Start me call) before after = after ≡ before
+HasMade (Go me) before after = after ≤ before + 1
+
+-- what a list of moves did, each in its place, and the machine behind them
+pub record Run : Type 0 where
+  pub steps : List Step
+  pub machine : State
+
+abbrev pub ran : State → List Move → Run
+ran state [] = record { steps = []; machine = state }
+ran state (move ∷ moves) =
+    let behind : Run = ran (gone state move).machine moves in
+    record { steps = (gone state move).step ∷ behind.steps; machine = behind.machine }

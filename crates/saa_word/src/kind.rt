@@ -1,0 +1,48 @@
+//! The kinds of atomic step.
+
+ghost use Rattle.std.specs.Prelude.{◌≡◌};
+ghost use Rattle.saa_word.specs.Kinds.{kind_at};
+
+use saa_steps::place::Stage;
+
+/// What an atomic step is for.
+#[derive(Clone, Copy, Debug, Eq, PartialEq)]
+pub enum Kind {
+    /// It looks at the main word, or raises its count.
+    Ask,
+    /// It writes the own line word, before joining.
+    Prepare,
+    /// It joins the line, by becoming its tail.
+    Join,
+    /// It looks at the main word to give something back, or lowers its count.
+    Release,
+    /// It reads or writes a line word, as the one who works on the line.
+    Walk,
+    /// It makes what was granted known in the main word.
+    Publish,
+    /// It reads the line word of a place whose answer is due, or writes that answer.
+    Show,
+    /// It takes the own answer.
+    Take,
+}
+
+/// The kind of the step that is made at a stage; `None` where the place is in no call.
+pub fn kind_at(stage: Stage) -> Option<Kind>
+    ensures { result ≡ kind_at stage }
+{
+    match stage {
+        Stage::Quiet => None,
+        Stage::ReadLoad | Stage::AskLoad { .. } | Stage::AskExchange { .. } => Some(Kind::Ask),
+        Stage::Prepare { .. } => Some(Kind::Prepare),
+        Stage::Join { .. } => Some(Kind::Join),
+        Stage::ReleaseLoad { .. } | Stage::ReleaseExchange { .. } => Some(Kind::Release),
+        Stage::BackLoad { .. }
+        | Stage::BackStore { .. }
+        | Stage::Forward { .. }
+        | Stage::CutToClose { .. }
+        | Stage::CutToGoRound { .. } => Some(Kind::Walk),
+        Stage::Close { .. } | Stage::Empty { .. } | Stage::GoRound { .. } => Some(Kind::Publish),
+        Stage::ShowLoad { .. } | Stage::ShowStore { .. } => Some(Kind::Show),
+        Stage::Take { .. } => Some(Kind::Take),
+    }
+}
