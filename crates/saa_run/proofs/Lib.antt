@@ -6,6 +6,7 @@ pub mod KindLemmas
 pub mod LineLemmas
 pub mod ReadingLemmas
 pub mod RunLemmas
+pub mod ScheduleLemmas
 pub mod SpellingLemmas
 pub mod StepLemmas
 pub mod TransferLemmas

@@ -2,12 +2,11 @@
 use Rattle.std.specs.Prelude.{◌≡◌, ◌≤◌, ◌⊎◌, ℕ, ◌-◌, ◌^◌, List, [], ◌∷◌, ◌++◌, length, Option, IsSome, IsNone, Some, Result, Ok, Err, codes}
 use Rattle.std.specs.declared.alloc.AllocError.{AllocError}
 use Rattle.std.specs.Io.KnownBytes.{Appends, Consumes, IsAtEnd, Keeps}
-use Rattle.saa_run.specs.declared.command.FirstLine.{FirstLine}
 use Rattle.saa_run.specs.declared.ended.Ended.{Ended}
 use Rattle.saa_run.specs.declared.ended.Ended.TheVariants.{Done, BadLine, ReadFailed, WriteFailed, Endless}
 use Rattle.saa_run.specs.Language.{first_line_of}
 use Rattle.saa_run.specs.Transfer.{IsBeginning, IsProperBeginning, IsUnbroken}
-use Rattle.saa_run.specs.Text.{Answer, text, answer_of, answer_behind, on_bytes}
+use Rattle.saa_run.specs.Text.{Answer, text, answer_of, on_bytes}
 
 -- All lines of what was read were answered: the text of these bytes is written, and they have no bad line.
 -- Where nothing was read, nothing is written
@@ -62,48 +61,49 @@ abbrev pub no_memory : List ℕ
 no_memory = codes "no memory\n"
 
 -- Memory was refused: line 1 was read, with its newline and nothing behind it, it is good, and nothing is written but this
-abbrev pub IsRefused : List ℕ → List ℕ → List ℕ → Type 0
-IsRefused read sent told = (line : List ℕ) × (read ≡ line ++ 10 ∷ []) × IsSome (first_line_of line) × (sent ≡ told)
+abbrev pub IsRefused : {F : Type 0} → (List ℕ → Option F) → List ℕ → List ℕ → List ℕ → Type 0
+IsRefused reads read sent told = (line : List ℕ) × (read ≡ line ++ 10 ∷ []) × IsSome (reads line) × (sent ≡ told)
 
--- Why a script fails, each with what was read and sent: a read failed; a write failed; the input has no end; the whole text
+-- Why a run fails, each with what was read and sent: a read failed; a write failed; the input has no end; the whole text
 -- is written, and a flush failed behind it; or memory was refused, and a write or a flush failed as that was told
-abbrev pub IsFailure : List ℕ → List ℕ → Option (List ℕ) → Type 0
-IsFailure read sent left =
-    IsEnd ReadFailed answer_of read sent left
-    ⊎ IsEnd WriteFailed answer_of read sent left
-    ⊎ IsEnd Endless answer_of read sent left
-    ⊎ (IsEnd Done answer_of read sent left ⊎ IsEnd BadLine answer_of read sent left)
-    ⊎ ((part : List ℕ) × IsBeginning part no_memory × IsRefused read sent part)
+abbrev pub IsFailure : {F : Type 0} → (List ℕ → Option F) → (List ℕ → Answer) → List ℕ → List ℕ → Option (List ℕ) → Type 0
+IsFailure reads said read sent left =
+    IsEnd ReadFailed said read sent left
+    ⊎ IsEnd WriteFailed said read sent left
+    ⊎ IsEnd Endless said read sent left
+    ⊎ (IsEnd Done said read sent left ⊎ IsEnd BadLine said read sent left)
+    ⊎ ((part : List ℕ) × IsBeginning part no_memory × IsRefused reads read sent part)
 
--- the status of a script. 0: done. 2: a bad line. 3: memory was refused, and that is told. 4: it failed
-abbrev pub IsOutcome : ℕ → List ℕ → List ℕ → Option (List ℕ) → Type 0
-IsOutcome status read sent left =
-    ((status ≡ 0) × IsEnd Done answer_of read sent left)
-    ⊎ ((status ≡ 2) × IsEnd BadLine answer_of read sent left)
-    ⊎ ((status ≡ 3) × IsRefused read sent no_memory)
-    ⊎ ((status ≡ 4) × IsFailure read sent left)
+-- the status of a run. 0: done. 2: a bad line. 3: memory was refused, and that is told. 4: it failed
+abbrev pub IsOutcome : {F : Type 0} → (List ℕ → Option F) → (List ℕ → Answer) → ℕ → List ℕ → List ℕ → Option (List ℕ) → Type 0
+IsOutcome reads said status read sent left =
+    ((status ≡ 0) × IsEnd Done said read sent left)
+    ⊎ ((status ≡ 2) × IsEnd BadLine said read sent left)
+    ⊎ ((status ≡ 3) × IsRefused reads read sent no_memory)
+    ⊎ ((status ≡ 4) × IsFailure reads said read sent left)
 
--- a script was run: what was read of its input, what was written, and the status that holds of both
-pub record Scripts (status : ℕ) (old new held holds : Option (List ℕ)) : Type 0 where
+-- An input was run, by which first lines are good and what answers it: what was read of it, what was written, and the status that
+-- holds of both
+pub record RunsWhole {F : Type 0} (reads : List ℕ → Option F) (said : List ℕ → Answer) (status : ℕ) (old new held holds : Option (List ℕ)) : Type 0 where
   pub read : List ℕ
   pub sent : List ℕ
   pub consumes : Consumes old new read
   pub appends : Appends held holds sent
-  pub outcome : IsOutcome status read sent new
+  pub outcome : IsOutcome reads said status read sent new
+
+-- a script was run
+abbrev pub Scripts : ℕ → (old new held holds : Option (List ℕ)) → Type 0
+Scripts status old new held holds = RunsWhole first_line_of answer_of status old new held holds
 
 -- what the lines behind the first do, by the answer to them: they are run, or memory is refused and nothing is read or written
 abbrev pub OpensWith : Result Ended AllocError → (List (List ℕ) → Answer) → Option (List ℕ) → Option (List ℕ) → Option (List ℕ) → Option (List ℕ) → Type 0
 OpensWith (Ok ended) said old new held holds = Runs ended (on_bytes said) old new held holds
 OpensWith (Err refused) said old new held holds = Keeps old new × Keeps held holds
 
--- what a good first line opens
-abbrev pub Opens : Result Ended AllocError → FirstLine → Option (List ℕ) → Option (List ℕ) → Option (List ℕ) → Option (List ℕ) → Type 0
-Opens opened first old new held holds = OpensWith opened (answer_behind (Some first)) old new held holds
-
 -- what a start does: a whole run, or memory is refused behind a good first line
-abbrev pub Starts : Result Ended AllocError → Option (List ℕ) → Option (List ℕ) → Option (List ℕ) → Option (List ℕ) → Type 0
-Starts (Ok ended) old new held holds = Runs ended answer_of old new held holds
-Starts (Err refused) old new held holds = (line : List ℕ) × IsSome (first_line_of line) × Consumes old new (line ++ 10 ∷ []) × Keeps held holds
+abbrev pub Starts : {F : Type 0} → (List ℕ → Option F) → (List ℕ → Answer) → Result Ended AllocError → Option (List ℕ) → Option (List ℕ) → Option (List ℕ) → Option (List ℕ) → Type 0
+Starts reads said (Ok ended) old new held holds = Runs ended said old new held holds
+Starts reads said (Err refused) old new held holds = (line : List ℕ) × IsSome (reads line) × Consumes old new (line ++ 10 ∷ []) × Keeps held holds
 
 -- A last text was written, and a status answered: the status is as wanted, or it is 4 and a beginning of the text was written
 abbrev pub Tells : ℕ → ℕ → List ℕ → Option (List ℕ) → Option (List ℕ) → Type 0
@@ -119,7 +119,7 @@ Ends ReadFailed status = status ≡ 4
 Ends WriteFailed status = status ≡ 4
 Ends Endless status = status ≡ 4
 
--- how a script is finished: what is still written, and the status
+-- how a run is finished: what is still written, and the status
 abbrev pub Finishes : Result Ended AllocError → ℕ → Option (List ℕ) → Option (List ℕ) → Type 0
 Finishes (Ok ended) status held holds = Keeps held holds × Ends ended status
 Finishes (Err refused) status held holds = Tells status 3 no_memory held holds

@@ -1,9 +1,10 @@
 -- What a reply says, in words.
 use Rattle.std.specs.Prelude.{ℕ, ◌∷◌, ◌++◌, List, codes, decimal}
 use Rattle.saa_run.specs.declared.reply.Said.{Said}
-use Rattle.saa_run.specs.declared.reply.Said.TheVariants.{Truth, Number, Full, Taken, Refused, Dropped, WouldBlock, Poisoned, GateState, NoState, Answered, Turned, Moved, Passed, Barred}
+use Rattle.saa_run.specs.declared.reply.Said.TheVariants.{Truth, Number, Full, Taken, Refused, Dropped, WouldBlock, Poisoned, GateState, NoState, Answered, Turned, Moved, Passed, Barred, Step, At, Main}
 use Rattle.saa_run.specs.Replies.{truth_word, error_word}
 use Rattle.saa_run.specs.GateWords.{state_word, gate_error_word}
+use Rattle.saa_run.specs.MachineWords.{kind_word, main_words, step_words}
 
 -- the words of a reply, whichever primitive gave it
 abbrev pub said_words : Said → List ℕ
@@ -22,3 +23,6 @@ said_words (Turned state) = codes "err " ++ state_word state
 said_words (Moved state n) = state_word state ++ 32 ∷ decimal n
 said_words (Passed state) = codes "ok " ++ state_word state
 said_words (Barred error) = gate_error_word error
+said_words (Step step) = step_words step
+said_words (At kind) = codes "at " ++ kind_word kind
+said_words (Main word) = main_words word

@@ -81,25 +81,29 @@ abbrev pub pagers : ℕ
 pagers = 100
 
 -- the answer to the lines behind line 1, by what line 1 makes
-abbrev pub answer_behind : Option FirstLine → List (List ℕ) → Answer
-answer_behind None lines = bad_first
-answer_behind (Some (Semaphore permits room)) lines =
+abbrev pub answer_behind : FirstLine → List (List ℕ) → Answer
+answer_behind (Semaphore permits room) lines =
     answer_from (line_of semaphore_readings) semaphore_does 2 (new_semaphore max_permits permits room pagers) lines
-answer_behind (Some (Lock room)) lines = answer_from (line_of lock_readings) lock_does 2 (new_lock room pagers) lines
-answer_behind (Some (Gate room)) lines = answer_from (line_of gate_readings) gate_does 2 (new_gate room pagers) lines
-answer_behind (Some (Barrier size room)) lines =
+answer_behind (Lock room) lines = answer_from (line_of lock_readings) lock_does 2 (new_lock room pagers) lines
+answer_behind (Gate room) lines = answer_from (line_of gate_readings) gate_does 2 (new_gate room pagers) lines
+answer_behind (Barrier size room) lines =
     answer_from (line_of barrier_readings) barrier_does 2 (new_barrier size room pagers) lines
 
--- the answer to the lines of an input; an empty input is a bad line 1
+-- the answer to the lines of an input, by which first lines are good and what is answered behind each; an empty input is a bad
+-- line 1
+abbrev pub answer_by : {F : Type 0} → (List ℕ → Option F) → (F → List (List ℕ) → Answer) → List (List ℕ) → Answer
+answer_by reads behind [] = bad_first
+answer_by reads behind (first ∷ lines) = option_map_or (λ good. behind good lines) (reads first) bad_first
+
+-- the answer to the lines of a script
 abbrev pub answer_in : List (List ℕ) → Answer
-answer_in [] = bad_first
-answer_in (first ∷ lines) = answer_behind (first_line_of first) lines
+answer_in lines = answer_by first_line_of answer_behind lines
 
 -- what is said of lines, said of the bytes that they stand in
 abbrev pub on_bytes : (List (List ℕ) → Answer) → List ℕ → Answer
 on_bytes said bytes = said (lines_of bytes)
 
--- the answer to an input
+-- the answer to a script
 abbrev pub answer_of : List ℕ → Answer
 answer_of input = on_bytes answer_in input
 

@@ -1,9 +1,11 @@
-//! The program `saa-run`: reads a script of one primitive and answers its lines, or runs workers on threads of their own.
+//! The program `saa-run`: reads a script of one primitive, or a schedule of a machine, and answers its lines; or runs workers on
+//! threads of their own.
 //!
 //! The top floor. `transfer` moves bytes, `fields` and `command` read lines, `reply` writes answers,
 //! `steps` answers the lines behind the first one by one, and `run` is the whole, over any reader and
 //! writer. All that is one engine for every kind of primitive; what a kind says is a `spoken::Spoken`, in
 //! `semaphore_words` and its like, and `bench_script` speaks it to a bench. What a command does stands in the cores.
+//! Schedules go through the same engine: `schedule_lines` reads their lines, and `schedule` speaks them to a machine.
 //! `docs/LANGUAGES.md` has the language.
 #![tactic(auto)]
 
@@ -19,8 +21,13 @@ mod gate_words;
 mod kind_rows;
 mod laws;
 mod lock_words;
+mod opening;
 mod reply;
 mod run;
+mod schedule;
+mod schedule_lines;
+#[cfg(test)]
+mod schedule_tests;
 mod semaphore_words;
 mod spoken;
 mod steps;
@@ -61,6 +68,14 @@ fn script<W: Write>(rt: &HostRuntime, writer: &mut W) -> u8 {
     }
 }
 
+/// Runs the schedule on standard input.
+fn machine<W: Write>(rt: &HostRuntime, writer: &mut W) -> u8 {
+    match BufReader::new(rt.alloc(), rt.reader()) {
+        Ok(mut reader) => run::machine(rt.alloc(), &mut reader, writer),
+        Err(_) => run::no_memory(writer),
+    }
+}
+
 fn main(rt: HostRuntime) -> ExitCode {
     let mut writer = io::writer(&rt);
     let status = match asked(&rt, rt.alloc()) {
@@ -69,7 +84,8 @@ fn main(rt: HostRuntime) -> ExitCode {
         Some(Wanted::Threads(count @ 1..=32)) => {
             run::threads(&rt, rt.alloc(), count, &mut writer)
         }
-        Some(Wanted::Machine | Wanted::Threads(_) | Wanted::Usage) => run::usage(&mut writer),
+        Some(Wanted::Machine) => machine(&rt, &mut writer),
+        Some(Wanted::Threads(_) | Wanted::Usage) => run::usage(&mut writer),
     };
     ExitCode::from(status)
 }

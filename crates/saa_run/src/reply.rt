@@ -7,6 +7,7 @@ ghost use Rattle.saa_run.specs.Transfer.{Puts};
 ghost use Rattle.saa_run.specs.Replies.{error_word};
 ghost use Rattle.saa_run.specs.GateWords.{state_word, gate_error_word};
 ghost use Rattle.saa_run.specs.Said.{said_words};
+ghost use Rattle.saa_run.specs.MachineWords.{done_words, kind_word, main_words, mark_word, step_words};
 ghost use Rattle.saa_run.specs.Text.{bad_line, reply_line};
 
 use crate::transfer::{WriteFailed, put};
@@ -14,6 +15,8 @@ use arrayvec::ArrayString;
 use itoa::Buffer;
 use saa::gate::{self, State};
 use saa::ticket::Error;
+use saa_word::machine::{Answer, Kind, Step};
+use saa_words::word::Word;
 use std::io::Write;
 
 /// A line with a number in it, before it is written.
@@ -52,6 +55,12 @@ pub enum Said {
     Passed(State),
     /// Why a poll of a gate has no state.
     Barred(gate::Error),
+    /// What a move of a machine did.
+    Step(Step),
+    /// `at KIND`: the kind of the step that is next.
+    At(Kind),
+    /// The parts of a main word: the count, the flag, poison and the tail.
+    Main(Word),
 }
 
 /// Writes why a poll has no answer.
@@ -78,7 +87,7 @@ fn put_number<W: Write>(writer: &mut W, number: usize) -> Result<(), WriteFailed
 
 /// Writes two texts on a line of their own.
 fn put_words<W: Write>(writer: &mut W, front: &str, back: &str) -> Result<(), WriteFailed>
-    requires front { length front.now ≤ 4 }
+    requires front { length front.now ≤ 5 }
     requires back { length back.now ≤ 40 }
     ensures { Puts result (W.contents writer.old) (W.contents writer.new) (reply_line (front.now ++ back.now)) }
 {
@@ -136,6 +145,92 @@ fn put_gate_error<W: Write>(writer: &mut W, error: gate::Error) -> Result<(), Wr
     }
 }
 
+/// Why a poll has no answer, in a word.
+fn error_text(error: Error) -> &'static str
+    ensures word { result.now ≡ error_word error }
+    ensures short { length result.now ≤ 14 }
+{
+    match error {
+        Error::NotRegistered => "not_registered",
+        Error::WrongMode => "wrong_mode",
+        Error::NotReady => "not_ready",
+    }
+}
+
+/// Writes what a call of a machine answers, on a line of its own.
+fn put_done<W: Write>(writer: &mut W, answer: Answer) -> Result<(), WriteFailed>
+    ensures { Puts result (W.contents writer.old) (W.contents writer.new) (reply_line (done_words answer)) }
+{
+    match answer {
+        Answer::Bool(true) => put(writer, b"done true\n"),
+        Answer::Bool(false) => put(writer, b"done false\n"),
+        Answer::Number(number) => {
+            let mut digits = Buffer::new();
+            put_words(writer, "done ", digits.format(usize::from(number)))
+        }
+        Answer::Taken(Ok(_)) => put(writer, b"done ok\n"),
+        Answer::Taken(Err(error)) => put_words(writer, "done ", error_text(error)),
+        Answer::Unit => put(writer, b"done\n"),
+    }
+}
+
+/// Writes what a move did, on a line of its own.
+fn put_step<W: Write>(writer: &mut W, step: Step) -> Result<(), WriteFailed>
+    ensures { Puts result (W.contents writer.old) (W.contents writer.new) (reply_line (step_words step)) }
+{
+    match step {
+        Step::Idle => put(writer, b"idle\n"),
+        Step::Busy => put(writer, b"busy\n"),
+        Step::Going => put(writer, b"going\n"),
+        Step::Waits => put(writer, b"waits\n"),
+        Step::Done(answer) => put_done(writer, answer),
+    }
+}
+
+/// The word of a kind of step.
+fn kind_text(kind: Kind) -> &'static str
+    ensures word { result.now ≡ kind_word kind }
+    ensures short { length result.now ≤ 7 }
+{
+    match kind {
+        Kind::Ask => "ask",
+        Kind::Prepare => "prepare",
+        Kind::Join => "join",
+        Kind::Release => "release",
+        Kind::Walk => "walk",
+        Kind::Publish => "publish",
+        Kind::Show => "show",
+        Kind::Take => "take",
+    }
+}
+
+/// A mark of a main word, behind a space: 1 where it is set, and else 0.
+fn mark_text(is_set: bool) -> &'static str
+    ensures word { result.now ≡ mark_word is_set }
+    ensures short { length result.now ≤ 2 }
+{
+    match is_set {
+        true => " 1",
+        false => " 0",
+    }
+}
+
+/// Writes the parts of a main word on a line of their own.
+fn put_main<W: Write>(writer: &mut W, word: Word) -> Result<(), WriteFailed>
+    ensures { Puts result (W.contents writer.old) (W.contents writer.new) (reply_line (main_words word)) }
+{
+    let mut count = Buffer::new();
+    let mut tail = Buffer::new();
+    let mut line = WholeLine::new();
+    line.push_str(count.format(usize::from(word.count)));
+    line.push_str(mark_text(word.is_flagged));
+    line.push_str(mark_text(word.is_poisoned));
+    line.push_str(" ");
+    line.push_str(tail.format(usize::from(word.tail)));
+    line.push_str("\n");
+    put(writer, line.as_str().as_bytes())
+}
+
 /// Writes a reply on a line of its own.
 pub fn put_reply<W: Write>(writer: &mut W, said: Said) -> Result<(), WriteFailed>
     ensures { Puts result (W.contents writer.old) (W.contents writer.new) (reply_line (said_words said)) }
@@ -157,6 +252,9 @@ pub fn put_reply<W: Write>(writer: &mut W, said: Said) -> Result<(), WriteFailed
         Said::Moved(state, number) => put_moved(writer, state, number),
         Said::Passed(state) => put_words(writer, "ok ", state_text(state)),
         Said::Barred(error) => put_gate_error(writer, error),
+        Said::Step(step) => put_step(writer, step),
+        Said::At(kind) => put_words(writer, "at ", kind_text(kind)),
+        Said::Main(word) => put_main(writer, word),
     }
 }
 

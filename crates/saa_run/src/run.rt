@@ -4,7 +4,8 @@
 //! Held to `specs/Outcome.antt`, which speaks of the text of an input in `specs/Text.antt`.
 ghost use Rattle.std.specs.Prelude.{◌≡◌, ◌<◌, ◌≤◌, ◌⊎◌, map, replicate, string_bytes};
 ghost use Rattle.std.specs.Io.KnownBytes.{Keeps};
-ghost use Rattle.saa_run.specs.Outcome.{Opens, OpensWith, Starts, Scripts, Tells, Finishes, no_memory as no_memory_text, usage_text};
+ghost use Rattle.saa_run.specs.Outcome.{OpensWith, Starts, Scripts, Tells, Finishes, no_memory as no_memory_text, usage_text};
+ghost use Rattle.saa_run.specs.Played.{Plays};
 ghost use Rattle.saa_run.specs.Counts.{Counted};
 ghost use Rattle.saa_tickets.specs.declared.ticket.Registration.TheVariants.{Unregistered};
 ghost use Rattle.saa_object.specs.Held.{max_permits};
@@ -19,7 +20,7 @@ ghost use Rattle.saa_run.specs.SemaphoreWords.{semaphore_does, semaphore_reading
 ghost use Rattle.saa_run.specs.LockWords.{lock_does, lock_readings};
 ghost use Rattle.saa_run.specs.GateWords.{gate_does, gate_readings};
 ghost use Rattle.saa_run.specs.BarrierWords.{barrier_does, barrier_readings};
-ghost use Rattle.saa_run.specs.Text.{answer_from, pagers};
+ghost use Rattle.saa_run.specs.Text.{answer_by, answer_from, on_bytes, pagers};
 ghost use Rattle.saa_run.specs.Wants.{threads_of, wanted_of};
 ghost use Rattle.saa_run.specs.Fields.{number_of};
 
@@ -28,6 +29,8 @@ use crate::command::{FirstLine, parse_first};
 use crate::counts::written;
 use crate::ended::Ended;
 use crate::fields::number;
+use crate::opening::Opening;
+use crate::schedule_lines::FirstOfSchedule;
 use crate::spoken::Spoken;
 use crate::steps::{end_at, run_lines};
 use crate::transfer::{Cut, LineBytes, put, read_line};
@@ -79,12 +82,13 @@ pub fn usage<W: Write>(writer: &mut W) -> u8
 
 /// What the program's arguments ask for, its name not among them.
 ///
-/// Exactly `script`, or `threads` and a number from 1 to 32 in plain decimal; all else asks how the program is used.
+/// Exactly `script`, exactly `machine`, or `threads` and a number from 1 to 32 in plain decimal; all else asks how the program is used.
 pub fn wanted(args: &[String]) -> Wanted
     ensures { result ≡ wanted_of (map string_bytes args.now) }
 {
     match args {
         [word] if word.as_str() == "script" => Wanted::Script,
+        [word] if word.as_str() == "machine" => Wanted::Machine,
         [word, count] if word.as_str() == "threads" => threads_wanted(count.as_str()),
         _ => Wanted::Usage,
     }
@@ -112,23 +116,39 @@ fn finish<W: Write>(started: Result<Ended, AllocError>, writer: &mut W) -> u8
     }
 }
 
-/// Makes what the first line says, and answers the lines behind it. All memory is taken here.
-fn open<R: Read, W: Write>(
-    alloc: Global,
-    first: FirstLine,
-    reader: &mut R,
-    writer: &mut W,
-) -> Result<Ended, AllocError>
-    ensures { Opens result first
-        (R.remaining reader.old) (R.remaining reader.new) (W.contents writer.old) (W.contents writer.new) }
-{
-    match first {
-        FirstLine::Semaphore { permits, room } => {
-            open_semaphore(alloc, permits, room, reader, writer)
+impl Opening for FirstLine {
+    ghost use Rattle.saa_run.specs.Language.{first_line_of};
+    ghost use Rattle.saa_run.specs.Text.{answer_behind};
+    ghost use Rattle.saa_run.specs.FirstLaws.{behind-none, first-empty, first-long};
+
+    ghost reads = { first_line_of };
+
+    ghost behind = { answer_behind };
+
+    ghost too_long = { first-long };
+
+    ghost not_empty = { first-empty };
+
+    ghost at_end = { behind-none };
+
+    fn parse(line: &[u8]) -> Option<FirstLine> {
+        parse_first(line)
+    }
+
+    fn open<R: Read, W: Write>(
+        self,
+        alloc: Global,
+        reader: &mut R,
+        writer: &mut W,
+    ) -> Result<Ended, AllocError> {
+        match self {
+            FirstLine::Semaphore { permits, room } => {
+                open_semaphore(alloc, permits, room, reader, writer)
+            }
+            FirstLine::Lock { room } => open_lock(alloc, room, reader, writer),
+            FirstLine::Gate { room } => open_gate(alloc, room, reader, writer),
+            FirstLine::Barrier { size, room } => open_barrier(alloc, size, room, reader, writer),
         }
-        FirstLine::Lock { room } => open_lock(alloc, room, reader, writer),
-        FirstLine::Gate { room } => open_gate(alloc, room, reader, writer),
-        FirstLine::Barrier { size, room } => open_barrier(alloc, size, room, reader, writer),
     }
 }
 
@@ -217,25 +237,25 @@ fn run_core<P: Spoken, R: Read, W: Write>(
 }
 
 /// Reads the first line, makes what it says, and answers the lines behind it.
-fn start<R: Read, W: Write>(
+fn start<O: Opening, R: Read, W: Write>(
     alloc: Global,
     reader: &mut R,
     writer: &mut W,
 ) -> Result<Ended, AllocError>
-    ensures { Starts result
+    ensures { Starts O.reads (on_bytes (answer_by O.reads O.behind)) result
         (R.remaining reader.old) (R.remaining reader.new) (W.contents writer.old) (W.contents writer.new) }
 {
     let mut line = LineBytes::new();
     match read_line(reader, &mut line) {
         Cut::Failed => Ok(Ended::ReadFailed),
         Cut::Long => Ok(end_at(writer, 1)),
-        Cut::End => match parse_first(line.as_slice()) {
+        Cut::End => match O::parse(line.as_slice()) {
             None => Ok(end_at(writer, 1)),
             Some(_) => Ok(Ended::Done),
         },
-        Cut::Newline => match parse_first(line.as_slice()) {
+        Cut::Newline => match O::parse(line.as_slice()) {
             None => Ok(end_at(writer, 1)),
-            Some(first) => open(alloc, first, reader, writer),
+            Some(first) => first.open(alloc, reader, writer),
         },
     }
 }
@@ -251,7 +271,17 @@ pub fn script<R: Read, W: Write>(alloc: Global, reader: &mut R, writer: &mut W) 
     ensures { Scripts result (R.remaining reader.old) (R.remaining reader.new)
         (W.contents writer.old) (W.contents writer.new) }
 {
-    let started = start(alloc, reader, writer);
+    let started = start::<FirstLine, R, W>(alloc, reader, writer);
+    finish(started, writer)
+}
+
+/// Runs a schedule of a machine: reads its lines, answers each good one on a line of its own, and tells of the first
+/// bad one. Answers the status of the program, which is as a script's.
+pub fn machine<R: Read, W: Write>(alloc: Global, reader: &mut R, writer: &mut W) -> u8
+    ensures { Plays result (R.remaining reader.old) (R.remaining reader.new)
+        (W.contents writer.old) (W.contents writer.new) }
+{
+    let started = start::<FirstOfSchedule, R, W>(alloc, reader, writer);
     finish(started, writer)
 }
 

@@ -299,8 +299,8 @@ impl Read for BreakingReader<'_> {
 
 /// A writer that takes one byte a write, and fails where its room is used up; its flush may fail too.
 #[derive(Drop)]
-struct NarrowWriter {
-    taken: Vec<u8>,
+pub(crate) struct NarrowWriter {
+    pub(crate) taken: Vec<u8>,
     room: usize,
     flushes: bool,
 }
@@ -330,7 +330,7 @@ impl Write for NarrowWriter {
 }
 
 /// A writer with this much room.
-fn with_room(alloc: Global, room: usize) -> NarrowWriter {
+pub(crate) fn with_room(alloc: Global, room: usize) -> NarrowWriter {
     NarrowWriter {
         taken: Vec::new(alloc),
         room,
@@ -647,7 +647,7 @@ fn so_many_threads_are_wanted(rt: HostRuntime) -> Result<(), Fail> {
     Ok(())
 }
 
-/// Exactly the word `script` asks for a script.
+/// Exactly the word `script` asks for a script, and exactly `machine` for a schedule.
 #[test]
 fn what_is_wanted(rt: HostRuntime) -> Result<(), Fail> {
     let mut words = Vec::new(rt.alloc());
@@ -656,7 +656,12 @@ fn what_is_wanted(rt: HostRuntime) -> Result<(), Fail> {
     assert_eq!(rt; wanted(words.as_slice()), Wanted::Script);
     words.push(String::from_str(rt.alloc(), "script")?)?;
     assert_eq!(rt; wanted(words.as_slice()), Wanted::Usage);
-    for other in ["machine", "threads", "Script", "script ", ""] {
+    let mut words = Vec::new(rt.alloc());
+    words.push(String::from_str(rt.alloc(), "machine")?)?;
+    assert_eq!(rt; wanted(words.as_slice()), Wanted::Machine);
+    words.push(String::from_str(rt.alloc(), "machine")?)?;
+    assert_eq!(rt; wanted(words.as_slice()), Wanted::Usage);
+    for other in ["machine ", "Machine", "threads", "Script", "script ", ""] {
         let mut words = Vec::new(rt.alloc());
         words.push(String::from_str(rt.alloc(), other)?)?;
         assert_eq!(rt; wanted(words.as_slice()), Wanted::Usage, "of {other:?}");

@@ -1,0 +1,356 @@
+//! Schedules of a machine with the exact bytes that each writes, which were written down by hand; and the most steps of a line.
+
+use crate::reply::Said;
+use crate::run::machine;
+use crate::schedule::{end, until};
+use crate::tests::{Row, with_room};
+use saa_word::machine::{Answer, Kind, Machine, Move, Step, WordCall};
+use std::alloc::{AllocError, Global};
+use std::test::Fail;
+
+/// Good lines of each kind, each reply, and numbers at their limits.
+const SCHEDULES: [Row; 13] = [
+    // Two give something back while a third waits: the one who walks grants for both.
+    Row {
+        input: "semaphore 0 3\nstart 1 try 63\nend 1\nstart 0 reg 10\nend 0\nstart 1 release 5\nuntil 1 publish\nword\nstart 2 release 5\nend 2\nword\nend 1\nword\nstart 0 try_poll\nend 0\n",
+        output: "going\ndone true\ngoing\ndone true\ngoing\nat publish\n58 1 0 1\ngoing\ndone true\n53 1 0 1\ndone true\n63 0 0 0\ngoing\ndone ok\n",
+        status: 0,
+    },
+    // The same with one who waits for its answer from the start: examples/release_in_place.schedule.
+    Row {
+        input: "semaphore 63 3\nstart 0 reg 10\nend 0\nstart 0 poll\ngo 0\nstart 1 release 5\nuntil 1 walk\nword\nuntil 1 publish\nstart 2 release 5\nend 2\nword\ngo 1\nword\nend 1\nword\ngo 0\ngo 0\n",
+        output: "going\ndone true\ngoing\nwaits\ngoing\nat walk\n58 1 0 1\nat publish\ngoing\ndone true\n53 1 0 1\ngoing\n53 1 0 1\ndone true\n63 0 0 0\ndone ok\nidle\n",
+        status: 0,
+    },
+    // A release step by step: of each kind the first, and how many there are.
+    Row {
+        input: "semaphore 63 2\nstart 0 reg 1\nuntil 0 ask\nuntil 0 prepare\nuntil 0 prepare\nuntil 0 join\nword\nuntil 0 take\nword\nstart 1 release 1\nuntil 1 release\ngo 1\nuntil 1 release\ngo 1\nuntil 1 walk\ngo 1\ngo 1\ngo 1\nuntil 1 publish\ngo 1\nuntil 1 show\ngo 1\nuntil 1 show\ngo 1\nstart 0 poll\nuntil 0 take\nend 0\n",
+        output: "going\nat ask\nat prepare\nat prepare\nat join\n63 0 0 0\ndone true\n63 0 0 1\ngoing\nat release\ngoing\nat release\ngoing\nat walk\ngoing\ngoing\ngoing\nat publish\ngoing\nat show\ngoing\nat show\ndone true\ngoing\nat take\ndone ok\n",
+        status: 0,
+    },
+    // A place in no call is idle, and one in a call is busy, whatever it is to start; neither is changed.
+    Row {
+        input: "semaphore 0 2\ngo 0\nend 0\nuntil 0 ask\nuntil 1 take\nstart 0 available\nstart 0 available\nstart 0 release 0\nstart 0 try 999999\nstart 0 poll\nend 0\nend 0\nend 1\n",
+        output: "idle\nidle\nidle\nidle\ngoing\nbusy\nbusy\nbusy\nbusy\ndone 63\nidle\nidle\n",
+        status: 0,
+    },
+    // What is answered as it starts.
+    Row {
+        input: "semaphore 0 1\nstart 0 try 64\nstart 0 try 999999\nstart 0 reg 64\nstart 0 release 64\nstart 0 release 0\nstart 0 try_poll\nstart 0 poll\nstart 0 reg 63\nend 0\nstart 0 reg 1\nstart 0 poll\nstart 0 poll\n",
+        output: "done false\ndone false\ndone false\ndone false\ndone true\ndone not_registered\ndone not_registered\ngoing\ndone true\ndone false\ndone ok\ndone not_registered\n",
+        status: 0,
+    },
+    // An answer that isn't there yet: one who tries is told, and one who waits can be asked again.
+    Row {
+        input: "semaphore 63 2\nstart 0 reg 1\nend 0\nstart 0 try_poll\nend 0\nstart 0 poll\nend 0\nuntil 0 show\ngo 0\nstart 1 try 1\nend 1\nstart 1 release 63\nend 1\nend 0\nstart 1 release 2\nend 1\nstart 1 available\ngo 1\n",
+        output: "going\ndone true\ngoing\ndone not_ready\ngoing\nwaits\nwaits\nwaits\ngoing\ndone false\ngoing\ndone true\ndone ok\ngoing\ndone false\ngoing\ndone 62\n",
+        status: 0,
+    },
+    // More are withheld than there are; and the most places.
+    Row {
+        input: "semaphore 999999 100\nword\nstart 99 available\nend 99\nstart 99 reg 1\nend 99\nword\n",
+        output: "63 0 0 0\ngoing\ndone 0\ngoing\ndone true\n63 0 0 100\n",
+        status: 0,
+    },
+    // None are withheld: a semaphore of 63.
+    Row {
+        input: "semaphore 0 1\nword\nstart 0 try 63\nend 0\nword\nstart 0 try 0\nend 0\nstart 0 try 1\nend 0\n",
+        output: "0 0 0 0\ngoing\ndone true\n63 0 0 0\ngoing\ndone true\ngoing\ndone false\n",
+        status: 0,
+    },
+    // A line that is over before a step of the kind comes.
+    Row {
+        input: "semaphore 0 1\nstart 0 try 1\nuntil 0 publish\nuntil 0 ask\nstart 0 try 1\nuntil 0 ask\ngo 0\nuntil 0 ask\ngo 0\n",
+        output: "going\ndone true\nidle\ngoing\nat ask\ngoing\nat ask\ndone true\n",
+        status: 0,
+    },
+    // A first line alone, with a newline and without one.
+    Row {
+        input: "semaphore 0 1\n",
+        output: "",
+        status: 0,
+    },
+    Row {
+        input: "semaphore 0 1",
+        output: "",
+        status: 0,
+    },
+    // A last line that no newline ends: good, and bad.
+    Row {
+        input: "semaphore 0 1\ngo 0\nword",
+        output: "idle\n0 0 0 0\n",
+        status: 0,
+    },
+    Row {
+        input: "semaphore 0 1\ngo 0\nwor",
+        output: "idle\nbad line 3\n",
+        status: 2,
+    },
+];
+
+/// First lines that are bad. A lock isn't one that a machine can be yet.
+const BAD_FIRST: [&str; 28] = [
+    "",
+    "\n",
+    "lock 3\n",
+    "lock 3",
+    "lock 0 3\n",
+    "gate 3\n",
+    "barrier 3 3\n",
+    "semaphore\n",
+    "semaphore 3\n",
+    "semaphore 0 0\n",
+    "semaphore 0 101\n",
+    "semaphore 0 999999\n",
+    "semaphore 1000000 1\n",
+    "semaphore 00 1\n",
+    "semaphore 0 01\n",
+    "semaphore 0 1 1\n",
+    "semaphore  0 1\n",
+    " semaphore 0 1\n",
+    "semaphore 0 1 \n",
+    "semaphore 0 1\r\n",
+    "semaphore a 1\n",
+    "semaphore 0 a\n",
+    "semaphore -1 1\n",
+    "semaphore +1 1\n",
+    "Semaphore 0 1\n",
+    "word\n",
+    "go 0\n",
+    "start 0 try 1\n",
+];
+
+/// Lines that are bad behind a first line with two places.
+const BAD_LINES: [&str; 63] = [
+    "",
+    "words",
+    "Word",
+    "word 0",
+    " word",
+    "word ",
+    "word\r",
+    "idle",
+    "go",
+    "go ",
+    "go 2",
+    "go 99",
+    "go 65536",
+    "go 00",
+    "go x",
+    "go 0 0",
+    "go  0",
+    "go 0 ",
+    " go 0",
+    "Go 0",
+    "goes 0",
+    "end",
+    "end 2",
+    "end 0 0",
+    "end -1",
+    "until",
+    "until 0",
+    "until 0 ",
+    "until 2 ask",
+    "until 0 asks",
+    "until 0 Ask",
+    "until 0 flag",
+    "until 0 unlink",
+    "until 0 tail",
+    "until 0 poison",
+    "until 0 clear",
+    "until 0 ask 1",
+    "until ask 0",
+    "start",
+    "start 0",
+    "start 0 cancel",
+    "start 0 cancel 1",
+    "start 0 try",
+    "start 0 try x",
+    "start 0 try 01",
+    "start 0 try 1000000",
+    "start 0 try 1 1",
+    "start 0 reg",
+    "start 0 reg shared",
+    "start 0 release",
+    "start 0 poll 1",
+    "start 0 try_poll 1",
+    "start 0 available 1",
+    "start 0 try_lock",
+    "start 0 is_free",
+    "start 0 word",
+    "start 2 poll",
+    "start 2 try 1",
+    "start try 1",
+    "try 1",
+    "available",
+    "poll 0",
+    "semaphore 0 2",
+];
+
+// Runs a schedule over memory.
+fn played(alloc: Global, input: &str) -> (Vec<u8>, u8) {
+    let mut reader = input.as_bytes();
+    let mut writer = Vec::new(alloc);
+    let status = machine(alloc, &mut reader, &mut writer);
+    (writer, status)
+}
+
+#[test]
+fn schedules(rt: HostRuntime) {
+    for row in &SCHEDULES {
+        let (output, status) = played(rt.alloc(), row.input);
+        assert_eq!(rt;
+            output.as_slice(),
+            row.output.as_bytes(),
+            "of {:?}",
+            row.input
+        );
+        assert_eq!(rt; status, row.status, "of {:?}", row.input);
+    }
+}
+
+#[test]
+fn bad_first_lines(rt: HostRuntime) {
+    for input in BAD_FIRST {
+        let (output, status) = played(rt.alloc(), input);
+        assert_eq!(rt;
+            output.as_slice(),
+            b"bad line 1\n".as_slice(),
+            "of {input:?}"
+        );
+        assert_eq!(rt; status, 2, "of {input:?}");
+    }
+}
+
+/// Each bad line ends the run: the good line in front of it is answered, and the one behind it isn't carried out.
+#[test]
+fn bad_lines(rt: HostRuntime) -> Result<(), Fail> {
+    for line in BAD_LINES {
+        let mut input = Vec::new(rt.alloc());
+        input.extend_from_slice(b"semaphore 0 2\nstart 0 try 1\n")?;
+        input.extend_from_slice(line.as_bytes())?;
+        input.extend_from_slice(b"\nword\n")?;
+        let mut reader = input.as_slice();
+        let mut writer = Vec::new(rt.alloc());
+        assert_eq!(rt;
+            machine(rt.alloc(), &mut reader, &mut writer),
+            2,
+            "of {line:?}"
+        );
+        assert_eq!(rt;
+            writer.as_slice(),
+            b"going\nbad line 3\n".as_slice(),
+            "of {line:?}"
+        );
+    }
+    Ok(())
+}
+
+/// A line of 81 bytes is bad, whatever its first 80 bytes are.
+#[test]
+fn a_long_line_is_bad(rt: HostRuntime) -> Result<(), Fail> {
+    let mut input = Vec::new(rt.alloc());
+    input.extend_from_slice(b"semaphore 0 2\nword\n")?;
+    for _byte in 0..81u8 {
+        input.push(b'0')?;
+    }
+    input.extend_from_slice(b"\nword\n")?;
+    let mut reader = input.as_slice();
+    let mut writer = Vec::new(rt.alloc());
+    assert_eq!(rt; machine(rt.alloc(), &mut reader, &mut writer), 2);
+    assert_eq!(rt; writer.as_slice(), b"0 0 0 0\nbad line 3\n".as_slice());
+    Ok(())
+}
+
+/// A write that fails ends the run with status 4, and what went out is a beginning of the text.
+#[test]
+fn a_write_fails(rt: HostRuntime) {
+    let row = &SCHEDULES[0];
+    for room in 0..row.output.len() {
+        let mut reader = row.input.as_bytes();
+        let mut writer = with_room(rt.alloc(), room);
+        assert_eq!(rt; machine(rt.alloc(), &mut reader, &mut writer), 4);
+        assert_eq!(rt; writer.taken.as_slice(), &row.output.as_bytes()[..room]);
+    }
+}
+
+// A machine at which so many wait, the oldest for a permit and the others for none, and the last place is about to give that permit
+// back. It makes 2 steps to take the flag, 3 for each who waits, and then publishes.
+fn about_to_walk(alloc: Global, waiting: u16) -> Result<Machine, AllocError> {
+    let mut machine = Machine::semaphore(alloc, 63, waiting.saturating_add(1))?;
+    for place in 0..waiting {
+        if place < machine.places() {
+            let asks = usize::from(place == 0);
+            let _started = machine.go(Move::Start(place, WordCall::Register(asks)));
+            let _waits = end(&mut machine, place);
+        }
+    }
+    if waiting < machine.places() {
+        let _started = machine.go(Move::Start(waiting, WordCall::Release(1)));
+    }
+    Ok(machine)
+}
+
+// How many steps a place makes until its call is done, itself counted.
+fn steps_left(machine: &mut Machine, place: u16) -> u16 {
+    for step in 1..60_000u16 {
+        if place >= machine.places() || machine.go(Move::Go(place)) != Step::Going {
+            return step;
+        }
+    }
+    0
+}
+
+/// `end` makes 1000 steps and no more.
+#[test]
+fn end_makes_a_thousand_steps(rt: HostRuntime) -> Result<(), Fail> {
+    let mut whole = about_to_walk(rt.alloc(), 300)?;
+    let all = steps_left(&mut whole, 300);
+    assert_eq!(rt; all, 2 + 900 + 1 + 600);
+    let mut machine = about_to_walk(rt.alloc(), 300)?;
+    assert!(rt; 300 < machine.places());
+    if 300 < machine.places() {
+        assert_eq!(rt; end(&mut machine, 300), Step::Going);
+        assert_eq!(rt; steps_left(&mut machine, 300), all - 1_000);
+    }
+    Ok(())
+}
+
+/// `until` makes 1000 steps and no more, and looks at the kind once more behind the last.
+#[test]
+fn until_makes_a_thousand_steps(rt: HostRuntime) -> Result<(), Fail> {
+    for (waiting, front) in [(333, 0), (333, 1), (334, 0), (332, 0)] {
+        let mut machine = about_to_walk(rt.alloc(), waiting)?;
+        assert!(rt; waiting < machine.places());
+        if waiting < machine.places() {
+            for _step in 0..front {
+                assert_eq!(rt; machine.go(Move::Go(waiting)), Step::Going);
+            }
+            let steps = 2 + 3 * waiting - front;
+            let said = until(&mut machine, waiting, Kind::Publish);
+            if steps <= 1_000 {
+                assert!(rt;
+                    matches!(said, Said::At(Kind::Publish)),
+                    "of {waiting} and {front}"
+                );
+            } else {
+                assert!(rt;
+                    matches!(said, Said::Step(Step::Going)),
+                    "of {waiting} and {front}"
+                );
+                for _step in 1_000..steps {
+                    assert_eq!(rt; machine.next_kind(waiting), Some(Kind::Walk));
+                    assert_eq!(rt; machine.go(Move::Go(waiting)), Step::Going);
+                }
+            }
+            assert_eq!(rt; machine.next_kind(waiting), Some(Kind::Publish));
+            assert!(rt;
+                matches!(
+                    until(&mut machine, waiting, Kind::Take),
+                    Said::Step(Step::Done(Answer::Bool(true)))
+                )
+            );
+        }
+    }
+    Ok(())
+}
