@@ -1,10 +1,9 @@
 //! Schedules of a machine with the exact bytes that each writes, which were written down by hand; and the most steps of a line.
 
-use crate::reply::Said;
 use crate::run::machine;
-use crate::schedule::{end, until};
+use crate::schedule::end;
 use crate::tests::{Row, with_room};
-use saa_word::machine::{Answer, Kind, Machine, Move, Step, WordCall};
+use saa_word::machine::{Machine, Move, Step, WordCall};
 use std::alloc::{AllocError, Global};
 use std::test::Fail;
 
@@ -312,45 +311,6 @@ fn end_makes_a_thousand_steps(rt: HostRuntime) -> Result<(), Fail> {
     if 300 < machine.places() {
         assert_eq!(rt; end(&mut machine, 300), Step::Going);
         assert_eq!(rt; steps_left(&mut machine, 300), all - 1_000);
-    }
-    Ok(())
-}
-
-/// `until` makes 1000 steps and no more, and looks at the kind once more behind the last.
-#[test]
-fn until_makes_a_thousand_steps(rt: HostRuntime) -> Result<(), Fail> {
-    for (waiting, front) in [(333, 0), (333, 1), (334, 0), (332, 0)] {
-        let mut machine = about_to_walk(rt.alloc(), waiting)?;
-        assert!(rt; waiting < machine.places());
-        if waiting < machine.places() {
-            for _step in 0..front {
-                assert_eq!(rt; machine.go(Move::Go(waiting)), Step::Going);
-            }
-            let steps = 2 + 3 * waiting - front;
-            let said = until(&mut machine, waiting, Kind::Publish);
-            if steps <= 1_000 {
-                assert!(rt;
-                    matches!(said, Said::At(Kind::Publish)),
-                    "of {waiting} and {front}"
-                );
-            } else {
-                assert!(rt;
-                    matches!(said, Said::Step(Step::Going)),
-                    "of {waiting} and {front}"
-                );
-                for _step in 1_000..steps {
-                    assert_eq!(rt; machine.next_kind(waiting), Some(Kind::Walk));
-                    assert_eq!(rt; machine.go(Move::Go(waiting)), Step::Going);
-                }
-            }
-            assert_eq!(rt; machine.next_kind(waiting), Some(Kind::Publish));
-            assert!(rt;
-                matches!(
-                    until(&mut machine, waiting, Kind::Take),
-                    Said::Step(Step::Done(Answer::Bool(true)))
-                )
-            );
-        }
     }
     Ok(())
 }
