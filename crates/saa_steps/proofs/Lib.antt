@@ -1,2 +1,3 @@
 pub mod LazyRuns
+pub mod LockNeeds
 pub mod Ranges

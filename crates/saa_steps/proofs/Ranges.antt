@@ -1,5 +1,5 @@
 -- What a place remembers stays within the bits of a count, whatever number it finds.
-use Rattle.std.proofs.Common.{◌≡◌, ℕ, ◌+◌, ◌-◌, ◌≤◌, ◌<◌, ◌%◌, ◌^◌, Bool, true, false, not, ◌&&◌, ◌||◌, ◌==◌, Option, Some, None, refl, sym, ap, subst, ◌∙◌, arith, inl, inr}
+use Rattle.std.proofs.Common.{◌≡◌, ℕ, ◌+◌, ◌-◌, ◌≤◌, ◌<◌, ◌%◌, Bool, true, false, not, ◌&&◌, ◌||◌, ◌==◌, if◌then◌else◌, Option, Some, None, refl, arith, inl, inr}
 use Rattle.std.proofs.lemmas.Bool.{cases_Bool}
 use Rattle.saa_words.specs.declared.word.Word.{Word}
 use Rattle.saa_words.specs.declared.line_word.LineWord.{LineWord}
@@ -9,13 +9,15 @@ use Rattle.saa_steps.specs.declared.place.Ask.{Ask}
 use Rattle.saa_steps.specs.declared.place.Afterwards.{Afterwards}
 use Rattle.saa_steps.specs.declared.place.Afterwards.TheVariants.{Ends, Again}
 use Rattle.saa_steps.specs.declared.place.Back.{Back}
-use Rattle.saa_steps.specs.declared.place.Back.TheVariants.{Tells}
+use Rattle.saa_steps.specs.declared.place.Back.TheVariants.{Tells, Ends as EndsCall, Takes}
+use Rattle.saa_steps.specs.declared.place.Taking.{Taking}
+use Rattle.saa_steps.specs.declared.place.Taking.TheVariants.{Tries, Awaits, Gives}
 use Rattle.saa_steps.specs.declared.place.Stage.{Stage}
-use Rattle.saa_steps.specs.declared.place.Stage.TheVariants.{Quiet, ReadLoad, AskLoad, AskExchange, Prepare, Join, ReleaseLoad, ReleaseExchange, BackLoad, BackStore, Forward, CutToClose, CutToGoRound, Close, Empty, GoRound, ShowLoad, ShowStore, Take}
+use Rattle.saa_steps.specs.declared.place.Stage.TheVariants.{Quiet, ReadLoad, AskLoad, AskExchange, Prepare, Join, ReleaseLoad, ReleaseExchange, BackLoad, BackStore, Forward, CutToClose, CutToGoRound, Close, Empty, GoRound, ShowLoad, ShowStore, Take, FlagLoad, FlagExchange, LookLoad, LookStore, Unlink, DropTail, PoisonLoad, PoisonExchange, Clear}
 use Rattle.saa_steps.specs.declared.operation.Operation.TheVariants.{Add}
 use Rattle.saa_steps.specs.Needs.{Needs, AreNeeds, fits_count, left_count}
 use Rattle.saa_steps.specs.Lazy.{count_or}
-use Rattle.saa_steps.specs.Steps.{IsSmall, IsRanged, IsRangedNext, released, finished, granted, decided, given, given_to, walking, shown_all, taken_answer, looked_at, closing, next_of, written_by}
+use Rattle.saa_steps.specs.Steps.{IsSmall, IsRanged, IsRangedNext, finished, granted, found_poisoned, gave_nothing, decided, given, given_to, shown_all, dropped, taken_answer, looked_at, closing, flagging, looked_for, poisoning, next_of, written_by}
 
 -- a word that is read from a number is small
 pub word-small : (number : ℕ) → IsSmall (word_of count_bits number)
@@ -28,7 +30,7 @@ or-not true false is = absurd (cc)
 or-not false true is = refl
 or-not false false is = absurd (cc)
 
-granted-ranged : (needs : Needs) (place : Place) (ask : Ask) → IsRangedNext needs (granted place ask)
+granted-ranged : (needs : Needs) (place : Place) (ask : Ask) → IsRangedNext needs (granted needs place ask)
 granted-ranged needs place ask =
     elim (cases_Bool ask.joins) [
       | inl joins ↦ rw joins tt
@@ -37,19 +39,37 @@ granted-ranged needs place ask =
 
 finished-ranged : (needs : Needs) (place : Place) (back : Back) → IsRangedNext needs (finished place back)
 finished-ranged needs place Tells = tt
+finished-ranged needs place EndsCall = tt
+finished-ranged needs place (Takes request) = tt
+
+nothing-ranged : (needs : Needs) (place : Place) (back : Back) → IsRangedNext needs (gave_nothing place back)
+nothing-ranged needs place Tells = tt
+nothing-ranged needs place EndsCall = tt
+nothing-ranged needs place (Takes request) = tt
+
+poisoned-ranged : (needs : Needs) (place : Place) (ask : Ask) → IsRangedNext needs (found_poisoned place ask)
+poisoned-ranged needs place ask =
+    elim (cases_Bool ask.joins) [
+      | inl joins ↦ rw joins tt
+      | inr tries ↦ rw tries tt
+    ]
 
 decided-ranged : (needs : Needs) (place : Place) (ask : Ask) (seen : Word) → IsSmall seen → IsRangedNext needs (decided needs place ask seen)
 decided-ranged needs place ask seen small =
-    elim (cases_Bool (not (seen.tail == 0) || not (fits_count needs seen.count ask.request))) [
-      | inl waits ↦
-          elim (cases_Bool ask.joins) [
-            | inl joins ↦ rw (waits, joins) small
-            | inr tries ↦ rw (waits, tries) tt
-          ]
-      | inr fits ↦
-          elim (cases_Bool (needs.takes ask.request == 0)) [
-            | inl nothing ↦ rw (fits, nothing) (granted-ranged needs place ask)
-            | inr some ↦ rw (fits, some) (small, or-not (not (seen.tail == 0)) (fits_count needs seen.count ask.request) fits)
+    elim (cases_Bool seen.is_poisoned) [
+      | inl poisoned ↦ rw poisoned (poisoned-ranged needs place ask)
+      | inr calm ↦
+          elim (cases_Bool (not (seen.tail == 0) || not (fits_count needs seen.count ask.request))) [
+            | inl waits ↦
+                elim (cases_Bool ask.joins) [
+                  | inl joins ↦ rw (calm, waits, joins) small
+                  | inr tries ↦ rw (calm, waits, tries) tt
+                ]
+            | inr fits ↦
+                elim (cases_Bool (needs.takes ask.request == 0)) [
+                  | inl nothing ↦ rw (calm, fits, nothing) (granted-ranged needs place ask)
+                  | inr some ↦ rw (calm, fits, some) (small, or-not (not (seen.tail == 0)) (fits_count needs seen.count ask.request) fits)
+                ]
           ]
     ]
 
@@ -61,9 +81,17 @@ left-small-by needs lawful count request (Some left) is = lawful.shrinks count r
 left-small : (needs : Needs) → AreNeeds needs → (count request : ℕ) → count_or count (left_count needs count request) ≤ count
 left-small needs lawful count request = left-small-by needs lawful count request (left_count needs count request) refl
 
-given-ranged : (needs : Needs) (place : Place) (request : ℕ) (seen : Word) (left : Option ℕ) → IsSmall seen → IsRangedNext needs (given_to place request seen left)
-given-ranged needs place request seen None small = tt
-given-ranged needs place request seen (Some left) small = small
+given-to-ranged : (needs : Needs) (place : Place) (request : ℕ) (seen : Word) (left : Option ℕ) → IsSmall seen → IsRangedNext needs (given_to place request seen left)
+given-to-ranged needs place request seen None small = nothing-ranged needs place place.back
+given-to-ranged needs place request seen (Some left) small = small
+
+given-by : (needs : Needs) (place : Place) (request : ℕ) (seen : Word) → IsSmall seen → (poisoned : Bool)
+    → IsRangedNext needs (if poisoned then gave_nothing place place.back else given_to place request seen (left_count needs seen.count request))
+given-by needs place request seen small true = nothing-ranged needs place place.back
+given-by needs place request seen small false = given-to-ranged needs place request seen (left_count needs seen.count request) small
+
+given-ranged : (needs : Needs) (place : Place) (request : ℕ) (seen : Word) → IsSmall seen → IsRangedNext needs (given needs place request seen)
+given-ranged needs place request seen small = given-by needs place request seen small seen.is_poisoned
 
 shown-ranged : (needs : Needs) (place : Place) (afterwards : Afterwards) (current next value : ℕ) → IsRanged needs (ShowStore current next value afterwards) → IsRangedNext needs (shown_all place afterwards)
 shown-ranged needs place Ends current next value ranged = finished-ranged needs place place.back
@@ -73,10 +101,54 @@ shown-next : (needs : Needs) (place : Place) (afterwards : Afterwards) (current 
 shown-next needs place Ends current next value ranged = tt
 shown-next needs place (Again seen) current next value ranged = ranged
 
-taken-ranged : (needs : Needs) (place : Place) (waits : Bool) (answer : Option ℕ) → IsRangedNext needs (taken_answer place waits answer)
-taken-ranged needs place waits (Some value) = tt
-taken-ranged needs place true None = tt
-taken-ranged needs place false None = tt
+dropped-ranged : (needs : Needs) (place : Place) (request value : ℕ) → IsRangedNext needs (dropped needs place request value)
+dropped-ranged needs place request value =
+    elim (cases_Bool (value == 0 && not (needs.takes request == 0))) [
+      | inl gives ↦ rw gives tt
+      | inr ends ↦ rw ends tt
+    ]
+
+taken-ranged : (needs : Needs) (place : Place) (taking : Taking) (answer : Option ℕ) → IsRangedNext needs (taken_answer needs place taking answer)
+taken-ranged needs place (Gives request) (Some value) = dropped-ranged needs place request value
+taken-ranged needs place (Gives request) None = tt
+taken-ranged needs place Awaits (Some value) = tt
+taken-ranged needs place Awaits None = tt
+taken-ranged needs place Tries (Some value) = tt
+taken-ranged needs place Tries None = tt
+
+flagging-ranged : (needs : Needs) (place : Place) (seen : Word) → IsSmall seen → IsRangedNext needs (flagging place seen)
+flagging-ranged needs place seen small =
+    elim (cases_Bool seen.is_flagged) [
+      | inl flagged ↦ rw flagged tt
+      | inr free ↦
+          elim (cases_Bool (seen.tail == 0)) [
+            | inl none ↦ rw (free, none) (finished-ranged needs place place.back)
+            | inr some ↦ rw (free, some) small
+          ]
+    ]
+
+found-ranged : (needs : Needs) (me : ℕ) (place : Place) (seen : Word) (current newer : ℕ) (previous line : LineWord)
+    → IsSmall seen → IsRangedNext needs (looked_for me place seen current newer previous line)
+found-ranged needs me place seen current newer previous line small =
+    elim (cases_Bool (current == me + 1)) [
+      | inl mine ↦
+          elim (cases_Bool (newer == 0)) [
+            | inl tail ↦ rw (mine, tail) small
+            | inr between ↦ rw (mine, between) small
+          ]
+      | inr other ↦ rw other small
+    ]
+
+poisoning-ranged : (needs : Needs) (place : Place) (seen : Word) → IsSmall seen → IsRangedNext needs (poisoning place seen)
+poisoning-ranged needs place seen small =
+    elim (cases_Bool (seen.is_poisoned || not (seen.count == 63))) [
+      | inl refused ↦ rw refused tt
+      | inr alone ↦
+          elim (cases_Bool seen.is_flagged) [
+            | inl flagged ↦ rw (alone, flagged) tt
+            | inr free ↦ rw (alone, free) small
+          ]
+    ]
 
 looked-ranged : (needs : Needs) → AreNeeds needs → needs.top < 64 → (place : Place) (seen : Word) (current count : ℕ) (line : LineWord)
     → IsSmall seen → count < 64 → IsRangedNext needs (looked_at needs place seen current count line)
@@ -111,25 +183,25 @@ closing-ranged needs place seen count top found small below =
     ]
 
 -- what a place remembers that goes on is in range, whatever it found
-pub next-ranged : (needs : Needs) → AreNeeds needs → needs.top < 64 → (place : Place) (stage : Stage) (found : ℕ)
-    → IsRanged needs place.stage → IsRanged needs stage → IsRangedNext needs (next_of needs place stage found)
-next-ranged needs lawful wide place Quiet found was ranged = was
-next-ranged needs lawful wide place ReadLoad found was ranged = tt
-next-ranged needs lawful wide place (AskLoad ask) found was ranged = decided-ranged needs place ask (word_of count_bits found) (word-small found)
-next-ranged needs lawful wide place (AskExchange ask seen) found was ranged =
+pub next-ranged : (needs : Needs) → AreNeeds needs → needs.top < 64 → (me : ℕ) (place : Place) (stage : Stage) (found : ℕ)
+    → IsRanged needs place.stage → IsRanged needs stage → IsRangedNext needs (next_of needs me place stage found)
+next-ranged needs lawful wide me place Quiet found was ranged = was
+next-ranged needs lawful wide me place (ReadLoad reading) found was ranged = tt
+next-ranged needs lawful wide me place (AskLoad ask) found was ranged = decided-ranged needs place ask (word_of count_bits found) (word-small found)
+next-ranged needs lawful wide me place (AskExchange ask seen) found was ranged =
     elim (cases_Bool (found == word_number count_bits seen)) [
       | inl same ↦ rw same (granted-ranged needs place ask)
       | inr other ↦ rw other (decided-ranged needs place ask (word_of count_bits found) (word-small found))
     ]
-next-ranged needs lawful wide place (Prepare request seen) found was ranged = ranged
-next-ranged needs lawful wide place (Join request seen) found was ranged =
+next-ranged needs lawful wide me place (Prepare request seen) found was ranged = ranged
+next-ranged needs lawful wide me place (Join request seen) found was ranged =
     elim (cases_Bool (found == word_number count_bits seen)) [
       | inl same ↦ rw same tt
       | inr other ↦ rw other (decided-ranged needs place (record { request = request; joins = true }) (word_of count_bits found) (word-small found))
     ]
-next-ranged needs lawful wide place (ReleaseLoad request) found was ranged =
-    given-ranged needs place request (word_of count_bits found) (left_count needs (word_of count_bits found).count request) (word-small found)
-next-ranged needs lawful wide place (ReleaseExchange request seen) found was ranged =
+next-ranged needs lawful wide me place (ReleaseLoad request) found was ranged =
+    given-ranged needs place request (word_of count_bits found) (word-small found)
+next-ranged needs lawful wide me place (ReleaseExchange request seen) found was ranged =
     elim (cases_Bool (found == word_number count_bits seen)) [
       | inl same ↦
           elim (cases_Bool (not (seen.tail == 0) && not seen.is_flagged)) [
@@ -137,20 +209,20 @@ next-ranged needs lawful wide place (ReleaseExchange request seen) found was ran
             | inr ends ↦ rw (same, ends) (finished-ranged needs place place.back)
           ]
       | inr other ↦
-          rw other (given-ranged needs place request (word_of count_bits found) (left_count needs (word_of count_bits found).count request) (word-small found))
+          rw other (given-ranged needs place request (word_of count_bits found) (word-small found))
     ]
-next-ranged needs lawful wide place (BackLoad seen current newer) found was ranged = ranged
-next-ranged needs lawful wide place (BackStore seen current newer line) found was ranged =
+next-ranged needs lawful wide me place (BackLoad seen current newer) found was ranged = ranged
+next-ranged needs lawful wide me place (BackStore seen current newer line) found was ranged =
     elim (cases_Bool (line.older == 0)) [
       | inl oldest ↦ rw oldest (ranged, ranged)
       | inr between ↦ rw between ranged
     ]
-next-ranged needs lawful wide place (Forward seen current count) found was ranged =
+next-ranged needs lawful wide me place (Forward seen current count) found was ranged =
     looked-ranged needs lawful wide place seen current count (line_word_of found) ranged.0 ranged.1
-next-ranged needs lawful wide place (CutToClose seen current count line) found was ranged = ranged
-next-ranged needs lawful wide place (CutToGoRound seen current count line) found was ranged = ranged
-next-ranged needs lawful wide place (Close seen count top) found was ranged = closing-ranged needs place seen count top found ranged.0 ranged.1
-next-ranged needs lawful wide place (Empty seen current count line) found was ranged =
+next-ranged needs lawful wide me place (CutToClose seen current count line) found was ranged = ranged
+next-ranged needs lawful wide me place (CutToGoRound seen current count line) found was ranged = ranged
+next-ranged needs lawful wide me place (Close seen count top) found was ranged = closing-ranged needs place seen count top found ranged.0 ranged.1
+next-ranged needs lawful wide me place (Empty seen current count line) found was ranged =
     let less : count - needs.takes line.request < 64 = omega (arith, ranged.1) in
     elim (cases_Bool (found == word_number count_bits seen)) [
       | inl same ↦ rw same tt
@@ -160,16 +232,54 @@ next-ranged needs lawful wide place (Empty seen current count line) found was ra
             | inr between ↦ rw (other, between) (ranged.0, less)
           ]
     ]
-next-ranged needs lawful wide place (GoRound seen count top) found was ranged =
+next-ranged needs lawful wide me place (GoRound seen count top) found was ranged =
     elim (cases_Bool (top == 0)) [
       | inl none ↦ rw none (word-small (written_by (Add 0 (count - seen.count)) found))
       | inr some ↦ rw some (word-small (written_by (Add 0 (count - seen.count)) found))
     ]
-next-ranged needs lawful wide place (ShowLoad current value Ends) found was ranged = tt
-next-ranged needs lawful wide place (ShowLoad current value (Again seen)) found was ranged = ranged
-next-ranged needs lawful wide place (ShowStore current next value afterwards) found was ranged =
+next-ranged needs lawful wide me place (ShowLoad current value Ends) found was ranged = tt
+next-ranged needs lawful wide me place (ShowLoad current value (Again seen)) found was ranged = ranged
+next-ranged needs lawful wide me place (ShowStore current next value afterwards) found was ranged =
     elim (cases_Bool (next == 0)) [
       | inl none ↦ rw none (shown-ranged needs place afterwards current next value ranged)
       | inr some ↦ rw some (shown-next needs place afterwards current next value ranged)
     ]
-next-ranged needs lawful wide place (Take waits) found was ranged = taken-ranged needs place waits (answer_of (found % 65536))
+next-ranged needs lawful wide me place (Take taking) found was ranged = taken-ranged needs place taking (answer_of (found % 65536))
+next-ranged needs lawful wide me place FlagLoad found was ranged = flagging-ranged needs place (word_of count_bits found) (word-small found)
+next-ranged needs lawful wide me place (FlagExchange seen) found was ranged =
+    elim (cases_Bool (found == word_number count_bits seen)) [
+      | inl same ↦ rw same ranged
+      | inr other ↦ rw other (flagging-ranged needs place (word_of count_bits found) (word-small found))
+    ]
+next-ranged needs lawful wide me place (LookLoad seen current newer previous) found was ranged =
+    found-ranged needs me place seen current newer previous (line_word_of found) ranged
+next-ranged needs lawful wide me place (LookStore seen current newer line) found was ranged =
+    elim (cases_Bool (line.older == 0)) [
+      | inl oldest ↦ rw oldest (ranged, ranged)
+      | inr between ↦ rw between ranged
+    ]
+next-ranged needs lawful wide me place (Unlink seen newer line older) found was ranged =
+    elim (cases_Bool (older == 0)) [
+      | inl oldest ↦ rw oldest (ranged, ranged)
+      | inr between ↦ rw between ranged
+    ]
+next-ranged needs lawful wide me place (DropTail seen older) found was ranged =
+    elim (cases_Bool (found == word_number count_bits seen)) [
+      | inl same ↦
+          elim (cases_Bool (older == 0)) [
+            | inl none ↦ rw (same, none) tt
+            | inr some ↦ rw (same, some) ranged
+          ]
+      | inr other ↦ rw other (word-small found)
+    ]
+next-ranged needs lawful wide me place PoisonLoad found was ranged = poisoning-ranged needs place (word_of count_bits found) (word-small found)
+next-ranged needs lawful wide me place (PoisonExchange seen) found was ranged =
+    elim (cases_Bool (found == word_number count_bits seen)) [
+      | inl same ↦
+          elim (cases_Bool (seen.tail == 0)) [
+            | inl none ↦ rw (same, none) (finished-ranged needs place place.back)
+            | inr some ↦ rw (same, some) tt
+          ]
+      | inr other ↦ rw other (poisoning-ranged needs place (word_of count_bits found) (word-small found))
+    ]
+next-ranged needs lawful wide me place Clear found was ranged = tt

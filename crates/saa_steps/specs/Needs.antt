@@ -1,16 +1,19 @@
 -- What a form that is kept in words needs: what is held at a count, what a number asks, and what a request takes. Which request
 -- fits, and what giving back leaves, are then read off the table of needs of the sequential object.
-use Rattle.std.specs.Prelude.{◌≡◌, ℕ, ◌+◌, ◌≤◌, Bool, true, Option, Some, None}
+use Rattle.std.specs.Prelude.{◌≡◌, ℕ, ◌+◌, ◌≤◌, Bool, true, false, ◌==◌, if◌then◌else◌, Option, Some, None}
 use Rattle.saa_object.specs.declared.request.Request.{Request}
-use Rattle.saa_object.specs.Held.{Held, OfSemaphore, fits, plus, less}
-use Rattle.saa_words.specs.Words.{held_count, permits_of}
+use Rattle.saa_object.specs.declared.request.Request.TheVariants.{Exclusive as AskExclusive, Shared as AskShared}
+use Rattle.saa_object.specs.Held.{Held, OfSemaphore, OfLock, LockState, Free, Exclusive, Shared, fits, plus, less}
+use Rattle.saa_words.specs.Words.{held_count, lock_count, permits_of, mode_of}
 
--- what is held at a count, what a number asks, how much a request adds to the count, and the greatest count
+-- what is held at a count, what a number asks, how much a request adds to the count, the greatest count, and whether it is a lock:
+-- that alone can be poisoned, and its tries say why they are refused
 pub record Needs : Type 0 where
   pub held : ℕ → Held
   pub read : ℕ → Request
   pub takes : ℕ → ℕ
   pub top : ℕ
+  pub is_lock : Bool
 
 -- whether a request fits a count
 abbrev pub fits_count : Needs → ℕ → ℕ → Bool
@@ -40,4 +43,25 @@ permit_needs bound = record {
   read = permits_of;
   takes = λ request. request;
   top = bound;
+  is_lock = false;
+}
+
+-- what a lock is at a count, where it isn't poisoned
+abbrev pub lock_at : ℕ → LockState
+lock_at count = if count == 0 then Free else (if count == lock_count Exclusive then Exclusive else Shared count)
+
+-- how much a request of a lock adds to its count; the wait modes add nothing
+abbrev pub mode_takes : Request → ℕ
+mode_takes AskExclusive = lock_count Exclusive
+mode_takes AskShared = 1
+mode_takes _ = 0
+
+-- those of a lock: its count says who has it, and a number asks for it in a mode
+abbrev pub lock_needs : Needs
+lock_needs = record {
+  held = λ count. OfLock (lock_at count);
+  read = mode_of;
+  takes = λ request. mode_takes (mode_of request);
+  top = lock_count Exclusive;
+  is_lock = true;
 }

@@ -6,8 +6,10 @@
 
 pub mod call;
 pub mod laws;
+mod leave;
 pub mod operation;
 pub mod place;
+mod poison;
 pub mod resume;
 pub mod rules;
 pub mod start;

@@ -2,7 +2,7 @@
 
 ghost use Rattle.std.specs.Prelude.{◌≡◌, ◌<◌};
 ghost use Rattle.saa_steps.specs.declared.operation.Operation.TheVariants.{Store};
-ghost use Rattle.saa_steps.specs.Steps.{needs_of, operation_of, exchanged, released, settled_word, IsRanged, IsSmall};
+ghost use Rattle.saa_steps.specs.Steps.{needs_of, operation_of, exchanged, flagged_word, dropped_word, poisoned_word, released, settled_word, IsRanged, IsSmall};
 ghost use Rattle.saa_words.specs.Words.{line_number};
 
 use crate::place::Stage;
@@ -39,8 +39,12 @@ impl Stage {
     {
         let main = Operation::Load { index: 0 };
         match self {
-            Stage::Quiet | Stage::ReadLoad | Stage::AskLoad { .. } | Stage::ReleaseLoad { .. } =>
-                main,
+            Stage::Quiet
+            | Stage::ReadLoad { .. }
+            | Stage::AskLoad { .. }
+            | Stage::ReleaseLoad { .. }
+            | Stage::FlagLoad
+            | Stage::PoisonLoad => main,
             Stage::AskExchange { ask, seen } => {
                 let count = rules.plus(seen.count, ask.request);
                 exchange(seen, Word { count, ..seen })
@@ -63,10 +67,17 @@ impl Stage {
             Stage::ReleaseExchange { given, seen } => exchange(seen, released(rules, seen, given)),
             Stage::BackLoad { current, .. }
             | Stage::Forward { current, .. }
-            | Stage::ShowLoad { current, .. } => Operation::Load {
+            | Stage::ShowLoad { current, .. }
+            | Stage::LookLoad { current, .. } => Operation::Load {
                 index: usize::from(current),
             },
             Stage::BackStore {
+                current,
+                newer,
+                line,
+                ..
+            }
+            | Stage::LookStore {
                 current,
                 newer,
                 line,
@@ -89,6 +100,16 @@ impl Stage {
                 index: usize::from(places) + usize::from(me) + 1,
                 number: 0,
             },
+            Stage::FlagExchange { seen } => exchange(seen, flagged(seen)),
+            Stage::Unlink {
+                newer,
+                line,
+                older,
+                ..
+            } => store(newer, LineWord { older, ..line }),
+            Stage::DropTail { seen, older } => exchange(seen, dropped(seen, older)),
+            Stage::PoisonExchange { seen } => exchange(seen, poisoned()),
+            Stage::Clear => exchange(poisoned(), settled(0, 0)),
         }
     }
 }
@@ -131,6 +152,39 @@ pub(crate) fn released(rules: Rules, seen: Word, given: u16) -> Word
         is_flagged: seen.is_flagged || seen.tail != 0,
         is_poisoned: false,
         tail: seen.tail,
+    }
+}
+
+/// The main word with the flag set.
+pub(crate) fn flagged(seen: Word) -> Word
+    ensures { result ≡ flagged_word seen }
+{
+    Word {
+        is_flagged: true,
+        ..seen
+    }
+}
+
+/// The main word once its tail has left the line.
+pub(crate) fn dropped(seen: Word, older: u16) -> Word
+    ensures { result ≡ dropped_word seen older }
+{
+    Word {
+        tail: older,
+        is_flagged: older != 0,
+        ..seen
+    }
+}
+
+/// The main word of a poisoned lock.
+pub(crate) fn poisoned() -> Word
+    ensures { result ≡ poisoned_word }
+{
+    Word {
+        count: 0,
+        is_flagged: false,
+        is_poisoned: true,
+        tail: 0,
     }
 }
 

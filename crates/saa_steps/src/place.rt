@@ -41,8 +41,38 @@ pub enum Afterwards {
 /// What a place does that worked on the line, once it is done with it.
 #[derive(Clone, Copy, Debug, Eq, PartialEq)]
 pub enum Back {
-    /// It answers that it gave something back.
+    /// It answers that it gave something back, or poisoned the lock.
     Tells,
+    /// It answers that it gave its registration up.
+    Ends,
+    /// It takes its own answer, of a registration that asked this, to give it up: it didn't find itself in the line.
+    Takes(u16),
+}
+
+/// What a reading call wants to know.
+#[derive(Clone, Copy, Debug, Eq, PartialEq)]
+pub enum Reading {
+    /// How many permits of a semaphore are available.
+    Available,
+    /// Whether a lock is free.
+    IsFree,
+    /// Whether one owner has a lock alone.
+    IsLocked,
+    /// Whether a lock is shared.
+    IsShared,
+    /// Whether a lock is poisoned.
+    IsPoisoned,
+}
+
+/// What a place does that takes its own answer.
+#[derive(Clone, Copy, Debug, Eq, PartialEq)]
+pub enum Taking {
+    /// It polls, and answers too where there is none yet.
+    Tries,
+    /// It polls, and waits for it.
+    Awaits,
+    /// It waits for it to give it up, of a registration that asked this.
+    Gives(u16),
 }
 
 /// Where a place stands in its call: what it does next, with what it remembers.
@@ -51,7 +81,9 @@ pub enum Stage {
     /// It is in no call.
     Quiet,
     /// It loads the main word to read it.
-    ReadLoad,
+    ReadLoad {
+        reading: Reading,
+    },
     /// It loads the main word to ask.
     AskLoad {
         ask: Ask,
@@ -147,8 +179,48 @@ pub enum Stage {
     },
     /// It takes its own answer.
     Take {
-        waits: bool,
+        taking: Taking,
     },
+    /// It loads the main word to set the flag, since it gives its registration up.
+    FlagLoad,
+    /// It exchanges the word that it saw for one with the flag set.
+    FlagExchange {
+        seen: Word,
+    },
+    /// It holds the flag, and loads a line word on its way from the tail to itself; `previous` is the line word that it wrote last.
+    LookLoad {
+        seen: Word,
+        current: u16,
+        newer: u16,
+        previous: LineWord,
+    },
+    /// It writes there who stands right behind.
+    LookStore {
+        seen: Word,
+        current: u16,
+        newer: u16,
+        line: LineWord,
+    },
+    /// It found itself, and links who stands right behind to who stands right before.
+    Unlink {
+        seen: Word,
+        newer: u16,
+        line: LineWord,
+        older: u16,
+    },
+    /// It found itself as the tail, and exchanges the word that it saw for one whose tail stands right before.
+    DropTail {
+        seen: Word,
+        older: u16,
+    },
+    /// It loads the main word to poison the lock.
+    PoisonLoad,
+    /// It exchanges the word that it saw for that of a poisoned lock.
+    PoisonExchange {
+        seen: Word,
+    },
+    /// It exchanges the word of a poisoned lock for that of a free one.
+    Clear,
 }
 
 /// A place.

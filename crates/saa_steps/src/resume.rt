@@ -2,53 +2,65 @@
 
 ghost use Rattle.std.specs.Prelude.{◌≡◌, ◌<◌, ◌==◌, ◌%◌, if◌then◌else◌};
 ghost use Rattle.saa_words.specs.Words.{answer_of};
+ghost use Rattle.saa_object.specs.Values.{granted_value};
 ghost use Rattle.saa_steps.specs.declared.place.Stage.TheVariants.{Join, ReleaseExchange, BackLoad, Forward, Empty, ShowLoad};
 ghost use Rattle.saa_steps.specs.declared.place.Afterwards.TheVariants.{Again};
-ghost use Rattle.saa_steps.specs.Steps.{needs_of, next_of, IsRanged, IsSmall, IsWork, closing, decided, done, finished, given, going, granted, looked_at, shown_all, taken_answer, walking};
+ghost use Rattle.saa_steps.specs.Steps.{needs_of, next_of, IsRanged, IsSmall, IsWork, IsLeave, IsPoison, closing, decided, done, dropped, finished, found_poisoned, gave_nothing, given, going, granted, looked_at, read_as, shown_all, taken_answer, tried_answer, walking};
 
-use crate::call::{Answer, Error};
+use crate::call::{Answer, Error, TryLockError};
 use crate::operation::released;
-use crate::place::{Afterwards, Ask, Back, Next, Place, Registration, Stage};
-use crate::rules::Rules;
+use crate::place::{Afterwards, Ask, Back, Next, Place, Reading, Registration, Stage, Taking};
+use crate::rules::{ALONE, Rules};
 use saa_words::answer_word;
 use saa_words::line_word::LineWord;
 use saa_words::word::Word;
 
+// The values of the answers: granted, and the lock is poisoned.
+const GRANTED: u8 = 0;
+
+pub(crate) const POISONED: u8 = 2;
+
 impl Place {
-    /// How the place goes on with the number that it found where its stage's operation was made.
-    pub fn resume(self, rules: Rules, found: u64) -> Next
+    /// How the place of this number goes on with the number that it found where its stage's operation was made.
+    pub fn resume(self, rules: Rules, me: u16, found: u64) -> Next
         requires wide { (needs_of rules).top < 64 }
         requires ranged { IsRanged (needs_of rules) self.stage }
-        ensures next { result ≡ next_of (needs_of rules) self self.stage found }
+        ensures next { result ≡ next_of (needs_of rules) me self self.stage found }
     {
         match self.stage {
             Stage::Quiet => Next::Going(self),
-            Stage::ReadLoad => {
-                let count = Word::unpack(found).count;
-                self.done(Answer::Number(rules.top().saturating_sub(count)))
-            }
+            Stage::ReadLoad { reading } => { self.done(read(rules, reading, Word::unpack(found))) }
             Stage::AskLoad { ask } => self.decide(rules, ask, Word::unpack(found)),
             Stage::AskExchange { ask, seen } => {
                 if found == seen.pack() {
-                    return self.granted(ask);
+                    return self.granted(rules, ask);
                 }
                 self.decide(rules, ask, Word::unpack(found))
             }
             Stage::Prepare { request, seen } => self.going(Stage::Join { request, seen }),
-            Stage::Join { request, seen } => self.joined(rules, request, seen, found),
+            Stage::Join { request, seen } => self.joined(rules, me, request, seen, found),
             Stage::ReleaseLoad { given } => self.give(rules, given, Word::unpack(found)),
-            Stage::ReleaseExchange { given, seen } => self.given(rules, given, seen, found),
-            Stage::Take { waits } => self.taken(waits, found),
-            _ => self.resume_work(rules, found),
+            Stage::ReleaseExchange { given, seen } => self.given(rules, me, given, seen, found),
+            Stage::Take { taking } => self.taken(rules, taking, found),
+            Stage::FlagLoad
+            | Stage::FlagExchange { .. }
+            | Stage::LookLoad { .. }
+            | Stage::LookStore { .. }
+            | Stage::Unlink { .. }
+            | Stage::DropTail { .. } => self.resume_leave(rules, me, found),
+            Stage::PoisonLoad | Stage::PoisonExchange { .. } | Stage::Clear => {
+                self.resume_poison(rules, me, found)
+            }
+            _ => self.resume_work(rules, me, found),
         }
     }
 
     // The same of a place that works on the line or shows answers.
-    fn resume_work(self, rules: Rules, found: u64) -> Next
+    fn resume_work(self, rules: Rules, me: u16, found: u64) -> Next
         requires wide { (needs_of rules).top < 64 }
         requires ranged { IsRanged (needs_of rules) self.stage }
         requires works { IsWork self.stage }
-        ensures next { result ≡ next_of (needs_of rules) self self.stage found }
+        ensures next { result ≡ next_of (needs_of rules) me self self.stage found }
     {
         match self.stage {
             Stage::BackLoad {
@@ -99,7 +111,7 @@ impl Place {
                 current,
                 count,
                 line,
-            } => self.emptied(rules, seen, current, count, line, found),
+            } => self.emptied(rules, me, seen, current, count, line, found),
             Stage::GoRound { seen, count, top } => {
                 let added = u64::from(count.saturating_sub(seen.count));
                 self.went_round(top, Word::unpack(found.wrapping_add(added)))
@@ -128,14 +140,14 @@ impl Place {
     }
 
     // It goes on at a stage.
-    fn going(self, stage: Stage) -> Next
+    pub(crate) fn going(self, stage: Stage) -> Next
         ensures { result ≡ going self stage }
     {
         Next::Going(Place { stage, ..self })
     }
 
     // It is done, and answers.
-    fn done(self, answer: Answer) -> Next
+    pub(crate) fn done(self, answer: Answer) -> Next
         ensures { result ≡ done self answer }
     {
         let stage = Stage::Quiet;
@@ -143,22 +155,42 @@ impl Place {
     }
 
     // It is done with the line.
-    fn finish(self) -> Next
+    pub(crate) fn finish(self) -> Next
         ensures { result ≡ finished self self.back }
     {
         match self.back {
             Back::Tells => self.done(Answer::Bool(true)),
+            Back::Ends => self.done(Answer::Unit),
+            Back::Takes(request) => {
+                let taking = Taking::Gives(request);
+                self.going(Stage::Take { taking })
+            }
         }
     }
 
     // What it asked is granted at once.
-    fn granted(self, ask: Ask) -> Next
-        ensures { result ≡ granted self ask }
+    fn granted(self, rules: Rules, ask: Ask) -> Next
+        ensures { result ≡ granted (needs_of rules) self ask }
     {
         if !ask.joins {
-            return self.done(Answer::Bool(true));
+            return self.done(tried(rules, true));
         }
-        let registration = Registration::Once(0, ask.request);
+        let registration = Registration::Once(GRANTED, ask.request);
+        Place {
+            registration,
+            ..self
+        }
+        .done(Answer::Bool(true))
+    }
+
+    // It asks a poisoned lock.
+    fn found_poisoned(self, ask: Ask) -> Next
+        ensures { result ≡ found_poisoned self ask }
+    {
+        if !ask.joins {
+            return self.done(Answer::Tried(Err(TryLockError::Poisoned)));
+        }
+        let registration = Registration::Once(POISONED, ask.request);
         Place {
             registration,
             ..self
@@ -170,23 +202,26 @@ impl Place {
     fn decide(self, rules: Rules, ask: Ask, seen: Word) -> Next
         ensures { result ≡ decided (needs_of rules) self ask seen }
     {
+        if seen.is_poisoned {
+            return self.found_poisoned(ask);
+        }
         let request = ask.request;
         if seen.tail != 0 || !rules.fits(seen.count, request) {
             if ask.joins {
                 return self.going(Stage::Prepare { request, seen });
             }
-            return self.done(Answer::Bool(false));
+            return self.done(tried(rules, false));
         }
         if rules.takes(request) == 0 {
-            return self.granted(ask);
+            return self.granted(rules, ask);
         }
         self.going(Stage::AskExchange { ask, seen })
     }
 
     // It joined the line, or the word that was found decides anew.
-    fn joined(self, rules: Rules, request: u16, seen: Word, found: u64) -> Next
+    fn joined(self, rules: Rules, me: u16, request: u16, seen: Word, found: u64) -> Next
         requires { IsSmall seen }
-        ensures { result ≡ next_of (needs_of rules) self (Join request seen) found }
+        ensures { result ≡ next_of (needs_of rules) me self (Join request seen) found }
     {
         if found != seen.pack() {
             let joins = true;
@@ -204,17 +239,27 @@ impl Place {
     fn give(self, rules: Rules, request: u16, seen: Word) -> Next
         ensures { result ≡ given (needs_of rules) self request seen }
     {
-        if rules.less(seen.count, request).is_none() {
-            return self.done(Answer::Bool(false));
+        if seen.is_poisoned || rules.less(seen.count, request).is_none() {
+            return self.gave_nothing();
         }
         let given = request;
         self.going(Stage::ReleaseExchange { given, seen })
     }
 
+    // It gave nothing back.
+    fn gave_nothing(self) -> Next
+        ensures { result ≡ gave_nothing self self.back }
+    {
+        match self.back {
+            Back::Tells => self.done(Answer::Bool(false)),
+            Back::Ends | Back::Takes(_) => self.done(Answer::Unit),
+        }
+    }
+
     // It gave back, and holds the flag where somebody waits whom nobody else works for; or the word that was found decides anew.
-    fn given(self, rules: Rules, request: u16, seen: Word, found: u64) -> Next
+    fn given(self, rules: Rules, me: u16, request: u16, seen: Word, found: u64) -> Next
         requires { IsSmall seen }
-        ensures { result ≡ next_of (needs_of rules) self (ReleaseExchange request seen) found }
+        ensures { result ≡ next_of (needs_of rules) me self (ReleaseExchange request seen) found }
     {
         if found != seen.pack() {
             return self.give(rules, request, Word::unpack(found));
@@ -226,7 +271,7 @@ impl Place {
     }
 
     // It walks from the tail of the word that it saw.
-    fn walk(self, seen: Word) -> Next
+    pub(crate) fn walk(self, seen: Word) -> Next
         ensures { result ≡ walking self seen }
     {
         let current = seen.tail;
@@ -301,7 +346,7 @@ impl Place {
             if top == 0 {
                 return self.finish();
             }
-            return self.show(top, Afterwards::Ends);
+            return self.show(top, GRANTED, Afterwards::Ends);
         }
         let now = Word::unpack(found);
         if now.count == seen.count {
@@ -315,6 +360,7 @@ impl Place {
     fn emptied(
         self,
         rules: Rules,
+        me: u16,
         seen: Word,
         current: u16,
         count: u16,
@@ -322,10 +368,10 @@ impl Place {
         found: u64,
     ) -> Next
         requires { IsSmall seen }
-        ensures { result ≡ next_of (needs_of rules) self (Empty seen current count line) found }
+        ensures { result ≡ next_of (needs_of rules) me self (Empty seen current count line) found }
     {
         if found == seen.pack() {
-            return self.show(current, Afterwards::Ends);
+            return self.show(current, GRANTED, Afterwards::Ends);
         }
         let count = count.saturating_sub(rules.takes(line.request));
         if line.older == 0 {
@@ -342,19 +388,18 @@ impl Place {
 
     // It added what was granted, and shows it, or walks anew.
     fn went_round(self, top: u16, now: Word) -> Next
-        ensures { result ≡ if top == 0 then walking self now else going self (ShowLoad top 0 (Again now)) }
+        ensures { result ≡ if top == 0 then walking self now else going self (ShowLoad top granted_value (Again now)) }
     {
         if top == 0 {
             return self.walk(now);
         }
-        self.show(top, Afterwards::Again(now))
+        self.show(top, GRANTED, Afterwards::Again(now))
     }
 
-    // It shows grants, from a link on.
-    fn show(self, current: u16, afterwards: Afterwards) -> Next
-        ensures { result ≡ going self (ShowLoad current 0 afterwards) }
+    // It shows answers, from a link on.
+    pub(crate) fn show(self, current: u16, value: u8, afterwards: Afterwards) -> Next
+        ensures { result ≡ going self (ShowLoad current value afterwards) }
     {
-        let value = 0;
         self.going(Stage::ShowLoad {
             current,
             value,
@@ -381,20 +426,69 @@ impl Place {
     }
 
     // It took its answer, or found none.
-    fn taken(self, waits: bool, found: u64) -> Next
-        ensures { result ≡ taken_answer self waits (answer_of (found % 65536)) }
+    fn taken(self, rules: Rules, taking: Taking, found: u64) -> Next
+        ensures { result ≡ taken_answer (needs_of rules) self taking (answer_of (found % 65536)) }
     {
         let Some(value) = answer_word::unpack((found % 65_536) as u16) else {
-            if waits {
-                return Next::Waits;
-            }
-            return self.done(Answer::Taken(Err(Error::NotReady)));
+            return match taking {
+                Taking::Tries => self.done(Answer::Taken(Err(Error::NotReady))),
+                Taking::Awaits | Taking::Gives(_) => Next::Waits,
+            };
         };
+        if let Taking::Gives(request) = taking {
+            return self.drop_answer(rules, request, value);
+        }
         let registration = Registration::Idle;
         Place {
             registration,
             ..self
         }
-        .done(Answer::Taken(Ok(value == 0)))
+        .done(Answer::Taken(Ok(value == GRANTED)))
+    }
+
+    // A cancel has an answer: what was granted is given back, where it took something.
+    pub(crate) fn drop_answer(self, rules: Rules, request: u16, value: u8) -> Next
+        ensures { result ≡ dropped (needs_of rules) self request value }
+    {
+        let registration = Registration::Idle;
+        if value == GRANTED && rules.takes(request) != 0 {
+            let given = request;
+            return Next::Going(Place {
+                registration,
+                stage: Stage::ReleaseLoad { given },
+                back: Back::Ends,
+            });
+        }
+        Place {
+            registration,
+            ..self
+        }
+        .done(Answer::Unit)
+    }
+}
+
+// What a try answers.
+fn tried(rules: Rules, is_granted: bool) -> Answer
+    ensures { result ≡ tried_answer (needs_of rules) is_granted }
+{
+    if !rules.is_lock() {
+        return Answer::Bool(is_granted);
+    }
+    if is_granted {
+        return Answer::Tried(Ok(()));
+    }
+    Answer::Tried(Err(TryLockError::WouldBlock))
+}
+
+// What a reading call answers of a main word.
+fn read(rules: Rules, reading: Reading, word: Word) -> Answer
+    ensures { result ≡ read_as (needs_of rules) reading word.count word.is_poisoned }
+{
+    match reading {
+        Reading::Available => Answer::Number(rules.top().saturating_sub(word.count)),
+        Reading::IsFree => Answer::Bool(word.count == 0 && !word.is_poisoned),
+        Reading::IsLocked => Answer::Bool(word.count == ALONE),
+        Reading::IsShared => Answer::Bool(word.count != 0 && word.count != ALONE),
+        Reading::IsPoisoned => Answer::Bool(word.is_poisoned),
     }
 }

@@ -1,6 +1,7 @@
 use Rattle.std.proofs.Common.{arith}
 use Rattle.saa_steps.specs.Lazy.{opening}
 use Rattle.saa_steps.proofs.LazyRuns.{run-settled, run-bounded, run-once, permits-lawful}
+use Rattle.saa_steps.proofs.LockNeeds.{locks-lawful, lock-states}
 use Rattle.saa_steps.proofs.laws.lazy_runs.Goals as goal
 
 pub returns-clause-settled : goal.returns-clause-settled
@@ -14,3 +15,9 @@ returns-clause-once c = λ needs count events last run place. run-once needs (op
 
 pub returns-clause-of_permits : goal.returns-clause-of_permits
 returns-clause-of_permits c = permits-lawful
+
+pub returns-clause-of_locks : goal.returns-clause-of_locks
+returns-clause-of_locks c = locks-lawful
+
+pub returns-clause-owners : goal.returns-clause-owners
+returns-clause-owners c = lock-states
