@@ -1,6 +1,6 @@
 -- The holder of the flag cuts those who are granted off from those who stay: each step keeps how words, places and the lazy object
 -- stand together.
-use Rattle.std.proofs.Common.{◌≡◌, ℕ, ◌+◌, ◌<◌, ◌≤◌, pred, true, List, [], ◌∷◌, ◌++◌, refl, sym, ap, subst, ◌∙◌, arith}
+use Rattle.std.proofs.Common.{◌≡◌, ℕ, ◌+◌, ◌<◌, ◌≤◌, pred, true, false, List, [], ◌∷◌, ◌++◌, refl, sym, ap, subst, ◌∙◌, arith}
 use Rattle.saa_object.specs.Object.{one_if}
 use Rattle.saa_object.proofs.Counts.{number_same}
 use Rattle.saa_words.specs.declared.word.Word.{Word}
@@ -11,13 +11,13 @@ use Rattle.saa_steps.specs.declared.place.Place.{Place}
 use Rattle.saa_steps.specs.declared.place.Stage.{Stage}
 use Rattle.saa_steps.specs.declared.place.Stage.TheVariants.{CutToClose, CutToGoRound, Close, GoRound}
 use Rattle.saa_steps.specs.Needs.{Needs, AreNeeds, fits_count}
-use Rattle.saa_steps.specs.Lazy.{Lazy, IsSettledAt, waits_times}
+use Rattle.saa_steps.specs.Lazy.{Lazy, IsSettledAt, is_in, waits_times}
 use Rattle.saa_steps.specs.Steps.{IsRanged}
-use Rattle.saa_standing.specs.Standing.{updated, line_of, IsBehind, is_holder, IsAlone, IsOwn, IsShowing, Work, IsAt, IsHolding, IsLine, AreSeats, Stands}
+use Rattle.saa_standing.specs.Standing.{updated, line_of, IsBehind, is_holder, gives_up, IsAlone, IsOwn, IsShowing, Work, IsAt, IsHolding, IsLine, AreSeats, Stands}
 use Rattle.saa_standing.specs.Stepped.{Stepped}
 use Rattle.saa_standing.proofs.Lists.{times-append, behind-frame, behind-front, behind-rest}
 use Rattle.saa_standing.proofs.Frames.{oldest-stands, work-behind}
-use Rattle.saa_standing.proofs.Rows.{line-at, line-other}
+use Rattle.saa_standing.proofs.Rows.{apart-at, line-at, line-other}
 use Rattle.saa_standing.proofs.Linking.{flag-held, flag-knows, in-line, line-room, relinked, IsLooked, looked, linked-all, tail-room}
 
 -- who stands once in a line stands in one part of it
@@ -61,11 +61,12 @@ cut-line words new line front rest asker parts linked once request older others 
 cut : (needs : Needs) (places : ℕ) (row : ℕ → ℕ) (standing : ℕ → Place) (lazy : Lazy) (me : ℕ) (s : Stands needs places row standing lazy)
     (seen : Word) (work : Work lazy.count lazy.line seen) (current : ℕ) (line : LineWord) (next : Stage)
     → me < places → is_holder (standing me).stage ≡ true → s.cut ≡ [] → IsAt (line_of row) work.behind current → line ≡ line_of row (pred current)
-    → IsRanged needs next → IsAlone needs (standing me).registration next → ((word : LineWord) → IsOwn word next) → IsShowing (s.owed me) next
+    → IsRanged needs next → IsAlone needs (standing me).registration (standing me).back next
+    → (gives_up (standing me).back next ≡ true → is_in me lazy.line ≡ false) → ((word : LineWord) → IsOwn word next) → IsShowing (s.owed me) (s.worth me) next
     → is_holder next ≡ true
-    → (IsLooked (line_of row) lazy.count lazy.line seen work current → (new : ℕ → LineWord) → IsHolding needs new lazy.count lazy.line work.front next)
+    → (IsLooked (line_of row) lazy.count lazy.line seen work current → (new : ℕ → LineWord) → IsHolding needs new me lazy.count lazy.line work.front next)
     → Stands needs places (updated row current (line_number (record line { older = 0 }))) (updated standing me (record (standing me) { stage = next })) lazy
-cut needs places row standing lazy me s seen work current line next here holds none at word ranged alone own showing holder holding =
+cut needs places row standing lazy me s seen work current line next here holds none at word ranged alone apart own showing holder holding =
     let flag = flag-held needs places row standing lazy me s holds in
     let there = oldest-stands work.behind current at.1 at.0 in
     let waits = work-behind lazy.count lazy.line seen work (pred current) there.0 in
@@ -90,7 +91,7 @@ cut needs places row standing lazy me s seen work current line next here holds n
     (λ other apart. line-other row (pred current) number other (λ is. apart (is ∙ place))) in
     subst (λ (link : ℕ). Stands needs places (updated row link number) (updated standing me (record (standing me) { stage = next })) lazy) (sym there.1)
     (relinked needs places row standing lazy me s next (pred current) number work.front (look.asker ∷ (look.rest ++ work.joined)) here flag waits line_is
-    ranged alone (own (new me)) showing holder (holding look new))
+    ranged alone apart (own (new me)) showing holder (holding look new))
 
 -- the place that is cut off from is a place
 cut-inside : (places : ℕ) (row : ℕ → ℕ) (standing : ℕ → Place) (lazy : Lazy) (seen : Word) (work : Work lazy.count lazy.line seen) (current : ℕ)
@@ -99,6 +100,7 @@ cut-inside places row standing lazy seen work current seats at =
     let there = oldest-stands work.behind current at.1 at.0 in
     omega (arith, there.1, (in-line places standing lazy (pred current) seats (work-behind lazy.count lazy.line seen work (pred current) there.0)).0)
 
+-- The cut before the line is closed: the oldest of those who stay does not fit
 pub step-CutToClose : (needs : Needs) → AreNeeds needs → needs.top < 64 → (places : ℕ) (row : ℕ → ℕ) (standing : ℕ → Place) (lazy : Lazy) (me : ℕ)
     → places < 65536 → me < places → (s : Stands needs places row standing lazy)
     → (seen : Word) (current count : ℕ) (line : LineWord) → (standing me).stage ≡ CutToClose seen current count line
@@ -110,13 +112,16 @@ step-CutToClose needs lawful wide places row standing lazy me room here s seen c
       last = lazy;
       run = refl;
       names = refl;
-      calm = refl;
+      calm = λ semaphore. refl;
       inside = cut-inside places row standing lazy seen knows.0 current s.seats knows.3;
       stands = cut needs places row standing lazy me s seen knows.0 current line (Close seen count line.older) here (ap is_holder at)
           knows.1 knows.3 knows.4
-          (subst (λ stage. IsRanged needs stage) at (s.stages.ranged me))
-          (tail-room places standing lazy seen knows.0 s.seats room knows.3.1) (λ word. tt)
-          (subst (λ stage. IsShowing (s.owed me) stage) at (s.stages.showing me)) refl
+          (subst (λ stage. IsRanged needs stage) at (s.stages.ranged me)) (
+            tail-room places standing lazy seen knows.0 s.seats room knows.3.1,
+            subst (λ stage. IsAlone needs (standing me).registration (standing me).back stage) at (s.stages.alone me),
+          )
+          (apart-at needs places row standing lazy me s (CutToClose seen current count line) at) (λ word. tt)
+          (subst (λ stage. IsShowing (s.owed me) (s.worth me) stage) at (s.stages.showing me)) refl
           (λ look new. (
             knows.0,
             refl,
@@ -128,6 +133,7 @@ step-CutToClose needs lawful wide places row standing lazy me room here s seen c
           ));
     }
 
+-- The cut before the holder goes round: the line could not be emptied, and its last waits on
 pub step-CutToGoRound : (needs : Needs) → AreNeeds needs → needs.top < 64 → (places : ℕ) (row : ℕ → ℕ) (standing : ℕ → Place) (lazy : Lazy) (me : ℕ)
     → places < 65536 → me < places → (s : Stands needs places row standing lazy)
     → (seen : Word) (current count : ℕ) (line : LineWord) → (standing me).stage ≡ CutToGoRound seen current count line
@@ -139,11 +145,13 @@ step-CutToGoRound needs lawful wide places row standing lazy me room here s seen
       last = lazy;
       run = refl;
       names = refl;
-      calm = refl;
+      calm = λ semaphore. refl;
       inside = cut-inside places row standing lazy seen knows.0 current s.seats knows.3;
       stands = cut needs places row standing lazy me s seen knows.0 current line (GoRound seen count line.older) here (ap is_holder at)
           knows.1 knows.3 knows.4
-          (subst (λ stage. IsRanged needs stage) at (s.stages.ranged me)) tt (λ word. tt)
-          (subst (λ stage. IsShowing (s.owed me) stage) at (s.stages.showing me)) refl
+          (subst (λ stage. IsRanged needs stage) at (s.stages.ranged me))
+          (subst (λ stage. IsAlone needs (standing me).registration (standing me).back stage) at (s.stages.alone me))
+          (apart-at needs places row standing lazy me s (CutToGoRound seen current count line) at) (λ word. tt)
+          (subst (λ stage. IsShowing (s.owed me) (s.worth me) stage) at (s.stages.showing me)) refl
           (λ look new. (knows.0, refl, knows.2, ap (λ (w : LineWord). w.older) knows.4 ∙ look.older, knows.3.1));
     }

@@ -10,12 +10,13 @@ use Rattle.saa_steps.specs.declared.place.Afterwards.TheVariants.{Ends}
 use Rattle.saa_steps.specs.declared.place.Stage.{Stage}
 use Rattle.saa_steps.specs.declared.place.Stage.TheVariants.{CutToGoRound, Empty, GoRound, ShowLoad}
 use Rattle.saa_steps.specs.Needs.{Needs, AreNeeds, fits_count}
-use Rattle.saa_steps.specs.Lazy.{Lazy, IsFront, is_empty, waits_times, takes_of}
+use Rattle.saa_steps.specs.Lazy.{Lazy, IsFront, is_empty, is_in, waits_times, takes_of}
 use Rattle.saa_steps.specs.Steps.{IsRanged, settled_word}
-use Rattle.saa_standing.specs.Standing.{updated, main_of, line_of, newest, oldest, IsBehind, is_holder, IsAlone, IsShowing, Work, IsHolding, Stands}
+use Rattle.saa_standing.specs.Standing.{updated, main_of, line_of, newest, oldest, IsBehind, is_holder, gives_up, IsAlone, IsShowing, Work, IsHolding, Stands}
 use Rattle.saa_standing.specs.Stepped.{Stepped}
 use Rattle.saa_standing.proofs.Lists.{newest-in, newest-last, empty-nil, behind-rest, front-append, takes-append}
-use Rattle.saa_standing.proofs.Rows.{main-found, moved, loaded}
+use Rattle.saa_standing.proofs.Rows.{apart-at, main-found, moved, loaded}
+use Rattle.saa_standing.proofs.Holders.{calm-held}
 use Rattle.saa_standing.proofs.Granting.{granted, close-run, some-append, newest-rest, times-parts, settled-main, front-bounded, front-none, parts-linked, held-once, holder-none, nobody, granting}
 use Rattle.saa_standing.proofs.Linking.{flag-held}
 
@@ -58,13 +59,14 @@ emptied-step : (needs : Needs) → AreNeeds needs → (places : ℕ) (row : ℕ 
     → me < places → (s : Stands needs places row standing lazy)
     → (seen : Word) (current count : ℕ) (word : LineWord) → row 0 == word_number count_bits seen ≡ true
     → s.holder ≡ me + 1 → IsRanged needs (Empty seen current count word)
-    → IsAlone needs (standing me).registration (Empty seen current count word) → s.owed me ≡ []
-    → IsHolding needs (line_of row) lazy.count lazy.line s.cut (Empty seen current count word)
+    → IsAlone needs (standing me).registration (standing me).back (Empty seen current count word)
+    → (gives_up (standing me).back (Empty seen current count word) ≡ true → is_in me lazy.line ≡ false) → s.owed me ≡ []
+    → IsHolding needs (line_of row) me lazy.count lazy.line s.cut (Empty seen current count word)
     → Stepped needs places row standing lazy me (Empty seen current count word)
-emptied-step needs lawful places row standing lazy me here s seen current count word same mine ranged alone none holding =
+emptied-step needs lawful places row standing lazy me here s seen current count word same mine ranged alone apart none holding =
     let work : Work lazy.count lazy.line seen = holding.0 in
     let rest : List (ℕ × ℕ) = work.behind ++ work.joined in
-    let found : main_of row ≡ seen = main-found (row 0) seen ranged.0 alone same in
+    let found : main_of row ≡ seen = main-found (row 0) seen ranged.0 alone.0 same in
     let counted : seen.count ≡ lazy.count = sym (ap (λ (w : Word). w.count) found) ∙ s.main.count in
     let some : is_empty rest ≡ false = some-append work.behind work.joined holding.3.1 in
     let tail : current ≡ newest 0 rest =
@@ -92,19 +94,20 @@ emptied-step needs lawful places row standing lazy me here s seen current count 
     let adds : count ≡ lazy.count + takes_of needs all =
     omega (arith, counted, holding.7, ap needs.takes asks, takes-append needs work.front (asker ∷ [])) in
     let bounded : count ≤ needs.top = omega (arith, adds, front-bounded needs lawful lazy.count all fits s.main.bounded) in
-    let main = settled-main needs lazy all [] count 0 s.main.calm ranged.1 (omega arith) adds bounded refl tt in
+    let main = settled-main needs lazy all [] count 0 (calm-held needs places row standing lazy me s mine) ranged.1 (omega arith) adds bounded refl tt in
     let grant = close-run needs lazy me all [] parts fits tt s.main.settled in
     record {
       events = grant.events;
       last = granted needs lazy all [] false;
       run = grant.run;
       names = grant.names;
-      calm = grant.calm;
+      calm = λ semaphore. grant.calm;
       inside = omega arith;
       stands =
           rw same
           (granting needs places row standing lazy me s (word_number count_bits (settled_word count 0)) (ShowLoad current 0 Ends) all [] 0 false
-          here mine none parts linked tt main tt refl tt (newest-last 0 work.front asker ∙ sym one.stands, some-last work.front asker)
+          here mine none parts linked tt main tt alone.1 apart tt
+          (newest-last 0 work.front asker ∙ sym one.stands, some-last work.front asker, refl)
           (sym (nobody me))
           (λ is. absurd (omega (arith, is))) (λ other apart. holder-none s.holder me other mine apart));
     }
@@ -114,10 +117,12 @@ missed-step : (needs : Needs) (places : ℕ) (row : ℕ → ℕ) (standing : ℕ
     → me < places → (s : Stands needs places row standing lazy)
     → (seen : Word) (current count : ℕ) (word : LineWord) → (standing me).stage ≡ Empty seen current count word
     → row 0 == word_number count_bits seen ≡ false
-    → s.holder ≡ me + 1 → IsRanged needs (Empty seen current count word) → s.owed me ≡ []
-    → IsHolding needs (line_of row) lazy.count lazy.line s.cut (Empty seen current count word)
+    → s.holder ≡ me + 1 → IsRanged needs (Empty seen current count word)
+    → IsAlone needs (standing me).registration (standing me).back (Empty seen current count word)
+    → (gives_up (standing me).back (Empty seen current count word) ≡ true → is_in me lazy.line ≡ false) → s.owed me ≡ []
+    → IsHolding needs (line_of row) me lazy.count lazy.line s.cut (Empty seen current count word)
     → Stepped needs places row standing lazy me (Empty seen current count word)
-missed-step needs places row standing lazy me here s seen current count word at differs mine ranged none holding =
+missed-step needs places row standing lazy me here s seen current count word at differs mine ranged alone apart none holding =
     let work : Work lazy.count lazy.line seen = holding.0 in
     let rest : List (ℕ × ℕ) = work.behind ++ work.joined in
     let fewer : ℕ = count - needs.takes word.request in
@@ -136,22 +141,22 @@ missed-step needs places row standing lazy me here s seen current count word at 
       last = lazy;
       run = refl;
       names = refl;
-      calm = refl;
+      calm = λ semaphore. refl;
       inside = omega arith;
       stands =
           elim (cases_Bool (word.older == 0)) [
-            | inl alone ↦
-                let front : work.front ≡ [] = front-none work.front word.older older alone in
-                rw (differs, alone)
+            | inl only ↦
+                let front : work.front ≡ [] = front-none work.front word.older older only in
+                rw (differs, only)
                 (loaded needs places row (updated standing me (record (standing me) { stage = GoRound seen fewer 0 })) lazy 0
                 (moved needs places row standing lazy me s (record (standing me) { stage = GoRound seen fewer 0 }) here refl
-                (ranged.0, small) tt tt none (ap is_holder (sym at))
+                (ranged.0, small) alone.1 apart tt none (ap is_holder (sym at))
                 (λ is. (work, holding.1 ∙ sym front, (holding.2, left), sym (ap (λ (l : List (ℕ × ℕ)). newest 0 l) front), holding.3.1))))
             | inr others ↦
                 rw (differs, others)
                 (loaded needs places row (updated standing me (record (standing me) { stage = CutToGoRound seen current fewer word })) lazy 0
                 (moved needs places row standing lazy me s (record (standing me) { stage = CutToGoRound seen current fewer word }) here refl
-                (ranged.0, small) tt tt none (ap is_holder (sym at))
+                (ranged.0, small) alone.1 apart tt none (ap is_holder (sym at))
                 (λ is. (work, holding.1, (holding.2, left), holding.3, holding.4))))
           ];
     }
@@ -164,10 +169,11 @@ pub step-Empty : (needs : Needs) → AreNeeds needs → needs.top < 64 → (plac
 step-Empty needs lawful wide places row standing lazy me room here s seen current count word at =
     let mine : s.holder ≡ me + 1 = flag-held needs places row standing lazy me s (ap is_holder at) in
     let ranged = subst (λ (stage : Stage). IsRanged needs stage) at (s.stages.ranged me) in
-    let alone = subst (λ (stage : Stage). IsAlone needs (standing me).registration stage) at (s.stages.alone me) in
-    let none = subst (λ (stage : Stage). IsShowing (s.owed me) stage) at (s.stages.showing me) in
-    let holding = subst (λ (stage : Stage). IsHolding needs (line_of row) lazy.count lazy.line s.cut stage) at (s.stages.holding me mine) in
+    let alone = subst (λ (stage : Stage). IsAlone needs (standing me).registration (standing me).back stage) at (s.stages.alone me) in
+    let apart = apart-at needs places row standing lazy me s (Empty seen current count word) at in
+    let none = subst (λ (stage : Stage). IsShowing (s.owed me) (s.worth me) stage) at (s.stages.showing me) in
+    let holding = subst (λ (stage : Stage). IsHolding needs (line_of row) me lazy.count lazy.line s.cut stage) at (s.stages.holding me mine) in
     elim (cases_Bool (row 0 == word_number count_bits seen)) [
-      | inl same ↦ emptied-step needs lawful places row standing lazy me here s seen current count word same mine ranged alone none holding
-      | inr differs ↦ missed-step needs places row standing lazy me here s seen current count word at differs mine ranged none holding
+      | inl same ↦ emptied-step needs lawful places row standing lazy me here s seen current count word same mine ranged alone apart none holding
+      | inr differs ↦ missed-step needs places row standing lazy me here s seen current count word at differs mine ranged alone apart none holding
     ]

@@ -1,5 +1,5 @@
 -- Those of a front are granted: they leave the line, and their answers are owed by whoever granted them.
-use Rattle.std.proofs.Common.{◌≡◌, ℕ, ◌+◌, ◌<◌, ◌≤◌, Bool, true, false, List, [], ◌∷◌, ◌++◌, length, take, drop, ◌==◌, if◌then◌else◌, Some, is_some, refl, sym, ap, subst, ◌∙◌, arith, inl, inr}
+use Rattle.std.proofs.Common.{◌≡◌, ℕ, ◌+◌, ◌<◌, ◌≤◌, Bool, true, false, ◌||◌, List, [], ◌∷◌, ◌++◌, length, take, drop, ◌==◌, if◌then◌else◌, Some, is_some, refl, sym, ap, subst, ◌∙◌, arith, inl, inr}
 use Rattle.std.proofs.lemmas.Bool.{cases_Bool}
 use Rattle.std.proofs.Math.ListN.{length-append}
 use Rattle.saa_object.specs.Object.{one_if}
@@ -13,10 +13,11 @@ use Rattle.saa_steps.specs.declared.place.Stage.{Stage}
 use Rattle.saa_steps.specs.Needs.{Needs, AreNeeds, fits_count}
 use Rattle.saa_steps.specs.Lazy.{Lazy, Event, Granted, Closed, IsAllowed, after_event, IsRun, IsFront, IsSettledAt, is_empty, is_in, waits_times, takes_of, answered_with, held_by}
 use Rattle.saa_steps.specs.Steps.{IsRanged, settled_word}
-use Rattle.saa_standing.specs.Standing.{updated, line_of, newest, IsBehind, is_slot, is_holder, IsAlone, IsOwn, IsShowing, IsHolding, IsMain, IsLine, AreSeats, AreDebts, Stands}
+use Rattle.saa_standing.specs.Standing.{updated, line_of, newest, IsBehind, is_slot, is_holder, gives_up, IsAlone, IsOwn, IsShowing, IsHolding, IsMain, IsLine, AreSeats, AreDebts, Stands}
 use Rattle.saa_standing.specs.Stepped.{of_place, named, never_poisons}
-use Rattle.saa_standing.proofs.Lists.{each-updated, in-none, times-append, newest-append, newest-any, newest-empty, empty-nil, take-front, drop-front}
+use Rattle.saa_standing.proofs.Lists.{each-updated, in-append, in-none, times-append, newest-append, newest-any, newest-empty, empty-nil, take-front, drop-front}
 use Rattle.saa_standing.proofs.Frames.{stages-next}
+use Rattle.saa_standing.proofs.Holders.{never-barren}
 use Rattle.saa_standing.proofs.Rows.{word-whole, line-main, row-other, seats-next}
 
 -- The object once those of a front are granted, with the rest of the line
@@ -225,19 +226,20 @@ held-granted needs lazy front rest unclosed place parts once =
 abbrev pub shower_after : (ℕ → ℕ) → ℕ → List (ℕ × ℕ) → ℕ → ℕ
 shower_after shower me front other = if is_in other front then me else shower other
 
-pub debts-granted : (words : ℕ → LineWord) (lazy : Lazy) (owed : ℕ → List (ℕ × ℕ)) (shower : ℕ → ℕ) (me : ℕ) (front rest : List (ℕ × ℕ))
-    → AreDebts words lazy.due owed shower → lazy.line ≡ front ++ rest → ((place : ℕ) → held_by place lazy ≤ 1) → owed me ≡ [] → IsBehind words 0 front
-    → AreDebts words (answered_with 0 front lazy.due) (updated owed me front) (shower_after shower me front)
-debts-granted words lazy owed shower me front rest was parts once none linked = record {
+pub debts-granted : (words : ℕ → LineWord) (lazy : Lazy) (owed : ℕ → List (ℕ × ℕ)) (shower worth : ℕ → ℕ) (me value : ℕ) (front rest : List (ℕ × ℕ))
+    → AreDebts words lazy.due owed shower worth → value < 256 → lazy.line ≡ front ++ rest → ((place : ℕ) → held_by place lazy ≤ 1) → owed me ≡ [] → IsBehind words 0 front
+    → AreDebts words (answered_with value front lazy.due) (updated owed me front) (shower_after shower me front) (updated worth me value)
+debts-granted words lazy owed shower worth me value front rest was fits parts once none linked = record {
   due_to = λ place other.
       each-updated
-      (λ (n : ℕ) (l : List (ℕ × ℕ)). is_in other l ≡ true → (shower_after shower me front other ≡ n) × (answered_with 0 front lazy.due other ≡ Some 0))
+      (λ (n : ℕ) (l : List (ℕ × ℕ)). is_in other l ≡ true
+      → (shower_after shower me front other ≡ n) × (answered_with value front lazy.due other ≡ Some (updated worth me value n)))
       owed me front
-      (λ there. (rw there refl, rw there refl))
+      (λ there. (rw there refl, rw (there, number_same me) refl))
       (λ other_place apart there.
       let old = was.due_to other_place other there in
       let out : is_in other front ≡ false = due-apart lazy front rest other parts (once other) (ap is_some old.1) in
-      (rw out old.0, rw out old.1))
+      (rw out old.0, rw (out, number_other other_place me apart) old.1))
       place;
   paid_by = λ other due.
       elim (cases_Bool (is_in other front)) [
@@ -258,6 +260,7 @@ debts-granted words lazy owed shower me front rest was parts once none linked = 
       (λ other_place apart. was.once other_place other)
       place;
   links = each-updated (λ (n : ℕ) (l : List (ℕ × ℕ)). IsBehind words 0 l) owed me front linked (λ other apart. was.links other);
+  small = each-updated (λ (n value : ℕ). value < 256) worth me value fits (λ other apart. was.small other);
 }
 
 -- The whole
@@ -281,34 +284,46 @@ settled-main needs lazy front rest count tail calm small room adds bounded is se
       count = ap (λ (w : Word). w.count) read ∙ adds;
       tail = ap (λ (w : Word). w.tail) read ∙ is;
       flag = ap (λ (w : Word). w.is_flagged) read;
-      poison = ap (λ (w : Word). w.is_poisoned) read;
-      calm = calm;
+      poison = ap (λ (w : Word). w.is_poisoned) read ∙ sym calm;
+      barren = never-barren needs (granted needs lazy front rest false) calm;
       bounded = rw (← adds) bounded;
       closed = λ unheld. refl;
       settled = λ closed. rw (← adds) settled;
     }
+
+-- who stands in no line stands in no part of it
+pub out-of-rest : (place : ℕ) (front rest line : List (ℕ × ℕ)) → line ≡ front ++ rest → is_in place line ≡ false → is_in place rest ≡ false
+out-of-rest place front rest line parts out =
+    out-of-both (is_in place front) (is_in place rest) (sym (ap (is_in place) parts ∙ in-append place front rest) ∙ out)
+  where
+    out-of-both : (one other : Bool) → one || other ≡ false → other ≡ false
+    out-of-both true other h = absurd (cc)
+    out-of-both false other h = h
 
 -- The holder grants a front by a write to the main word, and goes on at a stage
 pub granting : (needs : Needs) (places : ℕ) (row : ℕ → ℕ) (standing : ℕ → Place) (lazy : Lazy) (me : ℕ) (s : Stands needs places row standing lazy)
     (number : ℕ) (stage : Stage) (front rest : List (ℕ × ℕ)) (next : ℕ) (unclosed : Bool)
     → me < places → s.holder ≡ me + 1 → s.owed me ≡ [] → lazy.line ≡ front ++ rest → IsBehind (line_of row) 0 front → IsBehind (line_of row) 0 rest
     → IsMain needs number (granted needs lazy front rest unclosed) next
-    → IsRanged needs stage → IsAlone needs (standing me).registration stage → IsOwn (line_of row me) stage → IsShowing front stage
+    → IsRanged needs stage → IsAlone needs (standing me).registration (standing me).back stage
+    → (gives_up (standing me).back stage ≡ true → is_in me lazy.line ≡ false) → IsOwn (line_of row me) stage → IsShowing front 0 stage
     → is_holder stage ≡ (next == me + 1)
-    → (next ≡ me + 1 → IsHolding needs (line_of row) (lazy.count + takes_of needs front) rest [] stage)
+    → (next ≡ me + 1 → IsHolding needs (line_of row) me (lazy.count + takes_of needs front) rest [] stage)
     → ((other : ℕ) → (other ≡ me → ⊥) → (s.holder == other + 1) ≡ (next == other + 1))
     → Stands needs places (updated row 0 number) (updated standing me (record (standing me) { stage = stage }))
     (granted needs lazy front rest unclosed)
-granting needs places row standing lazy me s number stage front rest next unclosed here mine none parts linked stays main ranged alone own showing
+granting needs places row standing lazy me s number stage front rest next unclosed here mine none parts linked stays main ranged alone apart own showing
     holder holding others =
     let once = held-once places standing lazy s.seats in
     let seats = seats-next places standing lazy me (record (standing me) { stage = stage }) s.seats here refl in
-    let debts = debts-granted (line_of row) lazy s.owed s.shower me front rest s.debts parts once none linked in
+    let debts = debts-granted (line_of row) lazy s.owed s.shower s.worth me 0 front rest s.debts (omega arith) parts once none linked in
     let stages = stages-next needs (line_of row) (line_of row) standing lazy.count (lazy.count + takes_of needs front) lazy.line rest s.cut []
-    s.holder next s.owed (updated s.owed me front) me (record (standing me) { stage = stage }) s.stages
-    ranged alone own (rw (number_same me) showing) holder holding
-    (λ other apart. s.stages.own other)
-    (λ other apart. rw (number_other other me apart) refl)
+    s.holder next s.owed (updated s.owed me front) s.worth (updated s.worth me 0) me (record (standing me) { stage = stage }) s.stages
+    ranged alone (λ gives. out-of-rest me front rest lazy.line parts (apart gives)) own (rw (number_same me) showing) holder holding
+    (λ other differs. out-of-rest other front rest lazy.line parts)
+    (λ other differs. s.stages.own other)
+    (λ other differs. rw (number_other other me differs) refl)
+    (λ other differs. rw (number_other other me differs) refl)
     others
     (λ other apart is. absurd (apart (omega (arith, mine, is)))) in
     record {
@@ -317,6 +332,7 @@ granting needs places row standing lazy me s number stage front rest next unclos
       uncut = rest;
       owed = updated s.owed me front;
       shower = shower_after s.shower me front;
+      worth = updated s.worth me 0;
       free = λ unheld. refl;
       main = main;
       line = record { parts = refl; granted = tt; stays = rw (line-main row number) stays; some = λ gone. refl };

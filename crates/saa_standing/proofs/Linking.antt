@@ -9,9 +9,9 @@ use Rattle.saa_words.specs.Words.{line_word_of}
 use Rattle.saa_steps.specs.declared.place.Place.{Place}
 use Rattle.saa_steps.specs.declared.place.Stage.{Stage}
 use Rattle.saa_steps.specs.Needs.{Needs}
-use Rattle.saa_steps.specs.Lazy.{Lazy, is_empty, waits_times}
+use Rattle.saa_steps.specs.Lazy.{Lazy, is_empty, is_in, waits_times}
 use Rattle.saa_steps.specs.Steps.{IsRanged}
-use Rattle.saa_standing.specs.Standing.{updated, line_of, newest, oldest, IsBehind, IsAhead, is_slot, is_holder, IsAlone, IsOwn, IsShowing, Work, IsHolding, IsAt, IsMain, IsLine, AreSeats, Stands}
+use Rattle.saa_standing.specs.Standing.{updated, line_of, newest, oldest, IsBehind, IsAhead, is_slot, is_holder, gives_up, IsAlone, IsOwn, IsShowing, Work, IsHolding, IsAt, IsMain, IsLine, AreSeats, Stands}
 use Rattle.saa_standing.proofs.Lists.{in-some, behind-frame, behind-rest, newest-append, newest-last, empty-nil}
 use Rattle.saa_standing.proofs.Frames.{stages-next, newest-stands, oldest-stands, work-behind}
 use Rattle.saa_standing.proofs.Rows.{line-other, row-other, own-any, seats-next}
@@ -22,9 +22,9 @@ pub flag-held : (needs : Needs) (places : ℕ) (row : ℕ → ℕ) (standing : �
 flag-held needs places row standing lazy me s holds = same_number s.holder (me + 1) (sym (s.stages.one me) ∙ holds)
 
 pub flag-knows : (needs : Needs) (places : ℕ) (row : ℕ → ℕ) (standing : ℕ → Place) (lazy : Lazy) (me : ℕ) (s : Stands needs places row standing lazy)
-    (stage : Stage) → (standing me).stage ≡ stage → is_holder stage ≡ true → IsHolding needs (line_of row) lazy.count lazy.line s.cut stage
+    (stage : Stage) → (standing me).stage ≡ stage → is_holder stage ≡ true → IsHolding needs (line_of row) me lazy.count lazy.line s.cut stage
 flag-knows needs places row standing lazy me s stage at holds =
-    subst (λ (other : Stage). IsHolding needs (line_of row) lazy.count lazy.line s.cut other) at
+    subst (λ (other : Stage). IsHolding needs (line_of row) me lazy.count lazy.line s.cut other) at
     (s.stages.holding me (flag-held needs places row standing lazy me s (ap is_holder at ∙ holds)))
 
 -- numbers whose test fails are two
@@ -92,11 +92,12 @@ pub relinked : (needs : Needs) (places : ℕ) (row : ℕ → ℕ) (standing : �
     (next : Stage) (at number : ℕ) (off rest : List (ℕ × ℕ))
     → me < places → s.holder ≡ me + 1 → 0 < waits_times at lazy.line
     → IsLine (line_of (updated row (at + 1) number)) lazy.line off rest
-    → IsRanged needs next → IsAlone needs (standing me).registration next
-    → IsOwn (line_of (updated row (at + 1) number) me) next → IsShowing (s.owed me) next
-    → is_holder next ≡ true → IsHolding needs (line_of (updated row (at + 1) number)) lazy.count lazy.line off next
+    → IsRanged needs next → IsAlone needs (standing me).registration (standing me).back next
+    → (gives_up (standing me).back next ≡ true → is_in me lazy.line ≡ false)
+    → IsOwn (line_of (updated row (at + 1) number) me) next → IsShowing (s.owed me) (s.worth me) next
+    → is_holder next ≡ true → IsHolding needs (line_of (updated row (at + 1) number)) me lazy.count lazy.line off next
     → Stands needs places (updated row (at + 1) number) (updated standing me (record (standing me) { stage = next })) lazy
-relinked needs places row standing lazy me s next at number off rest here flag there line ranged alone own showing holder holding =
+relinked needs places row standing lazy me s next at number off rest here flag there line ranged alone apart own showing holder holding =
     let seat = in-line places standing lazy at s.seats there in
     record {
       holder = s.holder;
@@ -104,6 +105,7 @@ relinked needs places row standing lazy me s next at number off rest here flag t
       uncut = rest;
       owed = s.owed;
       shower = s.shower;
+      worth = s.worth;
       free = λ nobody. absurd (omega (arith, flag, same_number s.holder 0 nobody));
       main = subst (λ (n : ℕ). IsMain needs n lazy s.holder) (sym (row-other row (at + 1) number 0 (λ is. omega (arith, is)))) s.main;
       line = line;
@@ -117,6 +119,7 @@ relinked needs places row standing lazy me s next at number off rest here flag t
         due_to = s.debts.due_to;
         paid_by = s.debts.paid_by;
         once = s.debts.once;
+        small = s.debts.small;
         links = λ place.
             behind-frame (line_of row) (line_of (updated row (at + 1) number)) 0 (s.owed place)
             (λ other owes.
@@ -126,14 +129,15 @@ relinked needs places row standing lazy me s next at number off rest here flag t
             (s.debts.links place);
       };
       stages = stages-next needs (line_of row) (line_of (updated row (at + 1) number)) standing lazy.count lazy.count lazy.line lazy.line s.cut off
-          s.holder s.holder s.owed s.owed me (record (standing me) { stage = next }) s.stages
-          ranged alone own showing (holder ∙ sym (ap (λ (n : ℕ). n == me + 1) flag ∙ number_same (me + 1))) (λ is. holding)
-          (owns seat.1) (λ other apart. refl) (λ other apart. refl) (λ other apart is. absurd (apart (omega (arith, is, flag))));
+          s.holder s.holder s.owed s.owed s.worth s.worth me (record (standing me) { stage = next }) s.stages
+          ranged alone apart own showing (holder ∙ sym (ap (λ (n : ℕ). n == me + 1) flag ∙ number_same (me + 1))) (λ is. holding)
+          (λ other differs out. out)
+          (owns seat.1) (λ other differs. refl) (λ other differs. refl) (λ other differs. refl) (λ other differs is. absurd (differs (omega (arith, is, flag))));
     }
   where
     not-owed : is_some (lazy.due at) ≡ false → (place other : ℕ) → 0 < waits_times other (s.owed place) → other ≡ at → ⊥
     not-owed none place other owes is =
-        let due : lazy.due other ≡ Some 0 = (s.debts.due_to place other (in-some other (s.owed place) owes)).1 in
+        let due : lazy.due other ≡ Some (s.worth place) = (s.debts.due_to place other (in-some other (s.owed place) owes)).1 in
         let wrong : is_some (lazy.due at) ≡ true = ap (λ (n : ℕ). is_some (lazy.due n)) (sym is) ∙ ap is_some due in
         absurd (cc)
 
@@ -142,7 +146,7 @@ relinked needs places row standing lazy me s next at number off rest here flag t
     owns slot other apart =
         elim (cases_Bool (other == at)) [
           | inl same ↦
-              own-any needs (standing other).registration (standing other).stage (line_of (updated row (at + 1) number) other) (s.stages.alone other)
+              own-any needs (standing other).registration (standing other).back (standing other).stage (line_of (updated row (at + 1) number) other) (s.stages.alone other)
               (ap (λ (n : ℕ). is_slot (standing n).registration) (same_number other at same) ∙ slot)
           | inr differs ↦
               subst (λ (w : LineWord). IsOwn w (standing other).stage) (sym (line-other row at number other (apart-by other at differs)))

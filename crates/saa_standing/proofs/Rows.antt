@@ -10,12 +10,13 @@ use Rattle.saa_words.specs.Words.{count_bits, word_number, word_of, line_word_of
 use Rattle.saa_words.proofs.Words.{word-read}
 use Rattle.saa_steps.specs.declared.place.Place.{Place}
 use Rattle.saa_steps.specs.declared.place.Registration.{Registration}
+use Rattle.saa_steps.specs.declared.place.Back.{Back}
 use Rattle.saa_steps.specs.declared.place.Stage.{Stage}
-use Rattle.saa_steps.specs.declared.place.Stage.TheVariants.{Quiet, ReadLoad, AskLoad, AskExchange, Prepare, Join, ReleaseLoad, ReleaseExchange, BackLoad, BackStore, Forward, CutToClose, CutToGoRound, Close, Empty, GoRound, ShowLoad, ShowStore, Take}
+use Rattle.saa_steps.specs.declared.place.Stage.TheVariants.{Quiet, ReadLoad, AskLoad, AskExchange, Prepare, Join, ReleaseLoad, ReleaseExchange, BackLoad, BackStore, Forward, CutToClose, CutToGoRound, Close, Empty, GoRound, ShowLoad, ShowStore, Take, FlagLoad, FlagExchange, LookLoad, LookStore, Unlink, DropTail, PoisonLoad, PoisonExchange, Clear}
 use Rattle.saa_steps.specs.Needs.{Needs}
-use Rattle.saa_steps.specs.Lazy.{Lazy, held_by}
+use Rattle.saa_steps.specs.Lazy.{Lazy, is_in, held_by}
 use Rattle.saa_steps.specs.Steps.{IsRanged, IsSmall}
-use Rattle.saa_standing.specs.Standing.{updated, line_of, is_slot, is_holder, IsAlone, IsOwn, IsShowing, IsHolding, AreSeats, Stands}
+use Rattle.saa_standing.specs.Standing.{updated, line_of, is_slot, is_holder, gives_up, IsAlone, IsOwn, IsShowing, IsHolding, AreSeats, Stands}
 use Rattle.saa_standing.proofs.Lists.{each-updated, all-same, updated-same, updated-at, updated-other}
 use Rattle.saa_standing.proofs.Frames.{stages-next}
 
@@ -69,27 +70,36 @@ row-other row at number other apart =
     updated-other row at number other test
 
 -- a place that is registered in the line isn't about to join
-pub own-any : (needs : Needs) (registration : Registration) (stage : Stage) (word : LineWord)
-    → IsAlone needs registration stage → is_slot registration ≡ true → IsOwn word stage
-own-any needs registration Quiet word alone slot = tt
-own-any needs registration ReadLoad word alone slot = tt
-own-any needs registration (AskLoad ask) word alone slot = tt
-own-any needs registration (AskExchange ask seen) word alone slot = tt
-own-any needs registration (Prepare request seen) word alone slot = tt
-own-any needs registration (Join request seen) word alone slot = let wrong : true ≡ false = sym slot ∙ alone.1 in absurd (cc)
-own-any needs registration (ReleaseLoad given) word alone slot = tt
-own-any needs registration (ReleaseExchange given seen) word alone slot = tt
-own-any needs registration (BackLoad seen current newer) word alone slot = tt
-own-any needs registration (BackStore seen current newer line) word alone slot = tt
-own-any needs registration (Forward seen current count) word alone slot = tt
-own-any needs registration (CutToClose seen current count line) word alone slot = tt
-own-any needs registration (CutToGoRound seen current count line) word alone slot = tt
-own-any needs registration (Close seen count top) word alone slot = tt
-own-any needs registration (Empty seen current count line) word alone slot = tt
-own-any needs registration (GoRound seen count top) word alone slot = tt
-own-any needs registration (ShowLoad current value afterwards) word alone slot = tt
-own-any needs registration (ShowStore current next value afterwards) word alone slot = tt
-own-any needs registration (Take waits) word alone slot = tt
+pub own-any : (needs : Needs) (registration : Registration) (back : Back) (stage : Stage) (word : LineWord)
+    → IsAlone needs registration back stage → is_slot registration ≡ true → IsOwn word stage
+own-any needs registration back Quiet word alone slot = tt
+own-any needs registration back (ReadLoad reading) word alone slot = tt
+own-any needs registration back (AskLoad ask) word alone slot = tt
+own-any needs registration back (AskExchange ask seen) word alone slot = tt
+own-any needs registration back (Prepare request seen) word alone slot = tt
+own-any needs registration back (Join request seen) word alone slot = let wrong : true ≡ false = sym slot ∙ alone.1 in absurd (cc)
+own-any needs registration back (ReleaseLoad given) word alone slot = tt
+own-any needs registration back (ReleaseExchange given seen) word alone slot = tt
+own-any needs registration back (BackLoad seen current newer) word alone slot = tt
+own-any needs registration back (BackStore seen current newer line) word alone slot = tt
+own-any needs registration back (Forward seen current count) word alone slot = tt
+own-any needs registration back (CutToClose seen current count line) word alone slot = tt
+own-any needs registration back (CutToGoRound seen current count line) word alone slot = tt
+own-any needs registration back (Close seen count top) word alone slot = tt
+own-any needs registration back (Empty seen current count line) word alone slot = tt
+own-any needs registration back (GoRound seen count top) word alone slot = tt
+own-any needs registration back (ShowLoad current value afterwards) word alone slot = tt
+own-any needs registration back (ShowStore current next value afterwards) word alone slot = tt
+own-any needs registration back (Take taking) word alone slot = tt
+own-any needs registration back FlagLoad word alone slot = tt
+own-any needs registration back (FlagExchange seen) word alone slot = tt
+own-any needs registration back (LookLoad seen current newer previous) word alone slot = tt
+own-any needs registration back (LookStore seen current newer line) word alone slot = tt
+own-any needs registration back (Unlink seen newer line older) word alone slot = tt
+own-any needs registration back (DropTail seen older) word alone slot = tt
+own-any needs registration back PoisonLoad word alone slot = tt
+own-any needs registration back (PoisonExchange seen) word alone slot = tt
+own-any needs registration back Clear word alone slot = tt
 
 -- a place that is registered as it was leaves the seats as they are
 pub seats-next : (places : ℕ) (standing : ℕ → Place) (lazy : Lazy) (me : ℕ) (place : Place) → AreSeats places standing lazy → me < places
@@ -101,28 +111,37 @@ seats-next places standing lazy me place was here same = record {
   beyond = each-updated (λ (n : ℕ) (p : Place). places ≤ n → p.stage ≡ Quiet) standing me place (λ out. absurd (omega (arith, out, here))) (λ other apart. was.beyond other);
 }
 
+-- who takes its own answer next stands in no line
+pub apart-at : (needs : Needs) (places : ℕ) (row : ℕ → ℕ) (standing : ℕ → Place) (lazy : Lazy) (me : ℕ) → Stands needs places row standing lazy
+    → (stage : Stage) → (standing me).stage ≡ stage → gives_up (standing me).back stage ≡ true → is_in me lazy.line ≡ false
+apart-at needs places row standing lazy me s stage at gives = s.stages.apart me (ap (gives_up (standing me).back) at ∙ gives)
+
 -- A step that leaves words and object as they are
 pub moved : (needs : Needs) (places : ℕ) (row : ℕ → ℕ) (standing : ℕ → Place) (lazy : Lazy) (me : ℕ) (s : Stands needs places row standing lazy) (place : Place)
     → me < places → is_slot place.registration ≡ is_slot (standing me).registration
-    → IsRanged needs place.stage → IsAlone needs place.registration place.stage → IsOwn (line_of row me) place.stage → IsShowing (s.owed me) place.stage
+    → IsRanged needs place.stage → IsAlone needs place.registration place.back place.stage
+    → (gives_up place.back place.stage ≡ true → is_in me lazy.line ≡ false)
+    → IsOwn (line_of row me) place.stage → IsShowing (s.owed me) (s.worth me) place.stage
     → is_holder place.stage ≡ is_holder (standing me).stage
-    → (s.holder ≡ me + 1 → IsHolding needs (line_of row) lazy.count lazy.line s.cut place.stage)
+    → (s.holder ≡ me + 1 → IsHolding needs (line_of row) me lazy.count lazy.line s.cut place.stage)
     → Stands needs places row (updated standing me place) lazy
-moved needs places row standing lazy me s place here same ranged alone own showing holder holding = record {
+moved needs places row standing lazy me s place here same ranged alone apart own showing holder holding = record {
   holder = s.holder;
   cut = s.cut;
   uncut = s.uncut;
   owed = s.owed;
   shower = s.shower;
+  worth = s.worth;
   free = s.free;
   main = s.main;
   line = s.line;
   seats = seats-next places standing lazy me place s.seats here same;
   answers = s.answers;
   debts = s.debts;
-  stages = stages-next needs (line_of row) (line_of row) standing lazy.count lazy.count lazy.line lazy.line s.cut s.cut s.holder s.holder s.owed s.owed me place s.stages
-      ranged alone own showing (holder ∙ s.stages.one me) holding
-      (λ other apart. s.stages.own other) (λ other apart. refl) (λ other apart. refl) (λ other apart. s.stages.holding other);
+  stages = stages-next needs (line_of row) (line_of row) standing lazy.count lazy.count lazy.line lazy.line s.cut s.cut s.holder s.holder s.owed s.owed
+      s.worth s.worth me place s.stages ranged alone apart own showing (holder ∙ s.stages.one me) holding
+      (λ other differs out. out)
+      (λ other differs. s.stages.own other) (λ other differs. refl) (λ other differs. refl) (λ other differs. refl) (λ other differs. s.stages.holding other);
 }
 
 -- a step that only loads leaves the row

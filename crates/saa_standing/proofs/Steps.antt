@@ -2,7 +2,7 @@
 use Rattle.std.proofs.Common.{◌≡◌, ℕ, ◌<◌, [], refl, sym, subst, arith}
 use Rattle.saa_steps.specs.declared.place.Place.{Place}
 use Rattle.saa_steps.specs.declared.place.Stage.{Stage}
-use Rattle.saa_steps.specs.declared.place.Stage.TheVariants.{Quiet, ReadLoad, AskLoad, AskExchange, Prepare, Join, ReleaseLoad, ReleaseExchange, BackLoad, BackStore, Forward, CutToClose, CutToGoRound, Close, Empty, GoRound, ShowLoad, ShowStore, Take}
+use Rattle.saa_steps.specs.declared.place.Stage.TheVariants.{Quiet, ReadLoad, AskLoad, AskExchange, Prepare, Join, ReleaseLoad, ReleaseExchange, BackLoad, BackStore, Forward, CutToClose, CutToGoRound, Close, Empty, GoRound, ShowLoad, ShowStore, Take, FlagLoad, FlagExchange, LookLoad, LookStore, Unlink, DropTail, PoisonLoad, PoisonExchange, Clear}
 use Rattle.saa_steps.specs.Needs.{Needs, AreNeeds}
 use Rattle.saa_steps.specs.Lazy.{Lazy}
 use Rattle.saa_standing.specs.Standing.{updated, Stands}
@@ -19,6 +19,10 @@ use Rattle.saa_standing.proofs.Emptying.{step-Empty}
 use Rattle.saa_standing.proofs.GoingRound.{step-GoRound}
 use Rattle.saa_standing.proofs.Showing.{step-ShowLoad}
 use Rattle.saa_standing.proofs.Taking.{step-ShowStore, step-Take}
+use Rattle.saa_standing.proofs.Flagging.{step-FlagLoad, step-FlagExchange}
+use Rattle.saa_standing.proofs.Looking.{step-LookLoad, step-LookStore}
+use Rattle.saa_standing.proofs.Unlinking.{step-Unlink, step-DropTail}
+use Rattle.saa_standing.proofs.Poisoning.{step-PoisonLoad, step-PoisonExchange, step-Clear}
 
 -- a place that is in no call stays as it is
 step-Quiet : (needs : Needs) (places : ℕ) (row : ℕ → ℕ) (standing : ℕ → Place) (lazy : Lazy) (me : ℕ)
@@ -28,7 +32,7 @@ step-Quiet needs places row standing lazy me s = record {
   last = lazy;
   run = refl;
   names = refl;
-  calm = refl;
+  calm = λ semaphore. refl;
   inside = omega arith;
   stands = loaded needs places row (updated standing me (standing me)) lazy 0
       (subst (λ (f : ℕ → Place). Stands needs places row f lazy) (sym (updated-same standing me (standing me) refl)) s);
@@ -39,7 +43,8 @@ pub step : (needs : Needs) → AreNeeds needs → needs.top < 64 → (places : �
     → places < 65536 → me < places → Stands needs places row standing lazy
     → (stage : Stage) → (standing me).stage ≡ stage → Stepped needs places row standing lazy me stage
 step needs lawful wide places row standing lazy me room here s Quiet at = step-Quiet needs places row standing lazy me s
-step needs lawful wide places row standing lazy me room here s ReadLoad at = step-ReadLoad needs lawful wide places row standing lazy me room here s at
+step needs lawful wide places row standing lazy me room here s (ReadLoad reading) at =
+    step-ReadLoad needs lawful wide places row standing lazy me room here s reading at
 step needs lawful wide places row standing lazy me room here s (AskLoad ask) at = step-AskLoad needs lawful wide places row standing lazy me room here s ask at
 step needs lawful wide places row standing lazy me room here s (AskExchange ask seen) at =
     step-AskExchange needs lawful wide places row standing lazy me room here s ask seen at
@@ -71,5 +76,23 @@ step needs lawful wide places row standing lazy me room here s (ShowLoad current
     step-ShowLoad needs lawful wide places row standing lazy me room here s current value afterwards at
 step needs lawful wide places row standing lazy me room here s (ShowStore current next value afterwards) at =
     step-ShowStore needs lawful wide places row standing lazy me room here s current next value afterwards at
-step needs lawful wide places row standing lazy me room here s (Take waits) at =
-    step-Take needs lawful wide places row standing lazy me room here s waits at
+step needs lawful wide places row standing lazy me room here s (Take taking) at =
+    step-Take needs lawful wide places row standing lazy me room here s taking at
+step needs lawful wide places row standing lazy me room here s FlagLoad at =
+    step-FlagLoad needs lawful wide places row standing lazy me room here s at
+step needs lawful wide places row standing lazy me room here s (FlagExchange seen) at =
+    step-FlagExchange needs lawful wide places row standing lazy me room here s seen at
+step needs lawful wide places row standing lazy me room here s (LookLoad seen current newer previous) at =
+    step-LookLoad needs lawful wide places row standing lazy me room here s seen current newer previous at
+step needs lawful wide places row standing lazy me room here s (LookStore seen current newer line) at =
+    step-LookStore needs lawful wide places row standing lazy me room here s seen current newer line at
+step needs lawful wide places row standing lazy me room here s (Unlink seen newer line older) at =
+    step-Unlink needs lawful wide places row standing lazy me room here s seen newer line older at
+step needs lawful wide places row standing lazy me room here s (DropTail seen older) at =
+    step-DropTail needs lawful wide places row standing lazy me room here s seen older at
+step needs lawful wide places row standing lazy me room here s PoisonLoad at =
+    step-PoisonLoad needs lawful wide places row standing lazy me room here s at
+step needs lawful wide places row standing lazy me room here s (PoisonExchange seen) at =
+    step-PoisonExchange needs lawful wide places row standing lazy me room here s seen at
+step needs lawful wide places row standing lazy me room here s Clear at =
+    step-Clear needs lawful wide places row standing lazy me room here s at

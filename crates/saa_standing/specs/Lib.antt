@@ -2,3 +2,4 @@ pub mod Standing
 pub mod Stepped
 pub mod Calls
 pub mod Promises
+pub mod Stalls

@@ -3,6 +3,7 @@
 ghost use Rattle.std.specs.Prelude.{◌≡◌, ℕ, ◌<◌, ◌≤◌, true, List, ◌++◌};
 ghost use Rattle.saa_steps.specs.declared.call.WordCall.{WordCall};
 ghost use Rattle.saa_steps.specs.declared.place.Place.{Place};
+ghost use Rattle.saa_steps.specs.declared.place.Registration.{Registration};
 ghost use Rattle.saa_steps.specs.Needs.{Needs, AreNeeds};
 ghost use Rattle.saa_steps.specs.Lazy.{Lazy, Event, opening};
 ghost use Rattle.saa_steps.specs.Steps.{is_taken, next_of, started};
@@ -22,10 +23,12 @@ pub fn steps()
 {}
 
 /// A call that stands at a stage, with the events that it has named so far, goes on at another stage, with what this step names
-/// behind them; or it is done, and answers what its events name.
+/// behind them; or it is done, and answers what its events name. What a cancel names goes by what its place was registered as when it
+/// started.
 pub fn calls()
-    ensures { (needs : Needs) (call : WordCall) (place : Place) (found : ℕ) (events : List Event) → IsUnder call place.stage events
-        → IsUnderNext needs call place.stage (events ++ named_at needs place.stage found) (next_of needs place place.stage found) }
+    ensures { (needs : Needs) (call : WordCall) (registered : Registration) (me : ℕ) (place : Place) (found : ℕ) (events : List Event)
+        → IsUnder needs call registered place.back place.stage events
+        → IsUnderNext needs call registered place.back place.stage (events ++ named_at needs place.stage found) (next_of needs me place place.stage found) }
 {}
 
 /// A row in which so much is held, idle places and the opened lazy object stand together.
@@ -37,10 +40,10 @@ pub fn opens()
 /// A call that starts at a place in none uses no word and is no event: all stand together still. It has named nothing.
 pub fn starts()
     ensures stands { (needs : Needs) → needs.top < 64 → (places : ℕ) (row : ℕ → ℕ) (standing : ℕ → Place) (lazy : Lazy) (me : ℕ) (call : WordCall)
-        → me < places → Stands needs places row standing lazy → (standing me).stage ≡ Quiet → is_taken call ≡ true
+        → me < places → Stands needs places row standing lazy → (standing me).stage ≡ Quiet → is_taken needs.is_lock call ≡ true
         → Stands needs places row (updated standing me (place_after (standing me) (started needs (standing me) call))) lazy }
-    ensures begun { (needs : Needs) (place : Place) (call : WordCall) → place.stage ≡ Quiet → is_taken call ≡ true
-        → IsBegun call (started needs place call) }
+    ensures begun { (needs : Needs) (place : Place) (call : WordCall) → place.stage ≡ Quiet
+        → IsBegun needs call place.registration (started needs place call) }
 {}
 
 /// The words say what the object is, at every moment.

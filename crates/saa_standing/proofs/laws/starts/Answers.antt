@@ -1,4 +1,4 @@
-use Rattle.saa_standing.proofs.Promises.{starts, call-begun}
+use Rattle.saa_standing.proofs.Starting.{starts, call-begun}
 use Rattle.saa_standing.proofs.laws.starts.Goals as goal
 
 pub returns-clause-stands : goal.returns-clause-stands
