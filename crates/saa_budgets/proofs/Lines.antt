@@ -31,7 +31,7 @@ held-once needs places row standing lazy s place = omega (arith, s.seats.held pl
 -- an answer that a place has to show is due
 pub owed-due : (needs : Needs) (places : ℕ) (row : ℕ → ℕ) (standing : ℕ → Place) (lazy : Lazy) (s : Stands needs places row standing lazy)
     (shows place : ℕ)
-    → 0 < waits_times place (s.owed shows) → lazy.due place ≡ Some 0
+    → 0 < waits_times place (s.owed shows) → lazy.due place ≡ Some (s.worth shows)
 owed-due needs places row standing lazy s shows place there = (s.debts.due_to shows place (in-some place (s.owed shows) there)).1
 
 -- the newest whose answer a place has to show leads along all of them
@@ -102,8 +102,8 @@ part-length needs places row standing lazy s whole part rest is =
 
 -- what a place knows of the answers that it has to show
 pub shows : (needs : Needs) (places : ℕ) (row : ℕ → ℕ) (standing : ℕ → Place) (lazy : Lazy) (s : Stands needs places row standing lazy) (me : ℕ)
-    (stage : Stage) → (standing me).stage ≡ stage → IsShowing (s.owed me) stage
-shows needs places row standing lazy s me stage at = subst (λ (now : Stage). IsShowing (s.owed me) now) at (s.stages.showing me)
+    (stage : Stage) → (standing me).stage ≡ stage → IsShowing (s.owed me) (s.worth me) stage
+shows needs places row standing lazy s me stage at = subst (λ (now : Stage). IsShowing (s.owed me) (s.worth me) now) at (s.stages.showing me)
 
 -- The line as the holder of the flag sees it
 
@@ -114,9 +114,9 @@ holder-is needs places row standing lazy s me holds = same_number s.holder (me +
 
 pub holds : (needs : Needs) (places : ℕ) (row : ℕ → ℕ) (standing : ℕ → Place) (lazy : Lazy) (s : Stands needs places row standing lazy)
     (me : ℕ) (stage : Stage)
-    → (standing me).stage ≡ stage → is_holder stage ≡ true → IsHolding needs (line_of row) lazy.count lazy.line s.cut stage
+    → (standing me).stage ≡ stage → is_holder stage ≡ true → IsHolding needs (line_of row) me lazy.count lazy.line s.cut stage
 holds needs places row standing lazy s me stage at is =
-    subst (λ (now : Stage). IsHolding needs (line_of row) lazy.count lazy.line s.cut now) at
+    subst (λ (now : Stage). IsHolding needs (line_of row) me lazy.count lazy.line s.cut now) at
     (s.stages.holding me (holder-is needs places row standing lazy s me (ap is_holder at ∙ is)))
 
 -- so many wait as the front, those behind it and those who joined since

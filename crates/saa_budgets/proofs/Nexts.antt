@@ -1,26 +1,35 @@
 -- How much lower the budget is with which a place goes on, by how many places are met from each link and by the main word's number.
-use Rattle.std.proofs.Common.{◌≡◌, ℕ, suc, zero, ◌+◌, ◌-◌, ◌*◌, ◌/◌, ◌%◌, ◌<◌, ◌≤◌, Bool, true, false, not, ◌||◌, ◌==◌, if◌then◌else◌, Option, Some, None, refl, sym, ap, subst, ◌∙◌, arith, inl, inr}
+use Rattle.std.proofs.Common.{◌≡◌, ℕ, suc, zero, ◌+◌, ◌-◌, ◌*◌, ◌/◌, ◌%◌, ◌<◌, ◌≤◌, Bool, true, false, not, ◌&&◌, ◌||◌, ◌==◌, if◌then◌else◌, Option, Some, None, refl, sym, ap, subst, ◌∙◌, arith, inl, inr}
 use Rattle.std.proofs.lemmas.Bool.{cases_Bool}
 use Rattle.saa_object.specs.Object.{one_if}
 use Rattle.saa_object.proofs.Counts.{number_same}
 use Rattle.saa_words.specs.declared.word.Word.{Word}
 use Rattle.saa_words.specs.declared.line_word.LineWord.{LineWord}
-use Rattle.saa_words.specs.Words.{count_bits, word_number, word_of}
+use Rattle.saa_words.specs.Words.{count_bits, word_number, word_of, lock_count}
+use Rattle.saa_words.proofs.Words.{word-read}
 use Rattle.saa_steps.specs.declared.place.Place.{Place}
 use Rattle.saa_steps.specs.declared.place.Ask.{Ask}
 use Rattle.saa_steps.specs.declared.place.Afterwards.{Afterwards}
 use Rattle.saa_steps.specs.declared.place.Afterwards.TheVariants.{Ends, Again}
 use Rattle.saa_steps.specs.declared.place.Back.{Back}
-use Rattle.saa_steps.specs.declared.place.Back.TheVariants.{Tells}
+use Rattle.saa_steps.specs.declared.place.Back.TheVariants.{Tells, Ends as EndsCall, Takes}
+use Rattle.saa_steps.specs.declared.place.Taking.{Taking}
+use Rattle.saa_steps.specs.declared.place.Taking.TheVariants.{Tries, Awaits, Gives}
 use Rattle.saa_steps.specs.declared.place.Next.{Next}
-use Rattle.saa_steps.specs.declared.place.Stage.TheVariants.{Forward}
-use Rattle.saa_steps.specs.Needs.{Needs, fits_count}
-use Rattle.saa_steps.specs.Steps.{exchanged, finished, granted, decided, given_to, walking, shown_all, taken_answer, looked_at}
-use Rattle.saa_standing.specs.Standing.{updated}
+use Rattle.saa_steps.specs.declared.place.Next.TheVariants.{Waits}
+use Rattle.saa_steps.specs.declared.place.Stage.{Stage}
+use Rattle.saa_steps.specs.declared.place.Stage.TheVariants.{Prepare, AskExchange, Forward, Take, FlagExchange, LookLoad, PoisonExchange}
+use Rattle.saa_steps.specs.Needs.{Needs, fits_count, left_count}
+use Rattle.saa_object.specs.Held.{Exclusive}
+use Rattle.saa_object.specs.Values.{granted_value}
+use Rattle.saa_steps.specs.Lazy.{Lazy}
+use Rattle.saa_steps.specs.Steps.{IsRanged, IsSmall, exchanged, going, done, finished, tried_answer, granted, found_poisoned, decided, gave_nothing, given_to, given, walking, shown_all, dropped, taken_answer, looked_at, flagging, looking, looked_for, poisoning}
+use Rattle.saa_standing.specs.Standing.{updated, IsAlone, Stands}
 use Rattle.saa_standing.specs.Stepped.{row_after}
 use Rattle.saa_standing.proofs.Lists.{updated-same}
-use Rattle.saa_standing.proofs.Rows.{row-other}
-use Rattle.saa_budgets.specs.Budget.{way, by_seen, waiting, left_afterwards, steps_left, IsLower}
+use Rattle.saa_standing.proofs.Rows.{row-other, main-found}
+use Rattle.saa_budgets.specs.Budget.{way, by_seen, waiting, more_to_walk, more_to_end, left_afterwards, steps_left, IsLower}
+use Rattle.saa_budgets.proofs.Bounds.{more-within, end-most, end-within}
 use Rattle.saa_budgets.proofs.Ways.{ways-main}
 
 -- One of two numbers, by what was seen
@@ -31,6 +40,23 @@ by-less number seen same stale higher_same higher_stale a b =
     elim (cases_Bool (number == word_number count_bits seen)) [
       | inl is ↦ rw is a
       | inr differs ↦ rw differs b
+    ]
+
+-- one of two numbers, and more of which a part is set apart
+pub by-less-more : (number : ℕ) (seen : Word) (same stale higher_same higher_stale more : ℕ) → same < higher_same + more → stale < higher_stale + more
+    → by_seen number seen same stale < by_seen number seen higher_same higher_stale + more
+by-less-more number seen same stale higher_same higher_stale more a b =
+    elim (cases_Bool (number == word_number count_bits seen)) [
+      | inl is ↦ rw is a
+      | inr differs ↦ rw differs b
+    ]
+
+-- what is added to both is added to the one that counts
+pub by-add : (number : ℕ) (seen : Word) (same stale more : ℕ) → by_seen number seen (same + more) (stale + more) ≡ by_seen number seen same stale + more
+by-add number seen same stale more =
+    elim (cases_Bool (number == word_number count_bits seen)) [
+      | inl is ↦ rw is refl
+      | inr differs ↦ rw differs refl
     ]
 
 -- a mark is read from its bit
@@ -47,6 +73,25 @@ word-back number small =
 -- so the word that is found now is the one that was seen
 pub found-seen : (number : ℕ) → number < 16777216 → number == word_number count_bits (word_of count_bits number) ≡ true
 found-seen number small = ap (λ (n : ℕ). number == n) (word-back number small) ∙ number_same number
+
+-- so many wait as are met from the tail of what is written, or was seen
+pub waits-new : (ways : ℕ → ℕ) (new : Word) → IsSmall new → new.tail < 65536 → ways new.tail ≡ waiting ways (word_number count_bits new)
+waits-new ways new small tail = ap (λ (w : Word). ways w.tail) (sym (word-read count_bits new small tail))
+
+pub waits-seen : (ways : ℕ → ℕ) (number : ℕ) (seen : Word) → IsSmall seen → seen.tail < 65536 → number == word_number count_bits seen ≡ true
+    → waiting ways number ≡ ways seen.tail
+waits-seen ways number seen small tail same = ap (λ (w : Word). ways w.tail) (main-found number seen small tail same)
+
+-- What a place at a stage remembers
+
+pub ranged-at : (needs : Needs) (places : ℕ) (row : ℕ → ℕ) (standing : ℕ → Place) (lazy : Lazy) (me : ℕ) → Stands needs places row standing lazy
+    → (stage : Stage) → (standing me).stage ≡ stage → IsRanged needs stage
+ranged-at needs places row standing lazy me s stage at = subst (λ (now : Stage). IsRanged needs now) at (s.stages.ranged me)
+
+pub alone-at : (needs : Needs) (places : ℕ) (row : ℕ → ℕ) (standing : ℕ → Place) (lazy : Lazy) (me : ℕ) → Stands needs places row standing lazy
+    → (stage : Stage) → (standing me).stage ≡ stage → IsAlone needs (standing me).registration (standing me).back stage
+alone-at needs places row standing lazy me s stage at =
+    subst (λ (now : Stage). IsAlone needs (standing me).registration (standing me).back now) at (s.stages.alone me)
 
 -- Rows with the same ways
 
@@ -81,11 +126,30 @@ exchange-lower places row seen new fresh stale taken refused same differs =
 
 -- How a place goes on
 
-pub finished-lower : (ways : ℕ → ℕ) (number before : ℕ) (place : Place) (back : Back) → 0 < before → IsLower ways number before (finished place back)
-finished-lower ways number before place Tells some = (refl, some)
+-- of two ways to go on the one that is taken takes fewer steps
+pub either-lower : (ways : ℕ → ℕ) (number before : ℕ) (test : Bool) (one other : Next) → (test ≡ true → IsLower ways number before one)
+    → (test ≡ false → IsLower ways number before other) → IsLower ways number before (if test then one else other)
+either-lower ways number before true one other is not_so = is refl
+either-lower ways number before false one other is not_so = not_so refl
 
-pub granted-lower : (ways : ℕ → ℕ) (number before : ℕ) (place : Place) (ask : Ask) → 0 < before → IsLower ways number before (granted place ask)
-granted-lower ways number before place ask some =
+-- who is done with the line has to take its own answer, or nothing
+pub finished-lower : (ways : ℕ → ℕ) (number before : ℕ) (place : Place) (back : Back) → more_to_end back (waiting ways number) < before
+    → IsLower ways number before (finished place back)
+finished-lower ways number before place Tells more = (refl, more)
+finished-lower ways number before place EndsCall more = (refl, more)
+finished-lower ways number before place (Takes request) more = more
+
+pub granted-lower : (ways : ℕ → ℕ) (number before : ℕ) (needs : Needs) (place : Place) (ask : Ask) → 0 < before
+    → IsLower ways number before (granted needs place ask)
+granted-lower ways number before needs place ask some =
+    elim (cases_Bool ask.joins) [
+      | inl joins ↦ rw joins (refl, some)
+      | inr tries ↦ rw tries (refl, some)
+    ]
+
+-- who asks a poisoned lock is done
+poisoned-lower : (ways : ℕ → ℕ) (number before : ℕ) (place : Place) (ask : Ask) → 0 < before → IsLower ways number before (found_poisoned place ask)
+poisoned-lower ways number before place ask some =
     elim (cases_Bool ask.joins) [
       | inl joins ↦ rw joins (refl, some)
       | inr tries ↦ rw tries (refl, some)
@@ -94,7 +158,12 @@ granted-lower ways number before place ask some =
 pub decided-lower : (ways : ℕ → ℕ) (number before : ℕ) (needs : Needs) (place : Place) (ask : Ask) (seen : Word)
     → number == word_number count_bits seen ≡ true → 2 < before → IsLower ways number before (decided needs place ask seen)
 decided-lower ways number before needs place ask seen fresh more =
-    elim (cases_Bool (not (seen.tail == 0) || not (fits_count needs seen.count ask.request))) [
+    either-lower ways number before seen.is_poisoned (found_poisoned place ask)
+    (if not (seen.tail == 0) || not (fits_count needs seen.count ask.request)
+    then (if ask.joins then going place (Prepare ask.request seen) else done place (tried_answer needs false))
+    else (if needs.takes ask.request == 0 then granted needs place ask else going place (AskExchange ask seen)))
+    (λ poisoned. poisoned-lower ways number before place ask (omega (arith, more)))
+    (λ sound. elim (cases_Bool (not (seen.tail == 0) || not (fits_count needs seen.count ask.request))) [
       | inl waits ↦
           elim (cases_Bool ask.joins) [
             | inl joins ↦ rw (waits, joins, fresh) more
@@ -102,74 +171,180 @@ decided-lower ways number before needs place ask seen fresh more =
           ]
       | inr fits ↦
           elim (cases_Bool (needs.takes ask.request == 0)) [
-            | inl nothing ↦ rw (fits, nothing) (granted-lower ways number before place ask (omega (arith, more)))
+            | inl nothing ↦ rw (fits, nothing) (granted-lower ways number before needs place ask (omega (arith, more)))
             | inr some ↦ rw (fits, some, fresh) (omega (arith, more))
           ]
-    ]
+    ])
 
-pub given-lower : (ways : ℕ → ℕ) (number before : ℕ) (place : Place) (request : ℕ) (seen : Word) (left : Option ℕ)
+-- who gives nothing back is done
+gave-lower : (ways : ℕ → ℕ) (number before : ℕ) (place : Place) (back : Back) → 0 < before → IsLower ways number before (gave_nothing place back)
+gave-lower ways number before place Tells some = (refl, some)
+gave-lower ways number before place EndsCall some = (refl, some)
+gave-lower ways number before place (Takes request) some = (refl, some)
+
+given_to-lower : (ways : ℕ → ℕ) (number before : ℕ) (place : Place) (request : ℕ) (seen : Word) (left : Option ℕ)
     → number == word_number count_bits seen ≡ true → 5 * waiting ways number + 3 < before → IsLower ways number before
     (given_to place request seen left)
-given-lower ways number before place request seen None fresh more = (refl, omega (arith, more))
-given-lower ways number before place request seen (Some left) fresh more = rw fresh more
+given_to-lower ways number before place request seen None fresh more = gave-lower ways number before place place.back (omega (arith, more))
+given_to-lower ways number before place request seen (Some left) fresh more = rw fresh more
+
+pub given-lower : (ways : ℕ → ℕ) (number before : ℕ) (needs : Needs) (place : Place) (request : ℕ) (seen : Word)
+    → number == word_number count_bits seen ≡ true → 5 * waiting ways number + 3 < before
+    → IsLower ways number before (given needs place request seen)
+given-lower ways number before needs place request seen fresh more =
+    either-lower ways number before seen.is_poisoned (gave_nothing place place.back) (given_to place request seen (left_count needs seen.count request))
+    (λ poisoned. gave-lower ways number before place place.back (omega (arith, more)))
+    (λ sound. given_to-lower ways number before place request seen (left_count needs seen.count request) fresh more)
 
 -- whoever walks from the word that is found now
 pub walking-lower : (ways : ℕ → ℕ) (number before : ℕ) (place : Place) (seen : Word) → number == word_number count_bits seen ≡ true
-    → ways seen.tail ≡ waiting ways number → 5 * waiting ways number + 2 < before → IsLower ways number before (walking place seen)
+    → ways seen.tail ≡ waiting ways number → 5 * waiting ways number + 2 + more_to_walk place.back (waiting ways number) < before
+    → IsLower ways number before (walking place seen)
 walking-lower ways number before place seen fresh tail more = rw fresh (omega (arith, tail, more))
 
 pub looked-lower : (ways : ℕ → ℕ) (number : ℕ) (needs : Needs) (place : Place) (seen : Word) (current count : ℕ) (line : LineWord)
     → ways current ≤ waiting ways number → ways current ≤ ways seen.tail → ways 0 ≡ 0
     → (current == seen.tail ≡ false → ways line.newer ≡ ways current + 1)
-    → IsLower ways number (steps_left ways number (Forward seen current count)) (looked_at needs place seen current count line)
+    → IsLower ways number (steps_left ways number place.back (Forward seen current count)) (looked_at needs place seen current count line)
 looked-lower ways number needs place seen current count line within behind nobody newer =
+    let none = end-within place.back 0 (waiting ways number) (omega arith) in
+    let all = end-within place.back (waiting ways number) (waiting ways number) (omega arith) in
     elim (cases_Bool (fits_count needs count line.request)) [
       | inl fits ↦
           elim (cases_Bool (current == seen.tail)) [
             | inl last ↦
                 rw (fits, last)
-                (by-less number seen (2 * ways current + 1) (5 * waiting ways number + 5)
+                (by-less-more number seen (2 * ways current + 1 + more_to_end place.back 0)
+                (5 * waiting ways number + 5 + more_to_walk place.back (waiting ways number))
                 (3 * waiting ways number + 3 - ways current) (ways seen.tail + 5 * waiting ways number + 7 - ways current)
-                (omega (arith, within)) (omega (arith, within, behind)))
+                (more_to_walk place.back (waiting ways number))
+                (omega (arith, within, none)) (omega (arith, within, behind)))
             | inr more ↦
                 let next = newer more in
                 rw (fits, more)
-                (by-less number seen (3 * waiting ways number + 3 - ways line.newer) (ways seen.tail + 5 * waiting ways number + 7 - ways line.newer)
-                (3 * waiting ways number + 3 - ways current) (ways seen.tail + 5 * waiting ways number + 7 - ways current)
-                (omega (arith, within, next)) (omega (arith, within, behind, next)))
+                (omega (
+                  arith,
+                  by-less number seen (3 * waiting ways number + 3 - ways line.newer) (ways seen.tail + 5 * waiting ways number + 7 - ways line.newer)
+                      (3 * waiting ways number + 3 - ways current) (ways seen.tail + 5 * waiting ways number + 7 - ways current)
+                      (omega (arith, within, next)) (omega (arith, within, behind, next)),
+                ))
           ]
       | inr refused ↦
           elim (cases_Bool (line.older == 0)) [
             | inl oldest ↦
                 rw (refused, oldest)
-                (by-less number seen (2 * ways 0 + 1) (5 * waiting ways number + 5 * ways 0 + 4)
+                (by-less-more number seen (2 * ways 0 + 1 + more_to_end place.back (waiting ways number))
+                (5 * waiting ways number + 5 * ways 0 + 4 + more_to_walk place.back (waiting ways number + ways 0))
                 (3 * waiting ways number + 3 - ways current) (ways seen.tail + 5 * waiting ways number + 7 - ways current)
-                (omega (arith, within, nobody)) (omega (arith, within, behind, nobody)))
+                (more_to_walk place.back (waiting ways number))
+                (omega (arith, within, nobody, all))
+                (omega (arith, within, behind, nobody, more-within place.back (waiting ways number + ways 0) (waiting ways number) (omega (arith, nobody)))))
             | inr others ↦
                 rw (refused, others)
-                (by-less number seen (2 * waiting ways number + 2) (5 * waiting ways number + 5)
-                (3 * waiting ways number + 3 - ways current) (ways seen.tail + 5 * waiting ways number + 7 - ways current)
-                (omega (arith, within)) (omega (arith, within, behind)))
+                (omega (
+                  arith,
+                  by-less number seen (2 * waiting ways number + 2) (5 * waiting ways number + 5)
+                      (3 * waiting ways number + 3 - ways current) (ways seen.tail + 5 * waiting ways number + 7 - ways current)
+                      (omega (arith, within)) (omega (arith, within, behind)),
+                ))
           ]
     ]
 
 pub shown-lower : (ways : ℕ → ℕ) (number before : ℕ) (place : Place) (afterwards : Afterwards)
     → ((seen : Word) → afterwards ≡ Again seen → number == word_number count_bits seen ≡ true → ways seen.tail ≤ waiting ways number)
-    → left_afterwards ways number afterwards < before → IsLower ways number before (shown_all place afterwards)
-shown-lower ways number before place Ends tail more = finished-lower ways number before place place.back (omega (arith, more))
+    → left_afterwards ways number place.back afterwards < before → IsLower ways number before (shown_all place afterwards)
+shown-lower ways number before place Ends tail more = finished-lower ways number before place place.back more
 shown-lower ways number before place (Again seen) tail more =
     elim (cases_Bool (number == word_number count_bits seen)) [
       | inl fresh ↦
-          let enough : 5 * waiting ways number + 2 < before = rw fresh at more in
+          let enough : 5 * waiting ways number + 2 + more_to_walk place.back (waiting ways number) < before = rw fresh at more in
           let within = tail seen refl fresh in
           rw fresh (omega (arith, within, enough))
       | inr stale ↦
-          let enough : 3 * ways seen.tail + 5 * waiting ways number + 6 < before = rw stale at more in
+          let enough : 3 * ways seen.tail + 5 * waiting ways number + 6 + more_to_walk place.back (waiting ways number) < before = rw stale at more in
           rw stale (omega (arith, enough))
     ]
 
-pub taken-lower : (ways : ℕ → ℕ) (number : ℕ) (place : Place) (waits : Bool) (answer : Option ℕ) → IsLower ways number 1
-    (taken_answer place waits answer)
-taken-lower ways number place waits (Some value) = (refl, omega arith)
-taken-lower ways number place true None = omega arith
-taken-lower ways number place false None = (refl, omega arith)
+-- who gives up what it was granted has to release it
+dropped-lower : (ways : ℕ → ℕ) (number before : ℕ) (needs : Needs) (place : Place) (request value : ℕ) → 5 * waiting ways number + 4 < before
+    → IsLower ways number before (dropped needs place request value)
+dropped-lower ways number before needs place request value more =
+    elim (cases_Bool (value == granted_value && not (needs.takes request == 0))) [
+      | inl gives ↦ rw gives more
+      | inr nothing ↦ rw nothing (refl, omega (arith, more))
+    ]
+
+-- who looks at its own answer takes it, or waits
+pub taken-lower : (ways : ℕ → ℕ) (number : ℕ) (needs : Needs) (place : Place) (taking : Taking) (answer : Option ℕ)
+    → IsLower ways number (steps_left ways number place.back (Take taking)) (taken_answer needs place taking answer)
+taken-lower ways number needs place (Gives request) (Some value) =
+    dropped-lower ways number (5 * waiting ways number + 5) needs place request value (omega arith)
+taken-lower ways number needs place (Gives request) None = omega arith
+taken-lower ways number needs place Awaits (Some value) = (refl, omega arith)
+taken-lower ways number needs place Awaits None = omega arith
+taken-lower ways number needs place Tries (Some value) = (refl, omega arith)
+taken-lower ways number needs place Tries None = (refl, omega arith)
+
+-- whoever is to set the flag
+pub flagging-lower : (ways : ℕ → ℕ) (number before : ℕ) (place : Place) (seen : Word) → number == word_number count_bits seen ≡ true
+    → 8 * waiting ways number + 10 < before → IsLower ways number before (flagging place seen)
+flagging-lower ways number before place seen fresh more =
+    either-lower ways number before seen.is_flagged Waits (if seen.tail == 0 then finished place place.back else going place (FlagExchange seen))
+    (λ flagged. omega (arith, more))
+    (λ free. elim (cases_Bool (seen.tail == 0)) [
+      | inl nobody ↦
+          rw nobody (finished-lower ways number before place place.back (omega (arith, more, end-most place.back (waiting ways number))))
+      | inr some ↦ rw (some, fresh) more
+    ])
+
+-- whoever looks for itself from the word that is found now
+pub looking-lower : (ways : ℕ → ℕ) (number before : ℕ) (place : Place) (seen : Word) → number == word_number count_bits seen ≡ true
+    → ways seen.tail ≡ waiting ways number → 8 * waiting ways number + 9 < before → IsLower ways number before (looking place seen)
+looking-lower ways number before place seen fresh tail more = rw fresh (omega (arith, tail, more))
+
+-- who looks for itself found itself, or goes on to link the place that it looked at
+pub looked_for-lower : (ways : ℕ → ℕ) (number me : ℕ) (place : Place) (seen : Word) (current newer : ℕ) (previous line : LineWord)
+    → ways current ≡ ways line.older + 1
+    → IsLower ways number (steps_left ways number place.back (LookLoad seen current newer previous))
+    (looked_for me place seen current newer previous line)
+looked_for-lower ways number me place seen current newer previous line older =
+    elim (cases_Bool (current == me + 1)) [
+      | inl found ↦
+          elim (cases_Bool (newer == 0)) [
+            | inl last ↦
+                rw (found, last)
+                (omega (
+                  arith,
+                  by-less number seen (5 * waiting ways number + 3) (8 * waiting ways number + 10)
+                      (6 * waiting ways number + 9) (ways seen.tail + 8 * waiting ways number + 13) (omega arith) (omega arith),
+                  older,
+                ))
+            | inr others ↦
+                rw (found, others)
+                (omega (
+                  arith,
+                  by-less number seen (3 * waiting ways number + 2) (ways seen.tail + 5 * waiting ways number + 6)
+                      (6 * waiting ways number + 9) (ways seen.tail + 8 * waiting ways number + 13) (omega arith) (omega arith),
+                  older,
+                ))
+          ]
+      | inr another ↦
+          rw another
+          (omega (
+            arith,
+            by-less number seen (6 * waiting ways number + 8) (ways seen.tail + 8 * waiting ways number + 12)
+                (6 * waiting ways number + 9) (ways seen.tail + 8 * waiting ways number + 13) (omega arith) (omega arith),
+          ))
+    ]
+
+-- whoever poisons a lock
+pub poisoning-lower : (ways : ℕ → ℕ) (number before : ℕ) (place : Place) (seen : Word) → number == word_number count_bits seen ≡ true
+    → 2 * waiting ways number + 1 < before → IsLower ways number before (poisoning place seen)
+poisoning-lower ways number before place seen fresh more =
+    elim (cases_Bool (seen.is_poisoned || not (seen.count == lock_count Exclusive))) [
+      | inl refused ↦ rw refused (refl, omega (arith, more))
+      | inr alone ↦
+          rw alone
+          (either-lower ways number before seen.is_flagged Waits (going place (PoisonExchange seen))
+          (λ flagged. omega (arith, more)) (λ free. rw fresh more))
+    ]

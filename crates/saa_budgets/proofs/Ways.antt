@@ -71,7 +71,7 @@ met-nobody places row zero = refl
 met-nobody places row (suc more) = refl
 
 -- a link leads to a place
-link-of : (places place : ℕ) → place < places → is_link places (place + 1) ≡ true
+pub link-of : (places place : ℕ) → place < places → is_link places (place + 1) ≡ true
 link-of places place below =
     let some : place + 1 == 0 ≡ false = grind (arith, nat_tests) in
     rw (some, below_true (place + 1) (places + 1) (omega (arith, below))) refl

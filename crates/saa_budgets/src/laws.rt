@@ -2,6 +2,7 @@
 
 ghost use Rattle.std.specs.Prelude.{◌≢◌, ℕ, ◌+◌, ◌*◌, ◌<◌, ◌≤◌};
 ghost use Rattle.saa_steps.specs.declared.place.Place.{Place};
+ghost use Rattle.saa_steps.specs.declared.place.Back.{Back};
 ghost use Rattle.saa_steps.specs.declared.place.Stage.{Stage};
 ghost use Rattle.saa_steps.specs.declared.place.Stage.TheVariants.{Quiet};
 ghost use Rattle.saa_steps.specs.Needs.{Needs, AreNeeds};
@@ -11,11 +12,11 @@ ghost use Rattle.saa_budgets.specs.Budget.{budget, IsLowered, IsKept, AreWithin,
 
 /// How many steps a call has left at most, as long as no other place changes the main word.
 ///
-/// A budget is at most 11 steps for each place and 13 more, whatever stands in the words. Where words, places and the lazy object
+/// A budget is at most 16 steps for each place and 13 more, whatever stands in the words. Where words, places and the lazy object
 /// stand together, each step of a call lowers its budget: one step at least is left before it, also where the call is done with it or
 /// finds that it has to wait. A step of a place that leaves the main word's number raises the budget of no other place.
 pub fn budgets()
-    ensures bounded { (places : ℕ) (row : ℕ → ℕ) (stage : Stage) → budget places row stage ≤ 11 * places + 13 }
+    ensures bounded { (places : ℕ) (row : ℕ → ℕ) (back : Back) (stage : Stage) → budget places row back stage ≤ 16 * places + 13 }
     ensures lowered { (needs : Needs) → AreNeeds needs → needs.top < 64
         → (places : ℕ) (row : ℕ → ℕ) (standing : ℕ → Place) (lazy : Lazy) (me : ℕ) → Stands needs places row standing lazy
         → (standing me).stage ≢ Quiet → IsLowered needs places row standing me (standing me).stage }
