@@ -1,301 +1,53 @@
 -- A call that moves alone is the call of the sequential object.
-use Rattle.std.proofs.Common.{◌≡◌, ℕ, zero, suc, ◌+◌, ◌<◌, ◌≤◌, Bool, true, false, not, ◌||◌, List, [], ◌∷◌, ◌++◌, ◌==◌, nat_lt, nat_le, None, Ok, refl, sym, ap, subst, ◌∙◌, arith, inl, inr}
+use Rattle.std.proofs.Common.{◌≡◌, ℕ, Bool, true, false, List, [], ◌∷◌, ◌==◌, nat_lt, Some, if◌then◌else◌, Ok, Err, refl, sym, ap, subst, ◌∙◌, inl, inr}
 use Rattle.std.proofs.lemmas.Bool.{cases_Bool}
-use Rattle.std.proofs.lemmas.Bool.Decides.{nat_tests}
 use Rattle.saa_object.specs.Object.{Object}
-use Rattle.saa_object.proofs.Counts.{same_number}
+use Rattle.saa_object.specs.Values.{granted_value}
+use Rattle.saa_object.specs.declared.polling.Error.TheVariants.{NotRegistered}
+use Rattle.saa_steps.specs.declared.rules.Rules.{Rules}
+use Rattle.saa_steps.specs.declared.rules.Rules.TheVariants.{Permits, Modes}
+use Rattle.saa_steps.specs.declared.place.Ask.{Ask}
+use Rattle.saa_steps.specs.declared.place.Back.TheVariants.{Tells, Ends as EndsCall, Takes}
+use Rattle.saa_steps.specs.declared.place.Reading.{Reading}
+use Rattle.saa_steps.specs.declared.place.Reading.TheVariants.{Available as ReadsAvailable, IsFree as ReadsFree, IsLocked as ReadsLocked, IsShared as ReadsShared, IsPoisoned as ReadsPoisoned}
+use Rattle.saa_steps.specs.declared.place.Taking.{Taking}
+use Rattle.saa_steps.specs.declared.place.Taking.TheVariants.{Tries, Awaits}
 use Rattle.saa_steps.specs.declared.place.Place.{Place}
 use Rattle.saa_steps.specs.declared.place.Registration.{Registration}
 use Rattle.saa_steps.specs.declared.place.Registration.TheVariants.{Idle, Once, Slot}
-use Rattle.saa_steps.specs.declared.place.Stage.{Stage}
-use Rattle.saa_steps.specs.declared.place.Stage.TheVariants.{Quiet, ReadLoad, AskLoad, ReleaseLoad, Take}
+use Rattle.saa_steps.specs.declared.place.Stage.TheVariants.{Quiet, ReadLoad, AskLoad, ReleaseLoad, Take, FlagLoad, PoisonLoad, Clear}
 use Rattle.saa_steps.specs.declared.place.Next.{Next}
-use Rattle.saa_steps.specs.declared.place.Next.TheVariants.{Going, Waits, Done}
+use Rattle.saa_steps.specs.declared.place.Next.TheVariants.{Going, Done}
 use Rattle.saa_steps.specs.declared.call.Answer.{Answer}
-use Rattle.saa_steps.specs.declared.call.Answer.TheVariants.{Bool as Says, Taken}
+use Rattle.saa_steps.specs.declared.call.Answer.TheVariants.{Bool as Says, Taken, Unit as SaysNothing}
 use Rattle.saa_steps.specs.declared.call.WordCall.{WordCall}
-use Rattle.saa_steps.specs.declared.call.WordCall.TheVariants.{Try, Register, Release, TryPoll, Poll, Cancel, Available}
-use Rattle.saa_steps.specs.Needs.{Needs, permit_needs, left_count}
-use Rattle.saa_steps.specs.Lazy.{Lazy, Event, Got, Refused, Joined, Gave, GaveNothing, NotReady, Took, Read, after_event, IsRun, IsFront, IsSettledAt, takes_of, is_empty, must_wait, count_or}
-use Rattle.saa_steps.specs.Steps.{IsRanged, is_taken, word_at, operation_of, going, polled_as, is_idle}
+use Rattle.saa_steps.specs.declared.call.WordCall.TheVariants.{Try, Register, Release, Available, TryLock, TryShare, RegisterMode, ReleaseLock, ReleaseShare, PoisonLock, ClearPoison, IsFree, IsLocked, IsShared, IsPoisoned, TryPoll, Poll, Cancel}
+use Rattle.saa_steps.specs.Needs.{Needs, AreNeeds}
+use Rattle.saa_steps.specs.Lazy.{Event}
+use Rattle.saa_steps.specs.Steps.{needs_of, is_taken, is_idle, going, started, tried_as, registered_as, released_as, polled_as, cancelled_as, mode_number}
 use Rattle.saa_steps.proofs.LazyRuns.{permits-lawful}
-use Rattle.saa_standing.specs.Standing.{updated, line_of, is_slot, is_holder, IsAlone, IsOwn, IsShowing, AreSeats, Stands}
-use Rattle.saa_standing.specs.Stepped.{Stepped, of_place, named, named_at, place_after, row_after}
-use Rattle.saa_standing.proofs.Lists.{all-same, updated-at}
-use Rattle.saa_standing.proofs.Rows.{moved}
-use Rattle.saa_standing.proofs.Steps.{step}
-use Rattle.saa_alone.specs.Alone.{IsQuiet, IsAtRest, Moment, put, next_at, IsEither, IsDoneIn, IsCalledAlone}
+use Rattle.saa_steps.proofs.LockNeeds.{locks-lawful}
+use Rattle.saa_standing.specs.Standing.{updated, Stands}
+use Rattle.saa_standing.specs.Stepped.{place_after}
+use Rattle.saa_standing.specs.Calls.{asked_by, given_by, read_by, taken_by, ask_named, release_named, read_named, is_taken_up, IsAnswered, IsBegun, IsCancelled, IsDropped}
+use Rattle.saa_standing.proofs.Starting.{starts, call-begun}
+use Rattle.saa_alone.specs.Alone.{IsQuiet, Moment, put, IsEither, IsDoneIn, IsCalledAlone}
 use Rattle.saa_alone.specs.Mirrors.{Mirrors, called}
 use Rattle.saa_alone.specs.Agrees.{Begins, Agrees}
-use Rattle.saa_alone.proofs.Quiet.{quiet-holder, at-rest}
-use Rattle.saa_alone.proofs.Mirroring.{Answers, IsPoll, try-got, try-refused, register-got, register-joined, register-refused, poll-took, poll-once, poll-not_ready, poll-idle, reads, release-none, release-refused, release-gave}
-use Rattle.saa_alone.proofs.Events.{run-append, named-append, no-events, IsFirst, first-event, Grants, grants-run, grants-nothing, grants-shown}
-use Rattle.saa_alone.proofs.Paths.{IsUnder, IsEnded, IsGoingOn, steps-on}
+use Rattle.saa_alone.proofs.Quiet.{at-rest}
+use Rattle.saa_alone.proofs.Mirroring.{Starts, Answers}
+use Rattle.saa_alone.proofs.Asks.{try-large, register-large, register-busy}
+use Rattle.saa_alone.proofs.Givings.{release-large, release-none}
+use Rattle.saa_alone.proofs.Cancels.{cancel-idle, cancel-once}
+use Rattle.saa_alone.proofs.PollsAlone.{poll-once, poll-idle}
+use Rattle.saa_alone.proofs.Along.{Arrives, from-start}
+use Rattle.saa_alone.proofs.Endings.{IsOver, Beside, end-try, end-register, end-release, end-try_poll, end-poll, end-read, end-poison, end-clear, end-cancel-once, end-cancel-slot}
 
--- Along the steps
+-- the needs of any rules are those of a form
+pub rules-lawful : (rules : Rules) → AreNeeds (needs_of rules)
+rules-lawful (Permits bound) = permits-lawful bound
+rules-lawful Modes = locks-lawful
 
-pub updated-twice : {A : Type 0} (old : ℕ → A) (at : ℕ) (one two : A) → updated (updated old at one) at two ≡ updated old at two
-updated-twice old at one two =
-    all-same (updated (updated old at one) at two) (updated old at two) (λ other.
-    elim (cases_Bool (other == at)) [
-      | inl same ↦ rw same refl
-      | inr apart ↦ rw apart refl
-    ])
-
--- the events since the call started, and those of them that answers name
-pub record SoFar (needs : Needs) (me : ℕ) (start lazy : Lazy) (names : List Event) : Type 0 where
-  pub events : List Event
-  pub run : IsRun needs start (of_place me events) lazy
-  pub named : named events ≡ names
-
--- the call is done: it has answered what its events name
-pub record Arrives (bound places me : ℕ) (start : Lazy) (first : ℕ → Place) (call : WordCall) (was : Registration) (answer : Answer) (last : Moment) : Type 0 where
-  pub lazy : Lazy
-  pub stands : Stands (permit_needs bound) places last.row last.standing lazy
-  pub names : List Event
-  pub far : SoFar (permit_needs bound) me start lazy names
-  pub ended : IsEnded bound call was names (last.standing me).registration answer
-  pub quiet : (last.standing me).stage ≡ Quiet
-  pub others : last.standing ≡ updated first me (last.standing me)
-
--- how a call goes on behind a step, where what it does then is known
-goes : (bound places me : ℕ) (call : WordCall) (was : Registration) (steps : ℕ) (first : ℕ → Place) (now : Moment) (row : ℕ → ℕ) (start lazy : Lazy) (names : List Event) (answer : Answer) (last : Moment)
-    → ((next : Moment) → Stands (permit_needs bound) places next.row next.standing lazy → IsUnder call (next.standing me).stage names
-    → (next.standing me).registration ≡ was → next.standing ≡ updated first me (next.standing me)
-    → IsDoneIn (permit_needs bound) places me steps next answer last → Arrives bound places me start first call was answer last)
-    → (next : Next) → SoFar (permit_needs bound) me start lazy names → now.standing ≡ updated first me (now.standing me)
-    → IsGoingOn bound call was names next
-    → Stands (permit_needs bound) places row (updated now.standing me (place_after (now.standing me) next)) lazy
-    → IsEither next (IsDoneIn (permit_needs bound) places me steps (put me next (record now { row = row })) answer last)
-    (λ said. (steps ≡ 0) × (said ≡ answer) × (put me next (record now { row = row }) ≡ last))
-    → Arrives bound places me start first call was answer last
-goes bound places me call was steps first now row start lazy names answer last rest (Going place) far others good s h =
-    let here : updated now.standing me place me ≡ place = updated-at now.standing me place in
-    let changed : updated now.standing me place ≡ updated first me (updated now.standing me place me) =
-    ap (λ (f : ℕ → Place). updated f me place) others ∙ updated-twice first me (now.standing me) place
-    ∙ ap (λ (p : Place). updated first me p) (sym here) in
-    rest (put me (Going place) (record now { row = row })) s
-    (subst (λ (p : Place). IsUnder call p.stage names) (sym here) good.0)
-    (ap (λ (p : Place). p.registration) here ∙ good.1) changed h
-goes bound places me call was steps first now row start lazy names answer last rest Waits far others good s h = absurd h
-goes bound places me call was steps first now row start lazy names answer last rest (Done place said) far others good s h =
-    let here : updated now.standing me place me ≡ place = updated-at now.standing me place in
-    let changed : updated now.standing me place ≡ updated first me (updated now.standing me place me) =
-    ap (λ (f : ℕ → Place). updated f me place) others ∙ updated-twice first me (now.standing me) place
-    ∙ ap (λ (p : Place). updated first me p) (sym here) in
-    let arrived : Arrives bound places me start first call was answer (put me (Done place said) (record now { row = row })) = record {
-      lazy = lazy;
-      stands = s;
-      names = names;
-      far = far;
-      ended = subst (λ (p : Place). IsEnded bound call was names p.registration answer) (sym here)
-          (subst (λ (a : Answer). IsEnded bound call was names place.registration a) h.1 good.0);
-      quiet = ap (λ (p : Place). p.stage) here ∙ good.1;
-      others = changed;
-    } in
-    subst (λ (m : Moment). Arrives bound places me start first call was answer m) h.2 arrived
-
-along : (bound places me : ℕ) → bound < 64 → places < 65536 → me < places → (call : WordCall) (was : Registration) (first : ℕ → Place) (start : Lazy) (answer : Answer) (last : Moment)
-    → (steps : ℕ) (now : Moment) (lazy : Lazy) (names : List Event) → SoFar (permit_needs bound) me start lazy names
-    → Stands (permit_needs bound) places now.row now.standing lazy → IsUnder call (now.standing me).stage names
-    → (now.standing me).registration ≡ was → now.standing ≡ updated first me (now.standing me)
-    → IsDoneIn (permit_needs bound) places me steps now answer last → Arrives bound places me start first call was answer last
-along bound places me small room here call was first start answer last zero now lazy names far s under same others h = absurd h
-along bound places me small room here call was first start answer last (suc more) now lazy names far s under same others h =
-    let needs : Needs = permit_needs bound in
-    let stage : Stage = (now.standing me).stage in
-    let found : ℕ = now.row (word_at (operation_of needs places me stage)) in
-    let made : Stepped needs places now.row now.standing lazy me stage =
-    step needs (permits-lawful bound) small places now.row now.standing lazy me room here s stage refl in
-    let farther : SoFar needs me start made.last (names ++ named_at needs stage found) = record {
-      events = far.events ++ made.events;
-      run = run-append needs me far.events made.events start lazy made.last far.run made.run;
-      named = named-append far.events made.events ∙ (λ i. far.named i ++ made.names i);
-    } in
-    goes bound places me call was more first now (row_after now.row (operation_of needs places me stage)) start made.last
-    (names ++ named_at needs stage found) answer last
-    (λ next stands then_under then_same then_others then_h.
-    along bound places me small room here call was first start answer last more next made.last (names ++ named_at needs stage found) farther
-    stands then_under then_same then_others then_h)
-    (next_at needs places me now) farther others
-    (steps-on bound (now.standing me) was call stage names found same under)
-    made.stands h
-
--- At the end
-
--- what a call has checked when it makes its first step
-abbrev pub IsStarted : ℕ → WordCall → Registration → Type 0
-IsStarted bound (Register count) was = (was ≡ Idle) × (nat_lt bound count ≡ false)
-IsStarted bound (Release count) was = count == 0 ≡ false
-IsStarted bound _ was = Unit {0}
-
--- what is known of both ends of a call that moved alone
-record Ends (bound places me : ℕ) (call : WordCall) (first : ℕ → Place) (start : Lazy) (s : Object) (answer : Answer) (last : Moment) : Type 0 where
-  here : me < places
-  mirrors : Mirrors (permit_needs bound) places first start s
-  seats : AreSeats places first start
-  closed : start.unclosed ≡ false
-  paid : (place : ℕ) → start.due place ≡ None
-  calm : start.poisoned ≡ false
-  checked : IsStarted bound call (first me).registration
-  arrived : Arrives bound places me start first call (first me).registration answer last
-  rest : IsAtRest (permit_needs bound) last.row arrived.lazy
-
--- the registration that is left, as the place stands at the end
-abbrev at_end : (bound places me : ℕ) (is_sync : Bool) (call : WordCall) (s : Object) (lazy : Lazy) (answer : Answer) (first : ℕ → Place) (last : Moment) → Type 0
-at_end bound places me is_sync call s lazy answer first last =
-    Answers (permit_needs bound) places me is_sync call (updated first me (last.standing me)) s lazy answer
-
--- the one event of a call, behind which nothing else happened
-one-event : (bound places me : ℕ) (call : WordCall) (first : ℕ → Place) (start : Lazy) (s : Object) (answer : Answer) (last : Moment)
-    (e : Ends bound places me call first start s answer last) (event : Event) → e.arrived.names ≡ event ∷ []
-    → IsFirst (permit_needs bound) me start event e.arrived.lazy
-one-event bound places me call first start s answer last e event is =
-    first-event (permit_needs bound) me e.arrived.far.events event start e.arrived.lazy e.closed e.paid (e.arrived.far.named ∙ is) e.arrived.far.run
-
--- where the event opens nothing and makes nothing due, it is the only one
-only : (bound me : ℕ) (start last : Lazy) (event : Event) (f : IsFirst (permit_needs bound) me start event last)
-    → (after_event (permit_needs bound) start me event).unclosed ≡ false → ((place : ℕ) → (after_event (permit_needs bound) start me event).due place ≡ None)
-    → after_event (permit_needs bound) start me event ≡ last
-only bound me start last event f closed paid =
-    no-events (permit_needs bound) me f.rest (after_event (permit_needs bound) start me event) last closed paid f.names f.run
-
--- a try
-end-try : (bound places me : ℕ) (is_sync : Bool) (count : ℕ) (first : ℕ → Place) (start : Lazy) (s : Object) (answer : Answer) (last : Moment)
-    (e : Ends bound places me (Try count) first start s answer last) → at_end bound places me is_sync (Try count) s e.arrived.lazy answer first last
-end-try bound places me is_sync count first start s answer last e =
-    let needs : Needs = permit_needs bound in
-    elim e.arrived.ended.1 [
-      | inl got ↦
-          let f = one-event bound places me (Try count) first start s answer last e (Got count) got.0 in
-          let done = only bound me start e.arrived.lazy (Got count) f e.closed e.paid in
-          subst (λ (z : Lazy). at_end bound places me is_sync (Try count) s z answer first last) done
-          (subst (λ (a : Answer). at_end bound places me is_sync (Try count) s (after_event needs start me (Got count)) a first last) (sym got.1)
-          (try-got bound places me is_sync first start s count (last.standing me) e.mirrors f.allowed e.arrived.ended.0))
-      | inr refused ↦
-          let f = one-event bound places me (Try count) first start s answer last e (Refused count) refused.0 in
-          let done = only bound me start e.arrived.lazy (Refused count) f e.closed e.paid in
-          subst (λ (z : Lazy). at_end bound places me is_sync (Try count) s z answer first last) done
-          (subst (λ (a : Answer). at_end bound places me is_sync (Try count) s start a first last) (sym refused.1)
-          (try-refused bound places me is_sync first start s count (last.standing me) e.mirrors f.allowed.1 e.arrived.ended.0))
-    ]
-
--- a registration
-end-register : (bound places me : ℕ) (is_sync : Bool) (count : ℕ) (first : ℕ → Place) (start : Lazy) (s : Object) (answer : Answer) (last : Moment)
-    (e : Ends bound places me (Register count) first start s answer last) → at_end bound places me is_sync (Register count) s e.arrived.lazy answer first last
-end-register bound places me is_sync count first start s answer last e =
-    let needs : Needs = permit_needs bound in
-    elim e.arrived.ended.1 [
-      | inl got ↦
-          let f = one-event bound places me (Register count) first start s answer last e (Got count) got.0 in
-          let done = only bound me start e.arrived.lazy (Got count) f e.closed e.paid in
-          subst (λ (z : Lazy). at_end bound places me is_sync (Register count) s z answer first last) done
-          (subst (λ (a : Answer). at_end bound places me is_sync (Register count) s (after_event needs start me (Got count)) a first last) (sym e.arrived.ended.0)
-          (register-got bound places me is_sync first start s count (last.standing me) e.mirrors e.here f.allowed e.checked.0 e.checked.1 got.1))
-      | inr joined ↦
-          let f = one-event bound places me (Register count) first start s answer last e (Joined count) joined.0 in
-          let done = only bound me start e.arrived.lazy (Joined count) f e.closed e.paid in
-          subst (λ (z : Lazy). at_end bound places me is_sync (Register count) s z answer first last) done
-          (subst (λ (a : Answer). at_end bound places me is_sync (Register count) s (after_event needs start me (Joined count)) a first last) (sym e.arrived.ended.0)
-          (register-joined bound places me is_sync first start s count (last.standing me) e.mirrors e.here f.allowed e.checked.0 e.checked.1 joined.1))
-    ]
-
--- a release
-end-release : (bound places me : ℕ) (is_sync : Bool) (count : ℕ) (first : ℕ → Place) (start : Lazy) (s : Object) (answer : Answer) (last : Moment)
-    (e : Ends bound places me (Release count) first start s answer last) → at_end bound places me is_sync (Release count) s e.arrived.lazy answer first last
-end-release bound places me is_sync count first start s answer last e =
-    let needs : Needs = permit_needs bound in
-    elim e.arrived.ended.1 [
-      | inl gave ↦
-          let f = one-event bound places me (Release count) first start s answer last e (Gave count) gave.0 in
-          let open_line : Lazy = after_event needs start me (Gave count) in
-          let g : Grants needs open_line e.arrived.lazy =
-          grants-run needs me f.rest open_line open_line e.arrived.lazy f.names f.run (grants-nothing needs open_line e.paid) in
-          let left : ℕ = f.allowed.1.0 in
-          let is : open_line.count ≡ left = ap (count_or start.count) f.allowed.1.1 in
-          let counted : e.arrived.lazy.count ≡ left + takes_of needs g.front = g.count ∙ ap (λ (n : ℕ). n + takes_of needs g.front) is in
-          subst (λ (a : Answer). at_end bound places me is_sync (Release count) s e.arrived.lazy a first last) (sym gave.1)
-          (release-gave bound places me is_sync first start s count left g.front e.arrived.lazy.line e.arrived.lazy (last.standing me)
-          e.mirrors e.seats e.checked f.allowed.1.1 g.parts
-          (subst (λ (n : ℕ). IsFront needs n g.front) is g.fits)
-          (subst (λ (n : ℕ). IsSettledAt needs n e.arrived.lazy.line) counted e.rest.settled)
-          refl counted (grants-shown needs open_line e.arrived.lazy g e.rest.paid) e.arrived.ended.0)
-      | inr nothing ↦
-          let f = one-event bound places me (Release count) first start s answer last e (GaveNothing count) nothing.0 in
-          let done = only bound me start e.arrived.lazy (GaveNothing count) f e.closed e.paid in
-          subst (λ (z : Lazy). at_end bound places me is_sync (Release count) s z answer first last) done
-          (subst (λ (a : Answer). at_end bound places me is_sync (Release count) s start a first last) (sym nothing.1)
-          (release-refused bound places me is_sync first start s count (last.standing me) e.mirrors e.checked (f.allowed e.calm) e.arrived.ended.0))
-    ]
-
--- polls
-end-took : (bound places me : ℕ) (is_sync : Bool) (call : WordCall) (first : ℕ → Place) (start : Lazy) (s : Object) (answer : Answer) (last : Moment)
-    (e : Ends bound places me call first start s answer last) → IsPoll call → (value : ℕ) → e.arrived.names ≡ Took value ∷ []
-    → (last.standing me).registration ≡ Idle → answer ≡ Taken (Ok (value == 0)) → at_end bound places me is_sync call s e.arrived.lazy answer first last
-end-took bound places me is_sync call first start s answer last e poll value is idle says =
-    let needs : Needs = permit_needs bound in
-    let f = one-event bound places me call first start s answer last e (Took value) is in
-    let done = only bound me start e.arrived.lazy (Took value) f e.closed e.paid in
-    subst (λ (z : Lazy). at_end bound places me is_sync call s z answer first last) done
-    (subst (λ (a : Answer). at_end bound places me is_sync call s (after_event needs start me (Took value)) a first last) (sym says)
-    (poll-took bound places me is_sync call first start s value (last.standing me) poll e.mirrors e.seats e.here f.allowed idle))
-
-end-try_poll : (bound places me : ℕ) (is_sync : Bool) (first : ℕ → Place) (start : Lazy) (s : Object) (answer : Answer) (last : Moment)
-    (e : Ends bound places me TryPoll first start s answer last) → at_end bound places me is_sync TryPoll s e.arrived.lazy answer first last
-end-try_poll bound places me is_sync first start s answer last e =
-    elim e.arrived.ended [
-      | inl took ↦ end-took bound places me is_sync TryPoll first start s answer last e tt took.0 took.1 took.2 took.3
-      | inr none ↦
-          let f = one-event bound places me TryPoll first start s answer last e NotReady none.0 in
-          let done = only bound me start e.arrived.lazy NotReady f e.closed e.paid in
-          subst (λ (z : Lazy). at_end bound places me is_sync TryPoll s z answer first last) done
-          (subst (λ (a : Answer). at_end bound places me is_sync TryPoll s start a first last) (sym none.2)
-          (poll-not_ready bound places me is_sync first start s (last.standing me) e.mirrors e.seats e.here (e.paid me) f.allowed none.1))
-    ]
-
--- reading
-end-read : (bound places me : ℕ) (is_sync : Bool) (first : ℕ → Place) (start : Lazy) (s : Object) (answer : Answer) (last : Moment)
-    (e : Ends bound places me Available first start s answer last) → at_end bound places me is_sync Available s e.arrived.lazy answer first last
-end-read bound places me is_sync first start s answer last e =
-    let read = e.arrived.ended in
-    let f = one-event bound places me Available first start s answer last e (Read read.0 read.1) read.2 in
-    let done = only bound me start e.arrived.lazy (Read read.0 read.1) f e.closed e.paid in
-    subst (λ (z : Lazy). at_end bound places me is_sync Available s z answer first last) done
-    (subst (λ (a : Answer). at_end bound places me is_sync Available s start a first last) (sym read.4)
-    (reads bound places me is_sync first start s read.0 (last.standing me) e.mirrors f.allowed.0 read.3))
-
-end-call : (bound places me : ℕ) (is_sync : Bool) (call : WordCall) (first : ℕ → Place) (start : Lazy) (s : Object) (answer : Answer) (last : Moment)
-    (e : Ends bound places me call first start s answer last) → at_end bound places me is_sync call s e.arrived.lazy answer first last
-end-call bound places me is_sync (Try count) first start s answer last e = end-try bound places me is_sync count first start s answer last e
-end-call bound places me is_sync (Register count) first start s answer last e = end-register bound places me is_sync count first start s answer last e
-end-call bound places me is_sync (Release count) first start s answer last e = end-release bound places me is_sync count first start s answer last e
-end-call bound places me is_sync TryPoll first start s answer last e = end-try_poll bound places me is_sync first start s answer last e
-end-call bound places me is_sync Poll first start s answer last e =
-    let took = e.arrived.ended in end-took bound places me is_sync Poll first start s answer last e tt took.0 took.1 took.2 took.3
-end-call bound places me is_sync Available first start s answer last e = end-read bound places me is_sync first start s answer last e
-end-call bound places me is_sync Cancel first start s answer last e = absurd e.arrived.ended
-
--- At the start
-
--- a place that is put at a stage outside the line's work, while no place is in a call
-stands-put : (bound places me : ℕ) (now : Moment) (s : Object) (b : Begins bound places me now s) (place : Place) (stage : Stage) → place.stage ≡ stage
-    → is_slot place.registration ≡ is_slot (now.standing me).registration
-    → IsRanged (permit_needs bound) stage → IsAlone (permit_needs bound) place.registration stage → IsOwn (line_of now.row me) stage
-    → IsShowing [] stage → is_holder stage ≡ false
-    → Stands (permit_needs bound) places now.row (updated now.standing me place) b.lazy
-stands-put bound places me now s b place stage is same ranged alone own showing holder =
-    let needs : Needs = permit_needs bound in
-    let free : b.stands.holder == 0 ≡ true = quiet-holder needs places now.row now.standing b.lazy b.stands b.quiet in
-    let none : b.stands.owed me ≡ [] = subst (λ (t : Stage). IsShowing (b.stands.owed me) t) (b.quiet me) (b.stands.stages.showing me) in
-    moved needs places now.row now.standing b.lazy me b.stands place b.here same
-    (subst (λ (t : Stage). IsRanged needs t) (sym is) ranged)
-    (subst (λ (t : Stage). IsAlone needs place.registration t) (sym is) alone)
-    (subst (λ (t : Stage). IsOwn (line_of now.row me) t) (sym is) own)
-    (subst (λ (t : Stage). IsShowing (b.stands.owed me) t) (sym is) (subst (λ (l : List (ℕ × ℕ)). IsShowing l stage) (sym none) showing))
-    (ap is_holder is ∙ holder ∙ sym (ap is_holder (b.quiet me)))
-    (λ held. absurd (omega (arith, held, same_number b.stands.holder 0 free)))
-
--- one place changed, and none is in a call
 quiet-put : (first : ℕ → Place) (me : ℕ) (place : Place) → IsQuiet first → place.stage ≡ Quiet → IsQuiet (updated first me place)
 quiet-put first me place quiet is other =
     elim (cases_Bool (other == me)) [
@@ -303,53 +55,64 @@ quiet-put first me place quiet is other =
       | inr apart ↦ rw apart (quiet other)
     ]
 
--- a call that answers as it starts
-begin-done : (bound places me : ℕ) (is_sync : Bool) (call : WordCall) (now : Moment) (s : Object) (b : Begins bound places me now s) (place : Place) (said : Answer) (steps : ℕ) (answer : Answer) (last : Moment)
-    → place.stage ≡ Quiet → is_slot place.registration ≡ is_slot (now.standing me).registration
-    → Answers (permit_needs bound) places me is_sync call (updated now.standing me place) s b.lazy said
-    → (steps ≡ 0) × (said ≡ answer) × (put me (Done place said) now ≡ last)
-    → Agrees (permit_needs bound) places me is_sync call s answer last
-begin-done bound places me is_sync call now s b place said steps answer last is same answers h =
-    let ended : Agrees (permit_needs bound) places me is_sync call s answer (put me (Done place said) now) = record {
-      lazy = b.lazy;
-      stands = stands-put bound places me now s b place Quiet is same tt tt tt refl refl;
-      quiet = quiet-put now.standing me place b.quiet is;
-      mirrors = answers.mirrors;
-      same = sym h.1 ∙ sym answers.same;
-    } in
-    subst (λ (m : Moment). Agrees (permit_needs bound) places me is_sync call s answer m) h.2 ended
+-- what is known as a call starts
+starting : (rules : Rules) (places me : ℕ) (now : Moment) (s : Object) (b : Begins rules places me now s)
+    → Starts (needs_of rules) places me now.standing b.lazy s
+starting rules places me now s b = record {
+  here = b.here;
+  mirrors = b.mirrors;
+  seats = b.stands.seats;
+  paid = (at-rest (needs_of rules) places now.row now.standing b.lazy b.stands b.quiet).paid;
+  bounded = b.stands.main.bounded;
+  barren = b.stands.main.barren;
+}
 
--- a call that makes steps
-begin-going : (bound places me : ℕ) (is_sync : Bool) (call : WordCall) (now : Moment) (s : Object) (b : Begins bound places me now s) (stage : Stage) (steps : ℕ) (answer : Answer) (last : Moment)
-    → IsStarted bound call (now.standing me).registration → IsUnder call stage []
-    → IsRanged (permit_needs bound) stage → IsAlone (permit_needs bound) (now.standing me).registration stage → IsOwn (line_of now.row me) stage
-    → IsShowing [] stage → is_holder stage ≡ false
-    → IsDoneIn (permit_needs bound) places me steps (put me (going (now.standing me) stage) now) answer last
-    → Agrees (permit_needs bound) places me is_sync call s answer last
-begin-going bound places me is_sync call now s b stage steps answer last checked under ranged alone own showing holder h =
-    let needs : Needs = permit_needs bound in
-    let place : Place = record (now.standing me) { stage = stage } in
-    let here : updated now.standing me place me ≡ place = updated-at now.standing me place in
-    let arrived : Arrives bound places me b.lazy now.standing call (now.standing me).registration answer last =
-    along bound places me b.small b.room b.here call (now.standing me).registration now.standing b.lazy answer last steps
-    (put me (going (now.standing me) stage) now) b.lazy []
-    (record { events = []; run = refl; named = refl })
-    (stands-put bound places me now s b place stage refl refl ranged alone own showing holder)
-    (subst (λ (p : Place). IsUnder call p.stage []) (sym here) under)
-    (ap (λ (p : Place). p.registration) here)
-    (ap (λ (p : Place). updated now.standing me p) (sym here))
-    h in
+-- how a call goes on whose start is known
+abbrev ByStart : Needs → (places me : ℕ) (steps : ℕ) (now : Moment) (answer : Answer) (last : Moment) → Next → Type 0
+ByStart needs places me steps now answer last start =
+    IsEither start
+    (IsDoneIn needs places me steps (put me start now) answer last)
+    (λ said. (steps ≡ 0) × (said ≡ answer) × (put me start now ≡ last))
+
+-- A call that answers as it starts
+begin-done : (rules : Rules) (places me : ℕ) (is_sync : Bool) (call : WordCall) (now : Moment) (s : Object) (b : Begins rules places me now s) (steps : ℕ) (answer : Answer) (last : Moment)
+    → is_taken (needs_of rules).is_lock call ≡ true → IsCalledAlone (needs_of rules) places me call steps now answer last
+    → (place : Place) (said : Answer) → started (needs_of rules) (now.standing me) call ≡ Done place said
+    → Answers (needs_of rules) places me is_sync call (updated now.standing me place) s b.lazy said
+    → Agrees (needs_of rules) places me is_sync call s answer last
+begin-done rules places me is_sync call now s b steps answer last taken h place said is answers =
+    let needs : Needs = needs_of rules in
+    let was : Place = now.standing me in
+    let done : (steps ≡ 0) × (said ≡ answer) × (put me (Done place said) now ≡ last) = subst (ByStart needs places me steps now answer last) is h in
+    let ended : Agrees needs places me is_sync call s answer (put me (Done place said) now) = record {
+      lazy = b.lazy;
+      stands = subst (λ (next : Next). Stands needs places now.row (updated now.standing me (place_after was next)) b.lazy) is
+          (starts needs b.small places now.row now.standing b.lazy me call b.here b.stands (b.quiet me) taken);
+      quiet = quiet-put now.standing me place b.quiet
+          (subst (λ (next : Next). IsBegun needs call was.registration next) is (call-begun needs was call (b.quiet me)));
+      mirrors = answers.mirrors;
+      same = sym done.1 ∙ sym answers.same;
+    } in
+    subst (λ (m : Moment). Agrees needs places me is_sync call s answer m) done.2 ended
+
+-- A call that has steps to make
+begin-going : (rules : Rules) (places me : ℕ) (is_sync : Bool) (call : WordCall) (now : Moment) (s : Object) (b : Begins rules places me now s) (steps : ℕ) (answer : Answer) (last : Moment)
+    → is_taken (needs_of rules).is_lock call ≡ true → IsCalledAlone (needs_of rules) places me call steps now answer last
+    → (place : Place) → started (needs_of rules) (now.standing me) call ≡ Going place
+    → ((e : IsOver rules places me call now.standing b.lazy s place.registration answer last)
+    → Beside rules places me is_sync call now.standing s e.arrived.lazy answer last)
+    → Agrees (needs_of rules) places me is_sync call s answer last
+begin-going rules places me is_sync call now s b steps answer last taken h place is beside =
+    let needs : Needs = needs_of rules in
+    let arrived : Arrives needs places me b.lazy now.standing call (now.standing me).registration place.registration answer last =
+    from-start needs (rules-lawful rules) b.small places me b.room b.here call place b.lazy answer last steps now b.stands (b.quiet me) taken is
+    (subst (ByStart needs places me steps now answer last) is h) in
     let quiet : IsQuiet last.standing =
     subst (λ (f : ℕ → Place). IsQuiet f) (sym arrived.others) (quiet-put now.standing me (last.standing me) b.quiet arrived.quiet) in
-    let rests = at-rest needs places now.row now.standing b.lazy b.stands b.quiet in
-    let answers = end-call bound places me is_sync call now.standing b.lazy s answer last (record {
-      here = b.here;
-      mirrors = b.mirrors;
-      seats = b.stands.seats;
-      closed = rests.closed;
-      paid = rests.paid;
-      calm = b.stands.main.calm;
-      checked = checked;
+    let answers = beside (record {
+      taken = taken;
+      starts = starting rules places me now s b;
+      closed = (at-rest needs places now.row now.standing b.lazy b.stands b.quiet).closed;
       arrived = arrived;
       rest = at-rest needs places last.row last.standing arrived.lazy arrived.stands quiet;
     }) in
@@ -357,136 +120,256 @@ begin-going bound places me is_sync call now s b stage steps answer last checked
       lazy = arrived.lazy;
       stands = arrived.stands;
       quiet = quiet;
-      mirrors = subst (λ (f : ℕ → Place). Mirrors needs places f arrived.lazy (called me is_sync call s).state) (sym arrived.others) answers.mirrors;
+      mirrors = subst (λ (f : ℕ → Place). Mirrors needs places f arrived.lazy (called needs.is_lock me is_sync call s).state) (sym arrived.others) answers.mirrors;
       same = sym answers.same;
     }
 
--- how a call starts
-abbrev ByStart : (bound places me : ℕ) (now : Moment) (steps : ℕ) (answer : Answer) (last : Moment) → Next → Type 0
-ByStart bound places me now steps answer last start =
-    IsEither start
-    (IsDoneIn (permit_needs bound) places me steps (put me start now) answer last)
-    (λ said. (steps ≡ 0) × (said ≡ answer) × (put me start now ≡ last))
+-- Each call
 
--- more than there is never fits, and is never held
-too-large : (bound count : ℕ) (lazy : Lazy) → nat_lt bound count ≡ true → must_wait (permit_needs bound) lazy count ≡ true
-too-large bound count lazy large =
-    let unfit : nat_le (lazy.count + count) bound ≡ false = grind (arith, nat_tests) in
-    rw unfit (or-true (not (is_empty lazy.line)))
-  where
-    or-true : (b : Bool) → (b || true) ≡ true
-    or-true true = refl
-    or-true false = refl
+-- a call of which an event names the answer of an ask, of a release, and of a reading
+abbrev Asks : Needs → WordCall → Ask → Type 0
+Asks needs call ask =
+    (registered : Registration) (names : List Event) (answer : Answer) → IsAnswered needs call registered names answer
+    → (event : Event) × (names ≡ event ∷ []) × (ask_named needs ask event ≡ Some answer)
 
-never-held : (bound count held : ℕ) → nat_lt bound count ≡ true → held ≤ bound → left_count (permit_needs bound) held count ≡ None
-never-held bound count held large bounded =
-    let more : nat_le count held ≡ false = grind (arith, nat_tests) in
-    rw more refl
+abbrev Gives : Needs → WordCall → ℕ → Type 0
+Gives needs call given =
+    (registered : Registration) (names : List Event) (answer : Answer) → IsAnswered needs call registered names answer
+    → (event : Event) × (names ≡ event ∷ []) × (release_named given event ≡ Some answer)
 
-begin-try : (bound places me : ℕ) (is_sync : Bool) (count : ℕ) (now : Moment) (s : Object) (b : Begins bound places me now s) (steps : ℕ) (answer : Answer) (last : Moment)
-    → IsCalledAlone (permit_needs bound) places me (Try count) steps now answer last → Agrees (permit_needs bound) places me is_sync (Try count) s answer last
-begin-try bound places me is_sync count now s b steps answer last h =
-    elim (cases_Bool (nat_lt bound count)) [
-      | inl large ↦
-          begin-done bound places me is_sync (Try count) now s b (now.standing me) (Says false) steps answer last (b.quiet me) refl
-          (try-refused bound places me is_sync now.standing b.lazy s count (now.standing me) b.mirrors (too-large bound count b.lazy large) refl)
-          (rw large at h)
-      | inr within ↦
-          let narrow : count < 65536 = grind (arith, nat_tests, b.small) in
-          begin-going bound places me is_sync (Try count) now s b (AskLoad (record { request = count; joins = false })) steps answer last
-          tt (refl, refl) tt (narrow, λ (joins : false ≡ true). absurd (cc)) tt refl refl (rw within at h)
-    ]
+abbrev Reads : Needs → WordCall → Reading → Type 0
+Reads needs call reading =
+    (registered : Registration) (names : List Event) (answer : Answer) → IsAnswered needs call registered names answer
+    → (event : Event) × (names ≡ event ∷ []) × (read_named needs reading event ≡ Some answer)
 
--- a place that is idle
-idle-is : (registration : Registration) → is_idle registration ≡ true → registration ≡ Idle
-idle-is Idle idle = refl
-idle-is (Once value request) idle = absurd (cc)
-idle-is (Slot request) idle = absurd (cc)
+-- a try
+begin-tries : (rules : Rules) (places me : ℕ) (is_sync : Bool) (call : WordCall) (now : Moment) (s : Object) (b : Begins rules places me now s) (steps : ℕ) (answer : Answer) (last : Moment)
+    → is_taken (needs_of rules).is_lock call ≡ true → IsCalledAlone (needs_of rules) places me call steps now answer last
+    → (request : ℕ) → asked_by call ≡ Some (record { request = request; joins = false })
+    → Asks (needs_of rules) call (record { request = request; joins = false })
+    → started (needs_of rules) (now.standing me) call ≡ tried_as (now.standing me) request
+    → Agrees (needs_of rules) places me is_sync call s answer last
+begin-tries rules places me is_sync call now s b steps answer last taken h request asked asks is =
+    let ask : Ask = record { request = request; joins = false } in
+    begin-going rules places me is_sync call now s b steps answer last taken h (record (now.standing me) { stage = AskLoad ask }) is
+    (λ e.
+    let one = asks (now.standing me).registration e.arrived.names answer e.arrived.answered in
+    end-try rules places me is_sync call now.standing b.lazy s (now.standing me).registration answer last e ask asked refl refl one.0 one.1 one.2)
 
-begin-register : (bound places me : ℕ) (is_sync : Bool) (count : ℕ) (now : Moment) (s : Object) (b : Begins bound places me now s) (steps : ℕ) (answer : Answer) (last : Moment)
-    → IsCalledAlone (permit_needs bound) places me (Register count) steps now answer last → Agrees (permit_needs bound) places me is_sync (Register count) s answer last
-begin-register bound places me is_sync count now s b steps answer last h =
-    elim (cases_Bool (nat_lt bound count || not (is_idle (now.standing me).registration))) [
-      | inl refused ↦
-          begin-done bound places me is_sync (Register count) now s b (now.standing me) (Says false) steps answer last (b.quiet me) refl
-          (register-refused bound places me is_sync now.standing b.lazy s count (now.standing me) b.mirrors b.here refused refl)
-          (rw refused at h)
-      | inr taken ↦
-          let parts = neither (nat_lt bound count) (is_idle (now.standing me).registration) taken in
-          let idle : (now.standing me).registration ≡ Idle = idle-is (now.standing me).registration parts.1 in
-          let within : nat_lt bound count ≡ false = parts.0 in
-          let narrow : count < 65536 = grind (arith, nat_tests, b.small) in
-          begin-going bound places me is_sync (Register count) now s b (AskLoad (record { request = count; joins = true })) steps answer last
-          (idle, within) (refl, refl) tt (narrow, λ joins. ap is_slot idle) tt refl refl (rw taken at h)
+-- a registration
+begin-registers : (rules : Rules) (places me : ℕ) (is_sync : Bool) (call : WordCall) (now : Moment) (s : Object) (b : Begins rules places me now s) (steps : ℕ) (answer : Answer) (last : Moment)
+    → is_taken (needs_of rules).is_lock call ≡ true → IsCalledAlone (needs_of rules) places me call steps now answer last
+    → (request : ℕ) → asked_by call ≡ Some (record { request = request; joins = true })
+    → Asks (needs_of rules) call (record { request = request; joins = true })
+    → ((needs_of rules).is_lock ≡ false → nat_lt (needs_of rules).top request ≡ false)
+    → started (needs_of rules) (now.standing me) call ≡ registered_as (now.standing me) request
+    → Agrees (needs_of rules) places me is_sync call s answer last
+begin-registers rules places me is_sync call now s b steps answer last taken h request asked asks within is =
+    let ask : Ask = record { request = request; joins = true } in
+    let was : Place = now.standing me in
+    elim (cases_Bool (is_idle was.registration)) [
+      | inl idle ↦
+          begin-going rules places me is_sync call now s b steps answer last taken h (record was { stage = AskLoad ask })
+          (is ∙ ap (λ (b : Bool). if b then going was (AskLoad ask) else Done was (Says false)) idle)
+          (λ e.
+          let one = asks was.registration e.arrived.names answer e.arrived.answered in
+          end-register rules places me is_sync call now.standing b.lazy s was.registration answer last e ask asked refl (idle-is was.registration idle) within
+          one.0 one.1 one.2)
+      | inr busy ↦
+          begin-done rules places me is_sync call now s b steps answer last taken h was (Says false)
+          (is ∙ ap (λ (b : Bool). if b then going was (AskLoad ask) else Done was (Says false)) busy)
+          (register-busy rules places me is_sync call now.standing b.lazy s ask was (starting rules places me now s b) asked refl taken busy refl)
     ]
   where
-    neither : (large idle : Bool) → (large || not idle) ≡ false → (large ≡ false) × (idle ≡ true)
-    neither true idle is = absurd (cc)
-    neither false true is = (refl, refl)
-    neither false false is = absurd (cc)
+    idle-is : (registration : Registration) → is_idle registration ≡ true → registration ≡ Idle
+    idle-is Idle idle = refl
+    idle-is (Once value request) idle = absurd (cc)
+    idle-is (Slot request) idle = absurd (cc)
 
-begin-release : (bound places me : ℕ) (is_sync : Bool) (count : ℕ) (now : Moment) (s : Object) (b : Begins bound places me now s) (steps : ℕ) (answer : Answer) (last : Moment)
-    → IsCalledAlone (permit_needs bound) places me (Release count) steps now answer last → Agrees (permit_needs bound) places me is_sync (Release count) s answer last
-begin-release bound places me is_sync count now s b steps answer last h =
-    elim (cases_Bool (nat_lt bound count)) [
-      | inl large ↦
-          let some : count == 0 ≡ false = grind (arith, nat_tests) in
-          begin-done bound places me is_sync (Release count) now s b (now.standing me) (Says false) steps answer last (b.quiet me) refl
-          (release-refused bound places me is_sync now.standing b.lazy s count (now.standing me) b.mirrors some
-          (never-held bound count b.lazy.count large b.stands.main.bounded) refl)
-          (rw large at h)
-      | inr within ↦
-          elim (cases_Bool (count == 0)) [
-            | inl nothing ↦
-                begin-done bound places me is_sync (Release count) now s b (now.standing me) (Says true) steps answer last (b.quiet me) refl
-                (subst (λ (n : ℕ). Answers (permit_needs bound) places me is_sync (Release n) (updated now.standing me (now.standing me)) s b.lazy (Says true))
-                (sym (same_number count 0 nothing))
-                (release-none bound places me is_sync now.standing b.lazy s (now.standing me) b.mirrors refl))
-                (rw (within, nothing) at h)
-            | inr some ↦
-                begin-going bound places me is_sync (Release count) now s b (ReleaseLoad count) steps answer last
-                some (refl, refl) tt tt tt refl refl (rw (within, some) at h)
-          ]
+-- a release
+begin-releases : (rules : Rules) (places me : ℕ) (is_sync : Bool) (call : WordCall) (now : Moment) (s : Object) (b : Begins rules places me now s) (steps : ℕ) (answer : Answer) (last : Moment)
+    → is_taken (needs_of rules).is_lock call ≡ true → IsCalledAlone (needs_of rules) places me call steps now answer last
+    → (given : ℕ) → given_by call ≡ Some given → Gives (needs_of rules) call given → ((needs_of rules).is_lock ≡ false → given == 0 ≡ false)
+    → started (needs_of rules) (now.standing me) call ≡ released_as (now.standing me) given
+    → Agrees (needs_of rules) places me is_sync call s answer last
+begin-releases rules places me is_sync call now s b steps answer last taken h given gives names some is =
+    begin-going rules places me is_sync call now s b steps answer last taken h (record (now.standing me) { stage = ReleaseLoad given; back = Tells }) is
+    (λ e.
+    let one = names (now.standing me).registration e.arrived.names answer e.arrived.answered in
+    end-release rules places me is_sync call now.standing b.lazy s (now.standing me).registration answer last e given gives some refl one.0 one.1 one.2)
+
+-- a reading
+begin-reads : (rules : Rules) (places me : ℕ) (is_sync : Bool) (call : WordCall) (now : Moment) (s : Object) (b : Begins rules places me now s) (steps : ℕ) (answer : Answer) (last : Moment)
+    → is_taken (needs_of rules).is_lock call ≡ true → IsCalledAlone (needs_of rules) places me call steps now answer last
+    → (reading : Reading) → read_by call ≡ Some reading → Reads (needs_of rules) call reading
+    → started (needs_of rules) (now.standing me) call ≡ going (now.standing me) (ReadLoad reading)
+    → Agrees (needs_of rules) places me is_sync call s answer last
+begin-reads rules places me is_sync call now s b steps answer last taken h reading looks names is =
+    begin-going rules places me is_sync call now s b steps answer last taken h (record (now.standing me) { stage = ReadLoad reading }) is
+    (λ e.
+    let one = names (now.standing me).registration e.arrived.names answer e.arrived.answered in
+    end-read rules places me is_sync call now.standing b.lazy s (now.standing me).registration answer last e reading looks refl one.0 one.1 one.2)
+
+-- polls: only who joined the line has steps to make
+begin-polled : (rules : Rules) (places me : ℕ) (is_sync : Bool) (call : WordCall) (now : Moment) (s : Object) (b : Begins rules places me now s) (steps : ℕ) (answer : Answer) (last : Moment)
+    → is_taken (needs_of rules).is_lock call ≡ true → IsCalledAlone (needs_of rules) places me call steps now answer last
+    → (taking : Taking) → taken_by call ≡ Some taking → started (needs_of rules) (now.standing me) call ≡ polled_as (now.standing me) taking (now.standing me).registration
+    → ((e : IsOver rules places me call now.standing b.lazy s (now.standing me).registration answer last)
+    → Beside rules places me is_sync call now.standing s e.arrived.lazy answer last)
+    → (registration : Registration) → (now.standing me).registration ≡ registration
+    → Agrees (needs_of rules) places me is_sync call s answer last
+begin-polled rules places me is_sync call now s b steps answer last taken h taking takes start ends Idle is =
+    begin-done rules places me is_sync call now s b steps answer last taken h (now.standing me) (Taken (Err NotRegistered))
+    (start ∙ ap (polled_as (now.standing me) taking) is)
+    (poll-idle rules places me is_sync call now.standing b.lazy s taking (now.standing me) (starting rules places me now s b) takes is refl)
+begin-polled rules places me is_sync call now s b steps answer last taken h taking takes start ends (Once value request) is =
+    let place : Place = record (now.standing me) { registration = Idle } in
+    begin-done rules places me is_sync call now s b steps answer last taken h place (Taken (Ok (value == granted_value)))
+    (start ∙ ap (polled_as (now.standing me) taking) is)
+    (poll-once rules places me is_sync call now.standing b.lazy s taking value request place (starting rules places me now s b) takes is refl)
+begin-polled rules places me is_sync call now s b steps answer last taken h taking takes start ends (Slot request) is =
+    begin-going rules places me is_sync call now s b steps answer last taken h (record (now.standing me) { stage = Take taking })
+    (start ∙ ap (polled_as (now.standing me) taking) is) ends
+
+-- cancels: what was given at once is given back where it took something, and who joined the line looks for itself
+begin-cancel : (rules : Rules) (places me : ℕ) (is_sync : Bool) (now : Moment) (s : Object) (b : Begins rules places me now s) (steps : ℕ) (answer : Answer) (last : Moment)
+    → is_taken (needs_of rules).is_lock Cancel ≡ true → IsCalledAlone (needs_of rules) places me Cancel steps now answer last
+    → (registration : Registration) → (now.standing me).registration ≡ registration
+    → Agrees (needs_of rules) places me is_sync Cancel s answer last
+begin-cancel rules places me is_sync now s b steps answer last taken h Idle is =
+    begin-done rules places me is_sync Cancel now s b steps answer last taken h (now.standing me) SaysNothing
+    (ap (cancelled_as (needs_of rules) (now.standing me)) is)
+    (cancel-idle rules places me is_sync now.standing b.lazy s (now.standing me) (starting rules places me now s b) is refl)
+begin-cancel rules places me is_sync now s b steps answer last taken h (Once value request) is =
+    let needs : Needs = needs_of rules in
+    let was : Place = now.standing me in
+    let giving : Place = record was { registration = Idle; stage = ReleaseLoad request; back = EndsCall } in
+    let kept : Place = record was { registration = Idle; stage = Quiet } in
+    elim (cases_Bool (is_taken_up needs request value)) [
+      | inl took ↦
+          begin-going rules places me is_sync Cancel now s b steps answer last taken h giving
+          (ap (cancelled_as needs was) is ∙ ap (λ (b : Bool). if b then Going giving else Done kept SaysNothing) took)
+          (λ e.
+          let cancelled : IsCancelled needs (Once value request) e.arrived.names =
+          subst (λ (r : Registration). IsCancelled needs r e.arrived.names) is e.arrived.answered.1 in
+          subst
+          (λ (a : Answer). (o : IsOver rules places me Cancel now.standing b.lazy s Idle a last) → IsDropped request o.arrived.names
+          → Beside rules places me is_sync Cancel now.standing s o.arrived.lazy a last)
+          (sym e.arrived.answered.0)
+          (λ o drops. end-cancel-once rules places me is_sync now.standing b.lazy s Idle last o value request is took refl drops)
+          e cancelled.1)
+      | inr keeps ↦
+          begin-done rules places me is_sync Cancel now s b steps answer last taken h kept SaysNothing
+          (ap (cancelled_as needs was) is ∙ ap (λ (b : Bool). if b then Going giving else Done kept SaysNothing) keeps)
+          (cancel-once rules places me is_sync now.standing b.lazy s value request kept (starting rules places me now s b) is keeps refl)
     ]
+begin-cancel rules places me is_sync now s b steps answer last taken h (Slot request) is =
+    let needs : Needs = needs_of rules in
+    let was : Place = now.standing me in
+    begin-going rules places me is_sync Cancel now s b steps answer last taken h (record was { stage = FlagLoad; back = Takes request })
+    (ap (cancelled_as needs was) is)
+    (λ e.
+    subst
+    (λ (a : Answer). (o : IsOver rules places me Cancel now.standing b.lazy s was.registration a last) → IsCancelled needs (Slot request) o.arrived.names
+    → Beside rules places me is_sync Cancel now.standing s o.arrived.lazy a last)
+    (sym e.arrived.answered.0)
+    (λ o cancelled. end-cancel-slot rules places me is_sync now.standing b.lazy s was.registration last o request is cancelled)
+    e (subst (λ (r : Registration). IsCancelled needs r e.arrived.names) is e.arrived.answered.1))
 
-begin-try_poll : (bound places me : ℕ) (is_sync : Bool) (now : Moment) (s : Object) (b : Begins bound places me now s) (steps : ℕ) (answer : Answer) (last : Moment)
-    (registration : Registration) → (now.standing me).registration ≡ registration
-    → ByStart bound places me now steps answer last (polled_as (now.standing me) false registration)
-    → Agrees (permit_needs bound) places me is_sync TryPoll s answer last
-begin-try_poll bound places me is_sync now s b steps answer last Idle is h =
-    begin-done bound places me is_sync TryPoll now s b (now.standing me) _ steps answer last (b.quiet me) refl
-    (poll-idle bound places me is_sync TryPoll now.standing b.lazy s (now.standing me) tt b.mirrors b.here is refl) h
-begin-try_poll bound places me is_sync now s b steps answer last (Once value request) is h =
-    begin-done bound places me is_sync TryPoll now s b (record (now.standing me) { registration = Idle }) _ steps answer last (b.quiet me) (sym (ap is_slot is))
-    (poll-once bound places me is_sync TryPoll now.standing b.lazy s value request (record (now.standing me) { registration = Idle }) tt b.mirrors b.here is refl) h
-begin-try_poll bound places me is_sync now s b steps answer last (Slot request) is h =
-    begin-going bound places me is_sync TryPoll now s b (Take false) steps answer last
-    tt (refl, refl) tt (ap is_slot is) tt refl refl h
-
-begin-poll : (bound places me : ℕ) (is_sync : Bool) (now : Moment) (s : Object) (b : Begins bound places me now s) (steps : ℕ) (answer : Answer) (last : Moment)
-    (registration : Registration) → (now.standing me).registration ≡ registration
-    → ByStart bound places me now steps answer last (polled_as (now.standing me) true registration)
-    → Agrees (permit_needs bound) places me is_sync Poll s answer last
-begin-poll bound places me is_sync now s b steps answer last Idle is h =
-    begin-done bound places me is_sync Poll now s b (now.standing me) _ steps answer last (b.quiet me) refl
-    (poll-idle bound places me is_sync Poll now.standing b.lazy s (now.standing me) tt b.mirrors b.here is refl) h
-begin-poll bound places me is_sync now s b steps answer last (Once value request) is h =
-    begin-done bound places me is_sync Poll now s b (record (now.standing me) { registration = Idle }) _ steps answer last (b.quiet me) (sym (ap is_slot is))
-    (poll-once bound places me is_sync Poll now.standing b.lazy s value request (record (now.standing me) { registration = Idle }) tt b.mirrors b.here is refl) h
-begin-poll bound places me is_sync now s b steps answer last (Slot request) is h =
-    begin-going bound places me is_sync Poll now s b (Take true) steps answer last
-    tt (refl, refl) tt (ap is_slot is) tt refl refl h
+-- a call of a lock is none of a semaphore
+no-semaphore : {A : Type 0} (is_lock : Bool) → is_lock ≡ true → is_lock ≡ false → A
+no-semaphore is_lock lock semaphore = let wrong : true ≡ false = sym lock ∙ semaphore in absurd (cc)
 
 -- A call that moves alone from a moment when no place is in a call is the call of the sequential object
-pub alone : (bound places me : ℕ) (is_sync : Bool) (call : WordCall) (now : Moment) (s : Object) (b : Begins bound places me now s) (steps : ℕ) (answer : Answer) (last : Moment)
-    → is_taken call ≡ true → IsCalledAlone (permit_needs bound) places me call steps now answer last → Agrees (permit_needs bound) places me is_sync call s answer last
-alone bound places me is_sync (Try count) now s b steps answer last takes h = begin-try bound places me is_sync count now s b steps answer last h
-alone bound places me is_sync (Register count) now s b steps answer last takes h = begin-register bound places me is_sync count now s b steps answer last h
-alone bound places me is_sync (Release count) now s b steps answer last takes h = begin-release bound places me is_sync count now s b steps answer last h
-alone bound places me is_sync TryPoll now s b steps answer last takes h =
-    begin-try_poll bound places me is_sync now s b steps answer last (now.standing me).registration refl h
-alone bound places me is_sync Poll now s b steps answer last takes h =
-    begin-poll bound places me is_sync now s b steps answer last (now.standing me).registration refl h
-alone bound places me is_sync Available now s b steps answer last takes h =
-    begin-going bound places me is_sync Available now s b ReadLoad steps answer last tt refl tt tt tt refl refl h
-alone bound places me is_sync Cancel now s b steps answer last takes h = absurd (cc)
+pub alone : (rules : Rules) (places me : ℕ) (is_sync : Bool) (call : WordCall) (now : Moment) (s : Object) (b : Begins rules places me now s) (steps : ℕ) (answer : Answer) (last : Moment)
+    → is_taken (needs_of rules).is_lock call ≡ true → IsCalledAlone (needs_of rules) places me call steps now answer last
+    → Agrees (needs_of rules) places me is_sync call s answer last
+alone rules places me is_sync (Try count) now s b steps answer last taken h =
+    let was : Place = now.standing me in
+    elim (cases_Bool (nat_lt (needs_of rules).top count)) [
+      | inl large ↦
+          begin-done rules places me is_sync (Try count) now s b steps answer last taken h was (Says false)
+          (ap (λ (b : Bool). if b then Done was (Says false) else tried_as was count) large)
+          (try-large rules places me is_sync count now.standing b.lazy s was (starting rules places me now s b) taken large refl)
+      | inr within ↦
+          begin-tries rules places me is_sync (Try count) now s b steps answer last taken h count refl (λ registered names answer a. a)
+          (ap (λ (b : Bool). if b then Done was (Says false) else tried_as was count) within)
+    ]
+alone rules places me is_sync (Register count) now s b steps answer last taken h =
+    let was : Place = now.standing me in
+    elim (cases_Bool (nat_lt (needs_of rules).top count)) [
+      | inl large ↦
+          begin-done rules places me is_sync (Register count) now s b steps answer last taken h was (Says false)
+          (ap (λ (b : Bool). if b then Done was (Says false) else registered_as was count) large)
+          (register-large rules places me is_sync count now.standing b.lazy s was (starting rules places me now s b) taken large refl)
+      | inr within ↦
+          begin-registers rules places me is_sync (Register count) now s b steps answer last taken h count refl (λ registered names answer a. a)
+          (λ semaphore. within) (ap (λ (b : Bool). if b then Done was (Says false) else registered_as was count) within)
+    ]
+alone rules places me is_sync (Release count) now s b steps answer last taken h =
+    let was : Place = now.standing me in
+    elim (cases_Bool (nat_lt (needs_of rules).top count)) [
+      | inl large ↦
+          begin-done rules places me is_sync (Release count) now s b steps answer last taken h was (Says false)
+          (ap (λ (b : Bool). if b then Done was (Says false) else (if count == 0 then Done was (Says true) else released_as was count)) large)
+          (release-large rules places me is_sync count now.standing b.lazy s was (starting rules places me now s b) taken large refl)
+      | inr within ↦
+          let fits : started (needs_of rules) was (Release count) ≡ (if count == 0 then Done was (Says true) else released_as was count) =
+          ap (λ (b : Bool). if b then Done was (Says false) else (if count == 0 then Done was (Says true) else released_as was count)) within in
+          elim (cases_Bool (count == 0)) [
+            | inl nothing ↦
+                begin-done rules places me is_sync (Release count) now s b steps answer last taken h was (Says true)
+                (fits ∙ ap (λ (b : Bool). if b then Done was (Says true) else released_as was count) nothing)
+                (release-none rules places me is_sync count now.standing b.lazy s was (starting rules places me now s b) taken nothing refl)
+            | inr some ↦
+                begin-releases rules places me is_sync (Release count) now s b steps answer last taken h count refl (λ registered names answer a. a)
+                (λ semaphore. some) (fits ∙ ap (λ (b : Bool). if b then Done was (Says true) else released_as was count) some)
+          ]
+    ]
+alone rules places me is_sync Available now s b steps answer last taken h =
+    begin-reads rules places me is_sync Available now s b steps answer last taken h ReadsAvailable refl (λ registered names answer a. a) refl
+alone rules places me is_sync TryLock now s b steps answer last taken h =
+    begin-tries rules places me is_sync TryLock now s b steps answer last taken h 0 refl (λ registered names answer a. a) refl
+alone rules places me is_sync TryShare now s b steps answer last taken h =
+    begin-tries rules places me is_sync TryShare now s b steps answer last taken h 1 refl (λ registered names answer a. a) refl
+alone rules places me is_sync (RegisterMode mode) now s b steps answer last taken h =
+    begin-registers rules places me is_sync (RegisterMode mode) now s b steps answer last taken h (mode_number mode) refl (λ registered names answer a. a)
+    (no-semaphore (needs_of rules).is_lock taken) refl
+alone rules places me is_sync ReleaseLock now s b steps answer last taken h =
+    begin-releases rules places me is_sync ReleaseLock now s b steps answer last taken h 0 refl (λ registered names answer a. a)
+    (no-semaphore (needs_of rules).is_lock taken) refl
+alone rules places me is_sync ReleaseShare now s b steps answer last taken h =
+    begin-releases rules places me is_sync ReleaseShare now s b steps answer last taken h 1 refl (λ registered names answer a. a)
+    (no-semaphore (needs_of rules).is_lock taken) refl
+alone rules places me is_sync PoisonLock now s b steps answer last taken h =
+    begin-going rules places me is_sync PoisonLock now s b steps answer last taken h (record (now.standing me) { stage = PoisonLoad; back = Tells }) refl
+    (λ e.
+    let one = e.arrived.answered in
+    end-poison rules places me is_sync now.standing b.lazy s (now.standing me).registration answer last e refl one.0 one.1 one.2)
+alone rules places me is_sync ClearPoison now s b steps answer last taken h =
+    begin-going rules places me is_sync ClearPoison now s b steps answer last taken h (record (now.standing me) { stage = Clear }) refl
+    (λ e.
+    let one = e.arrived.answered in
+    end-clear rules places me is_sync now.standing b.lazy s (now.standing me).registration answer last e refl one.0 one.1 one.2)
+alone rules places me is_sync IsFree now s b steps answer last taken h =
+    begin-reads rules places me is_sync IsFree now s b steps answer last taken h ReadsFree refl (λ registered names answer a. a) refl
+alone rules places me is_sync IsLocked now s b steps answer last taken h =
+    begin-reads rules places me is_sync IsLocked now s b steps answer last taken h ReadsLocked refl (λ registered names answer a. a) refl
+alone rules places me is_sync IsShared now s b steps answer last taken h =
+    begin-reads rules places me is_sync IsShared now s b steps answer last taken h ReadsShared refl (λ registered names answer a. a) refl
+alone rules places me is_sync IsPoisoned now s b steps answer last taken h =
+    begin-reads rules places me is_sync IsPoisoned now s b steps answer last taken h ReadsPoisoned refl (λ registered names answer a. a) refl
+alone rules places me is_sync TryPoll now s b steps answer last taken h =
+    begin-polled rules places me is_sync TryPoll now s b steps answer last taken h Tries refl refl
+    (λ e.
+    let one = e.arrived.answered in
+    end-try_poll rules places me is_sync now.standing b.lazy s (now.standing me).registration answer last e refl one.0 one.1 one.2)
+    (now.standing me).registration refl
+alone rules places me is_sync Poll now s b steps answer last taken h =
+    begin-polled rules places me is_sync Poll now s b steps answer last taken h Awaits refl refl
+    (λ e.
+    let one = e.arrived.answered in
+    end-poll rules places me is_sync now.standing b.lazy s (now.standing me).registration answer last e one.0 one.1 one.2)
+    (now.standing me).registration refl
+alone rules places me is_sync Cancel now s b steps answer last taken h =
+    begin-cancel rules places me is_sync now s b steps answer last taken h (now.standing me).registration refl

@@ -1,13 +1,12 @@
 -- A sequential object for each moment, and for that at which nobody has made a call.
 use Rattle.std.proofs.Common.{◌≡◌, ℕ, zero, suc, ◌+◌, ◌<◌, false, List, [], ◌∷◌, length, replicate, Option, None, refl, sym, ap, ◌∙◌, arith}
-use Rattle.saa_object.specs.Held.{OfSemaphore}
 use Rattle.saa_object.specs.Object.{Object, Entry, Idle, entry_at, newly_made}
 use Rattle.saa_steps.specs.declared.place.Place.{Place}
 use Rattle.saa_steps.specs.declared.place.Registration.{Registration}
 use Rattle.saa_steps.specs.declared.place.Registration.TheVariants.{Idle as IsIdle}
-use Rattle.saa_steps.specs.Needs.{Needs, permit_needs}
+use Rattle.saa_steps.specs.Needs.{Needs}
 use Rattle.saa_steps.specs.Lazy.{Lazy, opening}
-use Rattle.saa_alone.specs.Mirrors.{waiters, entry_of, Mirrors}
+use Rattle.saa_alone.specs.Mirrors.{waiters, entry_of, held_at, Mirrors}
 
 -- the entries of so many places, from a place on
 abbrev book_from : Needs → (ℕ → Place) → (ℕ → Option ℕ) → ℕ → ℕ → List Entry
@@ -30,25 +29,28 @@ book-entry needs standing shown from (suc more) (suc place) within =
     ∙ ap (λ (n : ℕ). entry_of needs (standing n).registration (shown n) false) same
 
 -- there is one for each moment
-pub mirrored : (bound places : ℕ) (standing : ℕ → Place) (lazy : Lazy) → (s : Object) × Mirrors (permit_needs bound) places standing lazy s
-mirrored bound places standing lazy =
-    let needs : Needs = permit_needs bound in (
-      record {
-        held = OfSemaphore bound lazy.count;
-        line = waiters needs lazy.line;
-        book = book_from needs standing lazy.shown 0 places;
-        outside = 0;
-        room = places;
-      },
-      record {
-        held = refl;
-        line = refl;
-        names = book-length needs standing lazy.shown 0 places;
-        entries = λ place within. (false, book-entry needs standing lazy.shown 0 places place within ∙ ap (λ (n : ℕ). entry_of needs (standing n).registration (lazy.shown n) false) (omega arith));
-        room = refl;
-        alone = refl;
-      },
-    )
+pub mirrored : (needs : Needs) (places : ℕ) (standing : ℕ → Place) (lazy : Lazy) → (s : Object) × Mirrors needs places standing lazy s
+mirrored needs places standing lazy = (
+  record {
+    held = held_at needs lazy;
+    line = waiters needs lazy.line;
+    book = book_from needs standing lazy.shown 0 places;
+    outside = 0;
+    room = places;
+  },
+  record {
+    held = refl;
+    line = refl;
+    names = book-length needs standing lazy.shown 0 places;
+    entries = λ place within. (
+      false,
+      book-entry needs standing lazy.shown 0 places place within
+          ∙ ap (λ (n : ℕ). entry_of needs (standing n).registration (lazy.shown n) false) (omega arith),
+    );
+    room = refl;
+    alone = refl;
+  },
+)
 
 idle-names : (count place : ℕ) → entry_at (replicate count Idle) place ≡ Idle
 idle-names zero place = refl
@@ -60,13 +62,13 @@ names-length zero = refl
 names-length (suc more) = ap suc (names-length more)
 
 -- and a newly made one stands for the opening
-pub opened : (bound withheld places : ℕ) (standing : ℕ → Place) → ((place : ℕ) → (standing place).registration ≡ IsIdle)
-    → Mirrors (permit_needs bound) places standing (opening withheld) (newly_made (OfSemaphore bound withheld) places places)
-opened bound withheld places standing idle = record {
+pub opened : (needs : Needs) (withheld places : ℕ) (standing : ℕ → Place) → ((place : ℕ) → (standing place).registration ≡ IsIdle)
+    → Mirrors needs places standing (opening withheld) (newly_made (needs.held withheld) places places)
+opened needs withheld places standing idle = record {
   held = refl;
   line = refl;
   names = names-length places;
-  entries = λ place within. (false, idle-names places place ∙ ap (λ (r : Registration). entry_of (permit_needs bound) r None false) (sym (idle place)));
+  entries = λ place within. (false, idle-names places place ∙ ap (λ (r : Registration). entry_of needs r None false) (sym (idle place)));
   room = refl;
   alone = refl;
 }

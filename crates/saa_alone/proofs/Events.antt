@@ -4,9 +4,11 @@ use Rattle.std.proofs.lemmas.List.{take-append-drop}
 use Rattle.std.proofs.lemmas.Bool.{cases_Bool}
 use Rattle.saa_object.proofs.Counts.{same_number}
 use Rattle.saa_steps.specs.Needs.{Needs}
-use Rattle.saa_steps.specs.Lazy.{Lazy, Event, Closed, Granted, Showed, IsAllowed, after_event, IsRun, IsFront, is_in, takes_of, answered_with}
+use Rattle.saa_steps.specs.Lazy.{Lazy, Event, Closed, Granted, Showed, Poisoned, IsAllowed, after_event, IsRun, IsFront, is_in, takes_of, answered_with}
 use Rattle.saa_standing.specs.Stepped.{of_place, is_named, named}
 use Rattle.saa_standing.proofs.Lists.{in-append, front-append, takes-append}
+use Rattle.saa_alone.specs.Alone.{IsAtRest}
+use Rattle.saa_alone.proofs.Mirroring.{Settles}
 
 -- Lists of events
 
@@ -57,20 +59,21 @@ no-events needs me (event ∷ rest) lazy last closed paid names run =
       | inr not_named ↦ absurd (nothing-else needs lazy me event closed paid not_named run.0)
     ]
 
--- Where answers name one event, it comes first
-pub record IsFirst (needs : Needs) (me : ℕ) (lazy : Lazy) (event : Event) (last : Lazy) : Type 0 where
+-- What answers name first comes first, and what they name behind it comes behind
+pub record IsFirst (needs : Needs) (me : ℕ) (lazy : Lazy) (event : Event) (more : List Event) (last : Lazy) : Type 0 where
   pub allowed : IsAllowed needs lazy me event
   pub rest : List Event
   pub run : IsRun needs (after_event needs lazy me event) (of_place me rest) last
-  pub names : named rest ≡ []
+  pub names : named rest ≡ more
 
-pub first-event : (needs : Needs) (me : ℕ) (events : List Event) (event : Event) (lazy last : Lazy) → lazy.unclosed ≡ false → ((place : ℕ) → lazy.due place ≡ None)
-    → named events ≡ event ∷ [] → IsRun needs lazy (of_place me events) last → IsFirst needs me lazy event last
-first-event needs me [] event lazy last closed paid names run = absurd (some-nil event [] (sym names))
-first-event needs me (head ∷ rest) event lazy last closed paid names run =
+pub first-event : (needs : Needs) (me : ℕ) (events : List Event) (event : Event) (more : List Event) (lazy last : Lazy)
+    → lazy.unclosed ≡ false → ((place : ℕ) → lazy.due place ≡ None)
+    → named events ≡ event ∷ more → IsRun needs lazy (of_place me events) last → IsFirst needs me lazy event more last
+first-event needs me [] event more lazy last closed paid names run = absurd (some-nil event more (sym names))
+first-event needs me (head ∷ rest) event more lazy last closed paid names run =
     elim (cases_Bool (is_named head)) [
       | inl is ↦
-          let both : head ∷ named rest ≡ event ∷ [] = sym (named-one head rest is) ∙ names in
+          let both : head ∷ named rest ≡ event ∷ more = sym (named-one head rest is) ∙ names in
           let same : head ≡ event = ap (λ (l : List Event). get_or l 0 head) both in
           record {
             allowed = subst (λ (e : Event). IsAllowed needs lazy me e) same run.0;
@@ -81,20 +84,54 @@ first-event needs me (head ∷ rest) event lazy last closed paid names run =
       | inr not_named ↦ absurd (nothing-else needs lazy me head closed paid not_named run.0)
     ]
 
--- Grants
+-- Answers
 
 -- the answer of a place of a front is due or shown, and that of each other place is as it was
-abbrev pub IsPaid : Lazy → List (ℕ × ℕ) → Lazy → ℕ → Type 0
-IsPaid start front lazy place =
-    ((lazy.due place ≡ Some 0) × (is_in place front ≡ true)) ⊎ ((lazy.due place ≡ None) × (lazy.shown place ≡ answered_with 0 front start.shown place))
+abbrev pub IsPaid : ℕ → Lazy → List (ℕ × ℕ) → Lazy → ℕ → Type 0
+IsPaid value start front lazy place =
+    ((lazy.due place ≡ Some value) × (is_in place front ≡ true)) ⊎ ((lazy.due place ≡ None) × (lazy.shown place ≡ answered_with value front start.shown place))
+
+-- an answer that is shown is no longer due
+paid-shown : (needs : Needs) (value : ℕ) (start lazy : Lazy) (front : List (ℕ × ℕ)) (me shown_place : ℕ) → is_some (lazy.due shown_place) ≡ true
+    → ((place : ℕ) → IsPaid value start front lazy place) → (place : ℕ) → IsPaid value start front (after_event needs lazy me (Showed shown_place)) place
+paid-shown needs value start lazy front me shown_place allowed paid place =
+    elim (cases_Bool (place == shown_place)) [
+      | inl same ↦
+          let is : shown_place ≡ place = sym (same_number place shown_place same) in
+          let due : is_some (lazy.due place) ≡ true = ap (λ (n : ℕ). is_some (lazy.due n)) (sym is) ∙ allowed in
+          elim (paid place) [
+            | inl owes ↦
+                let answer : answered_with value front start.shown place ≡ Some value = rw owes.1 refl in
+                inr (rw same refl, rw same (ap (λ (n : ℕ). lazy.due n) is ∙ owes.0 ∙ sym answer))
+            | inr shows ↦
+                let wrong : true ≡ false = sym due ∙ ap (λ (a : Option ℕ). is_some a) shows.0 in absurd (cc)
+          ]
+      | inr apart ↦
+          elim (paid place) [
+            | inl owes ↦ inl (rw apart owes.0, owes.1)
+            | inr shows ↦ inr (rw apart shows.0, rw apart shows.1)
+          ]
+    ]
+
+-- once nothing is due, all answers of the front are shown
+paid-all : (value : ℕ) (start last : Lazy) (front : List (ℕ × ℕ)) → ((place : ℕ) → IsPaid value start front last place)
+    → ((place : ℕ) → last.due place ≡ None) → (place : ℕ) → last.shown place ≡ answered_with value front start.shown place
+paid-all value start last front paid none place =
+    elim (paid place) [
+      | inl owes ↦ let wrong : false ≡ true = ap (λ (a : Option ℕ). is_some a) (sym (none place) ∙ owes.0) in absurd (cc)
+      | inr shows ↦ shows.1
+    ]
+
+-- Grants
 
 -- a front of the line was granted since the start, one after another
-pub record Grants (needs : Needs) (start lazy : Lazy) : Type 0 where
-  pub front : List (ℕ × ℕ)
-  pub parts : start.line ≡ front ++ lazy.line
-  pub fits : IsFront needs start.count front
-  pub count : lazy.count ≡ start.count + takes_of needs front
-  pub paid : (place : ℕ) → IsPaid start front lazy place
+record Grants (needs : Needs) (start lazy : Lazy) : Type 0 where
+  front : List (ℕ × ℕ)
+  parts : start.line ≡ front ++ lazy.line
+  fits : IsFront needs start.count front
+  count : lazy.count ≡ start.count + takes_of needs front
+  poison : lazy.poisoned ≡ start.poisoned
+  paid : (place : ℕ) → IsPaid 0 start front lazy place
 
 -- an event that no answer names grants more of the line, or none
 grants-event : (needs : Needs) (start lazy : Lazy) (me : ℕ) (event : Event) → is_named event ≡ false → IsAllowed needs lazy me event
@@ -107,10 +144,11 @@ grants-event needs start lazy me (Granted askers) unnamed allowed was =
       parts = was.parts ∙ ap (λ (l : List (ℕ × ℕ)). was.front ++ l) whole ∙ sym (append_assoc was.front more (drop askers lazy.line));
       fits = front-append needs start.count was.front more was.fits (subst (λ (n : ℕ). IsFront needs n more) was.count allowed.3);
       count = omega (arith, was.count, takes-append needs was.front more);
+      poison = was.poison;
       paid = λ place. pays place;
     }
   where
-    pays : (place : ℕ) → IsPaid start (was.front ++ take askers lazy.line) (after_event needs lazy me (Granted askers)) place
+    pays : (place : ℕ) → IsPaid 0 start (was.front ++ take askers lazy.line) (after_event needs lazy me (Granted askers)) place
     pays place =
         let grown = in-append place was.front (take askers lazy.line) in
         elim (cases_Bool (is_in place (take askers lazy.line))) [
@@ -132,32 +170,18 @@ grants-event needs start lazy me (Granted askers) unnamed allowed was =
         or-false true = refl
         or-false false = refl
 grants-event needs start lazy me Closed unnamed allowed was =
-    record { front = was.front; parts = was.parts; fits = was.fits; count = was.count; paid = was.paid }
-grants-event needs start lazy me (Showed shown_place) unnamed allowed was =
-    record { front = was.front; parts = was.parts; fits = was.fits; count = was.count; paid = λ place. pays place }
-  where
-    pays : (place : ℕ) → IsPaid start was.front (after_event needs lazy me (Showed shown_place)) place
-    pays place =
-        elim (cases_Bool (place == shown_place)) [
-          | inl same ↦
-              let is : shown_place ≡ place = sym (same_number place shown_place same) in
-              let due : is_some (lazy.due place) ≡ true = ap (λ (n : ℕ). is_some (lazy.due n)) (sym is) ∙ allowed in
-              elim (was.paid place) [
-                | inl owes ↦
-                    let answer : answered_with 0 was.front start.shown place ≡ Some 0 = rw owes.1 refl in
-                    inr (rw same refl, rw same (ap (λ (n : ℕ). lazy.due n) is ∙ owes.0 ∙ sym answer))
-                | inr shows ↦
-                    let wrong : true ≡ false = sym due ∙ ap (λ (a : Option ℕ). is_some a) shows.0 in absurd (cc)
-              ]
-          | inr apart ↦
-              elim (was.paid place) [
-                | inl owes ↦ inl (rw apart owes.0, owes.1)
-                | inr shows ↦ inr (rw apart shows.0, rw apart shows.1)
-              ]
-        ]
+    record { front = was.front; parts = was.parts; fits = was.fits; count = was.count; poison = was.poison; paid = was.paid }
+grants-event needs start lazy me (Showed shown_place) unnamed allowed was = record {
+  front = was.front;
+  parts = was.parts;
+  fits = was.fits;
+  count = was.count;
+  poison = was.poison;
+  paid = paid-shown needs 0 start lazy was.front me shown_place allowed was.paid;
+}
 grants-event needs start lazy me _ unnamed allowed was = let wrong : true ≡ false = unnamed in absurd (cc)
 
-pub grants-run : (needs : Needs) (me : ℕ) (events : List Event) (start lazy last : Lazy) → named events ≡ [] → IsRun needs lazy (of_place me events) last
+grants-run : (needs : Needs) (me : ℕ) (events : List Event) (start lazy last : Lazy) → named events ≡ [] → IsRun needs lazy (of_place me events) last
     → Grants needs start lazy → Grants needs start last
 grants-run needs me [] start lazy last names run was = subst (λ (z : Lazy). Grants needs start z) run was
 grants-run needs me (event ∷ rest) start lazy last names run was =
@@ -168,21 +192,70 @@ grants-run needs me (event ∷ rest) start lazy last names run was =
           (grants-event needs start lazy me event not_named run.0 was)
     ]
 
--- nothing was granted yet, and nothing is due
-pub grants-nothing : (needs : Needs) (start : Lazy) → ((place : ℕ) → start.due place ≡ None) → Grants needs start start
-grants-nothing needs start paid = record {
-  front = [];
-  parts = refl;
-  fits = tt;
-  count = omega arith;
-  paid = λ place. inr (paid place, refl);
-}
+-- Where answers name nothing more, and nothing is due, the front of the line that fits is granted until the object is at rest
+pub settles : (needs : Needs) (me : ℕ) (events : List Event) (start last : Lazy) (row : ℕ → ℕ) → named events ≡ []
+    → IsRun needs start (of_place me events) last → ((place : ℕ) → start.due place ≡ None) → start.poisoned ≡ false
+    → IsAtRest needs row last → Settles needs start.count start.line start.shown last
+settles needs me events start last row names run paid calm rests =
+    let g : Grants needs start last =
+    grants-run needs me events start start last names run
+    (record { front = []; parts = refl; fits = tt; count = omega arith; poison = refl; paid = λ place. inr (paid place, refl) }) in
+    record {
+      calm = g.poison ∙ calm;
+      front = g.front;
+      parts = g.parts;
+      fits = g.fits;
+      count = g.count;
+      shown = paid-all 0 start last g.front g.paid rests.paid;
+      settled = rests.settled;
+    }
 
--- once nothing is due, all answers of the front are shown
-pub grants-shown : (needs : Needs) (start last : Lazy) (g : Grants needs start last) → ((place : ℕ) → last.due place ≡ None)
-    → (place : ℕ) → last.shown place ≡ answered_with 0 g.front start.shown place
-grants-shown needs start last g none place =
-    elim (g.paid place) [
-      | inl owes ↦ let wrong : false ≡ true = ap (λ (a : Option ℕ). is_some a) (sym (none place) ∙ owes.0) in absurd (cc)
-      | inr paid ↦ paid.1
+-- Poison
+
+-- the answers of all who waited are due or shown since the lock was poisoned, and nothing else changed
+record Tells (start lazy : Lazy) : Type 0 where
+  poison : lazy.poisoned ≡ true
+  closed : lazy.unclosed ≡ false
+  line : lazy.line ≡ []
+  paid : (place : ℕ) → IsPaid 2 start start.line lazy place
+
+tells-event : (needs : Needs) (start lazy : Lazy) (me : ℕ) (event : Event) → is_named event ≡ false → IsAllowed needs lazy me event
+    → Tells start lazy → Tells start (after_event needs lazy me event)
+tells-event needs start lazy me (Granted askers) unnamed allowed was = let wrong : true ≡ false = sym allowed.0 ∙ was.closed in absurd (cc)
+tells-event needs start lazy me Closed unnamed allowed was = let wrong : true ≡ false = sym allowed.0 ∙ was.closed in absurd (cc)
+tells-event needs start lazy me (Showed shown_place) unnamed allowed was = record {
+  poison = was.poison;
+  closed = was.closed;
+  line = was.line;
+  paid = paid-shown needs 2 start lazy start.line me shown_place allowed was.paid;
+}
+tells-event needs start lazy me _ unnamed allowed was = let wrong : true ≡ false = unnamed in absurd (cc)
+
+tells-run : (needs : Needs) (me : ℕ) (events : List Event) (start lazy last : Lazy) → named events ≡ [] → IsRun needs lazy (of_place me events) last
+    → Tells start lazy → Tells start last
+tells-run needs me [] start lazy last names run was = subst (λ (z : Lazy). Tells start z) run was
+tells-run needs me (event ∷ rest) start lazy last names run was =
+    elim (cases_Bool (is_named event)) [
+      | inl is ↦ absurd (some-nil event (named rest) (sym (named-one event rest is) ∙ names))
+      | inr not_named ↦
+          tells-run needs me rest start (after_event needs lazy me event) last (sym (named-none event rest not_named) ∙ names) run.1
+          (tells-event needs start lazy me event not_named run.0 was)
     ]
+
+-- Behind poison all who waited are shown that, until nothing is due
+pub tells : (needs : Needs) (me : ℕ) (events : List Event) (start last : Lazy) → named events ≡ []
+    → IsRun needs (after_event needs start me Poisoned) (of_place me events) last → start.unclosed ≡ false
+    → ((place : ℕ) → start.due place ≡ None) → ((place : ℕ) → last.due place ≡ None)
+    → (last.poisoned ≡ true) × (last.line ≡ []) × ((place : ℕ) → last.shown place ≡ answered_with 2 start.line start.shown place)
+tells needs me events start last names run closed paid none =
+    let t : Tells start last =
+    tells-run needs me events start (after_event needs start me Poisoned) last names run
+    (record { poison = refl; closed = closed; line = refl; paid = λ place. owes place }) in
+    (t.poison, t.line, paid-all 2 start last start.line t.paid none)
+  where
+    owes : (place : ℕ) → IsPaid 2 start start.line (after_event needs start me Poisoned) place
+    owes place =
+        elim (cases_Bool (is_in place start.line)) [
+          | inl there ↦ inl (rw there refl, there)
+          | inr apart ↦ inr (rw apart (paid place), rw apart refl)
+        ]

@@ -1,287 +1,305 @@
--- The stages of a call, the event that its answer names, and the registration that it leaves.
-use Rattle.std.proofs.Common.{◌≡◌, ◌⊎◌, ℕ, ◌-◌, ◌%◌, Bool, true, false, not, ◌&&◌, List, [], ◌∷◌, ◌++◌, ◌==◌, Option, Some, None, Ok, Err, refl, inl, inr}
+-- The registration that a call leaves: what it is behind each event that the call's answer names.
+use Rattle.std.proofs.Common.{◌≡◌, ℕ, ◌+◌, ◌%◌, Bool, true, false, not, ◌&&◌, ◌||◌, List, [], ◌∷◌, ◌++◌, ◌==◌, Option, Some, None, if◌then◌else◌, refl, inl, inr}
 use Rattle.std.proofs.lemmas.Bool.{cases_Bool}
-use Rattle.saa_object.specs.declared.polling.Error.TheVariants.{NotReady as IsNotReady}
+use Rattle.saa_object.specs.Held.{Exclusive}
+use Rattle.saa_object.specs.Values.{granted_value, poisoned_value}
 use Rattle.saa_words.specs.declared.word.Word.{Word}
 use Rattle.saa_words.specs.declared.line_word.LineWord.{LineWord}
-use Rattle.saa_words.specs.Words.{count_bits, word_number, word_of, line_word_of, answer_of}
+use Rattle.saa_words.specs.Words.{count_bits, word_number, word_of, line_word_of, answer_of, lock_count}
 use Rattle.saa_steps.specs.declared.place.Place.{Place}
 use Rattle.saa_steps.specs.declared.place.Registration.{Registration}
 use Rattle.saa_steps.specs.declared.place.Registration.TheVariants.{Idle, Once, Slot}
+use Rattle.saa_steps.specs.declared.place.Ask.{Ask}
 use Rattle.saa_steps.specs.declared.place.Afterwards.{Afterwards}
 use Rattle.saa_steps.specs.declared.place.Afterwards.TheVariants.{Ends, Again}
 use Rattle.saa_steps.specs.declared.place.Back.{Back}
-use Rattle.saa_steps.specs.declared.place.Back.TheVariants.{Tells}
+use Rattle.saa_steps.specs.declared.place.Back.TheVariants.{Tells, Ends as EndsCall, Takes}
+use Rattle.saa_steps.specs.declared.place.Taking.{Taking}
+use Rattle.saa_steps.specs.declared.place.Taking.TheVariants.{Tries, Awaits, Gives}
 use Rattle.saa_steps.specs.declared.place.Stage.{Stage}
-use Rattle.saa_steps.specs.declared.place.Stage.TheVariants.{Quiet, ReadLoad, AskLoad, AskExchange, Prepare, Join, ReleaseLoad, ReleaseExchange, BackLoad, BackStore, Forward, CutToClose, CutToGoRound, Close, Empty, GoRound, ShowLoad, ShowStore, Take}
+use Rattle.saa_steps.specs.declared.place.Stage.TheVariants.{Quiet, ReadLoad, AskLoad, AskExchange, Prepare, Join, ReleaseLoad, ReleaseExchange, BackLoad, BackStore, Forward, CutToClose, CutToGoRound, Close, Empty, GoRound, ShowLoad, ShowStore, Take, FlagLoad, FlagExchange, LookLoad, LookStore, Unlink, DropTail, PoisonLoad, PoisonExchange, Clear}
 use Rattle.saa_steps.specs.declared.place.Next.{Next}
 use Rattle.saa_steps.specs.declared.place.Next.TheVariants.{Going, Waits, Done}
-use Rattle.saa_steps.specs.declared.call.Answer.{Answer}
-use Rattle.saa_steps.specs.declared.call.Answer.TheVariants.{Bool as Says, Number, Taken}
 use Rattle.saa_steps.specs.declared.call.WordCall.{WordCall}
-use Rattle.saa_steps.specs.declared.call.WordCall.TheVariants.{Try, Register, Release, TryPoll, Poll, Cancel, Available}
-use Rattle.saa_steps.specs.Needs.{permit_needs, fits_count, left_count}
-use Rattle.saa_steps.specs.Lazy.{Event, Got, Refused, Joined, Gave, GaveNothing, NotReady, Took, Read}
-use Rattle.saa_steps.specs.Steps.{IsWork, next_of, decided, given_to, shown_all, finished, taken_answer, looked_at, closing}
+use Rattle.saa_steps.specs.Needs.{Needs, fits_count, left_count}
+use Rattle.saa_steps.specs.Lazy.{Event, Got, AskedPoisoned, Joined, Left, GaveNothing, Took}
+use Rattle.saa_steps.specs.Steps.{next_of, decided, granted, given, given_to, gave_nothing, finished, taken_answer, looked_at, closing, shown_all, flagging, poisoning, poisoned_word}
 use Rattle.saa_standing.specs.Standing.{waits_behind}
-use Rattle.saa_standing.specs.Stepped.{named_at, decided_events, given_events, taken_events}
+use Rattle.saa_standing.specs.Stepped.{named_at, decided_events, given_events, left_events, taken_events, poisoning_events}
+use Rattle.saa_standing.specs.Calls.{asked_by, IsUnder}
 
--- a call is at a stage, with these events named so far
-abbrev pub IsUnder : WordCall → Stage → List Event → Type 0
-IsUnder (Try count) (AskLoad ask) names = (ask ≡ record { request = count; joins = false }) × (names ≡ [])
-IsUnder (Try count) (AskExchange ask seen) names = (ask ≡ record { request = count; joins = false }) × (names ≡ [])
-IsUnder (Register count) (AskLoad ask) names = (ask ≡ record { request = count; joins = true }) × (names ≡ [])
-IsUnder (Register count) (AskExchange ask seen) names = (ask ≡ record { request = count; joins = true }) × (names ≡ [])
-IsUnder (Register count) (Prepare request seen) names = (request ≡ count) × (names ≡ [])
-IsUnder (Register count) (Join request seen) names = (request ≡ count) × (names ≡ [])
-IsUnder (Release count) (ReleaseLoad given) names = (given ≡ count) × (names ≡ [])
-IsUnder (Release count) (ReleaseExchange given seen) names = (given ≡ count) × (names ≡ [])
-IsUnder (Release count) stage names = IsWork stage × (names ≡ Gave count ∷ [])
-IsUnder TryPoll (Take waits) names = (waits ≡ false) × (names ≡ [])
-IsUnder Poll (Take waits) names = (waits ≡ true) × (names ≡ [])
-IsUnder Available ReadLoad names = names ≡ []
-IsUnder _ _ names = ⊥
+-- what a place is registered as behind an event of its call, which may ask for something
+abbrev pub left_by : Event → Option Ask → Registration → Registration
+left_by (Got request) (Some ask) was = if ask.joins then Once granted_value ask.request else was
+left_by AskedPoisoned (Some ask) was = if ask.joins then Once poisoned_value ask.request else was
+left_by (Joined request) (Some ask) was = Slot ask.request
+left_by Left asks was = Idle
+left_by (Took value) asks was = Idle
+left_by _ asks was = was
 
--- a call has named these events once it answers, and leaves this registration
-abbrev pub IsEnded : ℕ → WordCall → Registration → List Event → Registration → Answer → Type 0
-IsEnded bound (Try count) was names now answer =
-    (now ≡ was) × (((names ≡ Got count ∷ []) × (answer ≡ Says true)) ⊎ ((names ≡ Refused count ∷ []) × (answer ≡ Says false)))
-IsEnded bound (Register count) was names now answer =
-    (answer ≡ Says true) × (((names ≡ Got count ∷ []) × (now ≡ Once 0 count)) ⊎ ((names ≡ Joined count ∷ []) × (now ≡ Slot count)))
-IsEnded bound (Release count) was names now answer =
-    (now ≡ was) × (((names ≡ Gave count ∷ []) × (answer ≡ Says true)) ⊎ ((names ≡ GaveNothing count ∷ []) × (answer ≡ Says false)))
-IsEnded bound TryPoll was names now answer =
-    ((value : ℕ) × (names ≡ Took value ∷ []) × (now ≡ Idle) × (answer ≡ Taken (Ok (value == 0))))
-    ⊎ ((names ≡ NotReady ∷ []) × (now ≡ was) × (answer ≡ Taken (Err IsNotReady)))
-IsEnded bound Poll was names now answer = (value : ℕ) × (names ≡ Took value ∷ []) × (now ≡ Idle) × (answer ≡ Taken (Ok (value == 0)))
-IsEnded bound Available was names now answer =
-    (count : ℕ) × (poisoned : Bool) × (names ≡ Read count poisoned ∷ []) × (now ≡ was) × (answer ≡ Number (bound - count))
-IsEnded bound Cancel was names now answer = ⊥
+-- the same behind some events
+abbrev pub left_behind : List Event → Option Ask → Registration → Registration
+left_behind [] asks was = was
+left_behind (event ∷ rest) asks was = left_behind rest asks (left_by event asks was)
 
--- how a call goes on behind a step, with these events named so far: only a poll waits
-abbrev pub IsGoingOn : ℕ → WordCall → Registration → List Event → Next → Type 0
-IsGoingOn bound call was names (Going place) = IsUnder call place.stage names × (place.registration ≡ was)
-IsGoingOn bound call was names Waits = call ≡ Poll
-IsGoingOn bound call was names (Done place answer) = IsEnded bound call was names place.registration answer × (place.stage ≡ Quiet)
+pub left-append : (first second : List Event) (asks : Option Ask) (was : Registration)
+    → left_behind (first ++ second) asks was ≡ left_behind second asks (left_behind first asks was)
+left-append [] second asks was = refl
+left-append (event ∷ first) second asks was = left-append first second asks (left_by event asks was)
+
+-- a place is registered so where its call goes on or is done
+abbrev pub IsLeft : Registration → Next → Type 0
+IsLeft now (Going place) = place.registration ≡ now
+IsLeft now Waits = Unit {0}
+IsLeft now (Done place answer) = (place.registration ≡ now) × (place.stage ≡ Quiet)
 
 -- Asks
 
-try-decided : (bound : ℕ) (place : Place) (was : Registration) (count : ℕ) (seen : Word) → place.registration ≡ was
-    → IsGoingOn bound (Try count) was (decided_events (permit_needs bound) count false seen)
-    (decided (permit_needs bound) place (record { request = count; joins = false }) seen)
-try-decided bound place was count seen same =
-    elim (cases_Bool (waits_behind (permit_needs bound) seen count)) [
-      | inl waits ↦ rw waits ((same, inr (refl, refl)), refl)
-      | inr grants ↦
-          elim (cases_Bool (count == 0)) [
-            | inl nothing ↦ rw (grants, nothing) ((same, inl (refl, refl)), refl)
-            | inr some ↦ rw (grants, some) ((refl, refl), same)
+granted-left : (needs : Needs) (place : Place) (ask : Ask) → IsLeft (left_by (Got ask.request) (Some ask) place.registration) (granted needs place ask)
+granted-left needs place ask =
+    elim (cases_Bool ask.joins) [
+      | inl joins ↦ rw joins (refl, refl)
+      | inr tries ↦ rw tries (refl, refl)
+    ]
+
+decided-left : (needs : Needs) (place : Place) (ask : Ask) (seen : Word)
+    → IsLeft (left_behind (decided_events needs ask.request ask.joins seen) (Some ask) place.registration) (decided needs place ask seen)
+decided-left needs place ask seen =
+    elim (cases_Bool seen.is_poisoned) [
+      | inl poisoned ↦
+          elim (cases_Bool ask.joins) [
+            | inl joins ↦ rw (poisoned, joins) (refl, refl)
+            | inr tries ↦ rw (poisoned, tries) (refl, refl)
+          ]
+      | inr calm ↦
+          elim (cases_Bool (waits_behind needs seen ask.request)) [
+            | inl waits ↦
+                elim (cases_Bool ask.joins) [
+                  | inl joins ↦ rw (calm, waits, joins) refl
+                  | inr tries ↦ rw (calm, waits, tries) (refl, refl)
+                ]
+            | inr grants ↦
+                elim (cases_Bool (needs.takes ask.request == 0)) [
+                  | inl nothing ↦ rw (calm, grants, nothing) (granted-left needs place ask)
+                  | inr some ↦ rw (calm, grants, some) refl
+                ]
           ]
     ]
 
-register-decided : (bound : ℕ) (place : Place) (was : Registration) (count : ℕ) (seen : Word) → place.registration ≡ was
-    → IsGoingOn bound (Register count) was (decided_events (permit_needs bound) count true seen)
-    (decided (permit_needs bound) place (record { request = count; joins = true }) seen)
-register-decided bound place was count seen same =
-    elim (cases_Bool (waits_behind (permit_needs bound) seen count)) [
-      | inl waits ↦ rw waits ((refl, refl), same)
-      | inr grants ↦
-          elim (cases_Bool (count == 0)) [
-            | inl nothing ↦ rw (grants, nothing) ((refl, inl (refl, refl)), refl)
-            | inr some ↦ rw (grants, some) ((refl, refl), same)
-          ]
-    ]
+-- the same of a call that asks so
+asks-left : (needs : Needs) (asks : Option Ask) (place : Place) (ask : Ask) (seen : Word) → asks ≡ Some ask
+    → IsLeft (left_behind (decided_events needs ask.request ask.joins seen) asks place.registration) (decided needs place ask seen)
+asks-left needs asks place ask seen is = rw is (decided-left needs place ask seen)
 
 -- Releases
 
-finished-on : (bound : ℕ) (place : Place) (was : Registration) (count : ℕ) (back : Back) → place.registration ≡ was
-    → IsGoingOn bound (Release count) was (Gave count ∷ []) (finished place back)
-finished-on bound place was count Tells same = ((same, inl (refl, refl)), refl)
+gave_nothing-left : (place : Place) (back : Back) → IsLeft place.registration (gave_nothing place back)
+gave_nothing-left place Tells = (refl, refl)
+gave_nothing-left place EndsCall = (refl, refl)
+gave_nothing-left place (Takes request) = (refl, refl)
 
-given-on : (bound : ℕ) (place : Place) (was : Registration) (count : ℕ) (seen : Word) (left : Option ℕ) → place.registration ≡ was
-    → IsGoingOn bound (Release count) was (given_events count left) (given_to place count seen left)
-given-on bound place was count seen None same = ((same, inr (refl, refl)), refl)
-given-on bound place was count seen (Some left) same = ((refl, refl), same)
+given-left : (needs : Needs) (asks : Option Ask) (place : Place) (request : ℕ) (seen : Word)
+    → IsLeft (left_behind (given_events needs request seen) asks place.registration) (given needs place request seen)
+given-left needs asks place request seen = by-poison seen.is_poisoned
+  where
+    by-left : (left : Option ℕ) → IsLeft (left_behind (left_events request left) asks place.registration) (given_to place request seen left)
+    by-left None = gave_nothing-left place place.back
+    by-left (Some left) = refl
 
-looked-on : (bound : ℕ) (place : Place) (was : Registration) (given : ℕ) (seen : Word) (current count : ℕ) (line : LineWord) → place.registration ≡ was
-    → IsGoingOn bound (Release given) was (Gave given ∷ []) (looked_at (permit_needs bound) place seen current count line)
-looked-on bound place was given seen current count line same =
-    elim (cases_Bool (fits_count (permit_needs bound) count line.request)) [
+    by-poison : (poisoned : Bool)
+        → IsLeft
+        (left_behind (if poisoned then GaveNothing request ∷ [] else left_events request (left_count needs seen.count request)) asks place.registration)
+        (if poisoned then gave_nothing place place.back else given_to place request seen (left_count needs seen.count request))
+    by-poison true = gave_nothing-left place place.back
+    by-poison false = by-left (left_count needs seen.count request)
+
+finished-left : (place : Place) (back : Back) → IsLeft place.registration (finished place back)
+finished-left place Tells = (refl, refl)
+finished-left place EndsCall = (refl, refl)
+finished-left place (Takes request) = refl
+
+-- Those who work on the line
+
+looked-left : (needs : Needs) (place : Place) (seen : Word) (current count : ℕ) (line : LineWord)
+    → IsLeft place.registration (looked_at needs place seen current count line)
+looked-left needs place seen current count line =
+    elim (cases_Bool (fits_count needs count line.request)) [
       | inl fits ↦
           elim (cases_Bool (current == seen.tail)) [
-            | inl last ↦ rw (fits, last) ((tt, refl), same)
-            | inr more ↦ rw (fits, more) ((tt, refl), same)
+            | inl last ↦ rw (fits, last) refl
+            | inr more ↦ rw (fits, more) refl
           ]
       | inr unfit ↦
           elim (cases_Bool (line.older == 0)) [
-            | inl first ↦ rw (unfit, first) ((tt, refl), same)
-            | inr behind ↦ rw (unfit, behind) ((tt, refl), same)
+            | inl first ↦ rw (unfit, first) refl
+            | inr behind ↦ rw (unfit, behind) refl
           ]
     ]
 
-closing-on : (bound : ℕ) (place : Place) (was : Registration) (given : ℕ) (seen : Word) (count top found : ℕ) → place.registration ≡ was
-    → IsGoingOn bound (Release given) was (Gave given ∷ []) (closing place seen count top found)
-closing-on bound place was given seen count top found same =
+closing-left : (place : Place) (seen : Word) (count top found : ℕ) → IsLeft place.registration (closing place seen count top found)
+closing-left place seen count top found =
     elim (cases_Bool (found == word_number count_bits seen)) [
       | inl hit ↦
           elim (cases_Bool (top == 0)) [
-            | inl none ↦ rw (hit, none) (finished-on bound place was given place.back same)
-            | inr some ↦ rw (hit, some) ((tt, refl), same)
+            | inl none ↦ rw (hit, none) (finished-left place place.back)
+            | inr some ↦ rw (hit, some) refl
           ]
       | inr missed ↦
           elim (cases_Bool ((word_of count_bits found).count == seen.count)) [
-            | inl counted ↦ rw (missed, counted) ((tt, refl), same)
-            | inr other ↦ rw (missed, other) ((tt, refl), same)
+            | inl counted ↦ rw (missed, counted) refl
+            | inr other ↦ rw (missed, other) refl
           ]
     ]
 
-shown-on : (bound : ℕ) (place : Place) (was : Registration) (given : ℕ) (afterwards : Afterwards) → place.registration ≡ was
-    → IsGoingOn bound (Release given) was (Gave given ∷ []) (shown_all place afterwards)
-shown-on bound place was given Ends same = finished-on bound place was given place.back same
-shown-on bound place was given (Again seen) same = ((tt, refl), same)
+shown-left : (place : Place) (afterwards : Afterwards) → IsLeft place.registration (shown_all place afterwards)
+shown-left place Ends = finished-left place place.back
+shown-left place (Again seen) = refl
 
--- who works on the line
-work-on : (bound : ℕ) (place : Place) (was : Registration) (given : ℕ) (stage : Stage) (found : ℕ) → place.registration ≡ was → IsWork stage
-    → IsGoingOn bound (Release given) was (Gave given ∷ named_at (permit_needs bound) stage found) (next_of (permit_needs bound) place stage found)
-work-on bound place was given (BackLoad seen current newer) found same work = ((tt, refl), same)
-work-on bound place was given (BackStore seen current newer line) found same work =
-    elim (cases_Bool (line.older == 0)) [
-      | inl first ↦ rw first ((tt, refl), same)
-      | inr behind ↦ rw behind ((tt, refl), same)
+-- Polls and cancels
+
+taken-left : (needs : Needs) (asks : Option Ask) (place : Place) (taking : Taking) (answer : Option ℕ)
+    → IsLeft (left_behind (taken_events taking answer) asks place.registration) (taken_answer needs place taking answer)
+taken-left needs asks place Tries None = (refl, refl)
+taken-left needs asks place Tries (Some value) = (refl, refl)
+taken-left needs asks place Awaits None = tt
+taken-left needs asks place Awaits (Some value) = (refl, refl)
+taken-left needs asks place (Gives request) None = tt
+taken-left needs asks place (Gives request) (Some value) =
+    elim (cases_Bool ((value == granted_value) && not (needs.takes request == 0))) [
+      | inl gives ↦ rw gives refl
+      | inr keeps ↦ rw keeps (refl, refl)
     ]
-work-on bound place was given (Forward seen current count) found same work = looked-on bound place was given seen current count (line_word_of found) same
-work-on bound place was given (CutToClose seen current count line) found same work = ((tt, refl), same)
-work-on bound place was given (CutToGoRound seen current count line) found same work = ((tt, refl), same)
-work-on bound place was given (Close seen count top) found same work = closing-on bound place was given seen count top found same
-work-on bound place was given (Empty seen current count line) found same work =
+
+flagging-left : (place : Place) (seen : Word) → IsLeft place.registration (flagging place seen)
+flagging-left place seen =
+    elim (cases_Bool seen.is_flagged) [
+      | inl flagged ↦ rw flagged tt
+      | inr clear ↦
+          elim (cases_Bool (seen.tail == 0)) [
+            | inl nobody ↦ rw (clear, nobody) (finished-left place place.back)
+            | inr some ↦ rw (clear, some) refl
+          ]
+    ]
+
+-- Poison
+
+poisoning-left : (asks : Option Ask) (place : Place) (seen : Word)
+    → IsLeft (left_behind (poisoning_events seen) asks place.registration) (poisoning place seen)
+poisoning-left asks place seen =
+    elim (cases_Bool (seen.is_poisoned || not (seen.count == lock_count Exclusive))) [
+      | inl other ↦ rw other (refl, refl)
+      | inr owned ↦
+          elim (cases_Bool seen.is_flagged) [
+            | inl flagged ↦ rw (owned, flagged) tt
+            | inr clear ↦ rw (owned, clear) refl
+          ]
+    ]
+
+-- Behind each step of a call its place is registered so
+pub left-next : (needs : Needs) (call : WordCall) (registered : Registration) (me : ℕ) (place : Place) (stage : Stage) (found : ℕ) (events : List Event)
+    → IsUnder needs call registered place.back stage events
+    → IsLeft (left_behind (named_at needs stage found) (asked_by call) place.registration) (next_of needs me place stage found)
+left-next needs call registered me place Quiet found events h = absurd h
+left-next needs call registered me place (ReadLoad reading) found events h = (refl, refl)
+left-next needs call registered me place (AskLoad ask) found events h = asks-left needs (asked_by call) place ask (word_of count_bits found) h.0
+left-next needs call registered me place (AskExchange ask seen) found events h =
     elim (cases_Bool (found == word_number count_bits seen)) [
-      | inl hit ↦ rw hit ((tt, refl), same)
-      | inr missed ↦
-          elim (cases_Bool (line.older == 0)) [
-            | inl first ↦ rw (missed, first) ((tt, refl), same)
-            | inr behind ↦ rw (missed, behind) ((tt, refl), same)
-          ]
+      | inl hit ↦ rw (hit, h.0) (granted-left needs place ask)
+      | inr missed ↦ rw missed (asks-left needs (asked_by call) place ask (word_of count_bits found) h.0)
     ]
-work-on bound place was given (GoRound seen count top) found same work =
-    elim (cases_Bool (top == 0)) [
-      | inl none ↦ rw none ((tt, refl), same)
-      | inr some ↦ rw some ((tt, refl), same)
+left-next needs call registered me place (Prepare request seen) found events h = refl
+left-next needs call registered me place (Join request seen) found events h =
+    elim (cases_Bool (found == word_number count_bits seen)) [
+      | inl hit ↦ rw (hit, h.0) (refl, refl)
+      | inr missed ↦ rw missed (asks-left needs (asked_by call) place (record { request = request; joins = true }) (word_of count_bits found) h.0)
     ]
-work-on bound place was given (ShowLoad current value afterwards) found same work = ((tt, refl), same)
-work-on bound place was given (ShowStore current next value afterwards) found same work =
-    elim (cases_Bool (next == 0)) [
-      | inl last ↦ rw last (shown-on bound place was given afterwards same)
-      | inr more ↦ rw more ((tt, refl), same)
-    ]
-work-on bound place was given _ found same work = absurd work
-
--- Polls
-
-try-taken : (bound : ℕ) (place : Place) (was : Registration) (answer : Option ℕ) → place.registration ≡ was
-    → IsGoingOn bound TryPoll was (taken_events false answer) (taken_answer place false answer)
-try-taken bound place was None same = (inr (refl, same, refl), refl)
-try-taken bound place was (Some value) same = (inl (value, refl, refl, refl), refl)
-
-poll-taken : (bound : ℕ) (place : Place) (was : Registration) (answer : Option ℕ) → place.registration ≡ was
-    → IsGoingOn bound Poll was (taken_events true answer) (taken_answer place true answer)
-poll-taken bound place was None same = refl
-poll-taken bound place was (Some value) same = ((value, refl, refl, refl), refl)
-
--- Every step of a call goes on so
-
--- the events that a step names, behind those named so far
-abbrev pub StepsOn : ℕ → WordCall → Registration → List Event → Place → Stage → ℕ → Type 0
-StepsOn bound call was names place stage found =
-    IsGoingOn bound call was (names ++ named_at (permit_needs bound) stage found) (next_of (permit_needs bound) place stage found)
-
-try-on : (bound : ℕ) (place : Place) (was : Registration) (count : ℕ) (stage : Stage) (names : List Event) (found : ℕ) → place.registration ≡ was
-    → IsUnder (Try count) stage names → StepsOn bound (Try count) was names place stage found
-try-on bound place was count (AskLoad ask) names found same u =
-    rw (u.0, u.1) (try-decided bound place was count (word_of count_bits found) same)
-try-on bound place was count (AskExchange ask seen) names found same u =
-    rw (u.0, u.1)
-    (elim (cases_Bool (found == word_number count_bits seen)) [
-      | inl hit ↦ rw hit ((same, inl (refl, refl)), refl)
-      | inr missed ↦ rw missed (try-decided bound place was count (word_of count_bits found) same)
-    ])
-try-on bound place was count _ names found same u = absurd u
-
-register-on : (bound : ℕ) (place : Place) (was : Registration) (count : ℕ) (stage : Stage) (names : List Event) (found : ℕ) → place.registration ≡ was
-    → IsUnder (Register count) stage names → StepsOn bound (Register count) was names place stage found
-register-on bound place was count (AskLoad ask) names found same u =
-    rw (u.0, u.1) (register-decided bound place was count (word_of count_bits found) same)
-register-on bound place was count (AskExchange ask seen) names found same u =
-    rw (u.0, u.1)
-    (elim (cases_Bool (found == word_number count_bits seen)) [
-      | inl hit ↦ rw hit ((refl, inl (refl, refl)), refl)
-      | inr missed ↦ rw missed (register-decided bound place was count (word_of count_bits found) same)
-    ])
-register-on bound place was count (Prepare request seen) names found same u = rw (u.0, u.1) ((refl, refl), same)
-register-on bound place was count (Join request seen) names found same u =
-    rw (u.0, u.1)
-    (elim (cases_Bool (found == word_number count_bits seen)) [
-      | inl hit ↦ rw hit ((refl, inr (refl, refl)), refl)
-      | inr missed ↦ rw missed (register-decided bound place was count (word_of count_bits found) same)
-    ])
-register-on bound place was count _ names found same u = absurd u
-
-release-on : (bound : ℕ) (place : Place) (was : Registration) (count : ℕ) (stage : Stage) (names : List Event) (found : ℕ) → place.registration ≡ was
-    → IsUnder (Release count) stage names → StepsOn bound (Release count) was names place stage found
-release-on bound place was count (ReleaseLoad given) names found same u =
-    rw (u.0, u.1)
-    (given-on bound place was count (word_of count_bits found) (left_count (permit_needs bound) (word_of count_bits found).count count) same)
-release-on bound place was count (ReleaseExchange given seen) names found same u =
-    rw (u.0, u.1)
-    (elim (cases_Bool (found == word_number count_bits seen)) [
+left-next needs call registered me place (ReleaseLoad request) found events h = given-left needs (asked_by call) place request (word_of count_bits found)
+left-next needs call registered me place (ReleaseExchange request seen) found events h =
+    elim (cases_Bool (found == word_number count_bits seen)) [
       | inl hit ↦
           elim (cases_Bool (not (seen.tail == 0) && not seen.is_flagged)) [
-            | inl works ↦ rw (hit, works) ((tt, refl), same)
-            | inr leaves ↦ rw (hit, leaves) (finished-on bound place was count place.back same)
+            | inl works ↦ rw (hit, works) refl
+            | inr leaves ↦ rw (hit, leaves) (finished-left place place.back)
           ]
+      | inr missed ↦ rw missed (given-left needs (asked_by call) place request (word_of count_bits found))
+    ]
+left-next needs call registered me place (BackLoad seen current newer) found events h = refl
+left-next needs call registered me place (BackStore seen current newer line) found events h =
+    elim (cases_Bool (line.older == 0)) [
+      | inl first ↦ rw first refl
+      | inr behind ↦ rw behind refl
+    ]
+left-next needs call registered me place (Forward seen current count) found events h = looked-left needs place seen current count (line_word_of found)
+left-next needs call registered me place (CutToClose seen current count line) found events h = refl
+left-next needs call registered me place (CutToGoRound seen current count line) found events h = refl
+left-next needs call registered me place (Close seen count top) found events h = closing-left place seen count top found
+left-next needs call registered me place (Empty seen current count line) found events h =
+    elim (cases_Bool (found == word_number count_bits seen)) [
+      | inl hit ↦ rw hit refl
       | inr missed ↦
-          rw missed
-          (given-on bound place was count (word_of count_bits found) (left_count (permit_needs bound) (word_of count_bits found).count count) same)
-    ])
-release-on bound place was count (BackLoad seen current newer) names found same u = rw u.1 (work-on bound place was count (BackLoad seen current newer) found same u.0)
-release-on bound place was count (BackStore seen current newer line) names found same u = rw u.1 (work-on bound place was count (BackStore seen current newer line) found same u.0)
-release-on bound place was count (Forward seen current sum) names found same u = rw u.1 (work-on bound place was count (Forward seen current sum) found same u.0)
-release-on bound place was count (CutToClose seen current sum line) names found same u = rw u.1 (work-on bound place was count (CutToClose seen current sum line) found same u.0)
-release-on bound place was count (CutToGoRound seen current sum line) names found same u = rw u.1 (work-on bound place was count (CutToGoRound seen current sum line) found same u.0)
-release-on bound place was count (Close seen sum top) names found same u = rw u.1 (work-on bound place was count (Close seen sum top) found same u.0)
-release-on bound place was count (Empty seen current sum line) names found same u = rw u.1 (work-on bound place was count (Empty seen current sum line) found same u.0)
-release-on bound place was count (GoRound seen sum top) names found same u = rw u.1 (work-on bound place was count (GoRound seen sum top) found same u.0)
-release-on bound place was count (ShowLoad current value afterwards) names found same u = rw u.1 (work-on bound place was count (ShowLoad current value afterwards) found same u.0)
-release-on bound place was count (ShowStore current next value afterwards) names found same u = rw u.1 (work-on bound place was count (ShowStore current next value afterwards) found same u.0)
-release-on bound place was count Quiet names found same u = absurd u.0
-release-on bound place was count ReadLoad names found same u = absurd u.0
-release-on bound place was count (AskLoad ask) names found same u = absurd u.0
-release-on bound place was count (AskExchange ask seen) names found same u = absurd u.0
-release-on bound place was count (Prepare request seen) names found same u = absurd u.0
-release-on bound place was count (Join request seen) names found same u = absurd u.0
-release-on bound place was count (Take waits) names found same u = absurd u.0
-
-try_poll-on : (bound : ℕ) (place : Place) (was : Registration) (stage : Stage) (names : List Event) (found : ℕ) → place.registration ≡ was
-    → IsUnder TryPoll stage names → StepsOn bound TryPoll was names place stage found
-try_poll-on bound place was (Take waits) names found same u = rw (u.0, u.1) (try-taken bound place was (answer_of (found % 65536)) same)
-try_poll-on bound place was _ names found same u = absurd u
-
-poll-on : (bound : ℕ) (place : Place) (was : Registration) (stage : Stage) (names : List Event) (found : ℕ) → place.registration ≡ was
-    → IsUnder Poll stage names → StepsOn bound Poll was names place stage found
-poll-on bound place was (Take waits) names found same u = rw (u.0, u.1) (poll-taken bound place was (answer_of (found % 65536)) same)
-poll-on bound place was _ names found same u = absurd u
-
-read-on : (bound : ℕ) (place : Place) (was : Registration) (stage : Stage) (names : List Event) (found : ℕ) → place.registration ≡ was
-    → IsUnder Available stage names → StepsOn bound Available was names place stage found
-read-on bound place was ReadLoad names found same u =
-    rw u (((word_of count_bits found).count, (word_of count_bits found).is_poisoned, refl, same, refl), refl)
-read-on bound place was _ names found same u = absurd u
-
-pub steps-on : (bound : ℕ) (place : Place) (was : Registration) (call : WordCall) (stage : Stage) (names : List Event) (found : ℕ) → place.registration ≡ was
-    → IsUnder call stage names → StepsOn bound call was names place stage found
-steps-on bound place was (Try count) stage names found same u = try-on bound place was count stage names found same u
-steps-on bound place was (Register count) stage names found same u = register-on bound place was count stage names found same u
-steps-on bound place was (Release count) stage names found same u = release-on bound place was count stage names found same u
-steps-on bound place was TryPoll stage names found same u = try_poll-on bound place was stage names found same u
-steps-on bound place was Poll stage names found same u = poll-on bound place was stage names found same u
-steps-on bound place was Available stage names found same u = read-on bound place was stage names found same u
-steps-on bound place was Cancel stage names found same u = absurd u
+          elim (cases_Bool (line.older == 0)) [
+            | inl first ↦ rw (missed, first) refl
+            | inr behind ↦ rw (missed, behind) refl
+          ]
+    ]
+left-next needs call registered me place (GoRound seen count top) found events h =
+    elim (cases_Bool (top == 0)) [
+      | inl none ↦ rw none refl
+      | inr some ↦ rw some refl
+    ]
+left-next needs call registered me place (ShowLoad current value afterwards) found events h = refl
+left-next needs call registered me place (ShowStore current next value afterwards) found events h =
+    elim (cases_Bool (next == 0)) [
+      | inl last ↦ rw last (shown-left place afterwards)
+      | inr more ↦ rw more refl
+    ]
+left-next needs call registered me place (Take taking) found events h = taken-left needs (asked_by call) place taking (answer_of (found % 65536))
+left-next needs call registered me place FlagLoad found events h = flagging-left place (word_of count_bits found)
+left-next needs call registered me place (FlagExchange seen) found events h =
+    elim (cases_Bool (found == word_number count_bits seen)) [
+      | inl hit ↦ rw hit refl
+      | inr missed ↦ rw missed (flagging-left place (word_of count_bits found))
+    ]
+left-next needs call registered me place (LookLoad seen current newer previous) found events h =
+    elim (cases_Bool (current == me + 1)) [
+      | inl mine ↦
+          elim (cases_Bool (newer == 0)) [
+            | inl last ↦ rw (mine, last) refl
+            | inr more ↦ rw (mine, more) refl
+          ]
+      | inr another ↦ rw another refl
+    ]
+left-next needs call registered me place (LookStore seen current newer line) found events h =
+    elim (cases_Bool (line.older == 0)) [
+      | inl first ↦ rw first refl
+      | inr behind ↦ rw behind refl
+    ]
+left-next needs call registered me place (Unlink seen newer line older) found events h =
+    elim (cases_Bool (older == 0)) [
+      | inl first ↦ rw first refl
+      | inr behind ↦ rw behind refl
+    ]
+left-next needs call registered me place (DropTail seen older) found events h =
+    elim (cases_Bool (found == word_number count_bits seen)) [
+      | inl hit ↦
+          elim (cases_Bool (older == 0)) [
+            | inl alone ↦ rw (hit, alone) (refl, refl)
+            | inr more ↦ rw (hit, more) refl
+          ]
+      | inr missed ↦ rw missed refl
+    ]
+left-next needs call registered me place PoisonLoad found events h = poisoning-left (asked_by call) place (word_of count_bits found)
+left-next needs call registered me place (PoisonExchange seen) found events h =
+    elim (cases_Bool (found == word_number count_bits seen)) [
+      | inl hit ↦
+          elim (cases_Bool (seen.tail == 0)) [
+            | inl nobody ↦ rw (hit, nobody) (finished-left place place.back)
+            | inr some ↦ rw (hit, some) refl
+          ]
+      | inr missed ↦ rw missed (poisoning-left (asked_by call) place (word_of count_bits found))
+    ]
+left-next needs call registered me place Clear found events h =
+    elim (cases_Bool (found == word_number count_bits poisoned_word)) [
+      | inl hit ↦ rw hit (refl, refl)
+      | inr missed ↦ rw missed (refl, refl)
+    ]

@@ -34,7 +34,7 @@ quiet-due needs places row standing lazy s quiet place =
     elim (cases_Bool (is_some (lazy.due place))) [
       | inl due ↦
           let shower : ℕ = s.shower place in
-          let none : s.owed shower ≡ [] = subst (λ (stage : Stage). IsShowing (s.owed shower) stage) (quiet shower) (s.stages.showing shower) in
+          let none : s.owed shower ≡ [] = subst (λ (stage : Stage). IsShowing (s.owed shower) (s.worth shower) stage) (quiet shower) (s.stages.showing shower) in
           let wrong : false ≡ true = ap (is_in place) (sym none) ∙ s.debts.paid_by place due in
           absurd (cc)
       | inr none ↦ none-due (lazy.due place) none

@@ -36,7 +36,7 @@ put me next now = record now { standing = updated now.standing me (place_after (
 -- how a place, out of so many, goes on with what it finds at a moment, and the moment once its step is made
 abbrev pub next_at : Needs → ℕ → ℕ → Moment → Next
 next_at needs places me now =
-    next_of needs (now.standing me) (now.standing me).stage (now.row (word_at (operation_of needs places me (now.standing me).stage)))
+    next_of needs me (now.standing me) (now.standing me).stage (now.row (word_at (operation_of needs places me (now.standing me).stage)))
 
 abbrev pub stepped : Needs → ℕ → ℕ → Moment → Moment
 stepped needs places me now =

@@ -1,5 +1,5 @@
 -- The sequential object that stands for a moment when no place is in a call, and the command of it that a call is.
-use Rattle.std.specs.Prelude.{◌≡◌, ℕ, ◌<◌, Bool, false, true, List, [], ◌∷◌, length, Option, Some, None, Result, Ok, Err}
+use Rattle.std.specs.Prelude.{◌≡◌, ℕ, ◌<◌, Bool, false, true, if◌then◌else◌, List, [], ◌∷◌, length, Option, Some, None, Result, Ok, Err}
 use Rattle.saa_object.specs.declared.polling.Error.{Error}
 use Rattle.saa_object.specs.declared.request.Full.{Full}
 use Rattle.saa_object.specs.declared.run.CommandOf.{CommandOf}
@@ -10,6 +10,13 @@ use Rattle.saa_object.specs.declared.semaphore.SemaphoreCall.{SemaphoreCall}
 use Rattle.saa_object.specs.declared.semaphore.SemaphoreCall.TheVariants.{TryAcquireMany, ReleaseMany, AvailablePermits}
 use Rattle.saa_object.specs.declared.semaphore.SemaphoreAnswer.{SemaphoreAnswer}
 use Rattle.saa_object.specs.declared.semaphore.SemaphoreAnswer.TheVariants.{Bool as SaysBool, Number as SaysNumber}
+use Rattle.saa_object.specs.declared.lock.Mode.{Mode}
+use Rattle.saa_object.specs.declared.lock.LockCall.{LockCall}
+use Rattle.saa_object.specs.declared.lock.LockCall.TheVariants.{TryLock as TriesLock, TryShare as TriesShare, ReleaseLock as ReleasesLock, ReleaseShare as ReleasesShare, PoisonLock as PoisonsLock, ClearPoison as ClearsPoison, IsFree as AsksFree, IsLocked as AsksLocked, IsShared as AsksShared, IsPoisoned as AsksPoisoned}
+use Rattle.saa_object.specs.declared.lock.LockAnswer.{LockAnswer}
+use Rattle.saa_object.specs.declared.lock.LockAnswer.TheVariants.{Bool as LockBool, Tried as LockTried}
+use Rattle.saa_object.specs.Held.{Held, OfLock, Poisoned}
+use Rattle.saa_object.specs.Lock.{lock_step, mode_request}
 use Rattle.saa_object.specs.Object.{Object, After, Entry, Idle, Waiting, Answered, Waiter, entry_at}
 use Rattle.saa_object.specs.Semaphore.{semaphore_step}
 use Rattle.saa_object.specs.Values.{lock_value}
@@ -19,9 +26,9 @@ use Rattle.saa_steps.specs.declared.place.Place.{Place}
 use Rattle.saa_steps.specs.declared.place.Registration.{Registration}
 use Rattle.saa_steps.specs.declared.place.Registration.TheVariants.{Idle as IsIdle, Once, Slot}
 use Rattle.saa_steps.specs.declared.call.Answer.{Answer}
-use Rattle.saa_steps.specs.declared.call.Answer.TheVariants.{Bool as Says, Number, Taken, Unit as SaysNothing}
+use Rattle.saa_steps.specs.declared.call.Answer.TheVariants.{Bool as Says, Number, Tried, Taken, Unit as SaysNothing}
 use Rattle.saa_steps.specs.declared.call.WordCall.{WordCall}
-use Rattle.saa_steps.specs.declared.call.WordCall.TheVariants.{Try, Register, Release, TryPoll, Poll, Cancel, Available}
+use Rattle.saa_steps.specs.declared.call.WordCall.TheVariants.{Try, Register, Release, Available, TryLock, TryShare, RegisterMode, ReleaseLock, ReleaseShare, PoisonLock, ClearPoison, IsFree, IsLocked, IsShared, IsPoisoned, Cancel}
 use Rattle.saa_steps.specs.Needs.{Needs}
 use Rattle.saa_steps.specs.Lazy.{Lazy}
 
@@ -37,10 +44,14 @@ entry_of needs (Once value request) shown is_sync = Answered value (needs.read r
 entry_of needs (Slot request) None is_sync = Waiting (needs.read request) is_sync
 entry_of needs (Slot request) (Some value) is_sync = Answered value (needs.read request) is_sync true
 
--- The sequential object holds what the lazy one counts, has the same line, and an entry for each place, registered as sync or async.
+-- what the lazy object holds: what it counts, where it isn't poisoned
+abbrev pub held_at : Needs → Lazy → Held
+held_at needs lazy = if lazy.poisoned then OfLock Poisoned else needs.held lazy.count
+
+-- The sequential object holds what the lazy one does, has the same line, and an entry for each place, registered as sync or async.
 -- It has room for all places
 pub record Mirrors (needs : Needs) (places : ℕ) (standing : ℕ → Place) (lazy : Lazy) (s : Object) : Type 0 where
-  pub held : s.held ≡ needs.held lazy.count
+  pub held : s.held ≡ held_at needs lazy
   pub line : s.line ≡ waiters needs lazy.line
   pub names : length s.book ≡ places
   pub entries : (place : ℕ) → place < places
@@ -48,31 +59,54 @@ pub record Mirrors (needs : Needs) (places : ℕ) (standing : ℕ → Place) (la
   pub room : s.room ≡ places
   pub alone : s.outside ≡ 0
 
--- the command that a call of a place is, registered as sync or async
-abbrev pub command_of : ℕ → (is_sync : Bool) → WordCall → CommandOf SemaphoreCall ℕ
-command_of me is_sync (Try count) = Call (TryAcquireMany count)
-command_of me is_sync (Register count) = Registers me count is_sync
-command_of me is_sync (Release count) = Call (ReleaseMany count)
-command_of me is_sync TryPoll = Polls me
-command_of me is_sync Poll = Polls me
-command_of me is_sync Cancel = Drop me
-command_of me is_sync Available = Call AvailablePermits
+-- the command of a semaphore that a call of a place is, registered as sync or async. A call of a lock is none, and is put as a poll
+abbrev pub semaphore_command : ℕ → (is_sync : Bool) → WordCall → CommandOf SemaphoreCall ℕ
+semaphore_command me is_sync (Try count) = Call (TryAcquireMany count)
+semaphore_command me is_sync (Register count) = Registers me count is_sync
+semaphore_command me is_sync (Release count) = Call (ReleaseMany count)
+semaphore_command me is_sync Available = Call AvailablePermits
+semaphore_command me is_sync Cancel = Drop me
+semaphore_command me is_sync _ = Polls me
+
+-- the same of a lock
+abbrev pub lock_command : ℕ → (is_sync : Bool) → WordCall → CommandOf LockCall Mode
+lock_command me is_sync TryLock = Call TriesLock
+lock_command me is_sync TryShare = Call TriesShare
+lock_command me is_sync (RegisterMode mode) = Registers me mode is_sync
+lock_command me is_sync ReleaseLock = Call ReleasesLock
+lock_command me is_sync ReleaseShare = Call ReleasesShare
+lock_command me is_sync PoisonLock = Call PoisonsLock
+lock_command me is_sync ClearPoison = Call ClearsPoison
+lock_command me is_sync IsFree = Call AsksFree
+lock_command me is_sync IsLocked = Call AsksLocked
+lock_command me is_sync IsShared = Call AsksShared
+lock_command me is_sync IsPoisoned = Call AsksPoisoned
+lock_command me is_sync Cancel = Drop me
+lock_command me is_sync _ = Polls me
 
 -- what a reply is as the answer of a call
-abbrev pub answer_of_call : SemaphoreAnswer → Answer
-answer_of_call (SaysBool said) = Says said
-answer_of_call (SaysNumber count) = Number count
+abbrev pub semaphore_says : SemaphoreAnswer → Answer
+semaphore_says (SaysBool said) = Says said
+semaphore_says (SaysNumber count) = Number count
 
-abbrev pub answer_of_registering : Result Bool Full → Answer
-answer_of_registering (Ok said) = Says said
-answer_of_registering (Err full) = SaysNothing
+abbrev pub lock_says : LockAnswer → Answer
+lock_says (LockBool said) = Says said
+lock_says (LockTried said) = Tried said
 
-abbrev pub answer_in : ReplyOf SemaphoreAnswer (Result Bool Error) → Answer
-answer_in (Replied answer) = answer_of_call answer
-answer_in (Registered said) = answer_of_registering said
-answer_in (Polled value) = Taken value
-answer_in Dropped = SaysNothing
+abbrev pub registering_says : Result Bool Full → Answer
+registering_says (Ok said) = Says said
+registering_says (Err full) = SaysNothing
 
--- what the sequential object replies to a call of a place, and leaves
-abbrev pub called : ℕ → (is_sync : Bool) → WordCall → Object → After (ReplyOf SemaphoreAnswer (Result Bool Error))
-called me is_sync call s = done permits_of semaphore_step lock_value (command_of me is_sync call) s
+abbrev pub answer_in : {A : Type 0} → (A → Answer) → ReplyOf A (Result Bool Error) → Answer
+answer_in says (Replied answer) = says answer
+answer_in says (Registered said) = registering_says said
+answer_in says (Polled value) = Taken value
+answer_in says Dropped = SaysNothing
+
+-- what the sequential semaphore, or the sequential lock, answers to a call of a place, and leaves
+abbrev pub said_by : {A : Type 0} → (A → Answer) → After (ReplyOf A (Result Bool Error)) → After Answer
+said_by says after = record { state = after.state; reply = answer_in says after.reply }
+
+abbrev pub called : (is_lock : Bool) → ℕ → (is_sync : Bool) → WordCall → Object → After Answer
+called false me is_sync call s = said_by semaphore_says (done permits_of semaphore_step lock_value (semaphore_command me is_sync call) s)
+called true me is_sync call s = said_by lock_says (done mode_request lock_step lock_value (lock_command me is_sync call) s)

@@ -1,18 +1,19 @@
-use Rattle.saa_alone.proofs.Alone.{alone}
+use Rattle.saa_alone.proofs.Alone.{rules-lawful, alone}
 use Rattle.saa_alone.proofs.Books.{mirrored, opened}
-use Rattle.saa_alone.proofs.Mirroring.{unready}
+use Rattle.saa_alone.proofs.PollsAlone.{unready}
 use Rattle.saa_alone.proofs.Waiting.{left-waiting, only-polls}
+use Rattle.saa_steps.specs.Steps.{needs_of}
 use Rattle.saa_alone.proofs.laws.alone.Goals as goal
 
 pub returns-clause-calls : goal.returns-clause-calls
-returns-clause-calls c = λ bound places me is_sync call now s steps answer last begins takes h.
-    alone bound places me is_sync call now s begins steps answer last takes h
+returns-clause-calls c = λ rules places me is_sync call now s steps answer last begins takes h.
+    alone rules places me is_sync call now s begins steps answer last takes h
 
 pub returns-clause-waits : goal.returns-clause-waits
 returns-clause-waits c = λ needs places me now lazy stands here there. left-waiting needs places me now lazy stands here there
 
 pub returns-clause-only : goal.returns-clause-only
-returns-clause-only c = only-polls
+returns-clause-only c = λ rules. only-polls (needs_of rules) (rules-lawful rules)
 
 pub returns-clause-unready : goal.returns-clause-unready
 returns-clause-unready c = λ needs places me is_sync now lazy s stands mirrors here there.
