@@ -1,63 +1,111 @@
 //! The lazy object in plain code, and whether each event is allowed where it comes: written apart from the definitions.
 
+use crate::held::Held;
 use std::alloc::{AllocError, Global};
 
 // Who waits: a link, and what it asks.
 type Asker = (u16, u16);
 
-/// What is held, who waits, whether something was given back since the line was last settled, and the answers that are to be shown
-/// and that are shown, by link.
+// The values of the answers: granted, and the lock is poisoned.
+const GRANTED: u8 = 0;
+
+const POISONED: u8 = 2;
+
+/// What happens to the object, at a step of a place.
+#[derive(Clone, Copy, Debug, Eq, PartialEq)]
+pub enum Event {
+    /// A request was granted at once.
+    Got(u16),
+    /// A try was refused.
+    Refused(u16),
+    /// A poisoned lock was asked.
+    AskedPoisoned,
+    /// The place joined the line, and asks this.
+    Joined(u16),
+    /// Something was given back.
+    Gave(u16),
+    /// What was to be given back isn't held.
+    GaveNothing(u16),
+    /// The place left the line.
+    Left,
+    /// So many of the line were granted.
+    Granted(usize),
+    /// The line is settled.
+    Closed,
+    /// The lock was poisoned.
+    Poisoned,
+    /// The lock can't be poisoned.
+    NotPoisoned,
+    /// A poisoned lock was made free.
+    Cleared,
+    /// The lock isn't poisoned.
+    NotCleared,
+    /// The answer of a place was shown, by its link.
+    Showed(u16),
+    /// The place took its answer.
+    Took(u8),
+    /// The place has no answer yet.
+    NotReady,
+    /// What is held was read.
+    Read,
+}
+
+/// What is held, who waits, whether something was given back or left since the line was last settled, and the answers that are to be
+/// shown and that are shown, by link.
 #[derive(Drop)]
 pub struct Lazy {
-    bound: u16,
-    pub count: u16,
+    pub held: Held,
     pub line: Vec<Asker>,
     pub unclosed: bool,
-    due: Vec<bool>,
-    shown: Vec<bool>,
+    due: Vec<Option<u8>>,
+    shown: Vec<Option<u8>>,
 }
 
 impl Lazy {
-    pub fn new(alloc: Global, bound: u16, out: u16, places: u16) -> Result<Lazy, AllocError> {
+    /// Nobody waits or has an answer.
+    pub fn new(alloc: Global, held: Held, places: u16) -> Result<Lazy, AllocError> {
         let mut lazy = Lazy {
-            bound,
-            count: out,
+            held,
             line: Vec::new(alloc),
             unclosed: false,
             due: Vec::new(alloc),
             shown: Vec::new(alloc),
         };
         for _link in 0..places {
-            lazy.due.push(false)?;
-            lazy.shown.push(false)?;
+            lazy.due.push(None)?;
+            lazy.shown.push(None)?;
         }
-        lazy.due.push(false)?;
-        lazy.shown.push(false)?;
+        lazy.due.push(None)?;
+        lazy.shown.push(None)?;
         Ok(lazy)
     }
 
-    fn fits(&self, count: u16, request: u16) -> bool {
-        u32::from(count).saturating_add(u32::from(request)) <= u32::from(self.bound)
+    /// The answer of a place that is to be shown.
+    pub fn due(&self, link: u16) -> Option<u8> {
+        self.due.get(usize::from(link)).copied().unwrap_or(None)
     }
 
-    /// How many permits are available.
-    pub fn available(&self) -> u16 {
-        self.bound.saturating_sub(self.count)
+    /// The answer of a place that is shown.
+    pub fn shown(&self, link: u16) -> Option<u8> {
+        self.shown.get(usize::from(link)).copied().unwrap_or(None)
     }
 
-    pub fn is_due(&self, link: u16) -> bool {
-        self.due.get(usize::from(link)).copied().unwrap_or(false)
+    /// Whether an answer is to be shown still.
+    pub fn owes_an_answer(&self) -> bool {
+        self.due.iter().any(|due| due.is_some())
     }
 
-    pub fn is_shown(&self, link: u16) -> bool {
-        self.shown.get(usize::from(link)).copied().unwrap_or(false)
-    }
-
+    /// Whether a place is in the line.
     pub fn waits(&self, link: u16) -> bool {
         self.line.iter().any(|asker| asker.0 == link)
     }
 
-    // How many stand in the line up to a link, that one among them.
+    /// Whether a place has no answer yet that it could take.
+    pub fn is_unanswered(&self, link: u16) -> bool {
+        self.waits(link) || self.due(link).is_some()
+    }
+
+    /// How many stand in the line up to a link, that one among them; 0 where it isn't there.
     pub fn up_to(&self, link: u16) -> usize {
         let mut passed = 0usize;
         for asker in self.line.iter() {
@@ -72,88 +120,147 @@ impl Lazy {
     /// Whether nobody waits, or the oldest doesn't fit.
     pub fn is_settled(&self) -> bool {
         match self.line.first() {
-            Some(asker) => !self.fits(self.count, asker.1),
+            Some(asker) => self.held.plus(asker.1).is_none(),
             None => true,
         }
     }
 
-    pub fn got(&mut self, request: u16) -> bool {
-        let is_allowed = self.line.is_empty() && self.fits(self.count, request);
-        self.count = self.count.saturating_add(request);
-        is_allowed
+    /// An event of the place at a link; whether it is allowed.
+    pub fn happens(&mut self, link: u16, event: Event) -> Result<bool, AllocError> {
+        let is_allowed = match event {
+            Event::Got(request) => self.got(request),
+            Event::Refused(request) => self.must_wait(request),
+            Event::AskedPoisoned => self.held == Held::Poisoned,
+            Event::Joined(request) => self.joined(link, request)?,
+            Event::Gave(request) => self.gave(request),
+            Event::GaveNothing(request) => self.held.less(request).is_none(),
+            Event::Left => self.left(link)?,
+            Event::Granted(askers) => self.granted(askers),
+            Event::Closed => self.closed(),
+            Event::Poisoned => self.poisoned(),
+            Event::NotPoisoned => self.held != Held::Alone,
+            Event::Cleared => self.cleared(),
+            Event::NotCleared => self.held != Held::Poisoned,
+            Event::Showed(shown) => self.showed(shown),
+            Event::Took(value) => self.took(link, value),
+            Event::NotReady => self.is_unanswered(link),
+            Event::Read => true,
+        };
+        Ok(is_allowed)
     }
 
-    pub fn refused(&self, request: u16) -> bool {
-        !self.line.is_empty() || !self.fits(self.count, request)
+    fn must_wait(&self, request: u16) -> bool {
+        let fits = self.held.plus(request).is_some();
+        self.held != Held::Poisoned && (!self.line.is_empty() || !fits)
     }
 
-    pub fn joined(&mut self, link: u16, request: u16) -> Result<bool, AllocError> {
-        let is_free = !self.waits(link) && !self.is_due(link) && !self.is_shown(link);
-        let is_allowed = is_free && self.refused(request);
+    fn got(&mut self, request: u16) -> bool {
+        let Some(held) = self.held.plus(request) else {
+            return false;
+        };
+        self.held = held;
+        self.line.is_empty()
+    }
+
+    fn joined(&mut self, link: u16, request: u16) -> Result<bool, AllocError> {
+        let is_free = !self.is_unanswered(link) && self.shown(link).is_none();
+        let is_allowed = is_free && self.must_wait(request);
         self.line.push((link, request))?;
         Ok(is_allowed)
     }
 
-    pub fn gave(&mut self, request: u16) -> bool {
-        let is_allowed = request <= self.count;
-        self.count = self.count.saturating_sub(request);
+    fn gave(&mut self, request: u16) -> bool {
+        let Some(held) = self.held.less(request) else {
+            return false;
+        };
+        self.held = held;
         self.unclosed = self.unclosed || !self.line.is_empty();
-        is_allowed
+        true
     }
 
-    pub fn gave_nothing(&self, request: u16) -> bool {
-        request > self.count
-    }
-
-    pub fn granted(&mut self, askers: usize) -> bool {
-        let mut is_allowed = self.unclosed && askers > 0 && askers <= self.line.len();
-        for _asker in 0..askers {
+    // Each of the line goes behind it once, but the one who leaves.
+    fn left(&mut self, link: u16) -> Result<bool, AllocError> {
+        let is_allowed = self.waits(link);
+        for _asker in 0..self.line.len() {
             if self.line.is_empty() {
+                return Ok(false);
+            }
+            let asker = self.line.remove(0);
+            if asker.0 != link {
+                self.line.push(asker)?;
+            }
+        }
+        self.unclosed = !self.line.is_empty();
+        Ok(is_allowed)
+    }
+
+    // The oldest leaves the line, and is to be answered; what it asked.
+    fn answer_oldest(&mut self, value: u8) -> Option<u16> {
+        if self.line.is_empty() {
+            return None;
+        }
+        let (link, request) = self.line.remove(0);
+        let is_held = self.due(link).is_some() || self.shown(link).is_some();
+        if let Some(due) = self.due.get_mut(usize::from(link)) {
+            *due = Some(value);
+        }
+        if is_held {
+            return None;
+        }
+        Some(request)
+    }
+
+    fn granted(&mut self, askers: usize) -> bool {
+        let is_allowed = self.unclosed && askers > 0 && askers <= self.line.len();
+        for _asker in 0..askers {
+            let Some(request) = self.answer_oldest(GRANTED) else {
                 return false;
-            }
-            let (link, request) = self.line.remove(0);
-            is_allowed = is_allowed && self.fits(self.count, request);
-            self.count = self.count.saturating_add(request);
-            is_allowed = is_allowed && !self.is_due(link) && !self.is_shown(link);
-            if let Some(due) = self.due.get_mut(usize::from(link)) {
-                *due = true;
-            }
+            };
+            let Some(held) = self.held.plus(request) else {
+                return false;
+            };
+            self.held = held;
         }
         is_allowed
     }
 
-    pub fn closed(&mut self) -> bool {
+    fn closed(&mut self) -> bool {
         let is_allowed = self.unclosed && self.is_settled();
         self.unclosed = false;
         is_allowed
     }
 
-    pub fn showed(&mut self, link: u16) -> bool {
-        let is_allowed = self.is_due(link);
+    fn poisoned(&mut self) -> bool {
+        let mut is_allowed = !self.unclosed && self.held == Held::Alone;
+        self.held = Held::Poisoned;
+        for _asker in 0..self.line.len() {
+            is_allowed = self.answer_oldest(POISONED).is_some() && is_allowed;
+        }
+        is_allowed
+    }
+
+    fn cleared(&mut self) -> bool {
+        let is_allowed = self.held == Held::Poisoned;
+        self.held = Held::Free;
+        is_allowed
+    }
+
+    fn showed(&mut self, link: u16) -> bool {
+        let answer = self.due(link);
         if let Some(due) = self.due.get_mut(usize::from(link)) {
-            *due = false;
+            *due = None;
         }
         if let Some(shown) = self.shown.get_mut(usize::from(link)) {
-            *shown = true;
+            *shown = answer;
         }
-        is_allowed
+        answer.is_some()
     }
 
-    pub fn took(&mut self, link: u16) -> bool {
-        let is_allowed = self.is_shown(link);
+    fn took(&mut self, link: u16, value: u8) -> bool {
+        let is_allowed = self.shown(link) == Some(value);
         if let Some(shown) = self.shown.get_mut(usize::from(link)) {
-            *shown = false;
+            *shown = None;
         }
         is_allowed
-    }
-
-    /// Whether an answer is to be shown still.
-    pub fn owes_an_answer(&self) -> bool {
-        self.due.iter().any(|due| *due)
-    }
-
-    /// Whether a place has no answer yet that it could take.
-    pub fn is_unanswered(&self, link: u16) -> bool {
-        self.waits(link) || self.is_due(link)
     }
 }

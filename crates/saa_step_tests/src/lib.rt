@@ -2,6 +2,18 @@
 #![tactic(auto)]
 
 #[cfg(test)]
+mod caller;
+#[cfg(test)]
+mod events;
+#[cfg(test)]
+mod held;
+#[cfg(test)]
 mod lazy;
 #[cfg(test)]
+mod random;
+#[cfg(test)]
 mod row;
+#[cfg(test)]
+mod schedules;
+#[cfg(test)]
+mod watched;

@@ -1,5 +1,5 @@
 -- What a machine always is, is kept by each move.
-use Rattle.std.proofs.Common.{◌≡◌, ◌≢◌, ℕ, ◌+◌, ◌*◌, ◌<◌, ◌^◌, ◌∷◌, true, false, List, length, get_or, replicate, min, refl, sym, subst, ◌∙◌, ap, arith, inl, inr, suc, zero}
+use Rattle.std.proofs.Common.{◌≡◌, ◌≢◌, ℕ, ◌+◌, ◌*◌, ◌<◌, ◌≤◌, ◌^◌, ◌∷◌, true, false, List, length, get_or, replicate, refl, sym, subst, ◌∙◌, ap, arith, inl, inr, suc, zero}
 use Rattle.std.proofs.Math.ListN.{set, length-set}
 use Rattle.std.proofs.lemmas.List.{get_or-set_same, get_or-set_other, length-replicate}
 use Rattle.std.proofs.lemmas.Bool.{cases_Bool}
@@ -7,27 +7,27 @@ use Rattle.std.proofs.lemmas.Bool.Decides.{nat_tests}
 use Rattle.std.specs.Prelude.{◌==◌, slice_index, slice_set}
 use Rattle.saa_object.proofs.Counts.{number_same, same_number}
 use Rattle.saa_steps.specs.declared.rules.Rules.{Rules}
-use Rattle.saa_steps.specs.declared.rules.Rules.TheVariants.{Permits}
 use Rattle.saa_steps.specs.declared.operation.Operation.{Operation}
 use Rattle.saa_steps.specs.declared.call.WordCall.{WordCall}
 use Rattle.saa_steps.specs.declared.place.Place.{Place}
 use Rattle.saa_steps.specs.declared.place.Next.{Next}
 use Rattle.saa_steps.specs.declared.place.Stage.{Stage}
-use Rattle.saa_steps.specs.declared.place.Stage.TheVariants.{Quiet, ReadLoad, AskLoad, AskExchange, Prepare, Join, ReleaseLoad, ReleaseExchange, BackLoad, BackStore, Forward, CutToClose, CutToGoRound, Close, Empty, GoRound, ShowLoad, ShowStore, Take}
-use Rattle.saa_steps.specs.Needs.{Needs, AreNeeds}
+use Rattle.saa_steps.specs.declared.place.Stage.TheVariants.{Quiet, ReadLoad, AskLoad, AskExchange, Prepare, Join, ReleaseLoad, ReleaseExchange, BackLoad, BackStore, Forward, CutToClose, CutToGoRound, Close, Empty, GoRound, ShowLoad, ShowStore, Take, FlagLoad, FlagExchange, LookLoad, LookStore, Unlink, DropTail, PoisonLoad, PoisonExchange, Clear}
+use Rattle.saa_steps.specs.Needs.{Needs}
 use Rattle.saa_steps.specs.Lazy.{Lazy, opening}
 use Rattle.saa_steps.specs.Steps.{is_taken, needs_of, next_of, operation_of, started, word_at, written_by}
-use Rattle.saa_steps.proofs.LazyRuns.{permits-lawful}
 use Rattle.saa_standing.specs.Standing.{Stands, updated}
 use Rattle.saa_standing.specs.Stepped.{Stepped, place_after}
 use Rattle.saa_standing.specs.Promises.{idle_place, opening_row}
 use Rattle.saa_standing.proofs.Lists.{all-same}
 use Rattle.saa_standing.proofs.Steps.{step}
-use Rattle.saa_standing.proofs.Promises.{opens, starts}
+use Rattle.saa_standing.proofs.Starting.{starts}
+use Rattle.saa_standing.proofs.Promises.{opens}
+use Rattle.saa_alone.proofs.Alone.{rules-lawful}
 use Rattle.saa_word.specs.declared.moves.Move.{Move}
 use Rattle.saa_word.specs.declared.moves.Move.TheVariants.{Start, Go}
 use Rattle.saa_word.specs.declared.moves.Step.{Step}
-use Rattle.saa_word.specs.Machine.{IsMachine, IsSized, StandsAs, State, opened, place_in, place_of, row_of}
+use Rattle.saa_word.specs.Machine.{IsMachine, IsSized, StandsAs, State, is_lock, opened, place_in, place_of, row_of}
 use Rattle.saa_word.specs.Moves.{Moved, found_by, gone, is_quiet, operation_at, step_of, stepped_at, worked_at}
 
 -- what a move did, by its parts
@@ -37,7 +37,7 @@ made_of rules step row places operations = record { step = step; machine = recor
 -- a place that a test finds in no call is in none
 pub quiet-stage : (stage : Stage) → is_quiet stage ≡ true → stage ≡ Quiet
 quiet-stage Quiet is = refl
-quiet-stage ReadLoad is = absurd (cc)
+quiet-stage (ReadLoad reading) is = absurd (cc)
 quiet-stage (AskLoad ask) is = absurd (cc)
 quiet-stage (AskExchange ask seen) is = absurd (cc)
 quiet-stage (Prepare request seen) is = absurd (cc)
@@ -54,7 +54,16 @@ quiet-stage (Empty seen current count line) is = absurd (cc)
 quiet-stage (GoRound seen count top) is = absurd (cc)
 quiet-stage (ShowLoad current value afterwards) is = absurd (cc)
 quiet-stage (ShowStore current next value afterwards) is = absurd (cc)
-quiet-stage (Take waits) is = absurd (cc)
+quiet-stage (Take taking) is = absurd (cc)
+quiet-stage FlagLoad is = absurd (cc)
+quiet-stage (FlagExchange seen) is = absurd (cc)
+quiet-stage (LookLoad seen current newer previous) is = absurd (cc)
+quiet-stage (LookStore seen current newer line) is = absurd (cc)
+quiet-stage (Unlink seen newer line older) is = absurd (cc)
+quiet-stage (DropTail seen older) is = absurd (cc)
+quiet-stage PoisonLoad is = absurd (cc)
+quiet-stage (PoisonExchange seen) is = absurd (cc)
+quiet-stage Clear is = absurd (cc)
 
 -- a list with one element written is a function with one value changed
 pub set-updated : {A : Type 0} (list : List A) (at : ℕ) (value unknown : A) → at < length list
@@ -69,10 +78,6 @@ set-updated list at value unknown inside =
           let differs : other ≢ at = λ is. let wrong : other == at ≡ true = ap (λ (n : ℕ). other == n) (sym is) ∙ number_same other in absurd (cc) in
           rw apart (get_or-set_other list at other value unknown differs)
     ])
-
--- the needs of each rules are those of a form
-pub lawful-rules : (rules : Rules) → AreNeeds (needs_of rules)
-lawful-rules (Permits bound) = permits-lawful bound
 
 -- the words and places of a machine, where one of each was written
 pub stands-set : (needs : Needs) (row : List ℕ) (places : List Place) (at number me : ℕ) (place : Place) (lazy : Lazy) → at < length row → me < length places
@@ -95,7 +100,7 @@ stands-placed needs row places me place lazy here s =
 pub stepped-by : (state : State) (lazy : Lazy) (me : ℕ) → (needs_of state.rules).top < 64 → length state.places < 2 ^ 16 → me < length state.places → StandsAs state lazy
     → Stepped (needs_of state.rules) (length state.places) (row_of state) (place_of state) lazy me (place_of state me).stage
 stepped-by state lazy me wide few here s =
-    step (needs_of state.rules) (lawful-rules state.rules) wide (length state.places) (row_of state) (place_of state) lazy me few here s (place_of state me).stage refl
+    step (needs_of state.rules) (rules-lawful state.rules) wide (length state.places) (row_of state) (place_of state) lazy me few here s (place_of state me).stage refl
 
 -- its word is one of the row
 pub inside-by : (state : State) (me : ℕ) → IsMachine state → me < length state.places → word_at (operation_at state me) < length state.row
@@ -109,12 +114,12 @@ pub work-stands : (state : State) (lazy : Lazy) (me : ℕ) → (needs_of state.r
     → StandsAs (worked_at state me).machine stepped.last
 work-stands state lazy me wide few words here s stepped =
     stands-set (needs_of state.rules) state.row state.places (word_at (operation_at state me)) (written_by (operation_at state me) (found_by state (operation_at state me))) me
-    (place_after (place_of state me) (next_of (needs_of state.rules) (place_of state me) (place_of state me).stage (found_by state (operation_at state me)))) stepped.last
+    (place_after (place_of state me) (next_of (needs_of state.rules) me (place_of state me) (place_of state me).stage (found_by state (operation_at state me)))) stepped.last
     (omega (arith, stepped.inside, words)) here stepped.stands
 
 -- a machine at which one place begins a call, or is done with one at once
 pub start-stands : (state : State) (lazy : Lazy) (me : ℕ) (call : WordCall) → (needs_of state.rules).top < 64 → me < length state.places → StandsAs state lazy
-    → is_quiet (place_of state me).stage ≡ true → is_taken call ≡ true
+    → is_quiet (place_of state me).stage ≡ true → is_taken (is_lock state) call ≡ true
     → StandsAs (record state { places = slice_set state.places me (place_after (place_of state me) (started (needs_of state.rules) (place_of state me) call)) }) lazy
 start-stands state lazy me call wide here s quiet taken =
     stands-placed (needs_of state.rules) state.row state.places me (place_after (place_of state me) (started (needs_of state.rules) (place_of state me) call)) lazy here
@@ -131,7 +136,7 @@ start-sized state me place sized = record {
 pub work-sized : (state : State) (me : ℕ) → IsSized state → IsSized (worked_at state me).machine
 work-sized state me sized =
     let operation : Operation = operation_at state me in
-    let place : Place = place_after (place_of state me) (next_of (needs_of state.rules) (place_of state me) (place_of state me).stage (found_by state operation)) in
+    let place : Place = place_after (place_of state me) (next_of (needs_of state.rules) me (place_of state me) (place_of state me).stage (found_by state operation)) in
     record {
       wide = sized.wide;
       few = subst (λ n. n < 2 ^ 16) (sym (length-set state.places me place)) sized.few;
@@ -139,8 +144,8 @@ work-sized state me sized =
           ∙ ap (λ n. 1 + 2 * n) (sym (length-set state.places me place));
     }
 
-pub opened-sized : (bound withheld places : ℕ) → bound < 64 → places < 2 ^ 16 → IsSized (opened bound withheld places)
-opened-sized bound withheld places wide few = record {
+pub opened-sized : (rules : Rules) (count places : ℕ) → (needs_of rules).top < 64 → places < 2 ^ 16 → IsSized (opened rules count places)
+opened-sized rules count places wide few = record {
   wide = wide;
   few = subst (λ n. n < 2 ^ 16) (sym (length-replicate places idle_place)) few;
   words =
@@ -150,7 +155,7 @@ opened-sized bound withheld places wide few = record {
 }
 
 pub started-machine : (state : State) (me : ℕ) (call : WordCall) → IsMachine state → me < length state.places
-    → is_quiet (place_of state me).stage ≡ true → is_taken call ≡ true
+    → is_quiet (place_of state me).stage ≡ true → is_taken (is_lock state) call ≡ true
     → IsMachine (record state { places = slice_set state.places me (place_after (place_of state me) (started (needs_of state.rules) (place_of state me) call)) })
 started-machine state me call is here quiet taken = record {
   sized = start-sized state me (place_after (place_of state me) (started (needs_of state.rules) (place_of state me) call)) is.sized;
@@ -174,24 +179,27 @@ replicated zero value index = refl
 replicated (suc count) value zero = refl
 replicated (suc count) value (suc index) = replicated count value index
 
-pub opened-stands : (bound withheld places : ℕ) → bound < 64 → StandsAs (opened bound withheld places) (opening (min withheld bound))
-opened-stands bound withheld places wide =
-    subst (λ (n : ℕ). Stands (needs_of (Permits bound)) n (row_of (opened bound withheld places)) (place_of (opened bound withheld places)) (opening (min withheld bound))) (sym (length-replicate places idle_place))
-    (subst (λ (r : ℕ → ℕ). Stands (needs_of (Permits bound)) places r (place_of (opened bound withheld places)) (opening (min withheld bound)))
-    (all-same (opening_row (min withheld bound)) (row_of (opened bound withheld places)) (opened-row (min withheld bound) (2 * places)))
-    (subst (λ (f : ℕ → Place). Stands (needs_of (Permits bound)) places (opening_row (min withheld bound)) f (opening (min withheld bound)))
-    (all-same (λ place. idle_place) (place_of (opened bound withheld places)) (λ place. sym (replicated places idle_place place)))
-    (opens (needs_of (Permits bound)) wide places (min withheld bound) (omega arith))))
+pub opened-stands : (rules : Rules) (count places : ℕ) → (needs_of rules).top < 64 → count ≤ (needs_of rules).top
+    → StandsAs (opened rules count places) (opening count)
+opened-stands rules count places wide small =
+    subst (λ (n : ℕ). Stands (needs_of rules) n (row_of (opened rules count places)) (place_of (opened rules count places)) (opening count))
+    (sym (length-replicate places idle_place))
+    (subst (λ (r : ℕ → ℕ). Stands (needs_of rules) places r (place_of (opened rules count places)) (opening count))
+    (all-same (opening_row count) (row_of (opened rules count places)) (opened-row count (2 * places)))
+    (subst (λ (f : ℕ → Place). Stands (needs_of rules) places (opening_row count) f (opening count))
+    (all-same (λ place. idle_place) (place_of (opened rules count places)) (λ place. sym (replicated places idle_place place)))
+    (opens (needs_of rules) wide places count small)))
   where
     opened-row : (count others index : ℕ) → opening_row count index ≡ get_or (count ∷ replicate others 0) index 0
     opened-row count others zero = refl
     opened-row count others (suc index) = let test : suc index == 0 ≡ false = grind (arith, nat_tests) in rw test (sym (replicated others 0 index))
 
-pub opened-machine : (bound withheld places : ℕ) → bound < 64 → places < 2 ^ 16 → IsMachine (opened bound withheld places)
-opened-machine bound withheld places wide few = record {
-  sized = opened-sized bound withheld places wide few;
-  lazy = opening (min withheld bound);
-  stands = opened-stands bound withheld places wide;
+pub opened-machine : (rules : Rules) (count places : ℕ) → (needs_of rules).top < 64 → count ≤ (needs_of rules).top → places < 2 ^ 16
+    → IsMachine (opened rules count places)
+opened-machine rules count places wide small few = record {
+  sized = opened-sized rules count places wide few;
+  lazy = opening count;
+  stands = opened-stands rules count places wide small;
 }
 
 -- a step is what a place in a call does
@@ -201,7 +209,7 @@ stepped-worked state me busy = rw busy refl
 -- what a place in a call does, by its parts
 pub worked-is : (state : State) (me at count : ℕ) (place : Place) (operation : Operation) (found : ℕ) (next : Next) (behind : Place) (step : Step) (row : List ℕ) (operations : ℕ)
     → place ≡ place_of state me → count ≡ length state.places → operation ≡ operation_of (needs_of state.rules) count me place.stage
-    → found ≡ slice_index state.row (word_at operation) → next ≡ next_of (needs_of state.rules) place place.stage found
+    → found ≡ slice_index state.row (word_at operation) → next ≡ next_of (needs_of state.rules) me place place.stage found
     → behind ≡ place_after place next → step ≡ step_of next → at ≡ me
     → row ≡ slice_set state.row (word_at operation) (written_by operation found) → operations ≡ state.operations + 1
     → made_of state.rules step row (set state.places at behind) operations ≡ worked_at state me
@@ -211,17 +219,17 @@ worked-is state me at count place operation found next behind step row operation
     let op : Operation = operation_at state me in
     let makes2 : operation ≡ op = makes ∙ ap (λ n. operation_of needs n me place.stage) counts ∙ ap (λ (p : Place). operation_of needs (length state.places) me p.stage) reads in
     let finds2 : found ≡ found_by state op = finds ∙ ap (λ o. found_by state o) makes2 in
-    let nexts2 : next ≡ next_of needs own own.stage (found_by state op) = nexts ∙ ap (λ (p : Place). next_of needs p p.stage found) reads ∙ ap (λ n. next_of needs own own.stage n) finds2 in
-    let goes2 : behind ≡ place_after own (next_of needs own own.stage (found_by state op)) = goes ∙ ap (λ p. place_after p next) reads ∙ ap (λ n. place_after own n) nexts2 in
-    let steps2 : step ≡ step_of (next_of needs own own.stage (found_by state op)) = steps ∙ ap step_of nexts2 in
+    let nexts2 : next ≡ next_of needs me own own.stage (found_by state op) = nexts ∙ ap (λ (p : Place). next_of needs me p p.stage found) reads ∙ ap (λ n. next_of needs me own own.stage n) finds2 in
+    let goes2 : behind ≡ place_after own (next_of needs me own own.stage (found_by state op)) = goes ∙ ap (λ p. place_after p next) reads ∙ ap (λ n. place_after own n) nexts2 in
+    let steps2 : step ≡ step_of (next_of needs me own own.stage (found_by state op)) = steps ∙ ap step_of nexts2 in
     let writes2 : row ≡ set state.row (word_at op) (written_by op (found_by state op)) =
     writes ∙ ap (λ o. set state.row (word_at o) (written_by o found)) makes2 ∙ ap (λ n. set state.row (word_at op) (written_by op n)) finds2 in
-    let places2 : set state.places at behind ≡ set state.places me (place_after own (next_of needs own own.stage (found_by state op))) =
+    let places2 : set state.places at behind ≡ set state.places me (place_after own (next_of needs me own own.stage (found_by state op))) =
     ap (λ n. set state.places n behind) same ∙ ap (λ p. set state.places me p) goes2 in
     ap (λ s. made_of state.rules s row (set state.places at behind) operations) steps2
-    ∙ ap (λ r. made_of state.rules (step_of (next_of needs own own.stage (found_by state op))) r (set state.places at behind) operations) writes2
-    ∙ ap (λ ps. made_of state.rules (step_of (next_of needs own own.stage (found_by state op))) (set state.row (word_at op) (written_by op (found_by state op))) ps operations) places2
-    ∙ ap (λ n. made_of state.rules (step_of (next_of needs own own.stage (found_by state op))) (set state.row (word_at op) (written_by op (found_by state op))) (set state.places me (place_after own (next_of needs own own.stage (found_by state op)))) n) counted
+    ∙ ap (λ r. made_of state.rules (step_of (next_of needs me own own.stage (found_by state op))) r (set state.places at behind) operations) writes2
+    ∙ ap (λ ps. made_of state.rules (step_of (next_of needs me own own.stage (found_by state op))) (set state.row (word_at op) (written_by op (found_by state op))) ps operations) places2
+    ∙ ap (λ n. made_of state.rules (step_of (next_of needs me own own.stage (found_by state op))) (set state.row (word_at op) (written_by op (found_by state op))) (set state.places me (place_after own (next_of needs me own own.stage (found_by state op)))) n) counted
 
 -- the words of a machine whose main word alone was loaded
 pub loaded-machine : (state : State) (row : List ℕ) (operations : ℕ) → row ≡ state.row → IsMachine state → IsMachine (record state { row = row; operations = operations })
@@ -232,15 +240,14 @@ loaded-machine state row operations same is = record {
 }
 
 -- a machine as it is written down by its parts
-pub opened-parts : (rules : Rules) (row : List ℕ) (places : List Place) (operations bound withheld count : ℕ) → bound < 64 → count < 2 ^ 16
-    → rules ≡ Permits bound → row ≡ min withheld bound ∷ replicate (2 * count) 0 → places ≡ replicate count idle_place → operations ≡ 0
+pub opened-parts : (rules : Rules) (row : List ℕ) (places : List Place) (operations count many : ℕ) → (needs_of rules).top < 64
+    → count ≤ (needs_of rules).top → many < 2 ^ 16 → row ≡ count ∷ replicate (2 * many) 0 → places ≡ replicate many idle_place → operations ≡ 0
     → IsMachine (record { rules = rules; row = row; places = places; operations = operations })
-opened-parts rules row places operations bound withheld count wide few rules_is row_is places_is operations_is =
-    subst (λ (r : Rules). IsMachine (record { rules = r; row = row; places = places; operations = operations })) (sym rules_is)
-    (subst (λ (r : List ℕ). IsMachine (record { rules = Permits bound; row = r; places = places; operations = operations })) (sym row_is)
-    (subst (λ (p : List Place). IsMachine (record { rules = Permits bound; row = min withheld bound ∷ replicate (2 * count) 0; places = p; operations = operations })) (sym places_is)
-    (subst (λ (n : ℕ). IsMachine (record { rules = Permits bound; row = min withheld bound ∷ replicate (2 * count) 0; places = replicate count idle_place; operations = n })) (sym operations_is)
-    (opened-machine bound withheld count wide few))))
+opened-parts rules row places operations count many wide small few row_is places_is operations_is =
+    subst (λ (r : List ℕ). IsMachine (record { rules = rules; row = r; places = places; operations = operations })) (sym row_is)
+    (subst (λ (p : List Place). IsMachine (record { rules = rules; row = count ∷ replicate (2 * many) 0; places = p; operations = operations })) (sym places_is)
+    (subst (λ (n : ℕ). IsMachine (record { rules = rules; row = count ∷ replicate (2 * many) 0; places = replicate many idle_place; operations = n }))
+    (sym operations_is) (opened-machine rules count many wide small few)))
 
 -- a move makes no place and takes none away
 pub gone-places : (state : State) (move : Move) → length (gone state move).machine.places ≡ length state.places
@@ -253,5 +260,12 @@ gone-places state (Go me) =
     elim (cases_Bool (is_quiet (place_of state me).stage)) [
       | inl quiet ↦ rw quiet refl
       | inr busy ↦ rw busy (length-set state.places me
-          (place_after (place_of state me) (next_of (needs_of state.rules) (place_of state me) (place_of state me).stage (found_by state (operation_at state me)))))
+          (place_after (place_of state me) (next_of (needs_of state.rules) me (place_of state me) (place_of state me).stage (found_by state (operation_at state me)))))
     ]
+
+-- and leaves the rules
+pub gone-rules : (state : State) (move : Move) → (gone state move).machine.rules ≡ state.rules
+gone-rules state (Start me call) =
+    elim (cases_Bool (is_quiet (place_of state me).stage)) [ inl quiet ↦ rw quiet refl | inr busy ↦ rw busy refl ]
+gone-rules state (Go me) =
+    elim (cases_Bool (is_quiet (place_of state me).stage)) [ inl quiet ↦ rw quiet refl | inr busy ↦ rw busy refl ]

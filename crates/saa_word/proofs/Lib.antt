@@ -1,3 +1,5 @@
 pub mod Keeping
+mod Waits
 pub mod Telling
+pub mod Histories
 pub mod Solo

@@ -1,5 +1,5 @@
 -- What a call is that moves alone at a machine.
-use Rattle.std.proofs.Common.{◌≡◌, ℕ, ◌+◌, ◌*◌, ◌<◌, Bool, true, false, length, refl, ap, subst, ◌∙◌, arith}
+use Rattle.std.proofs.Common.{◌≡◌, ℕ, ◌+◌, ◌*◌, ◌<◌, Bool, true, false, length, refl, ap, ◌∙◌, arith}
 use Rattle.saa_object.specs.Object.{Object}
 use Rattle.saa_steps.specs.declared.call.Answer.{Answer}
 use Rattle.saa_steps.specs.declared.call.WordCall.{WordCall}
@@ -7,26 +7,23 @@ use Rattle.saa_steps.specs.declared.call.WordCall.TheVariants.{Poll}
 use Rattle.saa_steps.specs.declared.place.Place.{Place}
 use Rattle.saa_steps.specs.declared.place.Next.{Next}
 use Rattle.saa_steps.specs.declared.operation.Operation.{Operation}
-use Rattle.saa_steps.specs.declared.rules.Rules.{Rules}
-use Rattle.saa_steps.specs.declared.rules.Rules.TheVariants.{Permits}
-use Rattle.saa_steps.specs.Needs.{permit_needs}
 use Rattle.saa_steps.specs.Lazy.{is_in}
 use Rattle.saa_steps.specs.Steps.{is_taken, needs_of, next_of, started, word_at, written_by}
-use Rattle.saa_standing.specs.Standing.{Stands, updated}
+use Rattle.saa_standing.specs.Standing.{updated}
 use Rattle.saa_standing.specs.Stepped.{place_after, row_after}
 use Rattle.saa_standing.specs.Promises.{idle_place}
 use Rattle.saa_alone.specs.Alone.{Moment, IsCalledAlone, next_at, put, stepped}
 use Rattle.saa_alone.specs.Agrees.{Agrees}
 use Rattle.saa_alone.specs.Mirrors.{Mirrors}
 use Rattle.saa_alone.specs.Ends.{Ends}
-use Rattle.saa_alone.proofs.Alone.{alone}
+use Rattle.saa_alone.proofs.Alone.{alone, rules-lawful}
 use Rattle.saa_alone.proofs.Ends.{ends}
 use Rattle.saa_word.specs.declared.moves.Move.TheVariants.{Start, Go}
-use Rattle.saa_word.specs.Machine.{State, place_of, row_of}
+use Rattle.saa_word.specs.Machine.{State, is_lock, place_of, row_of}
 use Rattle.saa_word.specs.Moves.{gone, is_quiet, step_of, found_by, operation_at, worked_at}
 use Rattle.saa_word.specs.Story.{Story, Tells}
 use Rattle.saa_word.specs.Alone.{IsResting, moment_of}
-use Rattle.saa_word.proofs.Keeping.{lawful-rules, set-updated, stepped-by}
+use Rattle.saa_word.proofs.Keeping.{set-updated, stepped-by}
 
 -- a moment by its parts
 moment-same : (row other_row : ℕ → ℕ) (standing other : ℕ → Place) → row ≡ other_row → standing ≡ other
@@ -52,7 +49,7 @@ pub goes-alone : (state : State) (story : Story) (me : ℕ) → Tells state stor
 goes-alone state story me tells here busy =
     let operation : Operation = operation_at state me in
     let found : ℕ = found_by state operation in
-    let next : Next = next_of (needs_of state.rules) (place_of state me) (place_of state me).stage found in
+    let next : Next = next_of (needs_of state.rules) me (place_of state me) (place_of state me).stage found in
     let inside = stepped-by state story.lazy me tells.sized.wide tells.sized.few here tells.stands in
     rw busy (
       moment-same (row_of (worked_at state me).machine) (row_after (row_of state) operation) (place_of (worked_at state me).machine)
@@ -63,25 +60,25 @@ goes-alone state story me tells here busy =
     )
 
 pub ends-alone : (state : State) (story : Story) (me : ℕ) (call : WordCall) → Tells state story → IsResting state → me < length state.places
-    → is_taken call ≡ true → (call ≡ Poll → is_in me story.lazy.line ≡ false)
+    → is_taken (is_lock state) call ≡ true → (call ≡ Poll → is_in me story.lazy.line ≡ false)
     → Ends (needs_of state.rules) (length state.places) me call (moment_of state) (8 * length story.lazy.line + 24)
 ends-alone state story me call tells rests here taken absent =
-    ends (needs_of state.rules) (lawful-rules state.rules) tells.sized.wide (length state.places) (row_of state) (place_of state) story.lazy me call
+    ends (needs_of state.rules) (rules-lawful state.rules) tells.sized.wide (length state.places) (row_of state) (place_of state) story.lazy me call
     (omega (arith, tells.sized.few)) here tells.stands rests taken absent
 
-pub agrees-alone : (state : State) (story : Story) (bound me : ℕ) (is_sync : Bool) (call : WordCall) (s : Object) (steps : ℕ) (answer : Answer) (last : Moment)
-    → Tells state story → IsResting state → me < length state.places → state.rules ≡ Permits bound → is_taken call ≡ true
-    → Mirrors (permit_needs bound) (length state.places) (place_of state) story.lazy s
-    → IsCalledAlone (permit_needs bound) (length state.places) me call steps (moment_of state) answer last
-    → Agrees (permit_needs bound) (length state.places) me is_sync call s answer last
-agrees-alone state story bound me is_sync call s steps answer last tells rests here rules taken mirrors called =
-    alone bound (length state.places) me is_sync call (moment_of state) s
+pub agrees-alone : (state : State) (story : Story) (me : ℕ) (is_sync : Bool) (call : WordCall) (s : Object) (steps : ℕ) (answer : Answer) (last : Moment)
+    → Tells state story → IsResting state → me < length state.places → is_taken (is_lock state) call ≡ true
+    → Mirrors (needs_of state.rules) (length state.places) (place_of state) story.lazy s
+    → IsCalledAlone (needs_of state.rules) (length state.places) me call steps (moment_of state) answer last
+    → Agrees (needs_of state.rules) (length state.places) me is_sync call s answer last
+agrees-alone state story me is_sync call s steps answer last tells rests here taken mirrors called =
+    alone state.rules (length state.places) me is_sync call (moment_of state) s
     (record {
-      small = subst (λ (r : Rules). (needs_of r).top < 64) rules tells.sized.wide;
+      small = tells.sized.wide;
       room = omega (arith, tells.sized.few);
       here = here;
       lazy = story.lazy;
-      stands = subst (λ (r : Rules). Stands (needs_of r) (length state.places) (row_of state) (place_of state) story.lazy) rules tells.stands;
+      stands = tells.stands;
       quiet = rests;
       mirrors = mirrors;
     })

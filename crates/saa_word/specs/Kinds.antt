@@ -1,14 +1,14 @@
 -- Which kind of atomic step is made at each stage.
 use Rattle.std.specs.Prelude.{Option, Some, None}
 use Rattle.saa_steps.specs.declared.place.Stage.{Stage}
-use Rattle.saa_steps.specs.declared.place.Stage.TheVariants.{Quiet, ReadLoad, AskLoad, AskExchange, Prepare as Preparing, Join as Joining, ReleaseLoad, ReleaseExchange, BackLoad, BackStore, Forward, CutToClose, CutToGoRound, Close, Empty, GoRound, ShowLoad, ShowStore, Take as Taking}
+use Rattle.saa_steps.specs.declared.place.Stage.TheVariants.{Quiet, ReadLoad, AskLoad, AskExchange, Prepare as Preparing, Join as Joining, ReleaseLoad, ReleaseExchange, BackLoad, BackStore, Forward, CutToClose, CutToGoRound, Close, Empty, GoRound, ShowLoad, ShowStore, Take as Taking, FlagLoad, FlagExchange, LookLoad, LookStore, Unlink as Unlinking, DropTail, PoisonLoad, PoisonExchange, Clear as Clearing}
 use Rattle.saa_word.specs.declared.kind.Kind.{Kind}
-use Rattle.saa_word.specs.declared.kind.Kind.TheVariants.{Ask, Prepare, Join, Release, Walk, Publish, Show, Take}
+use Rattle.saa_word.specs.declared.kind.Kind.TheVariants.{Ask, Prepare, Join, Release, Walk, Publish, Show, Take, Flag, Unlink, Tail, Poison, Clear}
 
 -- the kind of the step that is made at a stage; none where the place is in no call
 abbrev pub kind_at : Stage → Option Kind
 kind_at Quiet = None
-kind_at ReadLoad = Some Ask
+kind_at (ReadLoad reading) = Some Ask
 kind_at (AskLoad ask) = Some Ask
 kind_at (AskExchange ask seen) = Some Ask
 kind_at (Preparing request seen) = Some Prepare
@@ -25,4 +25,13 @@ kind_at (Empty seen current count line) = Some Publish
 kind_at (GoRound seen count top) = Some Publish
 kind_at (ShowLoad current value afterwards) = Some Show
 kind_at (ShowStore current next value afterwards) = Some Show
-kind_at (Taking waits) = Some Take
+kind_at (Taking taking) = Some Take
+kind_at FlagLoad = Some Flag
+kind_at (FlagExchange seen) = Some Flag
+kind_at (LookLoad seen current newer previous) = Some Unlink
+kind_at (LookStore seen current newer line) = Some Unlink
+kind_at (Unlinking seen newer line older) = Some Unlink
+kind_at (DropTail seen older) = Some Tail
+kind_at PoisonLoad = Some Poison
+kind_at (PoisonExchange seen) = Some Poison
+kind_at Clearing = Some Clear

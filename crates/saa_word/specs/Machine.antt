@@ -1,8 +1,7 @@
 -- A form in words as contracts see it: its rules, the row of words, the places, and how many operations were made on the words.
 -- The row is the main word, then the line word of each place, then the answer word of each.
-use Rattle.std.specs.Prelude.{◌≡◌, ℕ, ◌+◌, ◌*◌, ◌<◌, ◌^◌, List, ◌∷◌, length, min, replicate, slice_index, slice_index_or}
+use Rattle.std.specs.Prelude.{◌≡◌, ℕ, ◌+◌, ◌*◌, ◌<◌, ◌^◌, Bool, List, ◌∷◌, length, replicate, slice_index, slice_index_or}
 use Rattle.saa_steps.specs.declared.rules.Rules.{Rules}
-use Rattle.saa_steps.specs.declared.rules.Rules.TheVariants.{Permits}
 use Rattle.saa_steps.specs.declared.place.Place.{Place}
 use Rattle.saa_steps.specs.Lazy.{Lazy}
 use Rattle.saa_steps.specs.Steps.{needs_of}
@@ -22,14 +21,18 @@ place_in places me = slice_index_or places me idle_place
 abbrev pub place_of : State → ℕ → Place
 place_of state me = place_in state.places me
 
--- a semaphore of so many permits, of which some are withheld, with so many idle places: the words are 0, but for the main word's count
-abbrev pub opened : ℕ → ℕ → ℕ → State
-opened bound withheld places = record {
-  rules = Permits bound;
-  row = min withheld bound ∷ replicate (2 * places) 0;
+-- a form of these rules in which so much is held, with so many idle places: the words are 0, but for the main word's count
+abbrev pub opened : Rules → ℕ → ℕ → State
+opened rules count places = record {
+  rules = rules;
+  row = count ∷ replicate (2 * places) 0;
   places = replicate places idle_place;
   operations = 0;
 }
+
+-- whether a machine is a lock
+abbrev pub is_lock : State → Bool
+is_lock state = (needs_of state.rules).is_lock
 
 -- the row as a function of the index, and a machine that stands together with a lazy object
 abbrev pub row_of : State → ℕ → ℕ

@@ -14,10 +14,10 @@ use Rattle.saa_word.specs.declared.moves.Step.{Step}
 use Rattle.saa_word.specs.declared.moves.Step.TheVariants.{Idle, Busy, Going, Waits, Done}
 use Rattle.saa_word.specs.Machine.{State, place_of}
 
--- a move of a place that there is, and of a call that is taken
-abbrev pub IsMove : ℕ → Move → Type 0
-IsMove places (Start me call) = (me < places) × (is_taken call ≡ true)
-IsMove places (Go me) = me < places
+-- a move of a place that there is, and of a call that is taken, by a lock or by a semaphore
+abbrev pub IsMove : Bool → ℕ → Move → Type 0
+IsMove is_lock places (Start me call) = (me < places) × (is_taken is_lock call ≡ true)
+IsMove is_lock places (Go me) = me < places
 
 -- what a move did, and the machine behind it
 pub record Moved : Type 0 where
@@ -58,7 +58,7 @@ operation_at state me = operation_of (needs_of state.rules) (length state.places
 abbrev pub worked_at : State → ℕ → Moved
 worked_at state me =
     followed (performed state (operation_at state me)) me
-    (next_of (needs_of state.rules) (place_of state me) (place_of state me).stage (found_by state (operation_at state me)))
+    (next_of (needs_of state.rules) me (place_of state me) (place_of state me).stage (found_by state (operation_at state me)))
 
 -- a Go: nothing at a place in no call
 abbrev pub stepped_at : State → ℕ → Moved

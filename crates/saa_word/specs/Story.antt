@@ -1,14 +1,17 @@
 -- What is told of a machine beside its words and places, and how each move goes on with it.
-use Rattle.std.specs.Prelude.{◌≡◌, ℕ, ◌+◌, ◌*◌, ◌≤◌, ◌==◌, ◌||◌, Bool, true, List, [], ◌∷◌, ◌++◌, Option, Some, None, is_some, length, if◌then◌else◌}
+use Rattle.std.specs.Prelude.{◌≡◌, ℕ, ◌⊎◌, ◌+◌, ◌*◌, ◌≤◌, ◌==◌, ◌||◌, Bool, true, false, List, [], ◌∷◌, ◌++◌, Option, Some, None, is_some, length, if◌then◌else◌}
 use Rattle.saa_steps.specs.declared.call.WordCall.{WordCall}
-use Rattle.saa_steps.specs.declared.call.WordCall.TheVariants.{Poll}
-use Rattle.saa_steps.specs.declared.place.Stage.{Stage}
+use Rattle.saa_steps.specs.declared.call.WordCall.TheVariants.{Poll, Cancel, PoisonLock}
+use Rattle.saa_steps.specs.declared.place.Place.{Place}
+use Rattle.saa_steps.specs.declared.place.Registration.{Registration}
 use Rattle.saa_steps.specs.declared.place.Stage.TheVariants.{Quiet}
 use Rattle.saa_steps.specs.declared.rules.Rules.TheVariants.{Permits}
 use Rattle.saa_steps.specs.Needs.{Needs, permit_needs}
 use Rattle.saa_steps.specs.Lazy.{Lazy, Event, IsRun, is_in, opening}
 use Rattle.saa_steps.specs.Steps.{needs_of}
-use Rattle.saa_standing.specs.Standing.{updated}
+use Rattle.saa_words.specs.declared.word.Word.{Word}
+use Rattle.saa_standing.specs.Standing.{main_of, updated}
+use Rattle.saa_standing.specs.Stalls.{IsOwnedAndFlagged}
 use Rattle.saa_standing.specs.Stepped.{named, never_poisons, of_place}
 use Rattle.saa_standing.specs.Calls.{IsAnswered, IsUnder}
 use Rattle.saa_standing.specs.Promises.{SaysSo}
@@ -18,12 +21,13 @@ use Rattle.saa_word.specs.declared.moves.Move.{Move}
 use Rattle.saa_word.specs.declared.moves.Move.TheVariants.{Start, Go}
 use Rattle.saa_word.specs.declared.moves.Step.{Step}
 use Rattle.saa_word.specs.declared.moves.Step.TheVariants.{Going, Waits, Done}
-use Rattle.saa_word.specs.Machine.{IsSized, StandsAs, State, place_of, row_of}
+use Rattle.saa_word.specs.Machine.{IsSized, StandsAs, State, is_lock, place_of, row_of}
 use Rattle.saa_word.specs.Moves.{Moved, gone, ran}
 
--- a call that a place is in, and what it has named of the events so far
+-- a call that a place is in, what the place was registered as when it started, and what it has named of the events so far
 pub record Underway : Type 0 where
   pub call : WordCall
+  pub registered : Registration
   pub events : List Event
 
 -- The lazy object; the call that each place is in; and how many steps each place has made since its call began, or since another place
@@ -37,17 +41,17 @@ pub record Story : Type 0 where
 abbrev pub beginning : ℕ → Story
 beginning count = record { lazy = opening count; calls = λ place. None; made = λ place. 0 }
 
--- a place at a stage is in this call
-abbrev pub IsIn : Option Underway → Stage → Type 0
-IsIn None stage = stage ≡ Quiet
-IsIn (Some underway) stage = IsUnder underway.call stage underway.events
+-- a place is in this call
+abbrev pub IsIn : Needs → Option Underway → Place → Type 0
+IsIn needs None place = place.stage ≡ Quiet
+IsIn needs (Some underway) place = IsUnder needs underway.call underway.registered place.back place.stage underway.events
 
 -- a story is that of a machine: words, places and the lazy object stand together, each place is in the call that it says, and what each has
 -- made and what it has left are at most 16 steps for each place and 48 more
 pub record Tells (state : State) (story : Story) : Type 0 where
   pub sized : IsSized state
   pub stands : StandsAs state story.lazy
-  pub calls : (place : ℕ) → IsIn (story.calls place) (place_of state place).stage
+  pub calls : (place : ℕ) → IsIn (needs_of state.rules) (story.calls place) (place_of state place)
   pub within : AreWithin (length state.places) (row_of state) (place_of state) story.made
 
 -- the place that moves
@@ -55,12 +59,12 @@ abbrev pub mover : Move → ℕ
 mover (Start me call) = me
 mover (Go me) = me
 
--- the call that the mover is in behind a move that named these events
-abbrev pub call_after : Option Underway → Move → List Event → Step → Option Underway
-call_after underway (Start me call) events Going = Some (record { call = call; events = [] })
-call_after (Some underway) (Go me) events Going = Some (record underway { events = underway.events ++ events })
-call_after underway (Go me) events (Done answer) = None
-call_after underway _ events _ = underway
+-- the call that the mover, registered so, is in behind a move that named these events
+abbrev pub call_after : Registration → Option Underway → Move → List Event → Step → Option Underway
+call_after registered underway (Start me call) events Going = Some (record { call = call; registered = registered; events = [] })
+call_after registered (Some underway) (Go me) events Going = Some (record underway { events = underway.events ++ events })
+call_after registered underway (Go me) events (Done answer) = None
+call_after registered underway _ events _ = underway
 
 -- how many steps the mover has made behind a move
 abbrev pub mine_after : ℕ → Move → Step → ℕ
@@ -78,20 +82,27 @@ made_after made move step same place =
 abbrev pub story_after : State → Move → Moved → Story → List Event → Lazy → Story
 story_after state move moved story events last = record {
   lazy = last;
-  calls = updated story.calls (mover move) (call_after (story.calls (mover move)) move events moved.step);
+  calls = updated story.calls (mover move) (call_after (place_of state (mover move)).registration (story.calls (mover move)) move events moved.step);
   made = made_after story.made move moved.step (row_of moved.machine 0 == row_of state 0);
 }
 
 -- an answer to a Go is the one that the call's events name
 abbrev pub IsRight : Needs → Option Underway → Move → List Event → Step → Type 0
-IsRight needs (Some underway) (Go me) events (Done answer) = IsAnswered needs underway.call (underway.events ++ events) answer
+IsRight needs (Some underway) (Go me) events (Done answer) = IsAnswered needs underway.call underway.registered (underway.events ++ events) answer
 IsRight needs None (Go me) events (Done answer) = ⊥
 IsRight needs underway _ events _ = Unit {0}
 
--- a place waits that polls and stands in the line, or whose answer is due; words and places are as they were
+-- why a call has to wait: a poll of a place that stands in the line or whose answer is due; a cancel of a place whose answer is due; a
+-- cancel that finds the flag set; and poison that finds one owner and the flag set
+abbrev pub IsHeldUp : Lazy → ℕ → Word → WordCall → Type 0
+IsHeldUp lazy me seen Poll = (is_in me lazy.line || is_some (lazy.due me)) ≡ true
+IsHeldUp lazy me seen Cancel = (is_some (lazy.due me) ≡ true) ⊎ (seen.is_flagged ≡ true)
+IsHeldUp lazy me seen PoisonLock = IsOwnedAndFlagged seen
+IsHeldUp lazy me seen _ = ⊥
+
+-- a place waits whose call is held up; words and places are as they were
 pub record IsWaiting (state after : State) (story : Story) (me : ℕ) : Type 0 where
-  pub polls : (events : List Event) × (story.calls me ≡ Some (record { call = Poll; events = events }))
-  pub held : (is_in me story.lazy.line || is_some (story.lazy.due me)) ≡ true
+  pub held_up : (underway : Underway) × (story.calls me ≡ Some underway) × IsHeldUp story.lazy me (main_of (row_of state)) underway.call
   pub row : after.row ≡ state.row
   pub places : after.places ≡ state.places
 
@@ -111,7 +122,7 @@ pub record IsTold (state : State) (move : Move) (moved : Moved) (story : Story) 
   pub last : Lazy
   pub run : IsRun (needs_of state.rules) story.lazy (of_place (mover move) events) last
   pub begins : BeginsQuietly move events
-  pub calm : never_poisons events ≡ true
+  pub calm : is_lock state ≡ false → never_poisons events ≡ true
   pub answers : IsRight (needs_of state.rules) (story.calls (mover move)) move (named events) moved.step
   pub waits : WaitsRightly state moved.machine story move moved.step
   pub words : SaysSo (needs_of state.rules) (length state.places) (row_of moved.machine) last

@@ -24,6 +24,16 @@ pub enum Kind {
     Show,
     /// It takes the own answer.
     Take,
+    /// It looks at the main word to set the flag, or sets it, to give a registration up.
+    Flag,
+    /// It reads or writes a line word, as the one who looks for itself in the line and leaves it.
+    Unlink,
+    /// It leaves the line as its tail, in the main word.
+    Tail,
+    /// It looks at the main word to poison a lock, or poisons it.
+    Poison,
+    /// It makes a poisoned lock free.
+    Clear,
 }
 
 /// The kind of the step that is made at a stage; `None` where the place is in no call.
@@ -32,7 +42,9 @@ pub fn kind_at(stage: Stage) -> Option<Kind>
 {
     match stage {
         Stage::Quiet => None,
-        Stage::ReadLoad | Stage::AskLoad { .. } | Stage::AskExchange { .. } => Some(Kind::Ask),
+        Stage::ReadLoad { .. } | Stage::AskLoad { .. } | Stage::AskExchange { .. } => {
+            Some(Kind::Ask)
+        }
         Stage::Prepare { .. } => Some(Kind::Prepare),
         Stage::Join { .. } => Some(Kind::Join),
         Stage::ReleaseLoad { .. } | Stage::ReleaseExchange { .. } => Some(Kind::Release),
@@ -44,5 +56,12 @@ pub fn kind_at(stage: Stage) -> Option<Kind>
         Stage::Close { .. } | Stage::Empty { .. } | Stage::GoRound { .. } => Some(Kind::Publish),
         Stage::ShowLoad { .. } | Stage::ShowStore { .. } => Some(Kind::Show),
         Stage::Take { .. } => Some(Kind::Take),
+        Stage::FlagLoad | Stage::FlagExchange { .. } => Some(Kind::Flag),
+        Stage::LookLoad { .. } | Stage::LookStore { .. } | Stage::Unlink { .. } => {
+            Some(Kind::Unlink)
+        }
+        Stage::DropTail { .. } => Some(Kind::Tail),
+        Stage::PoisonLoad | Stage::PoisonExchange { .. } => Some(Kind::Poison),
+        Stage::Clear => Some(Kind::Clear),
     }
 }

@@ -5,8 +5,6 @@ ghost use Rattle.saa_object.specs.Object.{Object};
 ghost use Rattle.saa_steps.specs.declared.call.Answer.{Answer};
 ghost use Rattle.saa_steps.specs.declared.call.WordCall.{WordCall};
 ghost use Rattle.saa_steps.specs.declared.call.WordCall.TheVariants.{Poll};
-ghost use Rattle.saa_steps.specs.declared.rules.Rules.TheVariants.{Permits};
-ghost use Rattle.saa_steps.specs.Needs.{permit_needs};
 ghost use Rattle.saa_steps.specs.Lazy.{is_in};
 ghost use Rattle.saa_steps.specs.Steps.{is_taken, needs_of, started};
 ghost use Rattle.saa_alone.specs.Alone.{Moment, IsCalledAlone, next_at, put, stepped};
@@ -14,7 +12,7 @@ ghost use Rattle.saa_alone.specs.Agrees.{Agrees};
 ghost use Rattle.saa_alone.specs.Mirrors.{Mirrors};
 ghost use Rattle.saa_alone.specs.Ends.{Ends};
 ghost use Rattle.saa_word.specs.declared.moves.Move.TheVariants.{Start, Go};
-ghost use Rattle.saa_word.specs.Machine.{State, place_of};
+ghost use Rattle.saa_word.specs.Machine.{State, is_lock, place_of};
 ghost use Rattle.saa_word.specs.Moves.{gone, is_quiet, step_of};
 ghost use Rattle.saa_word.specs.Story.{Story, Tells};
 ghost use Rattle.saa_word.specs.Alone.{IsResting, moment_of};
@@ -23,7 +21,7 @@ ghost use Rattle.saa_word.specs.Alone.{IsResting, moment_of};
 ///
 /// A Start and a Go do to words and places what the moments of a call alone say (`begins`, `goes`). Such a call is done within 8 steps for
 /// each who waits and 24 more (`ends`), but for a poll of a place in the line; and its answer and what it leaves are those of the
-/// sequential semaphore (`agrees`).
+/// sequential semaphore or lock (`agrees`).
 pub fn alone()
     ensures begins { (state : State) (story : Story) (me : ℕ) (call : WordCall) → Tells state story → me < length state.places
         → is_quiet (place_of state me).stage ≡ true
@@ -34,11 +32,11 @@ pub fn alone()
         → (moment_of (gone state (Go me)).machine ≡ stepped (needs_of state.rules) (length state.places) me (moment_of state))
         × ((gone state (Go me)).step ≡ step_of (next_at (needs_of state.rules) (length state.places) me (moment_of state))) }
     ensures ends { (state : State) (story : Story) (me : ℕ) (call : WordCall) → Tells state story → IsResting state → me < length state.places
-        → is_taken call ≡ true → (call ≡ Poll → is_in me story.lazy.line ≡ false)
+        → is_taken (is_lock state) call ≡ true → (call ≡ Poll → is_in me story.lazy.line ≡ false)
         → Ends (needs_of state.rules) (length state.places) me call (moment_of state) (8 * length story.lazy.line + 24) }
-    ensures agrees { (state : State) (story : Story) (bound me : ℕ) (is_sync : Bool) (call : WordCall) (s : Object) (steps : ℕ) (answer : Answer) (last : Moment)
-        → Tells state story → IsResting state → me < length state.places → state.rules ≡ Permits bound → is_taken call ≡ true
-        → Mirrors (permit_needs bound) (length state.places) (place_of state) story.lazy s
-        → IsCalledAlone (permit_needs bound) (length state.places) me call steps (moment_of state) answer last
-        → Agrees (permit_needs bound) (length state.places) me is_sync call s answer last }
+    ensures agrees { (state : State) (story : Story) (me : ℕ) (is_sync : Bool) (call : WordCall) (s : Object) (steps : ℕ) (answer : Answer) (last : Moment)
+        → Tells state story → IsResting state → me < length state.places → is_taken (is_lock state) call ≡ true
+        → Mirrors (needs_of state.rules) (length state.places) (place_of state) story.lazy s
+        → IsCalledAlone (needs_of state.rules) (length state.places) me call steps (moment_of state) answer last
+        → Agrees (needs_of state.rules) (length state.places) me is_sync call s answer last }
 {}

@@ -1,12 +1,53 @@
 //! Worked schedules, move by move, and what no contract says: that a machine can be made.
 
 use crate::machine::{Answer, Error, Kind, Machine, Move, Step, WordCall};
+use saa_steps::call::{Mode, TryLockError};
 use std::alloc::{AllocError, Global};
 use std::test::Fail;
+
+const GOING: Step = Step::Going;
 
 const YES: Step = Step::Done(Answer::Bool(true));
 
 const NO: Step = Step::Done(Answer::Bool(false));
+
+const UNIT: Step = Step::Done(Answer::Unit);
+
+const OWNED: Step = Step::Done(Answer::Tried(Ok(())));
+
+const BLOCKED: Step = Step::Done(Answer::Tried(Err(TryLockError::WouldBlock)));
+
+const POISONED: Step = Step::Done(Answer::Tried(Err(TryLockError::Poisoned)));
+
+const TAKEN: Step = Step::Done(Answer::Taken(Ok(true)));
+
+const TOLD_POISONED: Step = Step::Done(Answer::Taken(Ok(false)));
+
+const NOT_READY: Step = Step::Done(Answer::Taken(Err(Error::NotReady)));
+
+const NOT_REGISTERED: Step = Step::Done(Answer::Taken(Err(Error::NotRegistered)));
+
+const ASK: Option<Kind> = Some(Kind::Ask);
+
+const RELEASE: Option<Kind> = Some(Kind::Release);
+
+const POISON: Option<Kind> = Some(Kind::Poison);
+
+const CLEAR: Option<Kind> = Some(Kind::Clear);
+
+const TAKE: Option<Kind> = Some(Kind::Take);
+
+const FLAG: Option<Kind> = Some(Kind::Flag);
+
+const UNLINK: Option<Kind> = Some(Kind::Unlink);
+
+const WALK: Option<Kind> = Some(Kind::Walk);
+
+const PUBLISH: Option<Kind> = Some(Kind::Publish);
+
+const SHOW: Option<Kind> = Some(Kind::Show);
+
+const TAIL: Option<Kind> = Some(Kind::Tail);
 
 // A machine with the steps that its moves did.
 #[derive(Drop)]
@@ -17,6 +58,11 @@ struct Played {
 impl Played {
     fn new(alloc: Global, withheld: usize, places: u16) -> Result<Played, AllocError> {
         let machine = Machine::semaphore(alloc, withheld, places)?;
+        Ok(Played { machine })
+    }
+
+    fn lock(alloc: Global, places: u16) -> Result<Played, AllocError> {
+        let machine = Machine::lock(alloc, places)?;
         Ok(Played { machine })
     }
 
@@ -32,6 +78,13 @@ impl Played {
             return Step::Waits;
         }
         self.machine.go(Move::Go(me))
+    }
+
+    fn make(&mut self, next: Move) -> Step {
+        match next {
+            Move::Start(me, call) => self.start(me, call),
+            Move::Go(me) => self.go(me),
+        }
     }
 
     fn next_kind(&self, me: u16) -> Option<Kind> {
@@ -204,19 +257,209 @@ fn what_needs_no_word_is_done_as_it_starts(rt: HostRuntime) -> Result<(), Fail> 
     Ok(())
 }
 
+// A semaphore's calls, a lock's, and those of both.
 #[test]
-fn a_cancel_is_not_taken(rt: HostRuntime) -> Result<(), Fail> {
-    let machine = Machine::semaphore(rt.alloc(), 0, 0)?;
-    assert_eq!(rt; machine.takes(WordCall::Cancel), false);
+fn what_each_machine_takes(rt: HostRuntime) -> Result<(), Fail> {
+    let semaphore = Machine::semaphore(rt.alloc(), 0, 0)?;
+    let lock = Machine::lock(rt.alloc(), 0)?;
     for call in [
         WordCall::Try(usize::MAX),
         WordCall::Register(0),
         WordCall::Release(1),
-        WordCall::TryPoll,
-        WordCall::Poll,
         WordCall::Available,
     ] {
-        assert_eq!(rt; machine.takes(call), true);
+        assert_eq!(rt; semaphore.takes(call), true);
+        assert_eq!(rt; lock.takes(call), false);
+    }
+    for call in [
+        WordCall::TryLock,
+        WordCall::TryShare,
+        WordCall::RegisterMode(Mode::Exclusive),
+        WordCall::RegisterMode(Mode::WaitShared),
+        WordCall::ReleaseLock,
+        WordCall::ReleaseShare,
+        WordCall::PoisonLock,
+        WordCall::ClearPoison,
+        WordCall::IsFree,
+        WordCall::IsLocked,
+        WordCall::IsShared,
+        WordCall::IsPoisoned,
+    ] {
+        assert_eq!(rt; semaphore.takes(call), false);
+        assert_eq!(rt; lock.takes(call), true);
+    }
+    for call in [WordCall::TryPoll, WordCall::Poll, WordCall::Cancel] {
+        assert_eq!(rt; semaphore.takes(call), true);
+        assert_eq!(rt; lock.takes(call), true);
+    }
+    Ok(())
+}
+
+// Each call of a lock that two places make in turn: the kind of its first step, how many steps it makes, its answer, and the main word
+// behind it. Place 1 in line adds 512, and poison is 128.
+const LOCK_CALLS: [(u16, WordCall, Option<Kind>, u16, Step, u64); 45] = [
+    (0, WordCall::IsFree, ASK, 1, YES, 0),
+    (0, WordCall::TryLock, ASK, 2, OWNED, 63),
+    (1, WordCall::TryLock, ASK, 1, BLOCKED, 63),
+    (1, WordCall::TryShare, ASK, 1, BLOCKED, 63),
+    (1, WordCall::IsLocked, ASK, 1, YES, 63),
+    (1, WordCall::IsShared, ASK, 1, NO, 63),
+    (1, WordCall::IsFree, ASK, 1, NO, 63),
+    (1, WordCall::IsPoisoned, ASK, 1, NO, 63),
+    (1, WordCall::ReleaseShare, RELEASE, 1, NO, 63),
+    (0, WordCall::ReleaseLock, RELEASE, 2, YES, 0),
+    (0, WordCall::ReleaseLock, RELEASE, 1, NO, 0),
+    (0, WordCall::TryShare, ASK, 2, OWNED, 1),
+    (1, WordCall::TryShare, ASK, 2, OWNED, 2),
+    (1, WordCall::IsShared, ASK, 1, YES, 2),
+    (1, WordCall::IsLocked, ASK, 1, NO, 2),
+    (1, WordCall::TryLock, ASK, 1, BLOCKED, 2),
+    (1, WordCall::PoisonLock, POISON, 1, NO, 2),
+    (1, WordCall::ReleaseLock, RELEASE, 1, NO, 2),
+    (1, WordCall::ReleaseShare, RELEASE, 2, YES, 1),
+    (0, WordCall::ReleaseShare, RELEASE, 2, YES, 0),
+    (0, WordCall::RegisterMode(Mode::WaitShared), ASK, 1, YES, 0),
+    (0, WordCall::RegisterMode(Mode::Shared), None, 0, NO, 0),
+    (0, WordCall::Poll, None, 0, TAKEN, 0),
+    (0, WordCall::RegisterMode(Mode::Exclusive), ASK, 2, YES, 63),
+    (0, WordCall::Cancel, RELEASE, 2, UNIT, 0),
+    (0, WordCall::Cancel, None, 0, UNIT, 0),
+    (1, WordCall::ClearPoison, CLEAR, 1, NO, 0),
+    (0, WordCall::TryLock, ASK, 2, OWNED, 63),
+    (
+        1,
+        WordCall::RegisterMode(Mode::WaitShared),
+        ASK,
+        3,
+        YES,
+        575,
+    ),
+    (1, WordCall::TryPoll, TAKE, 1, NOT_READY, 575),
+    (0, WordCall::PoisonLock, POISON, 4, YES, 128),
+    (1, WordCall::Poll, TAKE, 1, TOLD_POISONED, 128),
+    (1, WordCall::TryLock, ASK, 1, POISONED, 128),
+    (1, WordCall::TryShare, ASK, 1, POISONED, 128),
+    (0, WordCall::IsPoisoned, ASK, 1, YES, 128),
+    (0, WordCall::IsFree, ASK, 1, NO, 128),
+    (0, WordCall::IsLocked, ASK, 1, NO, 128),
+    (0, WordCall::ReleaseLock, RELEASE, 1, NO, 128),
+    (0, WordCall::PoisonLock, POISON, 1, NO, 128),
+    (1, WordCall::RegisterMode(Mode::Shared), ASK, 1, YES, 128),
+    (1, WordCall::Cancel, None, 0, UNIT, 128),
+    (1, WordCall::RegisterMode(Mode::Exclusive), ASK, 1, YES, 128),
+    (1, WordCall::TryPoll, None, 0, TOLD_POISONED, 128),
+    (0, WordCall::ClearPoison, CLEAR, 1, YES, 0),
+    (0, WordCall::IsFree, ASK, 1, YES, 0),
+];
+
+#[test]
+fn the_calls_of_a_lock(rt: HostRuntime) -> Result<(), Fail> {
+    let mut played = Played::lock(rt.alloc(), 2)?;
+    for (me, call, kind, steps, answer, word) in LOCK_CALLS {
+        let mut step = played.start(me, call);
+        assert_eq!(rt; played.next_kind(me), kind);
+        for _step in 0..steps {
+            assert_eq!(rt; step, Step::Going);
+            step = played.go(me);
+        }
+        assert_eq!(rt; step, answer);
+        assert_eq!(rt; played.next_kind(me), None);
+        assert_eq!(rt; played.machine.word(), word);
+    }
+    Ok(())
+}
+
+// Place 0 has the lock, and 1 and 2 wait. Place 1 leaves the line; meanwhile place 0 can't poison, nor place 2 leave. Then place 0 poisons,
+// and place 2, whose answer is due by then, gives it up once it is shown. Each move with what it did, the kind of the step that is
+// next at its place, and the main word behind it: 831 where one owner has the lock and the tail is place 2, 64 more with the flag set.
+const POISON_MOVES: [(Move, Step, Option<Kind>, u64); 21] = [
+    (Move::Start(1, WordCall::Cancel), GOING, FLAG, 831),
+    (Move::Go(1), GOING, FLAG, 831),
+    (Move::Go(1), GOING, UNLINK, 895),
+    (Move::Start(0, WordCall::PoisonLock), GOING, POISON, 895),
+    (Move::Go(0), Step::Waits, POISON, 895),
+    (Move::Start(2, WordCall::Cancel), GOING, FLAG, 895),
+    (Move::Go(2), Step::Waits, FLAG, 895),
+    (Move::Go(1), GOING, UNLINK, 895),
+    (Move::Go(1), GOING, UNLINK, 895),
+    (Move::Go(1), GOING, UNLINK, 895),
+    (Move::Go(1), GOING, WALK, 895),
+    (Move::Go(1), GOING, PUBLISH, 895),
+    (Move::Go(0), Step::Waits, POISON, 895),
+    (Move::Go(1), UNIT, None, 831),
+    (Move::Go(0), GOING, POISON, 831),
+    (Move::Go(0), GOING, SHOW, 128),
+    (Move::Go(2), GOING, TAKE, 128),
+    (Move::Go(2), Step::Waits, TAKE, 128),
+    (Move::Go(0), GOING, SHOW, 128),
+    (Move::Go(0), YES, None, 128),
+    (Move::Go(2), UNIT, None, 128),
+];
+
+#[test]
+fn poison_and_cancels_wait_for_who_leaves(rt: HostRuntime) -> Result<(), Fail> {
+    let mut played = Played::lock(rt.alloc(), 3)?;
+    assert_eq!(rt; played.call(0, WordCall::TryLock), OWNED);
+    assert_eq!(rt; played.call(1, WordCall::RegisterMode(Mode::Shared)), YES);
+    assert_eq!(rt;
+        played.call(2, WordCall::RegisterMode(Mode::WaitExclusive)),
+        YES
+    );
+    for (next, step, kind, word) in POISON_MOVES {
+        assert_eq!(rt; played.make(next), step);
+        let (Move::Start(me, _) | Move::Go(me)) = next;
+        assert_eq!(rt; played.next_kind(me), kind);
+        assert_eq!(rt; played.machine.word(), word);
+    }
+    Ok(())
+}
+
+// Permits 60 out; places 0, 1 and 2 wait for 10, 2 and 1. Place 2 leaves the line as its tail. Then place 0 leaves, by which place 1 is
+// granted; place 1 gives that up, waits until it is shown, and gives 2 back. A main word is 828 with the tail at place 2, 572 at place 1,
+// and 64 more with the flag set.
+const LEAVING_MOVES: [(Move, Step, Option<Kind>, u64); 29] = [
+    (Move::Start(2, WordCall::Cancel), GOING, FLAG, 828),
+    (Move::Go(2), GOING, FLAG, 828),
+    (Move::Go(2), GOING, UNLINK, 892),
+    (Move::Go(2), GOING, TAIL, 892),
+    (Move::Go(2), GOING, WALK, 636),
+    (Move::Go(2), GOING, WALK, 636),
+    (Move::Go(2), GOING, WALK, 636),
+    (Move::Go(2), GOING, WALK, 636),
+    (Move::Go(2), GOING, WALK, 636),
+    (Move::Go(2), GOING, PUBLISH, 636),
+    (Move::Go(2), UNIT, None, 572),
+    (Move::Start(2, WordCall::Poll), NOT_REGISTERED, None, 572),
+    (Move::Start(0, WordCall::Cancel), GOING, FLAG, 572),
+    (Move::Go(0), GOING, FLAG, 572),
+    (Move::Go(0), GOING, UNLINK, 636),
+    (Move::Go(0), GOING, UNLINK, 636),
+    (Move::Go(0), GOING, UNLINK, 636),
+    (Move::Go(0), GOING, UNLINK, 636),
+    (Move::Go(0), GOING, WALK, 636),
+    (Move::Go(0), GOING, PUBLISH, 636),
+    (Move::Go(0), GOING, SHOW, 62),
+    (Move::Start(1, WordCall::Cancel), GOING, FLAG, 62),
+    (Move::Go(1), GOING, TAKE, 62),
+    (Move::Go(1), Step::Waits, TAKE, 62),
+    (Move::Go(0), GOING, SHOW, 62),
+    (Move::Go(0), UNIT, None, 62),
+    (Move::Go(1), GOING, RELEASE, 62),
+    (Move::Go(1), GOING, RELEASE, 62),
+    (Move::Go(1), UNIT, None, 60),
+];
+
+#[test]
+fn who_leaves_lets_the_next_one_in(rt: HostRuntime) -> Result<(), Fail> {
+    let mut played = Played::new(rt.alloc(), 60, 3)?;
+    assert_eq!(rt; played.call(0, WordCall::Register(10)), YES);
+    assert_eq!(rt; played.call(1, WordCall::Register(2)), YES);
+    assert_eq!(rt; played.call(2, WordCall::Register(1)), YES);
+    for (next, step, kind, word) in LEAVING_MOVES {
+        assert_eq!(rt; played.make(next), step);
+        let (Move::Start(me, _) | Move::Go(me)) = next;
+        assert_eq!(rt; played.next_kind(me), kind);
+        assert_eq!(rt; played.machine.word(), word);
     }
     Ok(())
 }
@@ -279,10 +522,7 @@ fn run_does_what_go_does(rt: HostRuntime) -> Result<(), Fail> {
     let mut one_by_one = Played::new(rt.alloc(), 63, 3)?;
     let mut expected = [Step::Busy; 21];
     for i in 0..moves.len() {
-        expected[i] = match moves[i] {
-            Move::Start(me, call) => one_by_one.start(me, call),
-            Move::Go(me) => one_by_one.go(me),
-        };
+        expected[i] = one_by_one.make(moves[i]);
     }
     let mut at_once = Machine::semaphore(rt.alloc(), 63, 3)?;
     let mut steps = [Step::Busy; 21];
@@ -294,5 +534,34 @@ fn run_does_what_go_does(rt: HostRuntime) -> Result<(), Fail> {
     assert_eq!(rt; steps[12], Step::Busy);
     assert_eq!(rt; steps[19], Step::Done(Answer::Taken(Ok(true))));
     assert_eq!(rt; steps[20], Step::Idle);
+    Ok(())
+}
+
+// Moves of a lock at once.
+#[test]
+fn run_on_a_lock(rt: HostRuntime) -> Result<(), Fail> {
+    let moves = [
+        Move::Start(0, WordCall::TryLock),
+        Move::Go(0),
+        Move::Go(0),
+        Move::Start(1, WordCall::IsLocked),
+        Move::Start(1, WordCall::Cancel),
+        Move::Go(1),
+        Move::Go(1),
+    ];
+    let mut steps = [Step::Waits; 7];
+    let mut lock = Machine::lock(rt.alloc(), 2)?;
+    lock.run(&moves, &mut steps);
+    let expected = [
+        Step::Going,
+        Step::Going,
+        OWNED,
+        Step::Going,
+        Step::Busy,
+        YES,
+        Step::Idle,
+    ];
+    assert_eq!(rt; steps, expected);
+    assert_eq!(rt; lock.word(), 63);
     Ok(())
 }

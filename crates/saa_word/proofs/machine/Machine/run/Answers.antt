@@ -1,4 +1,4 @@
-use Rattle.saa_word.proofs.Telling.{moves-history}
+use Rattle.saa_word.proofs.Histories.{moves-history}
 use Rattle.saa_word.proofs.machine.Machine.run.Goals as goal
 
 pub returns-clause-told : goal.returns-clause-told

@@ -7,5 +7,6 @@ abbrev pub invariant-loop-i : goal.invariant-loop-i
 invariant-loop-i l = record {
   steps : take l.i l.steps ++ (ran l.self (drop l.i l.moves)).steps ≡ (ran l.fn.self l.moves).steps;
   machine : (ran l.self (drop l.i l.moves)).machine ≡ (ran l.fn.self l.moves).machine;
+  rules : l.self.rules ≡ l.fn.self.rules;
   places : length l.self.places ≡ length l.fn.self.places;
 }
