@@ -1,19 +1,19 @@
 -- Steps of a place one after another, and what a line of a schedule is answered.
-use Rattle.std.proofs.Common.{◌≡◌, ◌<◌, ℕ, zero, suc, ◌+◌, ◌-◌, true, false, List, ◌∷◌, length, Option, Some, refl, sym, ap, ◌∙◌, arith}
+use Rattle.std.proofs.Common.{◌≡◌, ◌<◌, ℕ, zero, suc, ◌+◌, ◌-◌, true, false, List, ◌∷◌, length, Some, refl, sym, ap, ◌∙◌, arith}
 use Rattle.std.specs.Option.{option_map_or}
 use Rattle.saa_word.specs.declared.kind.Kind.{Kind}
 use Rattle.saa_word.specs.declared.moves.Move.TheVariants.{Go as Goes}
 use Rattle.saa_word.specs.declared.moves.Step.{Step}
 use Rattle.saa_word.specs.declared.moves.Step.TheVariants.{Going}
-use Rattle.saa_word.specs.Machine.{State}
-use Rattle.saa_word.specs.Moves.{Moved, gone}
+use Rattle.saa_word.specs.Machine.{State, is_lock}
+use Rattle.saa_word.specs.Moves.{gone}
 use Rattle.saa_run.specs.declared.reply.Said.{Said}
 use Rattle.saa_run.specs.declared.reply.Said.TheVariants.{Step as Did, At}
 use Rattle.saa_run.specs.declared.schedule_lines.ScheduleLine.{ScheduleLine}
 use Rattle.saa_run.specs.Schedules.{schedule_line_of}
-use Rattle.saa_run.specs.Scheduled.{Spoken, answer_schedule, ended, goes_on, is_at, line_said, until_at}
+use Rattle.saa_run.specs.Scheduled.{answer_schedule, ended, goes_on, is_at, line_said, move_said, until_at}
 use Rattle.saa_run.specs.Said.{said_words}
-use Rattle.saa_run.specs.Text.{Answer, reply_line, with_front}
+use Rattle.saa_run.specs.Text.{reply_line, with_front}
 use Rattle.saa_run.specs.Steps.{bad_at}
 
 module _ (state after : State) (me : ℕ) (step : Step) (did : step ≡ (gone state (Goes me)).step) (left_as : after ≡ (gone state (Goes me)).machine) where
@@ -34,6 +34,10 @@ module _ (state after : State) (me : ℕ) (step : Step) (did : step ≡ (gone st
       let test : goes_on (gone state (Goes me)).step ≡ false = ap goes_on (sym did) ∙ stops in
       rw test refl
 
+  -- what is said of it
+  pub step-said : (said : Said) → said ≡ Did (is_lock after) step → said ≡ (move_said (gone state (Goes me))).said
+  step-said said says = says ∙ ap (λ s. Did (is_lock after) s) did ∙ ap (λ m. Did (is_lock m) (gone state (Goes me)).step) left_as
+
   module _ (kind : Kind) (apart : is_at state me kind ≡ false) where
     -- the same where steps of a kind are looked for
     pub until-going : (left : ℕ) → goes_on step ≡ true → 0 < left → until_at (left - 1) after me kind ≡ until_at left state me kind
@@ -45,7 +49,7 @@ module _ (state after : State) (me : ℕ) (step : Step) (did : step ≡ (gone st
         rw (apart, test) (ap (λ n. until_at n after me kind) one ∙ ap (λ s. until_at more s me kind) left_as)
 
     pub until-stops : (left : ℕ) → goes_on step ≡ false → 0 < left
-        → until_at left state me kind ≡ record { said = Did (gone state (Goes me)).step; machine = (gone state (Goes me)).machine }
+        → until_at left state me kind ≡ move_said (gone state (Goes me))
     unfolding until_at
     until-stops zero stops some = absurd (omega arith)
     until-stops (suc more) stops some =
@@ -65,14 +69,14 @@ until-there zero state me kind there = rw there refl
 until-there (suc more) state me kind there = rw there refl
 
 -- no step is left, and the next is of another kind
-pub until-out : (left : ℕ) (state : State) (me : ℕ) (kind : Kind) → left ≡ 0 → is_at state me kind ≡ false → until_at left state me kind ≡ record { said = Did Going; machine = state }
+pub until-out : (left : ℕ) (state : State) (me : ℕ) (kind : Kind) → left ≡ 0 → is_at state me kind ≡ false → until_at left state me kind ≡ record { said = Did (is_lock state) Going; machine = state }
 unfolding until_at
 until-out zero state me kind none apart = rw apart refl
 until-out (suc more) state me kind none apart = absurd (omega arith)
 
 -- a good line is answered by what it says
 pub schedule-good : (number : ℕ) (state after : State) (line : List ℕ) (good : ScheduleLine) (said : Said) (others : List (List ℕ))
-    → schedule_line_of (length state.places) line ≡ Some good → said ≡ (line_said state good).said → after ≡ (line_said state good).machine
+    → schedule_line_of (is_lock state) (length state.places) line ≡ Some good → said ≡ (line_said state good).said → after ≡ (line_said state good).machine
     → answer_schedule number state (line ∷ others) ≡ with_front (reply_line (said_words said)) (answer_schedule (number + 1) after others)
 unfolding answer_schedule
 schedule-good number state after line good said others means says leaves =

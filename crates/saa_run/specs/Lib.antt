@@ -12,6 +12,7 @@ pub mod Played
 pub mod Replies
 pub mod RunLaws
 pub mod Said
+pub mod ScheduleCalls
 pub mod ScheduleLaws
 pub mod Scheduled
 pub mod Schedules

@@ -2,28 +2,35 @@
 use Rattle.std.specs.Prelude.{ℕ, Bool, true, false, ◌∷◌, ◌++◌, List, Ok, Err, codes, decimal}
 use Rattle.saa_words.specs.declared.word.Word.{Word}
 use Rattle.saa_steps.specs.declared.call.Answer.{Answer}
-use Rattle.saa_steps.specs.declared.call.Answer.TheVariants.{Bool as Says, Number, Taken, Unit as Nothing}
+use Rattle.saa_steps.specs.declared.call.Answer.TheVariants.{Bool as Says, Number, Tried, Taken, Unit as Nothing}
 use Rattle.saa_word.specs.declared.kind.Kind.{Kind}
-use Rattle.saa_word.specs.declared.kind.Kind.TheVariants.{Ask, Prepare, Join, Release, Walk, Publish, Show, Take}
+use Rattle.saa_word.specs.declared.kind.Kind.TheVariants.{Ask, Prepare, Join, Release, Walk, Publish, Show, Take, Flag, Unlink, Tail, Poison, Clear}
 use Rattle.saa_word.specs.declared.moves.Step.{Step}
 use Rattle.saa_word.specs.declared.moves.Step.TheVariants.{Idle, Busy, Going, Waits, Done}
 use Rattle.saa_run.specs.Replies.{truth_word, error_word}
+use Rattle.saa_run.specs.LockWords.{try_word}
 
--- the words of a call that is done: a semaphore's answer is always that it was granted
-abbrev pub done_words : Answer → List ℕ
-done_words (Says truth) = codes "done " ++ truth_word truth
-done_words (Number n) = codes "done " ++ decimal n
-done_words (Taken (Ok granted)) = codes "done ok"
-done_words (Taken (Err error)) = codes "done " ++ error_word error
-done_words Nothing = codes "done"
+-- the word of an answer that is taken: a lock's is whether it was granted, a semaphore's always is
+abbrev pub taken_word : Bool → Bool → List ℕ
+taken_word true granted = truth_word granted
+taken_word false granted = codes "ok"
 
--- the words of what a move did
-abbrev pub step_words : Step → List ℕ
-step_words Idle = codes "idle"
-step_words Busy = codes "busy"
-step_words Going = codes "going"
-step_words Waits = codes "waits"
-step_words (Done answer) = done_words answer
+-- the words of a call that is done, of a lock or of a semaphore
+abbrev pub done_words : Bool → Answer → List ℕ
+done_words is_lock (Says truth) = codes "done " ++ truth_word truth
+done_words is_lock (Number n) = codes "done " ++ decimal n
+done_words is_lock (Tried result) = codes "done " ++ try_word result
+done_words is_lock (Taken (Ok granted)) = codes "done " ++ taken_word is_lock granted
+done_words is_lock (Taken (Err error)) = codes "done " ++ error_word error
+done_words is_lock Nothing = codes "done"
+
+-- the words of what a move did, of a lock or of a semaphore
+abbrev pub step_words : Bool → Step → List ℕ
+step_words is_lock Idle = codes "idle"
+step_words is_lock Busy = codes "busy"
+step_words is_lock Going = codes "going"
+step_words is_lock Waits = codes "waits"
+step_words is_lock (Done answer) = done_words is_lock answer
 
 -- the word of a kind of step
 abbrev pub kind_word : Kind → List ℕ
@@ -35,6 +42,11 @@ kind_word Walk = codes "walk"
 kind_word Publish = codes "publish"
 kind_word Show = codes "show"
 kind_word Take = codes "take"
+kind_word Flag = codes "flag"
+kind_word Unlink = codes "unlink"
+kind_word Tail = codes "tail"
+kind_word Poison = codes "poison"
+kind_word Clear = codes "clear"
 
 -- a mark of a main word, behind a space
 abbrev pub mark_word : Bool → List ℕ

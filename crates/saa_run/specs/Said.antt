@@ -23,6 +23,6 @@ said_words (Turned state) = codes "err " ++ state_word state
 said_words (Moved state n) = state_word state ++ 32 ∷ decimal n
 said_words (Passed state) = codes "ok " ++ state_word state
 said_words (Barred error) = gate_error_word error
-said_words (Step step) = step_words step
+said_words (Step is_lock step) = step_words is_lock step
 said_words (At kind) = codes "at " ++ kind_word kind
 said_words (Main word) = main_words word

@@ -1,19 +1,21 @@
 -- What the lines of a schedule do to a machine, and what they are answered.
-use Rattle.std.specs.Prelude.{ℕ, zero, suc, ◌+◌, Bool, true, false, List, [], ◌∷◌, length, slice_index, Option, Some, None, if◌then◌else◌}
+use Rattle.std.specs.Prelude.{ℕ, zero, suc, ◌+◌, Bool, true, false, List, [], ◌∷◌, length, min, slice_index, Option, Some, None, if◌then◌else◌}
 use Rattle.std.specs.Option.{option_map_or}
 use Rattle.saa_object.specs.Held.{max_permits}
 use Rattle.saa_words.specs.Words.{count_bits, word_of}
+use Rattle.saa_steps.specs.declared.rules.Rules.TheVariants.{Permits, Modes}
 use Rattle.saa_word.specs.declared.kind.Kind.{Kind}
-use Rattle.saa_word.specs.declared.kind.Kind.TheVariants.{Ask, Prepare, Join, Release, Walk, Publish, Show, Take}
+use Rattle.saa_word.specs.declared.kind.Kind.TheVariants.{Ask, Prepare, Join, Release, Walk, Publish, Show, Take, Flag, Unlink, Tail, Poison, Clear}
 use Rattle.saa_word.specs.declared.moves.Move.TheVariants.{Start as Starts, Go as Goes}
 use Rattle.saa_word.specs.declared.moves.Step.{Step}
 use Rattle.saa_word.specs.declared.moves.Step.TheVariants.{Going}
 use Rattle.saa_word.specs.Kinds.{kind_at}
-use Rattle.saa_word.specs.Machine.{State, opened, place_of}
+use Rattle.saa_word.specs.Machine.{State, is_lock, opened, place_of}
 use Rattle.saa_word.specs.Moves.{Moved, gone}
 use Rattle.saa_run.specs.declared.reply.Said.{Said}
 use Rattle.saa_run.specs.declared.reply.Said.TheVariants.{Step as Did, At, Main}
 use Rattle.saa_run.specs.declared.schedule_lines.FirstOfSchedule.{FirstOfSchedule}
+use Rattle.saa_run.specs.declared.schedule_lines.FirstOfSchedule.TheVariants.{Semaphore, Lock}
 use Rattle.saa_run.specs.declared.schedule_lines.ScheduleLine.{ScheduleLine}
 use Rattle.saa_run.specs.declared.schedule_lines.ScheduleLine.TheVariants.{Start, Go, End, Until, Word}
 use Rattle.saa_run.specs.Schedules.{schedule_line_of}
@@ -47,29 +49,34 @@ is_of Walk (Some Walk) = true
 is_of Publish (Some Publish) = true
 is_of Show (Some Show) = true
 is_of Take (Some Take) = true
+is_of Flag (Some Flag) = true
+is_of Unlink (Some Unlink) = true
+is_of Tail (Some Tail) = true
+is_of Poison (Some Poison) = true
+is_of Clear (Some Clear) = true
 is_of _ (Some _) = false
 
 -- whether the next step of a place is of this kind
 abbrev pub is_at : State → ℕ → Kind → Bool
 is_at state me kind = is_of kind (kind_at (place_of state me).stage)
 
+-- what a move says: what it did, of a lock or of a semaphore
+abbrev pub move_said : Moved → Spoken
+move_said moved = record { said = Did (is_lock moved.machine) moved.step; machine = moved.machine }
+
 -- steps of a place until the next one is of this kind, at most so many
 unfoldable pub until_at : ℕ → State → ℕ → Kind → Spoken
-until_at zero state me kind = record { said = if is_at state me kind then At kind else Did Going; machine = state }
+until_at zero state me kind = record { said = if is_at state me kind then At kind else Did (is_lock state) Going; machine = state }
 until_at (suc more) state me kind =
     if is_at state me kind
     then record { said = At kind; machine = state }
     else (if goes_on (gone state (Goes me)).step
     then until_at more (gone state (Goes me)).machine me kind
-    else record { said = Did (gone state (Goes me)).step; machine = (gone state (Goes me)).machine })
+    else move_said (gone state (Goes me)))
 
 -- so many steps does a line make at most
 abbrev pub most_steps : ℕ
 most_steps = 1000
-
--- what a move says
-abbrev pub move_said : Moved → Spoken
-move_said moved = record { said = Did moved.step; machine = moved.machine }
 
 -- what a line says, and does
 abbrev pub line_said : State → ScheduleLine → Spoken
@@ -85,8 +92,13 @@ answer_schedule number state [] = no_lines
 answer_schedule number state (line ∷ lines) =
     option_map_or
     (λ good. with_front (reply_line (said_words (line_said state good).said)) (answer_schedule (number + 1) (line_said state good).machine lines))
-    (schedule_line_of (length state.places) line) (bad_at number)
+    (schedule_line_of (is_lock state) (length state.places) line) (bad_at number)
+
+-- the machine that a first line makes: a semaphore of which so many permits are withheld, or a free lock
+abbrev pub machine_of : FirstOfSchedule → State
+machine_of (Semaphore withheld places) = opened (Permits max_permits) (min withheld max_permits) places
+machine_of (Lock places) = opened Modes 0 places
 
 -- the answer to the lines behind a good first line
 abbrev pub behind_schedule : FirstOfSchedule → List (List ℕ) → Answer
-behind_schedule first lines = answer_schedule 2 (opened max_permits first.withheld first.places) lines
+behind_schedule first lines = answer_schedule 2 (machine_of first) lines

@@ -42,7 +42,7 @@ impl Spoken for LockCore {
 
 /// A call that is one word.
 #[tactic(auto, unfolding(crate::specs::Language::lone_call_in))]
-fn lone_call(word: &[u8]) -> Option<LockCall>
+pub fn lone_call(word: &[u8]) -> Option<LockCall>
     ensures { result ≡ lone_call_in lock_readings word.now }
 {
     if word == b"try_lock".as_slice() {
@@ -80,7 +80,7 @@ fn lone_call(word: &[u8]) -> Option<LockCall>
 
 /// What a registration asks: one of the modes.
 #[tactic(auto, unfolding(crate::specs::Language::ask_in))]
-fn ask(field: Option<&[u8]>) -> Option<Mode>
+pub fn ask(field: Option<&[u8]>) -> Option<Mode>
     ensures { result ≡ ask_in lock_readings (option_map (λ bytes. bytes.now) field.entry) }
 {
     let field = field?;

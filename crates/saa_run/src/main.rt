@@ -5,13 +5,16 @@
 //! `steps` answers the lines behind the first one by one, and `run` is the whole, over any reader and
 //! writer. All that is one engine for every kind of primitive; what a kind says is a `spoken::Spoken`, in
 //! `semaphore_words` and its like, and `bench_script` speaks it to a bench. What a command does stands in the cores.
-//! Schedules go through the same engine: `schedule_lines` reads their lines, and `schedule` speaks them to a machine.
+//! Schedules go through the same engine: `schedule_lines` and `schedule_calls` read their lines, and `schedule` speaks them to a
+//! machine.
 //! `docs/LANGUAGES.md` has the language.
 #![tactic(auto)]
 
 mod arguments;
 mod barrier_words;
 mod bench_script;
+#[cfg(test)]
+mod cancel_rows;
 mod command;
 mod counts;
 mod ended;
@@ -20,11 +23,14 @@ mod gate_words;
 #[cfg(test)]
 mod kind_rows;
 mod laws;
+#[cfg(test)]
+mod lock_rows;
 mod lock_words;
 mod opening;
 mod reply;
 mod run;
 mod schedule;
+mod schedule_calls;
 mod schedule_lines;
 #[cfg(test)]
 mod schedule_tests;

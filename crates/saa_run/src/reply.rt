@@ -7,13 +7,15 @@ ghost use Rattle.saa_run.specs.Transfer.{Puts};
 ghost use Rattle.saa_run.specs.Replies.{error_word};
 ghost use Rattle.saa_run.specs.GateWords.{state_word, gate_error_word};
 ghost use Rattle.saa_run.specs.Said.{said_words};
-ghost use Rattle.saa_run.specs.MachineWords.{done_words, kind_word, main_words, mark_word, step_words};
+ghost use Rattle.saa_run.specs.MachineWords.{done_words, kind_word, main_words, mark_word, step_words, taken_word};
+ghost use Rattle.saa_run.specs.LockWords.{try_word};
 ghost use Rattle.saa_run.specs.Text.{bad_line, reply_line};
 
 use crate::transfer::{WriteFailed, put};
 use arrayvec::ArrayString;
 use itoa::Buffer;
 use saa::gate::{self, State};
+use saa::lock::TryLockError;
 use saa::ticket::Error;
 use saa_word::machine::{Answer, Kind, Step};
 use saa_words::word::Word;
@@ -55,8 +57,8 @@ pub enum Said {
     Passed(State),
     /// Why a poll of a gate has no state.
     Barred(gate::Error),
-    /// What a move of a machine did.
-    Step(Step),
+    /// What a move of a machine did, which is a lock or a semaphore.
+    Step { is_lock: bool, step: Step },
     /// `at KIND`: the kind of the step that is next.
     At(Kind),
     /// The parts of a main word: the count, the flag, poison and the tail.
@@ -157,9 +159,33 @@ fn error_text(error: Error) -> &'static str
     }
 }
 
-/// Writes what a call of a machine answers, on a line of its own.
-fn put_done<W: Write>(writer: &mut W, answer: Answer) -> Result<(), WriteFailed>
-    ensures { Puts result (W.contents writer.old) (W.contents writer.new) (reply_line (done_words answer)) }
+/// What a try of a lock answers, in a word.
+fn try_text(answer: Result<(), TryLockError>) -> &'static str
+    ensures word { result.now ≡ try_word answer }
+    ensures short { length result.now ≤ 11 }
+{
+    match answer {
+        Ok(()) => "ok",
+        Err(TryLockError::WouldBlock) => "would_block",
+        Err(TryLockError::Poisoned) => "poisoned",
+    }
+}
+
+/// An answer that is taken, in a word: of a lock or of a semaphore.
+fn taken_text(is_lock: bool, is_granted: bool) -> &'static str
+    ensures word { result.now ≡ taken_word is_lock is_granted }
+    ensures short { length result.now ≤ 5 }
+{
+    match (is_lock, is_granted) {
+        (true, true) => "true",
+        (true, false) => "false",
+        (false, _) => "ok",
+    }
+}
+
+/// Writes what a call of a machine answers, which is a lock or a semaphore, on a line of its own.
+fn put_done<W: Write>(writer: &mut W, is_lock: bool, answer: Answer) -> Result<(), WriteFailed>
+    ensures { Puts result (W.contents writer.old) (W.contents writer.new) (reply_line (done_words is_lock answer)) }
 {
     match answer {
         Answer::Bool(true) => put(writer, b"done true\n"),
@@ -168,22 +194,25 @@ fn put_done<W: Write>(writer: &mut W, answer: Answer) -> Result<(), WriteFailed>
             let mut digits = Buffer::new();
             put_words(writer, "done ", digits.format(usize::from(number)))
         }
-        Answer::Taken(Ok(_)) => put(writer, b"done ok\n"),
+        Answer::Tried(answer) => put_words(writer, "done ", try_text(answer)),
+        Answer::Taken(Ok(is_granted)) => {
+            put_words(writer, "done ", taken_text(is_lock, is_granted))
+        }
         Answer::Taken(Err(error)) => put_words(writer, "done ", error_text(error)),
         Answer::Unit => put(writer, b"done\n"),
     }
 }
 
-/// Writes what a move did, on a line of its own.
-fn put_step<W: Write>(writer: &mut W, step: Step) -> Result<(), WriteFailed>
-    ensures { Puts result (W.contents writer.old) (W.contents writer.new) (reply_line (step_words step)) }
+/// Writes what a move of a lock or of a semaphore did, on a line of its own.
+fn put_step<W: Write>(writer: &mut W, is_lock: bool, step: Step) -> Result<(), WriteFailed>
+    ensures { Puts result (W.contents writer.old) (W.contents writer.new) (reply_line (step_words is_lock step)) }
 {
     match step {
         Step::Idle => put(writer, b"idle\n"),
         Step::Busy => put(writer, b"busy\n"),
         Step::Going => put(writer, b"going\n"),
         Step::Waits => put(writer, b"waits\n"),
-        Step::Done(answer) => put_done(writer, answer),
+        Step::Done(answer) => put_done(writer, is_lock, answer),
     }
 }
 
@@ -201,6 +230,11 @@ fn kind_text(kind: Kind) -> &'static str
         Kind::Publish => "publish",
         Kind::Show => "show",
         Kind::Take => "take",
+        Kind::Flag => "flag",
+        Kind::Unlink => "unlink",
+        Kind::Tail => "tail",
+        Kind::Poison => "poison",
+        Kind::Clear => "clear",
     }
 }
 
@@ -252,7 +286,7 @@ pub fn put_reply<W: Write>(writer: &mut W, said: Said) -> Result<(), WriteFailed
         Said::Moved(state, number) => put_moved(writer, state, number),
         Said::Passed(state) => put_words(writer, "ok ", state_text(state)),
         Said::Barred(error) => put_gate_error(writer, error),
-        Said::Step(step) => put_step(writer, step),
+        Said::Step { is_lock, step } => put_step(writer, is_lock, step),
         Said::At(kind) => put_words(writer, "at ", kind_text(kind)),
         Said::Main(word) => put_main(writer, word),
     }

@@ -1,9 +1,11 @@
 //! The lines of a schedule, spoken to a machine: moves of its places, one after another.
 //!
 //! Held to `specs/Scheduled.antt`.
-ghost use Rattle.std.specs.Prelude.{◌≡◌, ◌<◌, length};
+ghost use Rattle.std.specs.Prelude.{◌≡◌, ◌<◌, IfOk, length};
+ghost use Rattle.saa_word.specs.Machine.{is_lock};
+ghost use Rattle.saa_run.specs.declared.reply.Said.TheVariants.{Step as Did};
 ghost use Rattle.saa_run.specs.Schedules.{IsLineOf};
-ghost use Rattle.saa_run.specs.Scheduled.{ended, goes_on, is_at, line_said, most_steps, until_at};
+ghost use Rattle.saa_run.specs.Scheduled.{ended, goes_on, is_at, line_said, machine_of, most_steps, until_at};
 
 use crate::ended::Ended;
 use crate::opening::Opening;
@@ -12,7 +14,7 @@ use crate::schedule_lines::{
     FirstOfSchedule, ScheduleLine, parse_first_of_schedule, parse_schedule,
 };
 use crate::steps::{Speaker, run_lines};
-use saa_word::machine::{Kind, Machine, Move, Step};
+use saa_word::machine::{Kind, Machine, Move, Step, WordCall};
 use saa_words::word::Word;
 use std::alloc::{AllocError, Global};
 use std::io::{Read, Write};
@@ -51,26 +53,45 @@ impl Opening for FirstOfSchedule {
         reader: &mut R,
         writer: &mut W,
     ) -> Result<Ended, AllocError> {
-        match Machine::semaphore(alloc, self.withheld, self.places) {
+        match made(self, alloc) {
             Ok(machine) => Ok(run_lines(&mut Schedule { machine }, reader, writer)),
             Err(refused) => Err(refused),
         }
     }
 }
 
+// Makes the machine that a first line says.
+fn made(first: FirstOfSchedule, alloc: Global) -> Result<Machine, AllocError>
+    ensures { IfOk result (λ machine. machine ≡ machine_of first) }
+{
+    match first {
+        FirstOfSchedule::Semaphore { withheld, places } => {
+            Machine::semaphore(alloc, withheld, places)
+        }
+        FirstOfSchedule::Lock { places } => Machine::lock(alloc, places),
+    }
+}
+
 impl Schedule {
     // Does what a line says.
     fn say(&mut self, line: ScheduleLine) -> Said
-        requires { IsLineOf (length self.old.machine.places) line }
+        requires { IsLineOf (is_lock self.old.machine) (length self.old.machine.places) line }
         ensures said { result ≡ (line_said self.old.machine line).said }
         ensures machine { self.new.machine ≡ (line_said self.old.machine line).machine }
     {
         match line {
             ScheduleLine::Start(place, call) => {
-                Said::Step(self.machine.go(Move::Start(place, call)))
+                let step = self.machine.go(Move::Start(place, call));
+                did(&self.machine, step)
             }
-            ScheduleLine::Go(place) => Said::Step(self.machine.go(Move::Go(place))),
-            ScheduleLine::End(place) => Said::Step(end(&mut self.machine, place)),
+            ScheduleLine::Go(place) => {
+                let step = self.machine.go(Move::Go(place));
+                did(&self.machine, step)
+            }
+            ScheduleLine::End(place) => {
+                let step = end(&mut self.machine, place);
+                did(&self.machine, step)
+            }
             ScheduleLine::Until(place, kind) => until(&mut self.machine, place, kind),
             ScheduleLine::Word => Said::Main(Word::unpack(self.machine.word())),
         }
@@ -84,7 +105,7 @@ impl Speaker for Schedule {
     ghost answer_to = { λ schedule number lines. answer_schedule number schedule.machine lines };
 
     fn speak(&mut self, line: &[u8]) -> Option<Said> {
-        match parse_schedule(self.machine.places(), line) {
+        match parse_schedule(is_lock(&self.machine), self.machine.places(), line) {
             None => None,
             Some(good) => Some(self.say(good)),
         }
@@ -93,6 +114,23 @@ impl Speaker for Schedule {
     ghost at_end = { λ schedule number. schedule-end number schedule.machine };
 
     ghost too_long = { λ schedule number line long. schedule-long number schedule.machine line long };
+}
+
+// Whether a machine is a lock.
+fn is_lock(machine: &Machine) -> bool
+    ensures { result ≡ is_lock machine.now }
+{
+    machine.takes(WordCall::TryLock)
+}
+
+// What a step says that a machine did.
+fn did(machine: &Machine, step: Step) -> Said
+    ensures { result ≡ Did (is_lock machine.now) step }
+{
+    Said::Step {
+        is_lock: is_lock(machine),
+        step,
+    }
 }
 
 // Whether a place is in the middle of its call behind a step.
@@ -139,11 +177,11 @@ pub(crate) fn until(machine: &mut Machine, place: u16, kind: Kind) -> Said
         }
         let step = machine.go(Move::Go(place));
         if !goes_on(step) {
-            return Said::Step(step);
+            return did(machine, step);
         }
     }
     if is_at(machine, place, kind) {
         return Said::At(kind);
     }
-    Said::Step(Step::Going)
+    did(machine, Step::Going)
 }

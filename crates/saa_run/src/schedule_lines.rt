@@ -1,20 +1,22 @@
 //! The lines of a schedule: which first line they follow, and which move each of them is.
 //!
 //! Held to `specs/Schedules.antt`. What a move does is left to the machine.
-ghost use Rattle.std.specs.Prelude.{◌≡◌, ◌<◌, true, IfSome};
-ghost use Rattle.saa_steps.specs.Steps.{is_taken};
+ghost use Rattle.std.specs.Prelude.{◌≡◌, ◌<◌, Bool, IfSome};
 ghost use Rattle.saa_run.specs.Fields.{number_of};
-ghost use Rattle.saa_run.specs.Schedules.{IsLineOf, counted_call_of, first_schedule_of, four_fields, kind_of_word, lone_call_of, made_of, place_below, places_of, schedule_line_of, three_fields, two_fields};
+ghost use Rattle.saa_run.specs.Schedules.{IsLineOf, first_schedule_of, four_fields, kind_of_word, lock_made, place_below, places_of, schedule_line_of, semaphore_made, three_fields, two_fields};
 
 use crate::command::count;
 use crate::fields::{first_field, number};
+use crate::schedule_calls::{lone_call, paired_call};
 use saa_word::machine::{Kind, WordCall};
 
-/// The first line of a schedule, `semaphore W PLACES`: a semaphore with W permits withheld, and 1 to 100 places.
+/// The first line of a schedule: which machine is made, with 1 to 100 places.
 #[derive(Clone, Copy, Debug)]
-pub struct FirstOfSchedule {
-    pub withheld: usize,
-    pub places: u16,
+pub enum FirstOfSchedule {
+    /// `semaphore W PLACES`: a semaphore of which W permits are withheld.
+    Semaphore { withheld: usize, places: u16 },
+    /// `lock PLACES`: a free lock.
+    Lock { places: u16 },
 }
 
 /// A line behind the first. A place is below the number of places.
@@ -84,41 +86,20 @@ fn kind(word: &[u8]) -> Option<Kind>
     if word == b"take".as_slice() {
         return Some(Kind::Take);
     }
-    None
-}
-
-/// A call that is one word.
-#[tactic(auto, unfolding(crate::specs::Schedules::lone_call_of))]
-fn lone_call(word: &[u8]) -> Option<WordCall>
-    ensures call { result ≡ lone_call_of word.now }
-    ensures taken { IfSome result (λ call. is_taken call ≡ true) }
-{
-    if word == b"available".as_slice() {
-        return Some(WordCall::Available);
+    if word == b"flag".as_slice() {
+        return Some(Kind::Flag);
     }
-    if word == b"try_poll".as_slice() {
-        return Some(WordCall::TryPoll);
+    if word == b"unlink".as_slice() {
+        return Some(Kind::Unlink);
     }
-    if word == b"poll".as_slice() {
-        return Some(WordCall::Poll);
+    if word == b"tail".as_slice() {
+        return Some(Kind::Tail);
     }
-    None
-}
-
-/// A call that is a word and a number.
-#[tactic(auto, unfolding(crate::specs::Schedules::counted_call_of))]
-fn counted_call(word: &[u8], number: usize) -> Option<WordCall>
-    ensures call { result ≡ counted_call_of word.now number }
-    ensures taken { IfSome result (λ call. is_taken call ≡ true) }
-{
-    if word == b"try".as_slice() {
-        return Some(WordCall::Try(number));
+    if word == b"poison".as_slice() {
+        return Some(Kind::Poison);
     }
-    if word == b"reg".as_slice() {
-        return Some(WordCall::Register(number));
-    }
-    if word == b"release".as_slice() {
-        return Some(WordCall::Release(number));
+    if word == b"clear".as_slice() {
+        return Some(Kind::Clear);
     }
     None
 }
@@ -127,7 +108,7 @@ fn counted_call(word: &[u8], number: usize) -> Option<WordCall>
 #[tactic(auto, unfolding(crate::specs::Schedules::two_fields))]
 fn two_words(places: u16, word: &[u8], of: &[u8]) -> Option<ScheduleLine>
     ensures line { result ≡ two_fields places word.now of.now }
-    ensures within { IfSome result (λ line. IsLineOf places line) }
+    ensures within { IfSome result (λ line. (is_lock : Bool) → IsLineOf is_lock places line) }
 {
     match word {
         b"go" => Some(ScheduleLine::Go(place(places, of)?)),
@@ -138,41 +119,48 @@ fn two_words(places: u16, word: &[u8], of: &[u8]) -> Option<ScheduleLine>
 
 /// A line that is three fields: `start P CALL` or `until P KIND`.
 #[tactic(auto, unfolding(crate::specs::Schedules::three_fields))]
-fn three_words(places: u16, word: &[u8], of: &[u8], third: &[u8]) -> Option<ScheduleLine>
-    ensures line { result ≡ three_fields places word.now of.now third.now }
-    ensures within { IfSome result (λ line. IsLineOf places line) }
+fn three_words(
+    is_lock: bool,
+    places: u16,
+    word: &[u8],
+    of: &[u8],
+    third: &[u8],
+) -> Option<ScheduleLine>
+    ensures line { result ≡ three_fields is_lock places word.now of.now third.now }
+    ensures within { IfSome result (λ line. IsLineOf is_lock places line) }
 {
     match word {
-        b"start" => Some(ScheduleLine::Start(place(places, of)?, lone_call(third)?)),
+        b"start" => Some(ScheduleLine::Start(place(places, of)?, lone_call(is_lock, third)?)),
         b"until" => Some(ScheduleLine::Until(place(places, of)?, kind(third)?)),
         _ => None,
     }
 }
 
-/// A line that is four fields: `start P CALL N`.
+/// A line that is four fields: `start P CALL N` or `start P CALL MODE`.
 #[tactic(auto, unfolding(crate::specs::Schedules::four_fields))]
 fn four_words(
+    is_lock: bool,
     places: u16,
     word: &[u8],
     of: &[u8],
     call: &[u8],
-    number: &[u8],
+    field: &[u8],
 ) -> Option<ScheduleLine>
-    ensures line { result ≡ four_fields places word.now of.now call.now number.now }
-    ensures within { IfSome result (λ line. IsLineOf places line) }
+    ensures line { result ≡ four_fields is_lock places word.now of.now call.now field.now }
+    ensures within { IfSome result (λ line. IsLineOf is_lock places line) }
 {
     if word == b"start".as_slice() {
         let me = place(places, of)?;
-        return Some(ScheduleLine::Start(me, counted_call(call, count(number)?)?));
+        return Some(ScheduleLine::Start(me, paired_call(is_lock, call, field)?));
     }
     None
 }
 
-/// The line of a schedule of so many places that these bytes are, behind the first line.
+/// The line that these bytes are behind the first line, of a machine of so many places that is a lock or a semaphore.
 #[tactic(auto, using(crate::proofs::FieldLemmas::some_field), unfolding(crate::specs::Schedules::schedule_line_of))]
-pub fn parse_schedule(places: u16, line: &[u8]) -> Option<ScheduleLine>
-    ensures line { result ≡ schedule_line_of places line.now }
-    ensures within { IfSome result (λ line. IsLineOf places line) }
+pub fn parse_schedule(is_lock: bool, places: u16, line: &[u8]) -> Option<ScheduleLine>
+    ensures line { result ≡ schedule_line_of is_lock places line.now }
+    ensures within { IfSome result (λ line. IsLineOf is_lock places line) }
 {
     if line.len() > 80 {
         return None;
@@ -191,24 +179,36 @@ pub fn parse_schedule(places: u16, line: &[u8]) -> Option<ScheduleLine>
     };
     let (third, rest) = first_field(rest);
     let Some(rest) = rest else {
-        return three_words(places, word, second, third);
+        return three_words(is_lock, places, word, second, third);
     };
     let (fourth, rest) = first_field(rest);
     match rest {
         Some(_) => None,
-        None => four_words(places, word, second, third, fourth),
+        None => four_words(is_lock, places, word, second, third, fourth),
     }
 }
 
-/// A first line that is a word, a number and a number of places.
-#[tactic(auto, unfolding(crate::specs::Schedules::made_of))]
-fn first_words(word: &[u8], withheld: &[u8], of: &[u8]) -> Option<FirstOfSchedule>
-    ensures { result ≡ made_of word.now withheld.now of.now }
+/// The first line `lock PLACES`.
+#[tactic(auto, unfolding(crate::specs::Schedules::lock_made))]
+fn first_lock(word: &[u8], of: &[u8]) -> Option<FirstOfSchedule>
+    ensures { result ≡ lock_made word.now of.now }
+{
+    if word == b"lock".as_slice() {
+        let places = places(of)?;
+        return Some(FirstOfSchedule::Lock { places });
+    }
+    None
+}
+
+/// The first line `semaphore W PLACES`.
+#[tactic(auto, unfolding(crate::specs::Schedules::semaphore_made))]
+fn first_semaphore(word: &[u8], withheld: &[u8], of: &[u8]) -> Option<FirstOfSchedule>
+    ensures { result ≡ semaphore_made word.now withheld.now of.now }
 {
     if word == b"semaphore".as_slice() {
         let withheld = count(withheld)?;
         let places = places(of)?;
-        return Some(FirstOfSchedule { withheld, places });
+        return Some(FirstOfSchedule::Semaphore { withheld, places });
     }
     None
 }
@@ -227,11 +227,11 @@ pub fn parse_first_of_schedule(line: &[u8]) -> Option<FirstOfSchedule>
     };
     let (second, rest) = first_field(rest);
     let Some(rest) = rest else {
-        return None;
+        return first_lock(word, second);
     };
     let (third, rest) = first_field(rest);
     match rest {
         Some(_) => None,
-        None => first_words(word, second, third),
+        None => first_semaphore(word, second, third),
     }
 }

@@ -1,5 +1,7 @@
 //! Schedules of a machine with the exact bytes that each writes, which were written down by hand; and the most steps of a line.
 
+use crate::cancel_rows::CANCEL_ROWS;
+use crate::lock_rows::LOCK_ROWS;
 use crate::run::machine;
 use crate::schedule::end;
 use crate::tests::{Row, with_room};
@@ -8,7 +10,7 @@ use std::alloc::{AllocError, Global};
 use std::test::Fail;
 
 /// Good lines of each kind, each reply, and numbers at their limits.
-const SCHEDULES: [Row; 13] = [
+const SCHEDULES: [Row; 19] = [
     // Two give something back while a third waits: the one who walks grants for both.
     Row {
         input: "semaphore 0 3\nstart 1 try 63\nend 1\nstart 0 reg 10\nend 0\nstart 1 release 5\nuntil 1 publish\nword\nstart 2 release 5\nend 2\nword\nend 1\nword\nstart 0 try_poll\nend 0\n",
@@ -19,6 +21,37 @@ const SCHEDULES: [Row; 13] = [
     Row {
         input: "semaphore 63 3\nstart 0 reg 10\nend 0\nstart 0 poll\ngo 0\nstart 1 release 5\nuntil 1 walk\nword\nuntil 1 publish\nstart 2 release 5\nend 2\nword\ngo 1\nword\nend 1\nword\ngo 0\ngo 0\n",
         output: "going\ndone true\ngoing\nwaits\ngoing\nat walk\n58 1 0 1\nat publish\ngoing\ndone true\n53 1 0 1\ngoing\n53 1 0 1\ndone true\n63 0 0 0\ndone ok\nidle\n",
+        status: 0,
+    },
+    // A cancel between a grant and its answer waits for the answer, gives 10 back, and the 5 of place 1 are granted:
+    // examples/cancel_before_the_answer.schedule.
+    Row {
+        input: "semaphore 0 3\nstart 2 try 63\nend 2\nstart 0 reg 10\nend 0\nstart 1 reg 5\nend 1\nstart 2 release 10\nuntil 2 show\nword\nstart 0 cancel\nend 0\nend 2\nend 0\nword\nstart 1 try_poll\nend 1\n",
+        output: "going\ndone true\ngoing\ndone true\ngoing\ndone true\ngoing\nat show\n63 0 0 2\ngoing\nwaits\ndone true\ndone\n58 0 0 0\ngoing\ndone ok\n",
+        status: 0,
+    },
+    // Poison while somebody waits and somebody gives up: examples/poison_and_cancel.schedule.
+    Row {
+        input: "lock 4\nstart 0 try_lock\nend 0\nstart 1 reg shared\nend 1\nstart 2 reg exclusive\nend 2\nword\nstart 1 cancel\nuntil 1 unlink\nword\nstart 0 poison_lock\nend 0\nend 1\nword\nuntil 0 show\nword\nstart 2 cancel\nend 2\nstart 3 try_share\nend 3\nend 0\nend 2\nstart 0 clear_poison\nend 0\nword\n",
+        output: "going\ndone ok\ngoing\ndone true\ngoing\ndone true\n63 0 0 3\ngoing\nat unlink\n63 1 0 3\ngoing\nwaits\ndone\n63 0 0 3\nat show\n0 0 1 0\ngoing\nwaits\ngoing\ndone poisoned\ndone true\ndone\ngoing\ndone true\n0 0 0 0\n",
+        status: 0,
+    },
+    // Poison, and answers that are not shown yet.
+    Row {
+        input: "lock 3\nstart 0 try_lock\nend 0\nstart 1 reg shared\nend 1\nstart 2 reg wait_exclusive\nend 2\nword\nstart 0 poison_lock\nuntil 0 show\nword\nstart 1 try_poll\nend 1\nstart 2 poll\nend 2\nend 0\nend 2\nstart 0 clear_poison\nend 0\nword\n",
+        output: "going\ndone ok\ngoing\ndone true\ngoing\ndone true\n63 0 0 3\ngoing\nat show\n0 0 1 0\ngoing\ndone not_ready\ngoing\nwaits\ndone true\ndone false\ngoing\ndone true\n0 0 0 0\n",
+        status: 0,
+    },
+    // Poison while a cancel holds the flag.
+    Row {
+        input: "lock 3\nstart 0 try_lock\nend 0\nstart 1 reg shared\nend 1\nstart 1 cancel\nuntil 1 tail\nword\nstart 0 poison_lock\nend 0\nend 1\nword\nend 0\nword\n",
+        output: "going\ndone ok\ngoing\ndone true\ngoing\nat tail\n63 1 0 2\ngoing\nwaits\ndone\n63 0 0 0\ndone true\n0 0 1 0\n",
+        status: 0,
+    },
+    // A place stops with the flag set, and a cancel waits for it.
+    Row {
+        input: "semaphore 0 3\nstart 1 try 63\nend 1\nstart 0 reg 10\nend 0\nstart 1 release 5\nuntil 1 publish\nstart 2 try 1\nend 2\nstart 2 reg 1\nend 2\nword\nstart 2 cancel\nend 2\nend 1\nword\nend 2\nword\n",
+        output: "going\ndone true\ngoing\ndone true\ngoing\nat publish\ngoing\ndone false\ngoing\ndone true\n58 1 0 3\ngoing\nwaits\ndone true\n58 0 0 3\ndone\n58 0 0 1\n",
         status: 0,
     },
     // A release step by step: of each kind the first, and how many there are.
@@ -74,6 +107,11 @@ const SCHEDULES: [Row; 13] = [
         output: "",
         status: 0,
     },
+    Row {
+        input: "lock 3",
+        output: "",
+        status: 0,
+    },
     // A last line that no newline ends: good, and bad.
     Row {
         input: "semaphore 0 1\ngo 0\nword",
@@ -87,13 +125,24 @@ const SCHEDULES: [Row; 13] = [
     },
 ];
 
-/// First lines that are bad. A lock isn't one that a machine can be yet.
-const BAD_FIRST: [&str; 28] = [
+/// First lines that are bad.
+const BAD_FIRST: [&str; 39] = [
     "",
     "\n",
-    "lock 3\n",
-    "lock 3",
+    "lock\n",
+    "lock \n",
+    "lock 0\n",
+    "lock 101\n",
+    "lock 999999\n",
+    "lock 1000000\n",
+    "lock 01\n",
+    "lock a\n",
+    "lock 1 1\n",
     "lock 0 3\n",
+    "lock  1\n",
+    " lock 1\n",
+    "lock 1\r\n",
+    "Lock 1\n",
     "gate 3\n",
     "barrier 3 3\n",
     "semaphore\n",
@@ -119,8 +168,8 @@ const BAD_FIRST: [&str; 28] = [
     "start 0 try 1\n",
 ];
 
-/// Lines that are bad behind a first line with two places.
-const BAD_LINES: [&str; 63] = [
+/// Lines that are bad behind a semaphore's first line with two places.
+const BAD_LINES: [&str; 79] = [
     "",
     "words",
     "Word",
@@ -152,30 +201,45 @@ const BAD_LINES: [&str; 63] = [
     "until 2 ask",
     "until 0 asks",
     "until 0 Ask",
-    "until 0 flag",
-    "until 0 unlink",
-    "until 0 tail",
-    "until 0 poison",
-    "until 0 clear",
+    "until 0 flags",
+    "until 0 unlinked",
+    "until 0 Tail",
+    "until 0 poisoned",
+    "until 0 cancel",
     "until 0 ask 1",
     "until ask 0",
     "start",
     "start 0",
-    "start 0 cancel",
+    "start 0 Cancel",
+    "start 0 cancels",
     "start 0 cancel 1",
+    "start 2 cancel",
+    "cancel 0",
     "start 0 try",
     "start 0 try x",
     "start 0 try 01",
     "start 0 try 1000000",
     "start 0 try 1 1",
     "start 0 reg",
+    "start 0 reg exclusive",
     "start 0 reg shared",
+    "start 0 reg wait_exclusive",
+    "start 0 reg wait_shared",
     "start 0 release",
     "start 0 poll 1",
     "start 0 try_poll 1",
     "start 0 available 1",
     "start 0 try_lock",
+    "start 0 try_share",
+    "start 0 release_lock",
+    "start 0 release_share",
+    "start 0 poison_lock",
+    "start 0 clear_poison",
     "start 0 is_free",
+    "start 0 is_locked",
+    "start 0 is_shared",
+    "start 0 is_poisoned",
+    "start 0 is_open",
     "start 0 word",
     "start 2 poll",
     "start 2 try 1",
@@ -184,6 +248,51 @@ const BAD_LINES: [&str; 63] = [
     "available",
     "poll 0",
     "semaphore 0 2",
+    "lock 2",
+];
+
+/// Lines that are bad behind a lock's first line with two places.
+const BAD_AT_A_LOCK: [&str; 40] = [
+    "start 0 try 1",
+    "start 0 reg 1",
+    "start 0 reg 0",
+    "start 0 release 1",
+    "start 0 release 0",
+    "start 0 available",
+    "start 0 try",
+    "start 0 reg",
+    "start 0 release",
+    "start 0 reg ",
+    "start 0 reg exclusives",
+    "start 0 reg exclusiv",
+    "start 0 reg Exclusive",
+    "start 0 reg share",
+    "start 0 reg wait",
+    "start 0 reg waitshared",
+    "start 0 reg wait-shared",
+    "start 0 reg wait_share",
+    "start 0 reg wait_exclusive_",
+    "start 0 reg  shared",
+    "start 0 reg shared ",
+    "start 0 reg shared 1",
+    "start 0 reg shared async",
+    "start 0 reg sync",
+    "start 0 shared",
+    "start 0 exclusive",
+    "start 0 try_lock 1",
+    "start 0 try_lock exclusive",
+    "start 0 try_locks",
+    "start 0 trylock",
+    "start 0 lock",
+    "start 0 is_open",
+    "start 0 cancel 1",
+    "start 0 poll shared",
+    "start 2 try_lock",
+    "start 2 reg shared",
+    "start 2 cancel",
+    "try_lock",
+    "reg 0 shared",
+    "lock 2",
 ];
 
 // Runs a schedule over memory.
@@ -196,7 +305,7 @@ fn played(alloc: Global, input: &str) -> (Vec<u8>, u8) {
 
 #[test]
 fn schedules(rt: HostRuntime) {
-    for row in &SCHEDULES {
+    for row in SCHEDULES.iter().chain(&CANCEL_ROWS).chain(&LOCK_ROWS) {
         let (output, status) = played(rt.alloc(), row.input);
         assert_eq!(rt;
             output.as_slice(),
@@ -221,26 +330,39 @@ fn bad_first_lines(rt: HostRuntime) {
     }
 }
 
+// What is written where a line stands behind two good ones, the second of which starts a call, and in front of a third; and the
+// status.
+fn behind(alloc: Global, front: &str, line: &str) -> Result<(Vec<u8>, u8), AllocError> {
+    let mut input = Vec::new(alloc);
+    input.extend_from_slice(front.as_bytes())?;
+    input.extend_from_slice(line.as_bytes())?;
+    input.extend_from_slice(b"\nword\n")?;
+    let mut reader = input.as_slice();
+    let mut writer = Vec::new(alloc);
+    let status = machine(alloc, &mut reader, &mut writer);
+    Ok((writer, status))
+}
+
 /// Each bad line ends the run: the good line in front of it is answered, and the one behind it isn't carried out.
 #[test]
 fn bad_lines(rt: HostRuntime) -> Result<(), Fail> {
     for line in BAD_LINES {
-        let mut input = Vec::new(rt.alloc());
-        input.extend_from_slice(b"semaphore 0 2\nstart 0 try 1\n")?;
-        input.extend_from_slice(line.as_bytes())?;
-        input.extend_from_slice(b"\nword\n")?;
-        let mut reader = input.as_slice();
-        let mut writer = Vec::new(rt.alloc());
+        let (output, status) = behind(rt.alloc(), "semaphore 0 2\nstart 0 try 1\n", line)?;
         assert_eq!(rt;
-            machine(rt.alloc(), &mut reader, &mut writer),
-            2,
-            "of {line:?}"
-        );
-        assert_eq!(rt;
-            writer.as_slice(),
+            output.as_slice(),
             b"going\nbad line 3\n".as_slice(),
             "of {line:?}"
         );
+        assert_eq!(rt; status, 2, "of {line:?}");
+    }
+    for line in BAD_AT_A_LOCK {
+        let (output, status) = behind(rt.alloc(), "lock 2\nstart 0 try_lock\n", line)?;
+        assert_eq!(rt;
+            output.as_slice(),
+            b"going\nbad line 3\n".as_slice(),
+            "of {line:?}"
+        );
+        assert_eq!(rt; status, 2, "of {line:?}");
     }
     Ok(())
 }
@@ -278,14 +400,15 @@ fn a_write_fails(rt: HostRuntime) {
 fn about_to_walk(alloc: Global, waiting: u16) -> Result<Machine, AllocError> {
     let mut machine = Machine::semaphore(alloc, 63, waiting.saturating_add(1))?;
     for place in 0..waiting {
-        if place < machine.places() {
-            let asks = usize::from(place == 0);
-            let _started = machine.go(Move::Start(place, WordCall::Register(asks)));
+        let asks = WordCall::Register(usize::from(place == 0));
+        if place < machine.places() && machine.takes(asks) {
+            let _started = machine.go(Move::Start(place, asks));
             let _waits = end(&mut machine, place);
         }
     }
-    if waiting < machine.places() {
-        let _started = machine.go(Move::Start(waiting, WordCall::Release(1)));
+    let gives = WordCall::Release(1);
+    if waiting < machine.places() && machine.takes(gives) {
+        let _started = machine.go(Move::Start(waiting, gives));
     }
     Ok(machine)
 }

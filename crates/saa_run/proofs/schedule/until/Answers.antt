@@ -1,7 +1,6 @@
 use Rattle.std.proofs.Common.{◌≡◌, ◌<◌, ◌+◌, ◌-◌, ap, sym, ◌∙◌, arith}
-use Rattle.saa_run.specs.declared.reply.Said.TheVariants.{Step as Did}
 use Rattle.saa_run.specs.Scheduled.{Spoken, most_steps, until_at}
-use Rattle.saa_run.proofs.ScheduleLemmas.{until-going, until-out, until-stops, until-there}
+use Rattle.saa_run.proofs.ScheduleLemmas.{step-said, until-going, until-out, until-stops, until-there}
 use Rattle.saa_run.proofs.schedule.until.Goals as goal
 
 pub returns-then-is_at-clause-said : goal.returns-then-is_at-clause-said
@@ -15,7 +14,7 @@ returns-then-is_at-clause-machine c =
 pub returns-then-not-goes_on-clause-said : goal.returns-then-not-goes_on-clause-said
 returns-then-not-goes_on-clause-said c =
     let some : 0 < most_steps - c.loop-step._step = omega arith in
-    ap Did c.go-step.ensures.step
+    step-said c.loop-step.machine c.go-step.new.self c.args.place c.go-step.result c.go-step.ensures.step c.go-step.ensures.machine c.did.result c.did.ensures
     ∙ ap (λ (s : Spoken). s.said) (sym (until-stops c.loop-step.machine c.go-step.new.self c.args.place c.go-step.result c.go-step.ensures.step c.go-step.ensures.machine c.args.kind (cc) (most_steps - c.loop-step._step) (cc) some) ∙ c.loop-step.invariant.same)
 
 pub returns-then-not-goes_on-clause-machine : goal.returns-then-not-goes_on-clause-machine
@@ -46,7 +45,7 @@ returns-then-is_at-2-clause-machine c =
 pub returns-clause-said : goal.returns-clause-said
 returns-clause-said c =
     let none : most_steps - c.loop-step._step ≡ 0 = omega arith in
-    ap (λ (s : Spoken). s.said) (sym (until-out (most_steps - c.loop-step._step) c.loop-step.machine c.args.place c.args.kind none (cc)) ∙ c.loop-step.invariant.same)
+    c.did-2.ensures ∙ ap (λ (s : Spoken). s.said) (sym (until-out (most_steps - c.loop-step._step) c.loop-step.machine c.args.place c.args.kind none (cc)) ∙ c.loop-step.invariant.same)
 
 pub returns-clause-machine : goal.returns-clause-machine
 returns-clause-machine c =
