@@ -212,23 +212,28 @@ fn act_often<'s, R: Wait + Drop>(
     }
 }
 
-// A try with its release, at a core whose line is held by links beside one whose line is a list.
+// A try, and the release of what the turn before took, at a core whose line is held by links beside one whose line is a list.
 fn uncontended<R: Runtime>(rt: &R, alloc: Global) -> io::Result<()> {
     let mut linked = SemaphoreCore::new(alloc, SHORTEST)?;
     let mut listed = ListedSemaphore::new(alloc, SHORTEST)?;
+    let (mut linked_out, mut listed_out) = (0, 0);
     let mut linked_times = Vec::with_capacity(alloc, PASSES)?;
     let mut listed_times = Vec::with_capacity(alloc, PASSES)?;
     for _ in 0..PASSES {
         let start = Instant::now(rt)?;
         for turn in 0..TRIES {
             let count = count_of(turn);
-            let _taken = linked.try_acquire_many(count) && linked.release_many(count);
+            let is_taken = linked.try_acquire_many(count);
+            let _given = linked.release_many(linked_out);
+            linked_out = if is_taken { count } else { 0 };
         }
         linked_times.push(nanos_since(rt, start)?)?;
         let start = Instant::now(rt)?;
         for turn in 0..TRIES {
             let count = count_of(turn);
-            let _taken = listed.try_acquire_many(count) && listed.release_many(count);
+            let is_taken = listed.try_acquire_many(count);
+            let _given = listed.release_many(listed_out);
+            listed_out = if is_taken { count } else { 0 };
         }
         listed_times.push(nanos_since(rt, start)?)?;
     }
@@ -237,7 +242,9 @@ fn uncontended<R: Runtime>(rt: &R, alloc: Global) -> io::Result<()> {
         threads: 1,
         times: TRIES,
     };
-    print_row(rt, case, &mut linked_times, &mut listed_times)
+    print_row(rt, case, &mut linked_times, &mut listed_times)?;
+    // What is said of the last turn keeps the turns from being worked out before they are made, or left out.
+    println!(rt; "of which the last turn took {linked_out} and {listed_out}")
 }
 
 // A task that waits alone, is granted and takes its answer, at the same two cores.
@@ -273,9 +280,9 @@ fn one_waits<R: Runtime>(rt: &R, alloc: Global) -> io::Result<()> {
     print_row(rt, case, &mut linked_times, &mut listed_times)
 }
 
-// How many permits a turn asks for: not always as many, so that a call isn't worked out before it is made.
+// How many permits a turn asks for: not always as many, so that a call isn't worked out before it is made, and few enough for two turns.
 fn count_of(turn: u64) -> usize {
-    (turn % 64) as usize
+    (turn % 32) as usize
 }
 
 // How long it is since then, in nanoseconds.

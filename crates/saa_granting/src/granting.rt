@@ -304,8 +304,22 @@ fn is_for_nothing(request: Request) -> bool
     matches!(request, Request::Permits(0))
 }
 
-// Grants the oldest waiters while they fit.
+// Grants the oldest waiters while they fit. The look at the line is all that most calls need of it, so it stands apart from the loop.
 fn settle<N: Needs>(needs: &mut N, line: &mut LineOf<N::Order>)
+    requires { IsSound line.old }
+    ensures settled { record { held = N.held needs.new; slots = line.new }
+        ≡ core_settled (record { held = N.held needs.old; slots = line.old }) }
+    ensures sound { IsSound line.new }
+{
+    if line.waiting() == 0 {
+        return;
+    }
+    grant_fitting(needs, line);
+}
+
+// The same, of a line in which somebody waits.
+#[inline(never)]
+fn grant_fitting<N: Needs>(needs: &mut N, line: &mut LineOf<N::Order>)
     requires { IsSound line.old }
     ensures settled { record { held = N.held needs.new; slots = line.new }
         ≡ core_settled (record { held = N.held needs.old; slots = line.old }) }

@@ -1,16 +1,17 @@
-use Rattle.std.proofs.Common.{◌≡◌, None, ◌∙◌, sym}
-use Rattle.saa_granting.specs.CoreParts.{oldest_fitting}
-use Rattle.saa_granting.proofs.SettlingSteps.{settle-grant, settled-none, settle-stop}
+use Rattle.std.proofs.Common.{◌≡◌, ℕ, ◌∙◌, List, [], ◌∷◌, length, refl, sym, arith}
+use Rattle.saa_object.specs.Object.{Waiter}
+use Rattle.saa_object.specs.Held.{Held}
+use Rattle.saa_object.specs.Settling.{fitting_front}
+use Rattle.saa_granting.proofs.SettlingSteps.{settled-none}
 use Rattle.saa_granting.proofs.granting.settle.Goals as goal
 
-pub loop-request-preserved : goal.loop-request-preserved
-loop-request-preserved g c = record {
-  same = rw (c.grant_front.ensures.granted, c.take.ensures) (settle-grant (g.N.Needs.held c.loop-request.needs) c.loop-request.line c.in-Some.request (sym c.in-Some.ensures) ∙ c.loop-request.invariant.same);
-  sound = c.grant_front.ensures.sound;
-}
+-- nobody is granted where nobody waits
+nobody-fits : (held : Held) (line : List Waiter) → length line ≡ 0 → fitting_front held line ≡ 0
+nobody-fits held [] none = refl
+nobody-fits held (waiter ∷ line) none = absurd (omega (arith, none))
 
-pub returns-clause-settled : goal.returns-clause-settled
-returns-clause-settled g c =
-    let none : oldest_fitting (g.N.Needs.held c.loop-request.needs) c.loop-request.line.line ≡ None = cc in
-    sym (settled-none (record { held = g.N.Needs.held c.loop-request.needs; slots = c.loop-request.line }) (settle-stop (g.N.Needs.held c.loop-request.needs) c.loop-request.line.line none))
-    ∙ c.loop-request.invariant.same
+pub returns-then-waiting-eq0-clause-settled : goal.returns-then-waiting-eq0-clause-settled
+returns-then-waiting-eq0-clause-settled g c =
+    let none : length c.args.line.now.line ≡ 0 = omega (arith, c.waiting.ensures, c.if-waiting-eq0.true) in
+    sym (settled-none (record { held = g.N.Needs.held c.args.needs.now; slots = c.args.line.now })
+    (nobody-fits (g.N.Needs.held c.args.needs.now) c.args.line.now.line none))

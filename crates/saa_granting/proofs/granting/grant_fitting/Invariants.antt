@@ -1,7 +1,7 @@
 use Rattle.std.proofs.Common.{◌≡◌, length}
 use Rattle.saa_line.specs.Slots.{IsSound}
 use Rattle.saa_granting.specs.CoreParts.{core_settled}
-use Rattle.saa_granting.proofs.granting.settle.Given as goal
+use Rattle.saa_granting.proofs.granting.grant_fitting.Given as goal
 
 -- settling what is now settles what was
 abbrev pub invariant-loop-request : goal.invariant-loop-request
