@@ -1,3 +1,4 @@
+pub mod Standing
 pub use Rattle.saa_object.specs.Held
 pub use Rattle.saa_object.specs.Object
 pub use Rattle.saa_object.specs.Values

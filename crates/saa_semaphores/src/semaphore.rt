@@ -350,8 +350,8 @@ impl<const MAX: usize> Needs for PermitsOut<MAX> {
 impl<const MAX: usize> Primitive for SemaphoreCoreOf<MAX> {
     ghost use Rattle.saa_object.specs.declared.request.Request.TheVariants.{Permits};
     ghost use Rattle.saa_object.specs.Semaphore.{semaphore_step};
-    ghost use Rattle.saa_object.specs.Settling.{IsSettled};
     ghost use Rattle.saa_object.specs.Values.{semaphore_value};
+    ghost use Rattle.saa_semaphores.specs.Standing.{SemaphoreStands};
 
     type Call = SemaphoreCall;
 
@@ -369,10 +369,10 @@ impl<const MAX: usize> Primitive for SemaphoreCoreOf<MAX> {
 
     ghost value = { semaphore_value };
 
-    ghost stands = { IsSettled };
+    ghost stands = { SemaphoreStands MAX };
 
     fn stands(&self) {
-        let _settled = self.core.waiting();
+        let _permits = self.core.needs();
     }
 
     fn call(&mut self, call: SemaphoreCall) -> SemaphoreAnswer {

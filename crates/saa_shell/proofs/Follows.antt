@@ -1,13 +1,16 @@
--- How a call that may wait begins, as one step of the object.
-use Rattle.std.proofs.Common.{◌≡◌, ℕ, Result, Ok, Err, IsErr, Bool, true, refl, ap, subst}
+-- How a call that may wait begins, as one step of the object, and what a registration at a core that stands answers.
+use Rattle.std.proofs.Common.{◌≡◌, ℕ, Result, Ok, Err, IfOk, IsErr, List, [], ◌∷◌, Bool, true, refl, ap, subst}
 use Rattle.saa_object.specs.declared.request.Request.{Request}
 use Rattle.saa_object.specs.declared.request.Full.{Full}
 use Rattle.saa_object.specs.declared.polling.Error.{Error}
 use Rattle.saa_object.specs.declared.polling.How.TheVariants.{Sync}
 use Rattle.saa_tickets.specs.declared.ticket.Registration.{Registration}
+use Rattle.saa_object.specs.Object.{Object}
 use Rattle.saa_object.specs.Asking.{registered}
 use Rattle.saa_object.specs.Polling.{polled, read_as}
-use Rattle.saa_tickets.specs.Tickets.{Core, Acts}
+use Rattle.saa_tickets.specs.declared.ticket.Registration.TheVariants.{Unregistered}
+use Rattle.saa_tickets.specs.Tickets.{Core, Acts, IsNeverTooMuch, object_of}
+use Rattle.saa_tickets.proofs.Modes.{registered-or-full}
 use Rattle.saa_tickets.proofs.Follows.{follow, then}
 use Rattle.saa_shell.specs.declared.shell.Begun.{Begun}
 use Rattle.saa_shell.specs.Waits.{begun, begun_from, begun_poll, registration_of}
@@ -30,3 +33,10 @@ begun-polled old mid new t0 t1 t2 request is_registered answer is_true call late
 pub full-stays : (begun : Result Begun Full) (full : Full) → IsErr begun → registration_of begun ≡ Err full
 full-stays (Ok begun) full is = cc
 full-stays (Err other) full is = refl
+
+-- an idle ticket that asks for no more than such a core ever has is registered there, or finds the room full
+pub registered-where-it-stands : (stands : Object → Type 0) (old new : Core) (ticket : Registration) (request : Request) (is_sync : Bool) (reply : Result Bool Full)
+    → ((tickets : List Registration) → stands (object_of old tickets)) → IsNeverTooMuch stands request
+    → Acts old new Unregistered ticket (λ s name. registered s name request is_sync) reply → IfOk reply (λ is_registered. is_registered ≡ true)
+registered-where-it-stands stands old new ticket request is_sync reply stood never call =
+    registered-or-full old new ticket request is_sync reply (never (object_of old (Unregistered ∷ [])) (stood (Unregistered ∷ []))) call

@@ -2,7 +2,6 @@
 use Rattle.std.specs.Prelude.{ℕ, Bool, true, false, Option, Some, None, Result, Ok, Err}
 use Rattle.saa_object.specs.declared.request.Request.{Request}
 use Rattle.saa_object.specs.declared.polling.Error.{Error}
-use Rattle.saa_object.specs.declared.polling.Error.TheVariants.{NotRegistered, WrongMode, NotReady}
 use Rattle.saa_object.specs.declared.request.Full.{Full}
 use Rattle.saa_object.specs.declared.polling.How.TheVariants.{Sync}
 use Rattle.saa_object.specs.Asking.{registered}
@@ -48,10 +47,3 @@ begun s name request = begun_from name (registered s name request true)
 abbrev pub slot_woken : Option Wake → Option ℕ
 slot_woken None = None
 slot_woken (Some wake) = Some wake.slot
-
--- whether a poll's error says that the answer isn't there yet
-abbrev pub is_not_ready : Option Error → Bool
-is_not_ready None = false
-is_not_ready (Some NotRegistered) = false
-is_not_ready (Some WrongMode) = false
-is_not_ready (Some NotReady) = true

@@ -7,8 +7,7 @@ ghost use Rattle.std.specs.Prelude.{◌≡◌, ℕ, false, Option, Some, None};
 ghost use Rattle.saa_object.specs.declared.polling.Error.{Error};
 ghost use Rattle.saa_object.specs.declared.polling.How.TheVariants.{Try, Sync, Async};
 ghost use Rattle.saa_tickets.specs.declared.ticket.Registration.TheVariants.{Unregistered};
-ghost use Rattle.saa_tickets.specs.Tickets.{Polled, is_busy};
-ghost use Rattle.saa_shell.specs.Waits.{is_not_ready};
+ghost use Rattle.saa_tickets.specs.Tickets.{Polled, is_busy, is_not_ready};
 ghost use Rattle.futures.specs.Task.{Hears, IsArmed, Keeps};
 ghost use Rattle.futures.specs.Poll.{IfReady, OnPending};
 

@@ -7,16 +7,16 @@
 //! What nobody waits in is inlined, and the waiting and waking isn't: each register that a call saves in memory before it
 //! takes the lock is waited for there, which cost a lock some 10 ns.
 
-ghost use Rattle.std.specs.Prelude.{◌≡◌, ◌||◌, ◌&&◌, not, true, false, Some, IfErr, IsOk, slice_get};
+ghost use Rattle.std.specs.Prelude.{◌≡◌, ◌||◌, ◌&&◌, not, true, false, Some, IfErr, IfOk, IsOk, slice_get};
 ghost use Rattle.saa_object.specs.declared.polling.Error.TheVariants.{NotRegistered};
 ghost use Rattle.saa_object.specs.declared.polling.How.TheVariants.{Sync, Async};
 ghost use Rattle.saa_tickets.specs.declared.ticket.Registration.TheVariants.{Unregistered};
 ghost use Rattle.saa_object.specs.Asking.{registered};
 ghost use Rattle.saa_object.specs.Polling.{polled};
-ghost use Rattle.saa_tickets.specs.Tickets.{Acts, Polled, dropping, fault_of, is_busy, is_yes};
+ghost use Rattle.saa_tickets.specs.Tickets.{Acts, Polled, dropping, fault_of, is_busy, is_not_ready, is_yes, IsNeverTooMuch};
 ghost use Rattle.saa_line.specs.Slots.{OwesAnswered, wake_told};
 ghost use Rattle.saa_tickets.specs.Beginning.{BeginOwes, alone, mode_of};
-ghost use Rattle.saa_shell.specs.Waits.{begun, has_joined, is_not_ready, registration_of, slot_woken};
+ghost use Rattle.saa_shell.specs.Waits.{begun, has_joined, registration_of, slot_woken};
 ghost use Rattle.futures.specs.Task.{Hears, IsArmed, Keeps};
 ghost use Rattle.futures.specs.Poll.{IfReady, OnPending};
 
@@ -104,6 +104,26 @@ impl<P: Primitive> Inside<P> {
         ensures wakes { OwesAnswered (P.core self.old.core).slots (P.core self.new.core).slots }
     {
         self.core.register(ticket, ask, is_sync)
+    }
+
+    // Registers a pager's ticket. An idle one that asks for no more than there ever is is registered, or finds the room
+    // full.
+    fn register_pager(
+        &mut self,
+        ticket: &mut Ticket,
+        ask: P::Ask,
+        is_sync: bool,
+    ) -> Result<bool, Full>
+        ensures acts { Acts (P.core self.old.core) (P.core self.new.core) ticket.old ticket.new
+            (λ s name. registered s name (P.request ask) is_sync) result }
+        ensures ticket { is_busy ticket.new ≡ (is_busy ticket.old || is_yes result) }
+        ensures mode { ticket.old ≡ Unregistered → is_yes result ≡ true → mode_of ticket.new ≡ Some is_sync }
+        ensures sure { ticket.old ≡ Unregistered → IsNeverTooMuch P.stands (P.request ask)
+            → IfOk result (λ is_registered. is_registered ≡ true) }
+        ensures wakes { OwesAnswered (P.core self.old.core).slots (P.core self.new.core).slots }
+    {
+        self.core.stands();
+        self.register(ticket, ask, is_sync)
     }
 
     // Registers an idle ticket as sync, and consumes the answer if that is there at once.
@@ -291,13 +311,16 @@ impl<R: Wait + Drop, P: Primitive> Shell<R, P> {
         }
     }
 
-    /// Registers a ticket, and wakes whom that answered.
+    /// Registers a ticket, and wakes whom that answered. An idle one that asks for no more than there ever is is
+    /// registered, or the room is full.
     pub fn register(&self, ticket: &mut Ticket, ask: P::Ask, is_sync: bool) -> Result<bool, Full>
         ensures ticket { is_busy ticket.new ≡ (is_busy ticket.old || is_yes result) }
         ensures mode { ticket.old ≡ Unregistered → is_yes result ≡ true → mode_of ticket.new ≡ Some is_sync }
+        ensures sure { ticket.old ≡ Unregistered → IsNeverTooMuch P.stands (P.request ask)
+            → IfOk result (λ is_registered. is_registered ≡ true) }
     {
         let mut inside = self.lock();
-        let answer = inside.register(ticket, ask, is_sync);
+        let answer = inside.register_pager(ticket, ask, is_sync);
         self.take_seat(ticket);
         self.leave(inside);
         answer

@@ -4,7 +4,7 @@
 //! the end of this file, and an arrival is the shell's registration; both are held to `specs/Barrier.antt` and
 //! `specs/Asking.antt` of `saa_object` through the core's calls.
 
-ghost use Rattle.std.specs.Prelude.{◌≡◌, ◌-◌, ◌≤◌, ◌||◌, ◌==◌, true, false, length, IsOk, Ok, Some};
+ghost use Rattle.std.specs.Prelude.{◌≡◌, ◌-◌, ◌≤◌, ◌||◌, ◌==◌, true, false, length, IfOk, IsOk, Ok, Some};
 ghost use Rattle.saa_object.specs.Barrier.{size_of};
 ghost use Rattle.saa_object.specs.Held.{max_tasks};
 ghost use Rattle.saa_object.specs.declared.request.Request.TheVariants.{Arrive as AskArrive};
@@ -139,6 +139,7 @@ impl<R: Wait + Drop> Barrier<R> {
         ensures busy { is_busy pager.old ≡ true → result ≡ Ok false }
         ensures unchanged { is_yes result ≡ false → pager.new ≡ pager.old }
         ensures mode { is_yes result ≡ true → mode_of pager.new ≡ Some is_sync }
+        ensures idle { is_busy pager.old ≡ false → IfOk result (λ is_registered. is_registered ≡ true) }
     {
         if pager.is_registered() {
             return Ok(false);

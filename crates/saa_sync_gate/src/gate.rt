@@ -184,6 +184,7 @@ impl<R: Wait + Drop> Gate<R> {
         ensures busy { is_busy pager.old ≡ true → result ≡ Ok false }
         ensures unchanged { is_yes result ≡ false → pager.new ≡ pager.old }
         ensures mode { is_yes result ≡ true → mode_of pager.new ≡ Some is_sync }
+        ensures idle { is_busy pager.old ≡ false → IfOk result (λ is_registered. is_registered ≡ true) }
     {
         if pager.is_registered() {
             return Ok(false);

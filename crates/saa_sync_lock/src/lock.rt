@@ -3,7 +3,7 @@
 //! Each call is one lock round the core, one step of it, and the wakes that it owes. The steps stand at the end of this
 //! file as functions that are lent the core, and are held to `specs/Lock.antt` of `saa_object` through its calls.
 
-ghost use Rattle.std.specs.Prelude.{◌≡◌, ◌⊎◌, ◌||◌, ◌==◌, true, false, IsOk, Ok, Some};
+ghost use Rattle.std.specs.Prelude.{◌≡◌, ◌⊎◌, ◌||◌, ◌==◌, true, false, IfOk, IsOk, Ok, Some};
 ghost use Rattle.std.specs.Bool.{OnFalse};
 ghost use Rattle.saa_object.specs.declared.request.Request.TheVariants.{Exclusive as AskExclusive, Shared as AskShared};
 ghost use Rattle.saa_object.specs.Polling.{given_back};
@@ -238,6 +238,7 @@ impl<R: Wait + Drop> Lock<R> {
         ensures busy { is_busy pager.old ≡ true → result ≡ Ok false }
         ensures unchanged { is_yes result ≡ false → pager.new ≡ pager.old }
         ensures mode { is_yes result ≡ true → mode_of pager.new ≡ Some is_sync }
+        ensures idle { is_busy pager.old ≡ false → IfOk result (λ is_registered. is_registered ≡ true) }
     {
         if pager.is_registered() {
             return Ok(false);

@@ -255,6 +255,7 @@ impl<R: Wait + Drop> Semaphore<R> {
         ensures too_many { 63 < count → result ≡ Ok false }
         ensures unchanged { is_yes result ≡ false → pager.new ≡ pager.old }
         ensures mode { is_yes result ≡ true → mode_of pager.new ≡ Some is_sync }
+        ensures idle { is_busy pager.old ≡ false → count ≤ 63 → IfOk result (λ is_registered. is_registered ≡ true) }
     {
         if pager.is_registered() || is_too_many(count) {
             return Ok(false);

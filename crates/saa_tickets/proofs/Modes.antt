@@ -1,5 +1,5 @@
 -- What a registration says of its ticket, read off what it does to the object of the core with that ticket alone.
-use Rattle.std.proofs.Common.{◌≡◌, ℕ, ◌||◌, ◌==◌, not, List, [], ◌∷◌, Option, Some, None, Result, Ok, Err, Bool, true, false, slice_set, refl, sym, ap, subst, ◌∙◌, arith}
+use Rattle.std.proofs.Common.{◌≡◌, ℕ, ◌||◌, ◌==◌, not, List, [], ◌∷◌, Option, Some, None, Result, Ok, Err, IfOk, Bool, true, false, slice_set, refl, sym, ap, subst, ◌∙◌, arith}
 use Rattle.saa_object.specs.declared.request.Request.{Request}
 use Rattle.saa_object.specs.declared.request.Full.{Full}
 use Rattle.saa_tickets.specs.declared.ticket.Registration.{Registration}
@@ -56,6 +56,23 @@ pub reply-alone : {A : Type 0} (old new : Core) (ticket : Registration) (step : 
     → Acts old new Unregistered ticket step reply → reply ≡ (step (alone old) 0).reply
 reply-alone old new ticket step reply call =
     sym (ap (λ a. a.reply) (call.acts (Unregistered ∷ []) 0 refl (idle-belongs old.slots)).0)
+
+-- who isn't refused is registered, or finds the room full
+never-false : (s : Object) (request : Request) (is_sync : Bool) (answer : Option (After ℕ)) (is_full : Bool)
+    → IfOk (registered_of s 0 request is_sync false answer is_full).reply (λ is_registered. is_registered ≡ true)
+never-false s request is_sync (Some after) is_full = refl
+never-false s request is_sync None true = tt
+never-false s request is_sync None false = refl
+
+-- an idle ticket that asks for no more than there ever is is registered, or finds the room full
+pub registered-or-full : (old new : Core) (ticket : Registration) (request : Request) (is_sync : Bool) (reply : Result Bool Full) → asks_too_much old.held request ≡ false
+    → Acts old new Unregistered ticket (λ s name. registered s name request is_sync) reply → IfOk reply (λ is_registered. is_registered ≡ true)
+registered-or-full old new ticket request is_sync reply small call =
+    let same : reply ≡ (registered_of (alone old) 0 request is_sync false (answer_at_once (alone old) request) (used (alone old) == (alone old).room)).reply =
+    reply-alone old new ticket (λ s name. registered s name request is_sync) reply call
+    ∙ ap (λ b. (registered_of (alone old) 0 request is_sync b (answer_at_once (alone old) request) (used (alone old) == (alone old).room)).reply) small in
+    subst (λ r. IfOk r (λ is_registered. is_registered ≡ true)) (sym same)
+    (never-false (alone old) request is_sync (answer_at_once (alone old) request) (used (alone old) == (alone old).room))
 
 yes-mode : (old new : Core) (ticket : Registration) (request : Request) (is_sync : Bool)
     → Acts old new Unregistered ticket (λ s name. registered s name request is_sync) (Ok true) → mode_of ticket ≡ Some is_sync

@@ -8,7 +8,7 @@ use Rattle.saa_object.specs.declared.request.Full.{Full}
 use Rattle.saa_object.specs.declared.polling.Error.{Error}
 use Rattle.saa_object.specs.declared.polling.Error.TheVariants.{NotRegistered, WrongMode, NotReady}
 use Rattle.saa_object.specs.declared.polling.How.{How}
-use Rattle.saa_object.specs.Held.{Held}
+use Rattle.saa_object.specs.Held.{Held, asks_too_much}
 use Rattle.saa_object.specs.Object.{Object, After, Entry, Idle, Waiting, Answered, Waiter, one_if}
 use Rattle.saa_object.specs.Settling.{fitting_front}
 use Rattle.saa_object.specs.Polling.{dropped, is_right_mode}
@@ -116,6 +116,10 @@ abbrev pub fault_of : {V : Type 0} → Result V Error → Option Error
 fault_of (Ok value) = None
 fault_of (Err error) = Some error
 
+-- a request that no object which stands so refuses: it asks for no more than there ever is
+abbrev pub IsNeverTooMuch : (Object → Type 0) → Request → Type 0
+IsNeverTooMuch stands request = (s : Object) → stands s → asks_too_much s.held request ≡ false
+
 -- whether a registration was answered true
 abbrev pub is_yes : Result Bool Full → Bool
 is_yes (Ok is_registered) = is_registered
@@ -141,16 +145,39 @@ is_refusal (Some NotRegistered) = true
 is_refusal (Some WrongMode) = true
 is_refusal (Some NotReady) = false
 
+-- whether a poll's error says that the ticket isn't registered there
+abbrev pub says_not_registered : Option Error → Bool
+says_not_registered None = false
+says_not_registered (Some NotRegistered) = true
+says_not_registered (Some WrongMode) = false
+says_not_registered (Some NotReady) = false
+
+-- whether a poll's error says that the answer isn't there yet
+abbrev pub is_not_ready : Option Error → Bool
+is_not_ready None = false
+is_not_ready (Some NotRegistered) = false
+is_not_ready (Some WrongMode) = false
+is_not_ready (Some NotReady) = true
+
+-- whether a ticket was answered as it was registered: it has its answer with it, and no slot
+abbrev pub is_at_once : Registration → Bool
+is_at_once Unregistered = false
+is_at_once (AtOnce value request is_sync) = true
+is_at_once (InSlot slot request is_sync) = false
+
 -- A poll in this way that answered with this error, or with none, in the ticket's own terms. The ticket is registered
 -- afterwards exactly where it was before and the poll had an error; then it is unchanged. An idle ticket isn't
 -- registered. In the wrong mode there is no answer, and the error says so, or that the ticket isn't registered there;
--- in the right mode no error speaks of the mode
+-- in the right mode no error speaks of the mode. A ticket that was answered at once is registered wherever it is
+-- polled, and has its answer: so its one error is that of the mode
 pub record Polled (old new : Registration) (how : How) (fault : Option Error) : Type 0 where
   pub registered : is_busy new ≡ (is_busy old && is_some fault)
   pub idle : is_busy old ≡ false → fault ≡ Some NotRegistered
   pub same : is_some fault ≡ true → new ≡ old
   pub wrong : is_wrong_mode how old ≡ true → is_refusal fault ≡ true
   pub right : is_wrong_mode how old ≡ false → says_wrong_mode fault ≡ false
+  pub known : is_at_once old ≡ true → says_not_registered fault ≡ false
+  pub there : is_at_once old ≡ true → is_not_ready fault ≡ false
 
 -- dropping a name as a step of the object
 abbrev pub dropping : Object → ℕ → After (Unit {0})
