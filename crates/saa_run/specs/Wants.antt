@@ -1,7 +1,7 @@
 -- What the program is asked to do.
 use Rattle.std.specs.Prelude.{ℕ, List, [], ◌∷◌, Option, None, Some, codes, if◌then◌else◌, ◌&&◌, nat_le}
 use Rattle.std.specs.Str.{bytes_eq}
-use Rattle.saa_run.specs.Fields.{number_of}
+use Rattle.saa_lines.specs.Fields.{number_of}
 use Rattle.saa_run.specs.declared.wants.Wanted.{Wanted}
 use Rattle.saa_run.specs.declared.wants.Wanted.TheVariants.{Script, Machine, Threads, Usage}
 
@@ -17,3 +17,7 @@ wanted_of [] = Usage
 wanted_of (word ∷ []) = if bytes_eq word (codes "script") then Script else (if bytes_eq word (codes "machine") then Machine else Usage)
 wanted_of (word ∷ count ∷ []) = if bytes_eq word (codes "threads") then threads_of (number_of count) else Usage
 wanted_of (word ∷ count ∷ next ∷ words) = Usage
+
+-- how the program is used
+abbrev pub usage_text : List ℕ
+usage_text = codes "usage: saa-run script | machine | threads N\n"

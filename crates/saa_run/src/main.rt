@@ -1,49 +1,29 @@
 //! The program `saa-run`: reads a script of one primitive, or a schedule of a machine, and answers its lines; or runs workers on
 //! threads of their own.
 //!
-//! The top floor. `transfer` moves bytes, `fields` and `command` read lines, `reply` writes answers,
-//! `steps` answers the lines behind the first one by one, and `run` is the whole, over any reader and
-//! writer. All that is one engine for every kind of primitive; what a kind says is a `spoken::Spoken`, in
-//! `semaphore_words` and its like, and `bench_script` speaks it to a bench. What a command does stands in the cores.
-//! Schedules go through the same engine: `schedule_lines` and `schedule_calls` read their lines, and `schedule` speaks them to a
-//! machine.
-//! `docs/LANGUAGES.md` has the language.
+//! The top floor. `run` does what the arguments ask for: it runs the language of `saa_scripts` or of `saa_schedules`, over any
+//! reader and writer, by the engine in `saa_lines`, or the workers of `saa_workers`, whose counts `counts` writes.
+//! `docs/LANGUAGES.md` has the languages.
 #![tactic(auto)]
 
 mod arguments;
-mod barrier_words;
-mod bench_script;
 #[cfg(test)]
 mod cancel_rows;
-mod command;
 mod counts;
-mod ended;
-mod fields;
-mod gate_words;
 #[cfg(test)]
 mod kind_rows;
-mod laws;
 #[cfg(test)]
 mod lock_rows;
-mod lock_words;
-mod opening;
-mod reply;
 mod run;
-mod schedule;
-mod schedule_calls;
-mod schedule_lines;
 #[cfg(test)]
 mod schedule_tests;
-mod semaphore_words;
-mod spoken;
-mod steps;
 #[cfg(test)]
 mod tests;
-mod transfer;
 mod wants;
 
 use crate::arguments::BehindName;
 use crate::run::Wanted;
+use saa_lines::run::no_memory;
 use std::alloc::Global;
 use std::env::{self, Env};
 use std::io::{self, BufReader, ErrorKind, Write};
@@ -70,7 +50,7 @@ fn asked<E: Env>(environment: &E, alloc: Global) -> Option<Wanted> {
 fn script<W: Write>(rt: &HostRuntime, writer: &mut W) -> u8 {
     match BufReader::new(rt.alloc(), rt.reader()) {
         Ok(mut reader) => run::script(rt.alloc(), &mut reader, writer),
-        Err(_) => run::no_memory(writer),
+        Err(_) => no_memory(writer),
     }
 }
 
@@ -78,14 +58,14 @@ fn script<W: Write>(rt: &HostRuntime, writer: &mut W) -> u8 {
 fn machine<W: Write>(rt: &HostRuntime, writer: &mut W) -> u8 {
     match BufReader::new(rt.alloc(), rt.reader()) {
         Ok(mut reader) => run::machine(rt.alloc(), &mut reader, writer),
-        Err(_) => run::no_memory(writer),
+        Err(_) => no_memory(writer),
     }
 }
 
 fn main(rt: HostRuntime) -> ExitCode {
     let mut writer = io::writer(&rt);
     let status = match asked(&rt, rt.alloc()) {
-        None => run::no_memory(&mut writer),
+        None => no_memory(&mut writer),
         Some(Wanted::Script) => script(&rt, &mut writer),
         Some(Wanted::Threads(count @ 1..=32)) => {
             run::threads(&rt, rt.alloc(), count, &mut writer)

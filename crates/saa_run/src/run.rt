@@ -1,77 +1,26 @@
-//! A script, from the bytes read to the bytes written, over any reader and any writer; and what the
-//! program is asked to do.
+//! What the program does for each wish: runs a script or a schedule over any reader and any writer, or workers on threads; and
+//! what its arguments ask for.
 //!
-//! Held to `specs/Outcome.antt`, which speaks of the text of an input in `specs/Text.antt`.
-ghost use Rattle.std.specs.Prelude.{◌≡◌, ◌<◌, ◌≤◌, ◌⊎◌, map, replicate, string_bytes};
-ghost use Rattle.std.specs.Io.KnownBytes.{Keeps};
-ghost use Rattle.saa_run.specs.Outcome.{OpensWith, Starts, Scripts, Tells, Finishes, no_memory as no_memory_text, usage_text};
-ghost use Rattle.saa_run.specs.Played.{Plays};
+//! A run and its statuses are `saa_lines`'. Held to `Scripts` and `Plays` of the languages, and to `specs/Wants.antt`.
+ghost use Rattle.std.specs.Prelude.{◌≡◌, ◌<◌, ◌≤◌, map, string_bytes};
+ghost use Rattle.saa_lines.specs.Fields.{number_of};
+ghost use Rattle.saa_lines.specs.Outcome.{Tells};
+ghost use Rattle.saa_scripts.specs.ScriptText.{Scripts};
+ghost use Rattle.saa_schedules.specs.Played.{Plays};
 ghost use Rattle.saa_run.specs.Counts.{Counted};
-ghost use Rattle.saa_tickets.specs.declared.ticket.Registration.TheVariants.{Unregistered};
-ghost use Rattle.saa_object.specs.Held.{max_permits};
-ghost use Rattle.saa_object.specs.Semaphore.{new_semaphore};
-ghost use Rattle.saa_object.specs.Lock.{new_lock};
-ghost use Rattle.saa_object.specs.Gate.{new_gate};
-ghost use Rattle.saa_object.specs.Barrier.{new_barrier};
-ghost use Rattle.saa_tickets.specs.Tickets.{object_of};
-ghost use Rattle.saa_run.specs.Language.{line_of};
-ghost use Rattle.saa_run.specs.Replies.{line_does, reply_words};
-ghost use Rattle.saa_run.specs.SemaphoreWords.{semaphore_does, semaphore_readings};
-ghost use Rattle.saa_run.specs.LockWords.{lock_does, lock_readings};
-ghost use Rattle.saa_run.specs.GateWords.{gate_does, gate_readings};
-ghost use Rattle.saa_run.specs.BarrierWords.{barrier_does, barrier_readings};
-ghost use Rattle.saa_run.specs.Text.{answer_by, answer_from, on_bytes, pagers};
-ghost use Rattle.saa_run.specs.Wants.{threads_of, wanted_of};
-ghost use Rattle.saa_run.specs.Fields.{number_of};
+ghost use Rattle.saa_run.specs.Wants.{threads_of, usage_text, wanted_of};
 
-use crate::bench_script::BenchScript;
-use crate::command::{FirstLine, parse_first};
 use crate::counts::written;
-use crate::ended::Ended;
-use crate::fields::number;
-use crate::opening::Opening;
-use crate::schedule_lines::FirstOfSchedule;
-use crate::spoken::Spoken;
-use crate::steps::{end_at, run_lines};
-use crate::transfer::{Cut, LineBytes, put, read_line};
 pub use crate::wants::Wanted;
-use saa::barrier::BarrierCore;
-use saa::gate::GateCore;
-use saa::lock::LockCore;
-use saa::semaphore::SemaphoreCore;
+use saa_lines::fields::number;
+use saa_lines::run::{no_memory, run_input, tell};
+use saa_schedules::schedule_lines::FirstOfSchedule;
+use saa_scripts::command::FirstLine;
 use saa_workers::workers;
-use std::alloc::{AllocError, Global};
+use std::alloc::Global;
 use std::io::{Read, Write};
 use std::sync::Wait;
 use std::thread::Threads;
-
-/// Flushes, and answers a status.
-fn flushed<W: Write>(writer: &mut W, status: u8) -> u8
-    ensures kept { Keeps (W.contents writer.old) (W.contents writer.new) }
-    ensures status { (result ≡ status) ⊎ (result ≡ 4) }
-{
-    match writer.flush() {
-        Ok(()) => status,
-        Err(_) => 4,
-    }
-}
-
-/// Writes a last text, and answers a status.
-fn tell<W: Write>(writer: &mut W, text: &[u8], status: u8) -> u8
-    ensures { Tells result status text.now (W.contents writer.old) (W.contents writer.new) }
-{
-    match put(writer, text) {
-        Ok(()) => flushed(writer, status),
-        Err(_) => 4,
-    }
-}
-
-/// Writes `no memory`, and answers 3, or 4 where the write fails.
-pub fn no_memory<W: Write>(writer: &mut W) -> u8
-    ensures { Tells result 3 no_memory_text (W.contents writer.old) (W.contents writer.new) }
-{
-    tell(writer, b"no memory\n", 3)
-}
 
 /// Writes how the program is used, and answers 2, or 4 where the write fails.
 pub fn usage<W: Write>(writer: &mut W) -> u8
@@ -104,162 +53,6 @@ fn threads_wanted(count: &str) -> Wanted
     }
 }
 
-/// The status of a run that ended, and what is said of refused memory. Whatever the status, what was written is flushed.
-fn finish<W: Write>(started: Result<Ended, AllocError>, writer: &mut W) -> u8
-    ensures { Finishes started result (W.contents writer.old) (W.contents writer.new) }
-{
-    match started {
-        Ok(Ended::Done) => flushed(writer, 0),
-        Ok(Ended::BadLine) => flushed(writer, 2),
-        Ok(Ended::ReadFailed | Ended::WriteFailed | Ended::Endless) => flushed(writer, 4),
-        Err(_) => no_memory(writer),
-    }
-}
-
-impl Opening for FirstLine {
-    ghost use Rattle.saa_run.specs.Language.{first_line_of};
-    ghost use Rattle.saa_run.specs.Text.{answer_behind};
-    ghost use Rattle.saa_run.specs.FirstLaws.{behind-none, first-empty, first-long};
-
-    ghost reads = { first_line_of };
-
-    ghost behind = { answer_behind };
-
-    ghost too_long = { first-long };
-
-    ghost not_empty = { first-empty };
-
-    ghost at_end = { behind-none };
-
-    fn parse(line: &[u8]) -> Option<FirstLine> {
-        parse_first(line)
-    }
-
-    fn open<R: Read, W: Write>(
-        self,
-        alloc: Global,
-        reader: &mut R,
-        writer: &mut W,
-    ) -> Result<Ended, AllocError> {
-        match self {
-            FirstLine::Semaphore { permits, room } => {
-                open_semaphore(alloc, permits, room, reader, writer)
-            }
-            FirstLine::Lock { room } => open_lock(alloc, room, reader, writer),
-            FirstLine::Gate { room } => open_gate(alloc, room, reader, writer),
-            FirstLine::Barrier { size, room } => open_barrier(alloc, size, room, reader, writer),
-        }
-    }
-}
-
-/// Makes a semaphore, and answers the lines behind the first.
-fn open_semaphore<R: Read, W: Write>(
-    alloc: Global,
-    permits: usize,
-    room: u16,
-    reader: &mut R,
-    writer: &mut W,
-) -> Result<Ended, AllocError>
-    ensures { OpensWith result (answer_from (line_of semaphore_readings) semaphore_does 2 (new_semaphore max_permits permits room pagers))
-        (R.remaining reader.old) (R.remaining reader.new) (W.contents writer.old) (W.contents writer.new) }
-{
-    match SemaphoreCore::with_permits(alloc, permits, room) {
-        Ok(core) => run_core(alloc, core, reader, writer),
-        Err(refused) => Err(refused),
-    }
-}
-
-/// Makes a lock, and answers the lines behind the first.
-fn open_lock<R: Read, W: Write>(
-    alloc: Global,
-    room: u16,
-    reader: &mut R,
-    writer: &mut W,
-) -> Result<Ended, AllocError>
-    ensures { OpensWith result (answer_from (line_of lock_readings) lock_does 2 (new_lock room pagers))
-        (R.remaining reader.old) (R.remaining reader.new) (W.contents writer.old) (W.contents writer.new) }
-{
-    match LockCore::new(alloc, room) {
-        Ok(core) => run_core(alloc, core, reader, writer),
-        Err(refused) => Err(refused),
-    }
-}
-
-/// Makes a gate, and answers the lines behind the first.
-fn open_gate<R: Read, W: Write>(
-    alloc: Global,
-    room: u16,
-    reader: &mut R,
-    writer: &mut W,
-) -> Result<Ended, AllocError>
-    ensures { OpensWith result (answer_from (line_of gate_readings) gate_does 2 (new_gate room pagers))
-        (R.remaining reader.old) (R.remaining reader.new) (W.contents writer.old) (W.contents writer.new) }
-{
-    match GateCore::new(alloc, room) {
-        Ok(core) => run_core(alloc, core, reader, writer),
-        Err(refused) => Err(refused),
-    }
-}
-
-/// Makes a barrier, and answers the lines behind the first.
-fn open_barrier<R: Read, W: Write>(
-    alloc: Global,
-    size: usize,
-    room: u16,
-    reader: &mut R,
-    writer: &mut W,
-) -> Result<Ended, AllocError>
-    ensures { OpensWith result (answer_from (line_of barrier_readings) barrier_does 2 (new_barrier size room pagers))
-        (R.remaining reader.old) (R.remaining reader.new) (W.contents writer.old) (W.contents writer.new) }
-{
-    match BarrierCore::with_count(alloc, size, room) {
-        Ok(core) => run_core(alloc, core, reader, writer),
-        Err(refused) => Err(refused),
-    }
-}
-
-/// Answers the lines behind the first, from the core that the first line made.
-fn run_core<P: Spoken, R: Read, W: Write>(
-    alloc: Global,
-    core: P,
-    reader: &mut R,
-    writer: &mut W,
-) -> Result<Ended, AllocError>
-    ensures { OpensWith result (answer_from (line_of P.readings)
-        (line_does (reply_words P.answer_words P.poll_words) P.request P.step P.value) 2
-        (object_of (P.core core) (replicate pagers Unregistered)))
-        (R.remaining reader.old) (R.remaining reader.new) (W.contents writer.old) (W.contents writer.new) }
-{
-    match BenchScript::new(alloc, core) {
-        Ok(mut script) => Ok(run_lines(&mut script, reader, writer)),
-        Err(refused) => Err(refused),
-    }
-}
-
-/// Reads the first line, makes what it says, and answers the lines behind it.
-fn start<O: Opening, R: Read, W: Write>(
-    alloc: Global,
-    reader: &mut R,
-    writer: &mut W,
-) -> Result<Ended, AllocError>
-    ensures { Starts O.reads (on_bytes (answer_by O.reads O.behind)) result
-        (R.remaining reader.old) (R.remaining reader.new) (W.contents writer.old) (W.contents writer.new) }
-{
-    let mut line = LineBytes::new();
-    match read_line(reader, &mut line) {
-        Cut::Failed => Ok(Ended::ReadFailed),
-        Cut::Long => Ok(end_at(writer, 1)),
-        Cut::End => match O::parse(line.as_slice()) {
-            None => Ok(end_at(writer, 1)),
-            Some(_) => Ok(Ended::Done),
-        },
-        Cut::Newline => match O::parse(line.as_slice()) {
-            None => Ok(end_at(writer, 1)),
-            Some(first) => first.open(alloc, reader, writer),
-        },
-    }
-}
-
 /// Runs a script: reads its lines, answers each good one on a line of its own, and tells of the first
 /// bad one. Answers the status of the program.
 ///
@@ -271,8 +64,7 @@ pub fn script<R: Read, W: Write>(alloc: Global, reader: &mut R, writer: &mut W) 
     ensures { Scripts result (R.remaining reader.old) (R.remaining reader.new)
         (W.contents writer.old) (W.contents writer.new) }
 {
-    let started = start::<FirstLine, R, W>(alloc, reader, writer);
-    finish(started, writer)
+    run_input::<FirstLine, R, W>(alloc, reader, writer)
 }
 
 /// Runs a schedule of a machine: reads its lines, answers each good one on a line of its own, and tells of the first
@@ -281,8 +73,7 @@ pub fn machine<R: Read, W: Write>(alloc: Global, reader: &mut R, writer: &mut W)
     ensures { Plays result (R.remaining reader.old) (R.remaining reader.new)
         (W.contents writer.old) (W.contents writer.new) }
 {
-    let started = start::<FirstOfSchedule, R, W>(alloc, reader, writer);
-    finish(started, writer)
+    run_input::<FirstOfSchedule, R, W>(alloc, reader, writer)
 }
 
 /// Runs workers on so many threads, and writes what they counted. Answers the status of the program.

@@ -3,12 +3,14 @@
 
 use crate::asked;
 use crate::kind_rows::KIND_ROWS;
-use crate::reply::{Said, put_bad_line, put_reply};
-use crate::run::{Wanted, no_memory, script, threads, usage, wanted};
-use crate::spoken::said;
-use crate::transfer::{Cut, LineBytes, put, read_line};
-use saa::bench::ReplyOf;
-use saa::semaphore::{SemaphoreAnswer, SemaphoreCore};
+use crate::run::{Wanted, script, threads, usage, wanted};
+use saa_core::bench::ReplyOf;
+use saa_core::semaphore::{SemaphoreAnswer, SemaphoreCore};
+use saa_lines::reply::{put_bad_line, put_reply};
+use saa_lines::run::no_memory;
+use saa_lines::transfer::{Cut, LineBytes, put, read_line};
+use saa_scripts::said::Said;
+use saa_scripts::spoken::said;
 use std::alloc::Global;
 use std::env::{Env, FillError};
 use std::io::{self, Read, Write};

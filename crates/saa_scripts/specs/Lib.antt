@@ -1,0 +1,12 @@
+pub mod AnswerLaws
+pub mod BarrierWords
+pub mod FirstLaws
+pub mod GateWords
+pub mod Language
+pub mod LockWords
+pub mod Replies
+pub mod RunLaws
+pub mod Said
+pub mod ScriptText
+pub mod SemaphoreWords
+pub mod Spelling
