@@ -23,6 +23,8 @@ const TIMES: u64 = 50_000;
 
 const TRIES: u64 = 5_000_000;
 
+const WAITS: u64 = 1_000_000;
+
 // How many wait in the shortest line, and in all of them.
 const SHORTEST: u16 = 64;
 
@@ -212,6 +214,64 @@ fn act_often<'s, R: Wait + Drop>(
     }
 }
 
+// What is timed at a core of either kind. Both go through the loops below, so that neither is compiled into what stands round it.
+trait Timed {
+    fn try_many(&mut self, count: usize) -> bool;
+
+    fn give_many(&mut self, count: usize);
+
+    // Takes note of whom the release answered, as a form does before it wakes them.
+    fn tell(&mut self);
+
+    fn take_answer(&mut self, ticket: &mut Ticket);
+
+    fn join_line(&mut self, ticket: &mut Ticket, count: usize);
+}
+
+impl Timed for SemaphoreCore {
+    fn try_many(&mut self, count: usize) -> bool {
+        self.try_acquire_many(count)
+    }
+
+    fn give_many(&mut self, count: usize) {
+        let _given = self.release_many(count);
+    }
+
+    fn tell(&mut self) {
+        let _told = self.next_answered();
+    }
+
+    fn take_answer(&mut self, ticket: &mut Ticket) {
+        let _granted = self.poll(ticket, How::Sync);
+    }
+
+    fn join_line(&mut self, ticket: &mut Ticket, count: usize) {
+        let _joined = self.register(ticket, count, true);
+    }
+}
+
+impl Timed for ListedSemaphore {
+    fn try_many(&mut self, count: usize) -> bool {
+        self.try_acquire_many(count)
+    }
+
+    fn give_many(&mut self, count: usize) {
+        let _given = self.release_many(count);
+    }
+
+    fn tell(&mut self) {
+        let _told = self.next_answered();
+    }
+
+    fn take_answer(&mut self, ticket: &mut Ticket) {
+        let _granted = self.poll(ticket, How::Sync);
+    }
+
+    fn join_line(&mut self, ticket: &mut Ticket, count: usize) {
+        let _joined = self.register(ticket, count, true);
+    }
+}
+
 // A try, and the release of what the turn before took, at a core whose line is held by links beside one whose line is a list.
 fn uncontended<R: Runtime>(rt: &R, alloc: Global) -> io::Result<()> {
     let mut linked = SemaphoreCore::new(alloc, SHORTEST)?;
@@ -221,20 +281,10 @@ fn uncontended<R: Runtime>(rt: &R, alloc: Global) -> io::Result<()> {
     let mut listed_times = Vec::with_capacity(alloc, PASSES)?;
     for _ in 0..PASSES {
         let start = Instant::now(rt)?;
-        for turn in 0..TRIES {
-            let count = count_of(turn);
-            let is_taken = linked.try_acquire_many(count);
-            let _given = linked.release_many(linked_out);
-            linked_out = if is_taken { count } else { 0 };
-        }
+        linked_out = take_tries(&mut linked, linked_out);
         linked_times.push(nanos_since(rt, start)?)?;
         let start = Instant::now(rt)?;
-        for turn in 0..TRIES {
-            let count = count_of(turn);
-            let is_taken = listed.try_acquire_many(count);
-            let _given = listed.release_many(listed_out);
-            listed_out = if is_taken { count } else { 0 };
-        }
+        listed_out = take_tries(&mut listed, listed_out);
         listed_times.push(nanos_since(rt, start)?)?;
     }
     let case = Case {
@@ -247,37 +297,61 @@ fn uncontended<R: Runtime>(rt: &R, alloc: Global) -> io::Result<()> {
     println!(rt; "of which the last turn took {linked_out} and {listed_out}")
 }
 
+// Takes permits in turns, each of which gives back what the one before took, and returns how many the last one took. It stands by
+// itself, since two such loops in one function are laid out by what else stands there: the same steps then took up to twice as long.
+#[inline(never)]
+fn take_tries<T: Timed>(core: &mut T, taken_before: usize) -> usize {
+    let mut taken = taken_before;
+    for turn in 0..TRIES {
+        let count = count_of(turn);
+        let is_taken = core.try_many(count);
+        core.give_many(taken);
+        taken = if is_taken { count } else { 0 };
+    }
+    taken
+}
+
 // A task that waits alone, is granted and takes its answer, at the same two cores.
 fn one_waits<R: Runtime>(rt: &R, alloc: Global) -> io::Result<()> {
     let mut linked = SemaphoreCore::with_permits(alloc, 0, SHORTEST)?;
     let mut listed = ListedSemaphore::new(alloc, SHORTEST)?;
     let _all = listed.try_acquire_many(63);
     let (mut one, mut other) = (Ticket::new(), Ticket::new());
-    let _joined = linked.register(&mut one, 1, true);
-    let _joined = listed.register(&mut other, 1, true);
+    linked.join_line(&mut one, 1);
+    listed.join_line(&mut other, 1);
+    let (mut linked_asked, mut listed_asked) = (1, 1);
     let mut linked_times = Vec::with_capacity(alloc, PASSES)?;
     let mut listed_times = Vec::with_capacity(alloc, PASSES)?;
     for _ in 0..PASSES {
         let start = Instant::now(rt)?;
-        for _turn in 0..TIMES {
-            act(&mut linked, &mut one, Action::Grant);
-        }
+        linked_asked = wait_turns(&mut linked, &mut one, linked_asked);
         linked_times.push(nanos_since(rt, start)?)?;
         let start = Instant::now(rt)?;
-        for _turn in 0..TIMES {
-            listed.release_many(1);
-            let _told = listed.next_answered();
-            let _granted = listed.poll(&mut other, How::Sync);
-            let _joined = listed.register(&mut other, 1, true);
-        }
+        listed_asked = wait_turns(&mut listed, &mut other, listed_asked);
         listed_times.push(nanos_since(rt, start)?)?;
     }
     let case = Case {
         what: "wait and be granted",
         threads: 1,
-        times: TIMES,
+        times: WAITS,
     };
-    print_row(rt, case, &mut linked_times, &mut listed_times)
+    print_row(rt, case, &mut linked_times, &mut listed_times)?;
+    println!(rt; "of which the last turn asked for {linked_asked} and {listed_asked}")
+}
+
+// Grants who waits alone what it asked for, has it take its answer, and has it join anew; returns what it asked for at last.
+// It isn't always as many, so that to join isn't compiled for one number.
+#[inline(never)]
+fn wait_turns<T: Timed>(core: &mut T, ticket: &mut Ticket, asked_before: usize) -> usize {
+    let mut asked = asked_before;
+    for turn in 0..WAITS {
+        core.give_many(asked);
+        core.tell();
+        core.take_answer(ticket);
+        asked = count_of(turn).max(1);
+        core.join_line(ticket, asked);
+    }
+    asked
 }
 
 // How many permits a turn asks for: not always as many, so that a call isn't worked out before it is made, and few enough for two turns.
