@@ -18,9 +18,11 @@ use std::marker::{Model, PhantomData};
 #[derive(Drop)]
 pub struct Links<K: Requests> {
     words: Vec<u64>,
+    // It stands before the two ends, which keeps the first of these from being read as half of a wider number: the other half
+    // has just been written by itself where one who waits alone left, and such a read has to wait for both.
+    waiting: u16,
     oldest: u16,
     newest: u16,
-    waiting: u16,
     asked: PhantomData<K>,
 }
 
@@ -54,9 +56,9 @@ impl<K: Requests> Links<K> {
         }
         Ok(Links {
             words,
+            waiting: 0,
             oldest: 0,
             newest: 0,
-            waiting: 0,
             asked: PhantomData,
         })
     }
