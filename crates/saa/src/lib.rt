@@ -15,14 +15,10 @@ pub mod semaphore;
 pub mod word;
 
 pub use saa_core::lock::TryLockError;
-pub use saa_core::{ticket, words};
-pub use saa_guards::lock_api;
-pub use saa_guards::lock_api::{
+pub use saa_core::{journal, line, ticket, words};
+pub use saa_core_laws::laws;
+pub use saa_sync::lock_api::{
     Mutex, MutexGuard, RwLock, RwLockReadGuard, RwLockWriteGuard, lock_async, read_async,
     write_async,
 };
-pub use saa_journal::journal;
-pub use saa_laws::laws;
-pub use saa_line::line;
-pub use saa_shell::{seat, shell};
-pub use saa_sync::pager;
+pub use saa_sync::{lock_api, pager};

@@ -1,15 +1,18 @@
-//! The cores, which are proved to be the sequential object of `saa_object`, benches that run commands over them, and the
-//! words in which a core shows its state.
+//! The cores: each primitive for one task at a time, proved to be the sequential specification of `saa_core_spec`.
 //!
-//! Each core stands in a crate of its own, with its contracts and proofs; this crate only names them all in one place.
-//! No thread, lock or handle occurs in a core; every call returns. A core is used by one task at a time.
-//! `docs/DEFINITIONS.md` reads the object aloud.
+//! `line` is the queue of waiters with its answers and pending wakes, `ticket` what a task holds of it, and `bench` runs commands over
+//! any core. `granting` is what the semaphore and the lock share. `future` is the pure future of any core, polled with the core
+//! lent to it, and `journal` a bench that keeps its history. No thread, mutex or handle occurs in this crate; every call returns.
 #![tactic(auto)]
 
+pub mod barrier;
+pub mod bench;
+pub mod future;
+pub mod gate;
+pub mod granting;
+pub mod journal;
+pub mod line;
+pub mod lock;
+pub mod semaphore;
+pub mod ticket;
 pub mod words;
-
-pub use saa_barriers::barrier;
-pub use saa_gates::gate;
-pub use saa_locks::lock;
-pub use saa_semaphores::semaphore;
-pub use saa_tickets::{bench, ticket};

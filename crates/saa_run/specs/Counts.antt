@@ -1,6 +1,6 @@
 -- What workers on threads of their own counted, and how that is told.
 use Rattle.std.specs.Prelude.{ℕ, List, Option, [], ◌∷◌, ◌++◌, ◌*◌, ◌⊎◌, codes, decimal}
-use Rattle.saa_lines.specs.Outcome.{Tells, no_memory}
+use Rattle.saa_run_text.specs.Outcome.{Tells, no_memory}
 
 -- a count on a line of its own behind its name
 unfoldable pub counted_line : List ℕ → ℕ → List ℕ

@@ -1,7 +1,7 @@
 -- What the program is asked to do.
 use Rattle.std.specs.Prelude.{ℕ, List, [], ◌∷◌, Option, None, Some, codes, if◌then◌else◌, ◌&&◌, nat_le}
 use Rattle.std.specs.Str.{bytes_eq}
-use Rattle.saa_lines.specs.Fields.{number_of}
+use Rattle.saa_run_text.specs.Fields.{number_of}
 use Rattle.saa_run.specs.declared.wants.Wanted.{Wanted}
 use Rattle.saa_run.specs.declared.wants.Wanted.TheVariants.{Script, Machine, Threads, Usage}
 

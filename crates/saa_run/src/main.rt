@@ -1,8 +1,8 @@
 //! The program `saa-run`: reads a script of one primitive, or a schedule of a machine, and answers its lines; or runs workers on
 //! threads of their own.
 //!
-//! The top floor. `run` does what the arguments ask for: it runs the language of `saa_scripts` or of `saa_schedules`, over any
-//! reader and writer, by the engine in `saa_lines`, or the workers of `saa_workers`, whose counts `counts` writes.
+//! The top floor. `run` does what the arguments ask for: it runs the language of `script` or of `schedule`, over any reader and
+//! writer, by the engine in `saa_run_text`, or the `workers`, whose counts `counts` writes.
 //! `docs/LANGUAGES.md` has the languages.
 #![tactic(auto)]
 
@@ -15,15 +15,18 @@ mod kind_rows;
 #[cfg(test)]
 mod lock_rows;
 mod run;
+mod schedule;
 #[cfg(test)]
 mod schedule_tests;
+mod script;
 #[cfg(test)]
 mod tests;
 mod wants;
+mod workers;
 
 use crate::arguments::BehindName;
 use crate::run::Wanted;
-use saa_lines::run::no_memory;
+use saa_run_text::run::no_memory;
 use std::alloc::Global;
 use std::env::{self, Env};
 use std::io::{self, BufReader, ErrorKind, Write};
@@ -47,7 +50,7 @@ fn asked<E: Env>(environment: &E, alloc: Global) -> Option<Wanted> {
 }
 
 /// Runs the script on standard input.
-fn script<W: Write>(rt: &HostRuntime, writer: &mut W) -> u8 {
+fn run_script<W: Write>(rt: &HostRuntime, writer: &mut W) -> u8 {
     match BufReader::new(rt.alloc(), rt.reader()) {
         Ok(mut reader) => run::script(rt.alloc(), &mut reader, writer),
         Err(_) => no_memory(writer),
@@ -55,7 +58,7 @@ fn script<W: Write>(rt: &HostRuntime, writer: &mut W) -> u8 {
 }
 
 /// Runs the schedule on standard input.
-fn machine<W: Write>(rt: &HostRuntime, writer: &mut W) -> u8 {
+fn run_machine<W: Write>(rt: &HostRuntime, writer: &mut W) -> u8 {
     match BufReader::new(rt.alloc(), rt.reader()) {
         Ok(mut reader) => run::machine(rt.alloc(), &mut reader, writer),
         Err(_) => no_memory(writer),
@@ -66,11 +69,11 @@ fn main(rt: HostRuntime) -> ExitCode {
     let mut writer = io::writer(&rt);
     let status = match asked(&rt, rt.alloc()) {
         None => no_memory(&mut writer),
-        Some(Wanted::Script) => script(&rt, &mut writer),
+        Some(Wanted::Script) => run_script(&rt, &mut writer),
         Some(Wanted::Threads(count @ 1..=32)) => {
             run::threads(&rt, rt.alloc(), count, &mut writer)
         }
-        Some(Wanted::Machine) => machine(&rt, &mut writer),
+        Some(Wanted::Machine) => run_machine(&rt, &mut writer),
         Some(Wanted::Threads(_) | Wanted::Usage) => run::usage(&mut writer),
     };
     ExitCode::from(status)

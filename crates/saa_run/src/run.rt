@@ -1,22 +1,22 @@
 //! What the program does for each wish: runs a script or a schedule over any reader and any writer, or workers on threads; and
 //! what its arguments ask for.
 //!
-//! A run and its statuses are `saa_lines`'. Held to `Scripts` and `Plays` of the languages, and to `specs/Wants.antt`.
+//! A run and its statuses are `saa_run_text`'s. Held to `Scripts` and `Plays` of the languages, and to `specs/Wants.antt`.
 ghost use Rattle.std.specs.Prelude.{◌≡◌, ◌<◌, ◌≤◌, map, string_bytes};
-ghost use Rattle.saa_lines.specs.Fields.{number_of};
-ghost use Rattle.saa_lines.specs.Outcome.{Tells};
-ghost use Rattle.saa_scripts.specs.ScriptText.{Scripts};
-ghost use Rattle.saa_schedules.specs.Played.{Plays};
+ghost use Rattle.saa_run_text.specs.Fields.{number_of};
+ghost use Rattle.saa_run_text.specs.Outcome.{Tells};
+ghost use Rattle.saa_run.specs.ScriptText.{Scripts};
+ghost use Rattle.saa_run.specs.Played.{Plays};
 ghost use Rattle.saa_run.specs.Counts.{Counted};
 ghost use Rattle.saa_run.specs.Wants.{threads_of, usage_text, wanted_of};
 
 use crate::counts::written;
+use crate::schedule::lines::FirstOfSchedule;
+use crate::script::command::FirstLine;
 pub use crate::wants::Wanted;
-use saa_lines::fields::number;
-use saa_lines::run::{no_memory, run_input, tell};
-use saa_schedules::schedule_lines::FirstOfSchedule;
-use saa_scripts::command::FirstLine;
-use saa_workers::workers;
+use crate::workers;
+use saa_run_text::fields::number;
+use saa_run_text::run::{no_memory, run_input, tell};
 use std::alloc::Global;
 use std::io::{Read, Write};
 use std::sync::Wait;

@@ -3,8 +3,8 @@
 use crate::cancel_rows::CANCEL_ROWS;
 use crate::lock_rows::LOCK_ROWS;
 use crate::run::machine;
+use crate::schedule::end;
 use crate::tests::{Row, with_room};
-use saa_schedules::schedule::end;
 use saa_word::machine::{Machine, Move, Step, WordCall};
 use std::alloc::{AllocError, Global};
 use std::test::Fail;

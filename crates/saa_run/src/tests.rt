@@ -4,13 +4,13 @@
 use crate::asked;
 use crate::kind_rows::KIND_ROWS;
 use crate::run::{Wanted, script, threads, usage, wanted};
+use crate::script::said::Said;
+use crate::script::spoken::said;
 use saa_core::bench::ReplyOf;
 use saa_core::semaphore::{SemaphoreAnswer, SemaphoreCore};
-use saa_lines::reply::{put_bad_line, put_reply};
-use saa_lines::run::no_memory;
-use saa_lines::transfer::{Cut, LineBytes, put, read_line};
-use saa_scripts::said::Said;
-use saa_scripts::spoken::said;
+use saa_run_text::reply::{put_bad_line, put_reply};
+use saa_run_text::run::no_memory;
+use saa_run_text::transfer::{Cut, LineBytes, put, read_line};
 use std::alloc::Global;
 use std::env::{Env, FillError};
 use std::io::{self, Read, Write};

@@ -1,9 +1,15 @@
-//! The named futures of all forms.
+//! The named futures of every form, under one name.
 
-pub use saa_shell::future::{Asked, AskedWith, Progress, Question};
-pub use saa_sync_barrier::future::{Arrival, ArriveFuture, ArriveFutureWith};
-pub use saa_sync_gate::future::{Enter, EnterWith, Passing};
-pub use saa_sync_lock::future::{LockFuture, LockFutureWith, ShareFuture, ShareFutureWith, Turn};
-pub use saa_sync_semaphore::future::{
+pub mod asked;
+pub mod barrier;
+pub mod gate;
+pub mod lock;
+pub mod semaphore;
+
+pub use crate::future::asked::{Asked, AskedWith, Progress, Question};
+pub use crate::future::barrier::{Arrival, ArriveFuture, ArriveFutureWith};
+pub use crate::future::gate::{Enter, EnterWith, Passing};
+pub use crate::future::lock::{LockFuture, LockFutureWith, ShareFuture, ShareFutureWith, Turn};
+pub use crate::future::semaphore::{
     Acquire, AcquireMany, AcquireManyWith, AcquireWith, ManyPermits, OnePermit,
 };

@@ -1,15 +1,22 @@
-//! The forms that threads and tasks share: each is one lock round its core.
+//! The forms that threads and tasks share, each one mutex round a core, with pagers, named futures and guards.
 //!
-//! Each form stands in a crate of its own; this crate only names them all in one place. A call takes the lock, makes one
-//! call of the core under that call's contract, and wakes whom the core says it answered. What is proved of a threaded
-//! call stands on the function that is lent the core; that a call reaches its core, that it sleeps and is woken, is shown
-//! by tests. This floor knows of the cores only their contracts.
+//! `shell` is the mutex round any core, `seat` where a thread parks, `wakers` what tasks are woken by. A form (`semaphore`, `lock`,
+//! `gate`, `barrier`) is a thin type over a `Shell`; `future` has the futures that they hand out, `permit` a semaphore's permits as
+//! values, `pager` waits that are kept outside a call, and `lock_api` mutexes and reader-writer locks. `testing` has what tests alone
+//! may see.
 #![tactic(auto)]
 
+pub mod barrier;
 pub mod future;
-
-pub use saa_shell::pager;
-pub use saa_sync_barrier::barrier;
-pub use saa_sync_gate::gate;
-pub use saa_sync_lock::lock;
-pub use saa_sync_semaphore::{permit, semaphore};
+pub mod gate;
+mod guarded;
+pub mod lock;
+pub mod lock_api;
+pub mod pager;
+pub mod permit;
+mod seat;
+pub mod semaphore;
+mod shell;
+pub mod testing;
+mod turn;
+mod wakers;

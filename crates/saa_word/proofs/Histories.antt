@@ -1,13 +1,13 @@
 -- A list of moves is a history: each is told, and their events are one run.
 use Rattle.std.proofs.Common.{◌≡◌, ℕ, ◌∷◌, ◌++◌, true, false, List, [], length, suc, refl, sym, subst, ◌∙◌, ap, arith}
 use Rattle.std.specs.Prelude.{All}
-use Rattle.saa_steps.specs.declared.rules.Rules.{Rules}
-use Rattle.saa_steps.specs.Needs.{Needs, permit_needs}
-use Rattle.saa_steps.specs.Lazy.{Event, Lazy, Got, Refused, Joined, Gave, GaveNothing, AskedPoisoned, Left, Closed, Poisoned, NotPoisoned, Cleared, NotCleared, NotReady, Granted, Showed, Took, Read, IsRun, after_event}
-use Rattle.saa_steps.specs.Steps.{needs_of}
-use Rattle.saa_standing.specs.Stepped.{named, never_poisons, of_place}
-use Rattle.saa_balance.specs.Balance.{NonePoisons}
-use Rattle.saa_balance.proofs.Balance.{run-balanced}
+use Rattle.saa_word_steps.specs.declared.rules.Rules.{Rules}
+use Rattle.saa_word_steps.specs.Needs.{Needs, permit_needs}
+use Rattle.saa_word_steps.specs.Lazy.{Event, Lazy, Got, Refused, Joined, Gave, GaveNothing, AskedPoisoned, Left, Closed, Poisoned, NotPoisoned, Cleared, NotCleared, NotReady, Granted, Showed, Took, Read, IsRun, after_event}
+use Rattle.saa_word_steps.specs.Steps.{needs_of}
+use Rattle.saa_word_proofs.specs.Stepped.{named, never_poisons, of_place}
+use Rattle.saa_word_proofs.specs.Balance.{NonePoisons}
+use Rattle.saa_word_proofs.proofs.Balance.{run-balanced}
 use Rattle.saa_word.specs.declared.moves.Move.{Move}
 use Rattle.saa_word.specs.Machine.{State, is_lock}
 use Rattle.saa_word.specs.Moves.{IsMove, gone, ran}

@@ -5,25 +5,25 @@ use Rattle.std.proofs.lemmas.List.{get_or-set_same, get_or-set_other, length-rep
 use Rattle.std.proofs.lemmas.Bool.{cases_Bool}
 use Rattle.std.proofs.lemmas.Bool.Decides.{nat_tests}
 use Rattle.std.specs.Prelude.{◌==◌, slice_index, slice_set}
-use Rattle.saa_object.proofs.Counts.{number_same, same_number}
-use Rattle.saa_steps.specs.declared.rules.Rules.{Rules}
-use Rattle.saa_steps.specs.declared.operation.Operation.{Operation}
-use Rattle.saa_steps.specs.declared.call.WordCall.{WordCall}
-use Rattle.saa_steps.specs.declared.place.Place.{Place}
-use Rattle.saa_steps.specs.declared.place.Next.{Next}
-use Rattle.saa_steps.specs.declared.place.Stage.{Stage}
-use Rattle.saa_steps.specs.declared.place.Stage.TheVariants.{Quiet, ReadLoad, AskLoad, AskExchange, Prepare, Join, ReleaseLoad, ReleaseExchange, BackLoad, BackStore, Forward, CutToClose, CutToGoRound, Close, Empty, GoRound, ShowLoad, ShowStore, Take, FlagLoad, FlagExchange, LookLoad, LookStore, Unlink, DropTail, PoisonLoad, PoisonExchange, Clear}
-use Rattle.saa_steps.specs.Needs.{Needs}
-use Rattle.saa_steps.specs.Lazy.{Lazy, opening}
-use Rattle.saa_steps.specs.Steps.{is_taken, needs_of, next_of, operation_of, started, word_at, written_by}
-use Rattle.saa_standing.specs.Standing.{Stands, updated}
-use Rattle.saa_standing.specs.Stepped.{Stepped, place_after}
-use Rattle.saa_standing.specs.Promises.{idle_place, opening_row}
-use Rattle.saa_standing.proofs.Lists.{all-same}
-use Rattle.saa_standing.proofs.Steps.{step}
-use Rattle.saa_standing.proofs.Starting.{starts}
-use Rattle.saa_standing.proofs.Promises.{opens}
-use Rattle.saa_alone.proofs.Alone.{rules-lawful}
+use Rattle.saa_core_spec.proofs.Counts.{number_same, same_number}
+use Rattle.saa_word_steps.specs.declared.rules.Rules.{Rules}
+use Rattle.saa_word_steps.specs.declared.operation.Operation.{Operation}
+use Rattle.saa_word_steps.specs.declared.call.WordCall.{WordCall}
+use Rattle.saa_word_steps.specs.declared.place.Place.{Place}
+use Rattle.saa_word_steps.specs.declared.place.Next.{Next}
+use Rattle.saa_word_steps.specs.declared.place.Stage.{Stage}
+use Rattle.saa_word_steps.specs.declared.place.Stage.TheVariants.{Quiet, ReadLoad, AskLoad, AskExchange, Prepare, Join, ReleaseLoad, ReleaseExchange, BackLoad, BackStore, Forward, CutToClose, CutToGoRound, Close, Empty, GoRound, ShowLoad, ShowStore, Take, FlagLoad, FlagExchange, LookLoad, LookStore, Unlink, DropTail, PoisonLoad, PoisonExchange, Clear}
+use Rattle.saa_word_steps.specs.Needs.{Needs}
+use Rattle.saa_word_steps.specs.Lazy.{Lazy, opening}
+use Rattle.saa_word_steps.specs.Steps.{is_taken, needs_of, next_of, operation_of, started, word_at, written_by}
+use Rattle.saa_word_proofs.specs.Standing.{Stands, updated}
+use Rattle.saa_word_proofs.specs.Stepped.{Stepped, place_after}
+use Rattle.saa_word_proofs.specs.Promises.{idle_place, opening_row}
+use Rattle.saa_word_proofs.proofs.RefinementLemmas.Lists.{all-same}
+use Rattle.saa_word_proofs.proofs.RefinementLemmas.Steps.{step}
+use Rattle.saa_word_proofs.proofs.RefinementLemmas.Starting.{starts}
+use Rattle.saa_word_proofs.proofs.RefinementLemmas.Promises.{opens}
+use Rattle.saa_word_proofs.proofs.SoloLemmas.Alone.{rules-lawful}
 use Rattle.saa_word.specs.declared.moves.Move.{Move}
 use Rattle.saa_word.specs.declared.moves.Move.TheVariants.{Start, Go}
 use Rattle.saa_word.specs.declared.moves.Step.{Step}

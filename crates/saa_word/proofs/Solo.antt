@@ -1,23 +1,23 @@
 -- What a call is that moves alone at a machine.
 use Rattle.std.proofs.Common.{◌≡◌, ℕ, ◌+◌, ◌*◌, ◌<◌, Bool, true, false, length, refl, ap, ◌∙◌, arith}
-use Rattle.saa_object.specs.Object.{Object}
-use Rattle.saa_steps.specs.declared.call.Answer.{Answer}
-use Rattle.saa_steps.specs.declared.call.WordCall.{WordCall}
-use Rattle.saa_steps.specs.declared.call.WordCall.TheVariants.{Poll}
-use Rattle.saa_steps.specs.declared.place.Place.{Place}
-use Rattle.saa_steps.specs.declared.place.Next.{Next}
-use Rattle.saa_steps.specs.declared.operation.Operation.{Operation}
-use Rattle.saa_steps.specs.Lazy.{is_in}
-use Rattle.saa_steps.specs.Steps.{is_taken, needs_of, next_of, started, word_at, written_by}
-use Rattle.saa_standing.specs.Standing.{updated}
-use Rattle.saa_standing.specs.Stepped.{place_after, row_after}
-use Rattle.saa_standing.specs.Promises.{idle_place}
-use Rattle.saa_alone.specs.Alone.{Moment, IsCalledAlone, next_at, put, stepped}
-use Rattle.saa_alone.specs.Agrees.{Agrees}
-use Rattle.saa_alone.specs.Mirrors.{Mirrors}
-use Rattle.saa_alone.specs.Ends.{Ends}
-use Rattle.saa_alone.proofs.Alone.{alone, rules-lawful}
-use Rattle.saa_alone.proofs.Ends.{ends}
+use Rattle.saa_core_spec.specs.Object.{Object}
+use Rattle.saa_word_steps.specs.declared.call.Answer.{Answer}
+use Rattle.saa_word_steps.specs.declared.call.WordCall.{WordCall}
+use Rattle.saa_word_steps.specs.declared.call.WordCall.TheVariants.{Poll}
+use Rattle.saa_word_steps.specs.declared.place.Place.{Place}
+use Rattle.saa_word_steps.specs.declared.place.Next.{Next}
+use Rattle.saa_word_steps.specs.declared.operation.Operation.{Operation}
+use Rattle.saa_word_steps.specs.Lazy.{is_in}
+use Rattle.saa_word_steps.specs.Steps.{is_taken, needs_of, next_of, started, word_at, written_by}
+use Rattle.saa_word_proofs.specs.Standing.{updated}
+use Rattle.saa_word_proofs.specs.Stepped.{place_after, row_after}
+use Rattle.saa_word_proofs.specs.Promises.{idle_place}
+use Rattle.saa_word_proofs.specs.Alone.{Moment, IsCalledAlone, next_at, put, stepped}
+use Rattle.saa_word_proofs.specs.Agrees.{Agrees}
+use Rattle.saa_word_proofs.specs.Mirrors.{Mirrors}
+use Rattle.saa_word_proofs.specs.Ends.{Ends}
+use Rattle.saa_word_proofs.proofs.SoloLemmas.Alone.{alone, rules-lawful}
+use Rattle.saa_word_proofs.proofs.SoloLemmas.Ends.{ends}
 use Rattle.saa_word.specs.declared.moves.Move.TheVariants.{Start, Go}
 use Rattle.saa_word.specs.Machine.{State, is_lock, place_of, row_of}
 use Rattle.saa_word.specs.Moves.{gone, is_quiet, step_of, found_by, operation_at, worked_at}

@@ -3,32 +3,32 @@ use Rattle.std.proofs.Common.{◌≡◌, ℕ, ◌+◌, ◌*◌, ◌<◌, ◌≤�
 use Rattle.std.proofs.Math.ListN.{set, length-set}
 use Rattle.std.proofs.lemmas.Bool.{cases_Bool}
 use Rattle.std.specs.Prelude.{◌==◌, replicate}
-use Rattle.saa_steps.specs.declared.rules.Rules.{Rules}
-use Rattle.saa_object.proofs.Counts.{number_same, same_number}
-use Rattle.saa_steps.specs.declared.operation.Operation.{Operation}
-use Rattle.saa_steps.specs.declared.call.WordCall.{WordCall}
-use Rattle.saa_steps.specs.declared.call.Answer.{Answer}
-use Rattle.saa_steps.specs.declared.place.Place.{Place}
-use Rattle.saa_steps.specs.declared.place.Next.{Next}
-use Rattle.saa_steps.specs.declared.place.Next.TheVariants.{Going as GoesOn, Waits as HasToWait, Done as IsDone}
-use Rattle.saa_steps.specs.declared.place.Stage.TheVariants.{Quiet}
-use Rattle.saa_steps.specs.declared.place.Registration.{Registration}
-use Rattle.saa_steps.specs.Needs.{Needs}
-use Rattle.saa_steps.specs.Lazy.{Event}
-use Rattle.saa_steps.specs.Steps.{is_taken, needs_of, next_of, started, word_at, written_by}
-use Rattle.saa_standing.specs.Standing.{updated}
-use Rattle.saa_standing.specs.Stepped.{named, place_after, row_after}
-use Rattle.saa_standing.specs.Calls.{IsBegun, IsUnder, IsUnderNext}
-use Rattle.saa_standing.specs.Promises.{SaysSo, idle_place}
-use Rattle.saa_standing.proofs.Lists.{all-same, updated-same}
-use Rattle.saa_standing.proofs.Calls.{under-next}
-use Rattle.saa_standing.proofs.Starting.{call-begun}
-use Rattle.saa_standing.proofs.Promises.{says-so}
-use Rattle.saa_budgets.specs.Budget.{AreWithin, IsCounted, IsLower, budget, counted, made_by, way}
-use Rattle.saa_budgets.proofs.Bounds.{budget-bounded}
-use Rattle.saa_budgets.proofs.Lowered.{lowered}
-use Rattle.saa_budgets.proofs.Counted.{counted-within}
-use Rattle.saa_alone.proofs.Alone.{rules-lawful}
+use Rattle.saa_word_steps.specs.declared.rules.Rules.{Rules}
+use Rattle.saa_core_spec.proofs.Counts.{number_same, same_number}
+use Rattle.saa_word_steps.specs.declared.operation.Operation.{Operation}
+use Rattle.saa_word_steps.specs.declared.call.WordCall.{WordCall}
+use Rattle.saa_word_steps.specs.declared.call.Answer.{Answer}
+use Rattle.saa_word_steps.specs.declared.place.Place.{Place}
+use Rattle.saa_word_steps.specs.declared.place.Next.{Next}
+use Rattle.saa_word_steps.specs.declared.place.Next.TheVariants.{Going as GoesOn, Waits as HasToWait, Done as IsDone}
+use Rattle.saa_word_steps.specs.declared.place.Stage.TheVariants.{Quiet}
+use Rattle.saa_word_steps.specs.declared.place.Registration.{Registration}
+use Rattle.saa_word_steps.specs.Needs.{Needs}
+use Rattle.saa_word_steps.specs.Lazy.{Event}
+use Rattle.saa_word_steps.specs.Steps.{is_taken, needs_of, next_of, started, word_at, written_by}
+use Rattle.saa_word_proofs.specs.Standing.{updated}
+use Rattle.saa_word_proofs.specs.Stepped.{named, place_after, row_after}
+use Rattle.saa_word_proofs.specs.Calls.{IsBegun, IsUnder, IsUnderNext}
+use Rattle.saa_word_proofs.specs.Promises.{SaysSo, idle_place}
+use Rattle.saa_word_proofs.proofs.RefinementLemmas.Lists.{all-same, updated-same}
+use Rattle.saa_word_proofs.proofs.RefinementLemmas.Calls.{under-next}
+use Rattle.saa_word_proofs.proofs.RefinementLemmas.Starting.{call-begun}
+use Rattle.saa_word_proofs.proofs.RefinementLemmas.Promises.{says-so}
+use Rattle.saa_word_proofs.specs.Budget.{AreWithin, IsCounted, IsLower, budget, counted, made_by, way}
+use Rattle.saa_word_proofs.proofs.StepBoundLemmas.Bounds.{budget-bounded}
+use Rattle.saa_word_proofs.proofs.StepBoundLemmas.Lowered.{lowered}
+use Rattle.saa_word_proofs.proofs.StepBoundLemmas.Counted.{counted-within}
+use Rattle.saa_word_proofs.proofs.SoloLemmas.Alone.{rules-lawful}
 use Rattle.saa_word.specs.declared.moves.Move.{Move}
 use Rattle.saa_word.specs.declared.moves.Move.TheVariants.{Start, Go}
 use Rattle.saa_word.specs.declared.moves.Step.{Step}

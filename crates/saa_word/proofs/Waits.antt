@@ -1,29 +1,29 @@
 -- A place that has to wait is in a call that is held up, and leaves words and places as they are.
 use Rattle.std.proofs.Common.{get_or, ◌≡◌, ◌≢◌, ℕ, ◌<◌, true, false, List, length, Option, Some, None, refl, sym, subst, ◌∙◌, ap, inl, inr}
 use Rattle.std.proofs.Math.ListN.{set}
-use Rattle.saa_steps.specs.declared.operation.Operation.{Operation}
-use Rattle.saa_steps.specs.declared.call.WordCall.{WordCall}
-use Rattle.saa_steps.specs.declared.place.Place.{Place}
-use Rattle.saa_steps.specs.declared.place.Next.{Next}
-use Rattle.saa_steps.specs.declared.place.Next.TheVariants.{Waits as HasToWait}
-use Rattle.saa_steps.specs.declared.place.Stage.{Stage}
-use Rattle.saa_steps.specs.declared.place.Stage.TheVariants.{Quiet, ReadLoad, AskLoad, AskExchange, Prepare, Join, ReleaseLoad, ReleaseExchange, BackLoad, BackStore, Forward, CutToClose, CutToGoRound, Close, Empty, GoRound, ShowLoad, ShowStore, Take, FlagLoad, FlagExchange, LookLoad, LookStore, Unlink, DropTail, PoisonLoad, PoisonExchange, Clear}
-use Rattle.saa_steps.specs.declared.place.Taking.TheVariants.{Tries, Awaits, Gives}
-use Rattle.saa_steps.specs.declared.place.Back.{Back}
-use Rattle.saa_steps.specs.declared.place.Back.TheVariants.{Tells as TellsLine, Ends, Takes}
-use Rattle.saa_steps.specs.declared.place.Registration.{Registration}
-use Rattle.saa_words.specs.declared.word.Word.{Word}
-use Rattle.saa_steps.specs.Needs.{Needs}
-use Rattle.saa_steps.specs.Lazy.{Event, Lazy}
-use Rattle.saa_steps.specs.Steps.{needs_of, next_of, word_at, written_by}
-use Rattle.saa_standing.specs.Standing.{main_of}
-use Rattle.saa_standing.specs.Stepped.{place_after}
-use Rattle.saa_standing.specs.Calls.{IsLeavingLine, IsUnder, taken_by}
-use Rattle.saa_standing.specs.Stalls.{IsStalled}
-use Rattle.saa_standing.specs.Promises.{idle_place}
-use Rattle.saa_standing.proofs.Lists.{updated-at}
-use Rattle.saa_steps.specs.declared.call.WordCall.TheVariants.{Try, Register, Release, Available, TryLock, TryShare, RegisterMode, ReleaseLock, ReleaseShare, PoisonLock, ClearPoison, IsFree, IsLocked, IsShared, IsPoisoned, TryPoll, Poll, Cancel}
-use Rattle.saa_standing.proofs.Polls.{only-stalls}
+use Rattle.saa_word_steps.specs.declared.operation.Operation.{Operation}
+use Rattle.saa_word_steps.specs.declared.call.WordCall.{WordCall}
+use Rattle.saa_word_steps.specs.declared.place.Place.{Place}
+use Rattle.saa_word_steps.specs.declared.place.Next.{Next}
+use Rattle.saa_word_steps.specs.declared.place.Next.TheVariants.{Waits as HasToWait}
+use Rattle.saa_word_steps.specs.declared.place.Stage.{Stage}
+use Rattle.saa_word_steps.specs.declared.place.Stage.TheVariants.{Quiet, ReadLoad, AskLoad, AskExchange, Prepare, Join, ReleaseLoad, ReleaseExchange, BackLoad, BackStore, Forward, CutToClose, CutToGoRound, Close, Empty, GoRound, ShowLoad, ShowStore, Take, FlagLoad, FlagExchange, LookLoad, LookStore, Unlink, DropTail, PoisonLoad, PoisonExchange, Clear}
+use Rattle.saa_word_steps.specs.declared.place.Taking.TheVariants.{Tries, Awaits, Gives}
+use Rattle.saa_word_steps.specs.declared.place.Back.{Back}
+use Rattle.saa_word_steps.specs.declared.place.Back.TheVariants.{Tells as TellsLine, Ends, Takes}
+use Rattle.saa_word_steps.specs.declared.place.Registration.{Registration}
+use Rattle.saa_core_words.specs.declared.word.Word.{Word}
+use Rattle.saa_word_steps.specs.Needs.{Needs}
+use Rattle.saa_word_steps.specs.Lazy.{Event, Lazy}
+use Rattle.saa_word_steps.specs.Steps.{needs_of, next_of, word_at, written_by}
+use Rattle.saa_word_proofs.specs.Standing.{main_of}
+use Rattle.saa_word_proofs.specs.Stepped.{place_after}
+use Rattle.saa_word_proofs.specs.Calls.{IsLeavingLine, IsUnder, taken_by}
+use Rattle.saa_word_proofs.specs.Stalls.{IsStalled}
+use Rattle.saa_word_proofs.specs.Promises.{idle_place}
+use Rattle.saa_word_proofs.proofs.RefinementLemmas.Lists.{updated-at}
+use Rattle.saa_word_steps.specs.declared.call.WordCall.TheVariants.{Try, Register, Release, Available, TryLock, TryShare, RegisterMode, ReleaseLock, ReleaseShare, PoisonLock, ClearPoison, IsFree, IsLocked, IsShared, IsPoisoned, TryPoll, Poll, Cancel}
+use Rattle.saa_word_proofs.proofs.RefinementLemmas.Polls.{only-stalls}
 use Rattle.std.proofs.lemmas.List.{set-get_or}
 use Rattle.saa_word.specs.Machine.{State, place_of, row_of}
 use Rattle.saa_word.specs.Moves.{found_by, is_quiet, operation_at, worked_at}

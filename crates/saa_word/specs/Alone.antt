@@ -1,7 +1,7 @@
 -- A machine as a moment of its words and places, and one that is at rest.
 use Rattle.std.specs.Prelude.{◌≡◌, ℕ}
-use Rattle.saa_steps.specs.declared.place.Stage.TheVariants.{Quiet}
-use Rattle.saa_alone.specs.Alone.{Moment}
+use Rattle.saa_word_steps.specs.declared.place.Stage.TheVariants.{Quiet}
+use Rattle.saa_word_proofs.specs.Alone.{Moment}
 use Rattle.saa_word.specs.Machine.{State, place_of, row_of}
 
 -- the words and the places of a machine

@@ -1,7 +1,7 @@
 -- Which kind of atomic step is made at each stage.
 use Rattle.std.specs.Prelude.{Option, Some, None}
-use Rattle.saa_steps.specs.declared.place.Stage.{Stage}
-use Rattle.saa_steps.specs.declared.place.Stage.TheVariants.{Quiet, ReadLoad, AskLoad, AskExchange, Prepare as Preparing, Join as Joining, ReleaseLoad, ReleaseExchange, BackLoad, BackStore, Forward, CutToClose, CutToGoRound, Close, Empty, GoRound, ShowLoad, ShowStore, Take as Taking, FlagLoad, FlagExchange, LookLoad, LookStore, Unlink as Unlinking, DropTail, PoisonLoad, PoisonExchange, Clear as Clearing}
+use Rattle.saa_word_steps.specs.declared.place.Stage.{Stage}
+use Rattle.saa_word_steps.specs.declared.place.Stage.TheVariants.{Quiet, ReadLoad, AskLoad, AskExchange, Prepare as Preparing, Join as Joining, ReleaseLoad, ReleaseExchange, BackLoad, BackStore, Forward, CutToClose, CutToGoRound, Close, Empty, GoRound, ShowLoad, ShowStore, Take as Taking, FlagLoad, FlagExchange, LookLoad, LookStore, Unlink as Unlinking, DropTail, PoisonLoad, PoisonExchange, Clear as Clearing}
 use Rattle.saa_word.specs.declared.kind.Kind.{Kind}
 use Rattle.saa_word.specs.declared.kind.Kind.TheVariants.{Ask, Prepare, Join, Release, Walk, Publish, Show, Take, Flag, Unlink, Tail, Poison, Clear}
 

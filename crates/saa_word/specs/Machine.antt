@@ -1,12 +1,12 @@
 -- A form in words as contracts see it: its rules, the row of words, the places, and how many operations were made on the words.
 -- The row is the main word, then the line word of each place, then the answer word of each.
 use Rattle.std.specs.Prelude.{◌≡◌, ℕ, ◌+◌, ◌*◌, ◌<◌, ◌^◌, Bool, List, ◌∷◌, length, replicate, slice_index, slice_index_or}
-use Rattle.saa_steps.specs.declared.rules.Rules.{Rules}
-use Rattle.saa_steps.specs.declared.place.Place.{Place}
-use Rattle.saa_steps.specs.Lazy.{Lazy}
-use Rattle.saa_steps.specs.Steps.{needs_of}
-use Rattle.saa_standing.specs.Standing.{Stands}
-use Rattle.saa_standing.specs.Promises.{idle_place}
+use Rattle.saa_word_steps.specs.declared.rules.Rules.{Rules}
+use Rattle.saa_word_steps.specs.declared.place.Place.{Place}
+use Rattle.saa_word_steps.specs.Lazy.{Lazy}
+use Rattle.saa_word_steps.specs.Steps.{needs_of}
+use Rattle.saa_word_proofs.specs.Standing.{Stands}
+use Rattle.saa_word_proofs.specs.Promises.{idle_place}
 
 pub record State : Type 0 where
   pub rules : Rules

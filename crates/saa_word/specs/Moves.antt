@@ -1,13 +1,13 @@
 -- What a move of a machine does, and a list of moves.
 use Rattle.std.specs.Prelude.{◌≡◌, ℕ, ◌+◌, ◌<◌, ◌≤◌, Bool, true, false, List, [], ◌∷◌, length, slice_index, slice_set, if◌then◌else◌}
-use Rattle.saa_steps.specs.declared.call.WordCall.{WordCall}
-use Rattle.saa_steps.specs.declared.place.Stage.{Stage}
-use Rattle.saa_steps.specs.declared.place.Stage.TheVariants.{Quiet}
-use Rattle.saa_steps.specs.declared.place.Next.{Next}
-use Rattle.saa_steps.specs.declared.place.Next.TheVariants.{Going as GoesOn, Waits as HasToWait, Done as IsDone}
-use Rattle.saa_steps.specs.declared.operation.Operation.{Operation}
-use Rattle.saa_steps.specs.Steps.{is_taken, needs_of, next_of, operation_of, started, word_at, written_by}
-use Rattle.saa_standing.specs.Stepped.{place_after}
+use Rattle.saa_word_steps.specs.declared.call.WordCall.{WordCall}
+use Rattle.saa_word_steps.specs.declared.place.Stage.{Stage}
+use Rattle.saa_word_steps.specs.declared.place.Stage.TheVariants.{Quiet}
+use Rattle.saa_word_steps.specs.declared.place.Next.{Next}
+use Rattle.saa_word_steps.specs.declared.place.Next.TheVariants.{Going as GoesOn, Waits as HasToWait, Done as IsDone}
+use Rattle.saa_word_steps.specs.declared.operation.Operation.{Operation}
+use Rattle.saa_word_steps.specs.Steps.{is_taken, needs_of, next_of, operation_of, started, word_at, written_by}
+use Rattle.saa_word_proofs.specs.Stepped.{place_after}
 use Rattle.saa_word.specs.declared.moves.Move.{Move}
 use Rattle.saa_word.specs.declared.moves.Move.TheVariants.{Start, Go}
 use Rattle.saa_word.specs.declared.moves.Step.{Step}

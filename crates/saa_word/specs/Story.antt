@@ -1,22 +1,22 @@
 -- What is told of a machine beside its words and places, and how each move goes on with it.
 use Rattle.std.specs.Prelude.{◌≡◌, ℕ, ◌⊎◌, ◌+◌, ◌*◌, ◌≤◌, ◌==◌, ◌||◌, Bool, true, false, List, [], ◌∷◌, ◌++◌, Option, Some, None, is_some, length, if◌then◌else◌}
-use Rattle.saa_steps.specs.declared.call.WordCall.{WordCall}
-use Rattle.saa_steps.specs.declared.call.WordCall.TheVariants.{Poll, Cancel, PoisonLock}
-use Rattle.saa_steps.specs.declared.place.Place.{Place}
-use Rattle.saa_steps.specs.declared.place.Registration.{Registration}
-use Rattle.saa_steps.specs.declared.place.Stage.TheVariants.{Quiet}
-use Rattle.saa_steps.specs.declared.rules.Rules.TheVariants.{Permits}
-use Rattle.saa_steps.specs.Needs.{Needs, permit_needs}
-use Rattle.saa_steps.specs.Lazy.{Lazy, Event, IsRun, is_in, opening}
-use Rattle.saa_steps.specs.Steps.{needs_of}
-use Rattle.saa_words.specs.declared.word.Word.{Word}
-use Rattle.saa_standing.specs.Standing.{main_of, updated}
-use Rattle.saa_standing.specs.Stalls.{IsOwnedAndFlagged}
-use Rattle.saa_standing.specs.Stepped.{named, never_poisons, of_place}
-use Rattle.saa_standing.specs.Calls.{IsAnswered, IsUnder}
-use Rattle.saa_standing.specs.Promises.{SaysSo}
-use Rattle.saa_budgets.specs.Budget.{AreWithin}
-use Rattle.saa_balance.specs.Balance.{IsBalanced, tally_of}
+use Rattle.saa_word_steps.specs.declared.call.WordCall.{WordCall}
+use Rattle.saa_word_steps.specs.declared.call.WordCall.TheVariants.{Poll, Cancel, PoisonLock}
+use Rattle.saa_word_steps.specs.declared.place.Place.{Place}
+use Rattle.saa_word_steps.specs.declared.place.Registration.{Registration}
+use Rattle.saa_word_steps.specs.declared.place.Stage.TheVariants.{Quiet}
+use Rattle.saa_word_steps.specs.declared.rules.Rules.TheVariants.{Permits}
+use Rattle.saa_word_steps.specs.Needs.{Needs, permit_needs}
+use Rattle.saa_word_steps.specs.Lazy.{Lazy, Event, IsRun, is_in, opening}
+use Rattle.saa_word_steps.specs.Steps.{needs_of}
+use Rattle.saa_core_words.specs.declared.word.Word.{Word}
+use Rattle.saa_word_proofs.specs.Standing.{main_of, updated}
+use Rattle.saa_word_proofs.specs.Stalls.{IsOwnedAndFlagged}
+use Rattle.saa_word_proofs.specs.Stepped.{named, never_poisons, of_place}
+use Rattle.saa_word_proofs.specs.Calls.{IsAnswered, IsUnder}
+use Rattle.saa_word_proofs.specs.Promises.{SaysSo}
+use Rattle.saa_word_proofs.specs.Budget.{AreWithin}
+use Rattle.saa_word_proofs.specs.Balance.{IsBalanced, tally_of}
 use Rattle.saa_word.specs.declared.moves.Move.{Move}
 use Rattle.saa_word.specs.declared.moves.Move.TheVariants.{Start, Go}
 use Rattle.saa_word.specs.declared.moves.Step.{Step}

@@ -3,7 +3,7 @@
 ghost use Rattle.std.specs.Prelude.{◌≡◌};
 ghost use Rattle.saa_word.specs.Kinds.{kind_at};
 
-use saa_steps::place::Stage;
+use saa_word_steps::place::Stage;
 
 /// What an atomic step is for.
 #[derive(Clone, Copy, Debug, Eq, PartialEq)]

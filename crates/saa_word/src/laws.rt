@@ -1,16 +1,16 @@
 //! What a call is that moves alone at a machine, as the contract of a function that does nothing.
 
 ghost use Rattle.std.specs.Prelude.{◌≡◌, ℕ, ◌+◌, ◌*◌, ◌<◌, Bool, true, false, length};
-ghost use Rattle.saa_object.specs.Object.{Object};
-ghost use Rattle.saa_steps.specs.declared.call.Answer.{Answer};
-ghost use Rattle.saa_steps.specs.declared.call.WordCall.{WordCall};
-ghost use Rattle.saa_steps.specs.declared.call.WordCall.TheVariants.{Poll};
-ghost use Rattle.saa_steps.specs.Lazy.{is_in};
-ghost use Rattle.saa_steps.specs.Steps.{is_taken, needs_of, started};
-ghost use Rattle.saa_alone.specs.Alone.{Moment, IsCalledAlone, next_at, put, stepped};
-ghost use Rattle.saa_alone.specs.Agrees.{Agrees};
-ghost use Rattle.saa_alone.specs.Mirrors.{Mirrors};
-ghost use Rattle.saa_alone.specs.Ends.{Ends};
+ghost use Rattle.saa_core_spec.specs.Object.{Object};
+ghost use Rattle.saa_word_steps.specs.declared.call.Answer.{Answer};
+ghost use Rattle.saa_word_steps.specs.declared.call.WordCall.{WordCall};
+ghost use Rattle.saa_word_steps.specs.declared.call.WordCall.TheVariants.{Poll};
+ghost use Rattle.saa_word_steps.specs.Lazy.{is_in};
+ghost use Rattle.saa_word_steps.specs.Steps.{is_taken, needs_of, started};
+ghost use Rattle.saa_word_proofs.specs.Alone.{Moment, IsCalledAlone, next_at, put, stepped};
+ghost use Rattle.saa_word_proofs.specs.Agrees.{Agrees};
+ghost use Rattle.saa_word_proofs.specs.Mirrors.{Mirrors};
+ghost use Rattle.saa_word_proofs.specs.Ends.{Ends};
 ghost use Rattle.saa_word.specs.declared.moves.Move.TheVariants.{Start, Go};
 ghost use Rattle.saa_word.specs.Machine.{State, is_lock, place_of};
 ghost use Rattle.saa_word.specs.Moves.{gone, is_quiet, step_of};

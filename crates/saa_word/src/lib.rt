@@ -1,6 +1,6 @@
 //! Forms that are kept in words: a machine that makes one atomic step at a time, of any number of places.
 //!
-//! What a place does next, and how it goes on with what it finds, is `saa_steps`'. Here stand the words that the steps are
+//! What a place does next, and how it goes on with what it finds, is `saa_word_steps`'. Here stand the words that the steps are
 //! made on, and who may touch them. `docs/WORD.md` tells the protocol.
 #![tactic(auto)]
 
@@ -9,6 +9,4 @@ pub mod kind;
 pub mod laws;
 pub mod machine;
 pub mod moves;
-#[cfg(test)]
-mod tests;
 mod words;

@@ -1,6 +1,6 @@
 //! The moves of a machine, and what each of them answers.
 
-use saa_steps::call::{Answer, WordCall};
+use saa_word_steps::call::{Answer, WordCall};
 
 /// A move of one place, named by its number.
 #[derive(Clone, Copy, Debug, Eq, PartialEq)]

@@ -1,0 +1,156 @@
+//! A bounded queue with back pressure: producers wait while it is full, and consumers while it is empty.
+//!
+//! Two semaphores count the free places and the items; a mutex stands round the items themselves, in a ring that never grows.
+
+ghost use Rattle.std.specs.Prelude.{◌≡◌, ◌++◌, ◌∷◌, [], ◌<◌, true, drop, length, Err, IfErr, IsOk, slice_get};
+ghost use Rattle.example_queue.specs.declared.queue.Refused.TheVariants.{Closed};
+
+use circular_buffer::HeapCircularBuffer;
+use saa::Mutex;
+use saa::semaphore::{Permit, Semaphore};
+use saa::ticket::Full;
+use std::alloc::{AllocError, Global};
+use std::sync::Wait;
+
+/// The most items that a queue holds: one less than a semaphore has permits, so that closing has one to give.
+pub const MOST: u16 = 62;
+
+/// An item that was not taken, handed back, and why.
+#[derive(Clone, Copy, Debug, Eq, PartialEq)]
+pub enum Refused<T> {
+    /// The queue is closed.
+    Closed(T),
+    /// The queue is full, and the caller doesn't wait.
+    WouldWait(T),
+    /// As many tasks wait as the queue was made for.
+    TooMany(T),
+}
+
+/// The items that stand in a queue, oldest first, and whether it takes more.
+#[derive(Drop)]
+struct Items<T> {
+    ring: HeapCircularBuffer<T>,
+    is_closed: bool,
+}
+
+impl<T> Items<T> {
+    // Puts an item behind the others; a closed queue, and one that is full, hand it back.
+    fn put(&mut self, item: T) -> Result<(), Refused<T>>
+        ensures taken { IsOk result → self.new.ring.items ≡ self.old.ring.items ++ item ∷ [] }
+        ensures room { IsOk result → length self.old.ring.items < self.old.ring.capacity }
+        ensures refused { IfErr result (λ refused. self.new ≡ self.old) }
+        ensures bound { self.new.ring.capacity ≡ self.old.ring.capacity }
+        ensures closed { self.old.is_closed ≡ true → result ≡ Err (Closed item) }
+    {
+        if self.is_closed {
+            return Err(Refused::Closed(item));
+        }
+        match self.ring.try_push_back(item) {
+            Ok(()) => Ok(()),
+            Err(item) => Err(Refused::WouldWait(item)),
+        }
+    }
+
+    // Takes the oldest item.
+    fn take(&mut self) -> Option<T>
+        ensures oldest { result ≡ slice_get self.old.ring.items 0 }
+        ensures rest { self.new.ring.items ≡ drop 1 self.old.ring.items }
+        ensures bound { self.new.ring.capacity ≡ self.old.ring.capacity }
+    {
+        self.ring.pop_front()
+    }
+}
+
+/// A queue for at most so many items, which tasks in threads push and pop, each in the order of asking.
+#[derive(Drop)]
+pub struct Queue<R: Wait + Drop, T> {
+    free: Semaphore<R>,
+    filled: Semaphore<R>,
+    items: Mutex<R, Items<T>>,
+}
+
+impl<R: Wait + Drop + Copy, T: Drop> Queue<R, T> {
+    /// An empty queue for `bound` items, [`MOST`] where that is more, at which at most `tasks` wait at a time.
+    ///
+    /// All memory is taken here; the error comes only where that was refused.
+    pub fn new(rt: R, alloc: Global, bound: u16, tasks: u16) -> Result<Self, AllocError> {
+        let bound = usize::from(bound.min(MOST));
+        let items = Items {
+            ring: HeapCircularBuffer::with_capacity(alloc, bound)?,
+            is_closed: false,
+        };
+        Ok(Queue {
+            free: Semaphore::with_permits(rt, alloc, bound, tasks)?,
+            filled: Semaphore::with_permits(rt, alloc, 0, tasks)?,
+            items: Mutex::new(rt, alloc, items, tasks)?,
+        })
+    }
+
+    /// Puts an item behind the others, and waits for a place where there is none.
+    pub fn push(&self, item: T) -> Result<(), Refused<T>> {
+        match self.free.acquire_permit() {
+            Ok(place) => self.put(place, item),
+            Err(Full) => Err(Refused::TooMany(item)),
+        }
+    }
+
+    /// Puts an item behind the others if there is a place and nobody waits for one.
+    pub fn try_push(&self, item: T) -> Result<(), Refused<T>> {
+        match self.free.try_acquire_permit() {
+            Some(place) => self.put(place, item),
+            None => Err(Refused::WouldWait(item)),
+        }
+    }
+
+    /// Takes the oldest item, and waits for one where there is none.
+    ///
+    /// `None`: the queue is closed, and all items were taken. `Full`: as many tasks wait as the queue was made for.
+    pub fn pop(&self) -> Result<Option<T>, Full> {
+        let filled = self.filled.acquire_permit()?;
+        self.take(filled)
+    }
+
+    /// Takes the oldest item if there is one and nobody waits for one.
+    pub fn try_pop(&self) -> Result<Option<T>, Full> {
+        match self.filled.try_acquire_permit() {
+            Some(filled) => self.take(filled),
+            None => Ok(None),
+        }
+    }
+
+    /// Closes the queue: every push is refused from now on, those that wait among them, and each pop takes what is left.
+    ///
+    /// `Full`: as many tasks wait as the queue was made for; nothing is changed.
+    pub fn close(&self) -> Result<(), Full> {
+        self.items.lock()?.is_closed = true;
+        // One of those who wait is let in at each end, and lets in the next.
+        let _ = self.free.release();
+        let _ = self.filled.release();
+        Ok(())
+    }
+
+    // Puts an item into a place that the caller has. A place that stays free is given back.
+    fn put(&self, place: Permit<'_, R>, item: T) -> Result<(), Refused<T>> {
+        match self.items.lock() {
+            Ok(mut items) => items.put(item)?,
+            Err(Full) => return Err(Refused::TooMany(item)),
+        }
+        // Who takes the item gives the place back.
+        place.forget();
+        let _ = self.filled.release();
+        Ok(())
+    }
+
+    // Takes an item that the caller was let in for; there is none only where the queue was closed.
+    fn take(&self, filled: Permit<'_, R>) -> Result<Option<T>, Full> {
+        let taken = {
+            let mut items = self.items.lock()?;
+            items.take()
+        };
+        if taken.is_some() {
+            filled.forget();
+            let _ = self.free.release();
+        }
+        Ok(taken)
+    }
+}

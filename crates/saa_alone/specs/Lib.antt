@@ -1,4 +1,0 @@
-pub mod Alone
-pub mod Mirrors
-pub mod Agrees
-pub mod Ends

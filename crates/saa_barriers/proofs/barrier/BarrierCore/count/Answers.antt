@@ -1,7 +1,0 @@
-use Rattle.std.proofs.Common.{arith}
-use Rattle.saa_object.specs.declared.barrier.BarrierCall.TheVariants.{Count}
-use Rattle.saa_barriers.proofs.Rounds.{count_calls}
-use Rattle.saa_barriers.proofs.barrier.BarrierCore.count.Goals as goal
-
-pub returns-clause-calls : goal.returns-clause-calls
-returns-clause-calls c = rw (← c.self.view_is) (count_calls Count _ _ (omega arith))

@@ -1,5 +1,0 @@
-use Rattle.saa_tickets.proofs.Waking.{owes-same}
-use Rattle.saa_barriers.proofs.barrier.BarrierCorePrimitive.call.Goals as goal
-
-pub returns-clause-wakes : goal.returns-clause-wakes
-returns-clause-wakes c = rw (← c.self.view_is) (owes-same c.self.inside.line c.self.invariant.sound)

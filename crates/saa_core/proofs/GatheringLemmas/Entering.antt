@@ -1,0 +1,63 @@
+-- The gate: what those who enter are answered, what its calls do, and what happens when a waiter leaves.
+use Rattle.std.proofs.Common.{◌≡◌, ℕ, Bool, true, List, length, Some, None, Ok, refl, ap, ◌∙◌}
+use Rattle.saa_core_spec.specs.declared.request.Request.TheVariants.{Enter}
+use Rattle.saa_core_spec.specs.declared.gate.State.{State}
+use Rattle.saa_core_spec.specs.declared.gate.State.TheVariants.{Controlled, Sealed, Open}
+use Rattle.saa_core_spec.specs.declared.gate.GateAnswer.TheVariants.{Answered, Moved}
+use Rattle.saa_core_spec.specs.Held.{OfGate}
+use Rattle.saa_core_spec.specs.Object.{Object}
+use Rattle.saa_core_spec.specs.Asking.{registered, answer_at_once, answer_in}
+use Rattle.saa_core_spec.specs.Values.{spurious_value, sealed_value, opened_value}
+use Rattle.saa_core_spec.specs.Gate.{gate_state, let_through, moved}
+use Rattle.saa_core.specs.Slots.{Slots, all_slots_answered, IsSound}
+use Rattle.saa_core.specs.declared.ticket.Registration.{Registration}
+use Rattle.saa_core.specs.declared.ticket.Registration.TheVariants.{Unregistered, AtOnce}
+use Rattle.saa_core.specs.Tickets.{Core, Acts, Calls, object_of}
+use Rattle.saa_core.proofs.TicketLemmas.Polls.{after}
+use Rattle.saa_core.specs.GateParts.{answer_by_state}
+use Rattle.saa_core.proofs.GatheringLemmas.Gathering.{Gathers, register_answered}
+use Rattle.saa_core.proofs.TicketLemmas.Answering.{all-object, all-belong, all_calls}
+
+-- those who enter a sealed or an open gate are answered so
+enter_answer : (state : State) (v : ℕ) (s : Object) → s.held ≡ OfGate state → answer_by_state state ≡ Some v → answer_at_once s Enter ≡ Some (after v s)
+enter_answer Controlled v s is answered = cc
+enter_answer Sealed v s is answered = let same : sealed_value ≡ v = cc in ap (λ h. answer_in s h Enter) is ∙ ap (λ n. Some (after n s)) same
+enter_answer Open v s is answered = let same : opened_value ≡ v = cc in ap (λ h. answer_in s h Enter) is ∙ ap (λ n. Some (after n s)) same
+
+pub enter_answered : (state : State) (slots : Slots) (v : ℕ) (m : Bool) → answer_by_state state ≡ Some v
+    → Acts (record { held = OfGate state; slots = slots }) (record { held = OfGate state; slots = slots })
+    Unregistered (AtOnce v Enter m) (λ s name. registered s name Enter m) (Ok true)
+enter_answered state slots v m answered =
+    let c : Core = record { held = OfGate state; slots = slots } in
+    register_answered c c v Enter m refl (λ ts b. enter_answer state v (object_of c ts) refl answered) (λ ts b. b)
+
+-- those who enter another gate wait
+pub enter_waits : (state : State) (slots : Slots) → answer_by_state state ≡ None
+    → (ts : List Registration) → answer_at_once (object_of (record { held = OfGate state; slots = slots }) ts) Enter ≡ None
+enter_waits Controlled slots none ts = refl
+enter_waits Sealed slots none ts = cc
+enter_waits Open slots none ts = cc
+
+-- all others are answered that somebody gave up when a waiter leaves
+pub gives_up : (state : State) → Gathers (OfGate state) (all_slots_answered spurious_value)
+gives_up state = record {
+  undone = λ s r. refl;
+  left = λ slots ts sound b. all-object (OfGate state) spurious_value slots ts sound b;
+  belong = λ slots ts sound b. all-belong spurious_value slots ts sound b;
+}
+
+-- a controlled gate answers all who wait
+pub let_through_calls : (v : ℕ) (slots : Slots) → IsSound slots
+    → Calls (record { held = OfGate Controlled; slots = slots }) (record { held = OfGate Controlled; slots = all_slots_answered v slots })
+    (λ s. let_through s v (gate_state s.held)) (Answered (Ok (length slots.line)))
+let_through_calls v slots sound = record {
+  calls = λ ts b. (all_calls (OfGate Controlled) (OfGate Controlled) v slots (λ n. Answered (Ok n)) sound).calls ts b;
+}
+
+-- a gate goes to another state, and answers all who wait
+pub moved_calls : (from to : State) (v : ℕ) (slots : Slots) → IsSound slots
+    → Calls (record { held = OfGate from; slots = slots }) (record { held = OfGate to; slots = all_slots_answered v slots })
+    (λ s. moved s to v) (Moved from (length slots.line))
+moved_calls from to v slots sound = record {
+  calls = λ ts b. (all_calls (OfGate from) (OfGate to) v slots (λ n. Moved from n) sound).calls ts b;
+}

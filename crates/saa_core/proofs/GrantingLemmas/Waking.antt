@@ -1,0 +1,54 @@
+-- The wakes that are owed after each step of a core that grants.
+use Rattle.std.proofs.Common.{◌≡◌, ℕ, ◌<◌, Bool, true, false, ◌==◌, Option, Some, None, nat_lt, refl, arith, inl, inr}
+use Rattle.std.proofs.lemmas.Bool.Decides.{nat_tests}
+use Rattle.saa_core_spec.specs.declared.request.Request.{Request}
+use Rattle.saa_core_spec.specs.Held.{Held, less}
+use Rattle.saa_core_spec.specs.Object.{times, without}
+use Rattle.saa_core_spec.specs.Settling.{fitting_front}
+use Rattle.saa_core_spec.specs.Polling.{is_for_nothing}
+use Rattle.saa_core_spec.specs.Values.{granted_value}
+use Rattle.saa_core.specs.Slots.{answer_in, IsSound, OwesAnswered}
+use Rattle.saa_core.specs.Tickets.{Core}
+use Rattle.saa_core.proofs.TicketLemmas.Steps.{slots_taken}
+use Rattle.saa_core.proofs.TicketLemmas.Waking.{owes-same, owes-front, owes-taken, owes-left_front, sound-taken}
+use Rattle.saa_core.specs.CoreParts.{core_settled, core_given, core_given_of, core_undone, core_vacated, core_vacated_by}
+use Rattle.saa_core_spec.proofs.Counts.{bool_cases}
+
+-- settling owes those whom it grants
+pub owes-settled : (c : Core) → IsSound c.slots → OwesAnswered c.slots (core_settled c).slots
+unfolding core_settled
+owes-settled c sound = owes-front 0 (fitting_front c.held c.slots.line) c.slots sound
+
+-- and so does settling behind a slot that left
+pub owes-settled_left : (c : Core) (slot : ℕ) → IsSound c.slots → 0 < times slot c.slots.line
+    → OwesAnswered c.slots (core_settled (record c { slots = record c.slots { line = without slot c.slots.line } })).slots
+unfolding core_settled
+owes-settled_left c slot sound waits = owes-left_front 0 (fitting_front c.held (without slot c.slots.line)) c.slots slot sound waits
+
+-- giving back owes those whom it grants
+owes-given_of : (c : Core) (nothing : Bool) (rest : Option Held) → IsSound c.slots → OwesAnswered c.slots (core_given_of c nothing rest).slots
+owes-given_of c true rest sound = owes-same c.slots sound
+owes-given_of c false (Some rest) sound = owes-settled (record c { held = rest }) sound
+owes-given_of c false None sound = owes-same c.slots sound
+
+pub owes-given : (c : Core) (r : Request) → IsSound c.slots → OwesAnswered c.slots (core_given c r).slots
+owes-given c r sound = owes-given_of c (is_for_nothing r) (less c.held r) sound
+
+-- and so does undoing an answer
+pub owes-undone : (c : Core) (v : ℕ) (r : Request) → IsSound c.slots → OwesAnswered c.slots (core_undone c v r).slots
+owes-undone c v r sound =
+    elim (bool_cases (v == granted_value)) [
+      | inl e ↦ rw e (owes-given c r sound)
+      | inr e ↦ rw e (owes-same c.slots sound)
+    ]
+
+-- a slot that is freed owes those whom that grants
+owes-vacated_by : (c : Core) (slot : ℕ) (r : Request) (answer : Option ℕ) (waits : Bool) → IsSound c.slots
+    → answer_in c.slots.answers slot ≡ answer → nat_lt 0 (times slot c.slots.line) ≡ waits → OwesAnswered c.slots (core_vacated_by c slot r answer waits).slots
+owes-vacated_by c slot r (Some v) waits sound there is =
+    owes-taken c.slots _ slot (owes-undone (record c { slots = slots_taken c.slots slot }) v r (sound-taken c.slots slot v sound there))
+owes-vacated_by c slot r None true sound there is = owes-settled_left c slot sound (grind (arith, nat_tests))
+owes-vacated_by c slot r None false sound there is = owes-same c.slots sound
+
+pub owes-vacated : (c : Core) (slot : ℕ) (r : Request) → IsSound c.slots → OwesAnswered c.slots (core_vacated c slot r).slots
+owes-vacated c slot r sound = owes-vacated_by c slot r (answer_in c.slots.answers slot) (nat_lt 0 (times slot c.slots.line)) sound refl refl

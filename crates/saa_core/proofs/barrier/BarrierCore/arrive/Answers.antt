@@ -1,0 +1,48 @@
+use Rattle.std.proofs.Common.{◌≡◌, ◌+◌, true, false, length, ◌==◌, refl, rules}
+use Rattle.saa_core_spec.specs.declared.request.Request.TheVariants.{Arrive}
+use Rattle.saa_core.specs.declared.ticket.Registration.TheVariants.{Unregistered}
+use Rattle.saa_core.specs.Tickets.{is_busy}
+use Rattle.saa_core.proofs.TicketLemmas.Registering.{register_refused, idle_ticket, busy_or}
+use Rattle.saa_core_spec.specs.Barrier.{size_of}
+use Rattle.saa_core_spec.proofs.Counts.{same_number, other_number}
+use Rattle.saa_core.proofs.GatheringLemmas.Gathering.{register_full, register_joined}
+use Rattle.saa_core.proofs.GatheringLemmas.Rounds.{arrive_last, arrive_waits}
+use Rattle.saa_core.proofs.TicketLemmas.Waking.{owes-same, owes-joined, owes-all}
+use Rattle.saa_core.proofs.barrier.BarrierCore.arrive.Goals as goal
+
+pub returns-then-is_registered-clause-acts : goal.returns-then-is_registered-clause-acts
+returns-then-is_registered-clause-acts c =
+    let busy : is_busy c.args.ticket.now ≡ true = cc in
+    register_refused c.args.self.now c.args.ticket.now Arrive c.args.is_sync (busy_or _ _ busy)
+
+pub returns-then-completes_round-clause-acts : goal.returns-then-completes_round-clause-acts
+returns-then-completes_round-clause-acts c =
+    let idle : c.args.ticket.now ≡ Unregistered = idle_ticket c.args.ticket.now cc in
+    let test : (length c.args.self.now.slots.line + 1 == size_of c.args.self.now.held) ≡ true = cc in
+    let last : length c.self.inside.line.line + 1 ≡ c.self.inside.size = same_number _ _ (rw (← c.self.view_is) at test) in
+    rw (idle, c.set.ensures, c.answer_all.ensures.answered, ← c.self.view_is) (arrive_last c.self.inside.size c.self.inside.line c.args.is_sync c.self.invariant.sound last)
+
+pub returns-in_default-clause-acts : goal.returns-in_default-clause-acts
+returns-in_default-clause-acts c =
+    let idle : c.args.ticket.now ≡ Unregistered = idle_ticket c.args.ticket.now cc in
+    let full = c.in_default.ensures.full.0 (search rules) in
+    let test : (length c.args.self.now.slots.line + 1 == size_of c.args.self.now.held) ≡ false = cc in
+    rw (idle, c.in_default.ensures.unchanged, ← c.self.view_is) (register_full _ Arrive c.args.is_sync refl (arrive_waits c.self.inside.size c.self.inside.line (other_number _ _ (rw (← c.self.view_is) at test))) full)
+
+pub returns-clause-acts : goal.returns-clause-acts
+returns-clause-acts c =
+    let idle : c.args.ticket.now ≡ Unregistered = idle_ticket c.args.ticket.now cc in
+    let test : (length c.args.self.now.slots.line + 1 == size_of c.args.self.now.held) ≡ false = cc in
+    rw (idle, c.set-2.ensures, c.in-Some.ensures.joined, ← c.self.view_is) (register_joined _ c.self.inside.line c.in-Some.slot Arrive c.args.is_sync refl (arrive_waits c.self.inside.size c.self.inside.line (other_number _ _ (rw (← c.self.view_is) at test))) (λ full. (let wrong : true ≡ false = c.in-Some.ensures.full.1 full in cc)) c.in-Some.ensures.was_free)
+
+pub returns-then-is_registered-clause-wakes : goal.returns-then-is_registered-clause-wakes
+returns-then-is_registered-clause-wakes c = rw (← c.self.view_is) (owes-same c.self.inside.line c.self.invariant.sound)
+
+pub returns-then-completes_round-clause-wakes : goal.returns-then-completes_round-clause-wakes
+returns-then-completes_round-clause-wakes c = rw (c.answer_all.ensures.answered, ← c.self.view_is) (owes-all _ c.self.inside.line c.self.invariant.sound)
+
+pub returns-in_default-clause-wakes : goal.returns-in_default-clause-wakes
+returns-in_default-clause-wakes c = rw (c.in_default.ensures.unchanged, ← c.self.view_is) (owes-same c.self.inside.line c.self.invariant.sound)
+
+pub returns-clause-wakes : goal.returns-clause-wakes
+returns-clause-wakes c = rw (c.in-Some.ensures.joined, ← c.self.view_is) (owes-joined c.self.inside.line c.in-Some.slot Arrive c.self.invariant.sound)

@@ -1,0 +1,21 @@
+use Rattle.std.proofs.Common.{◌<◌, ap, refl}
+use Rattle.saa_core.proofs.TicketLemmas.Waking.{owes-same, owes-from, owes-left_all}
+use Rattle.saa_core_spec.specs.Object.{times}
+use Rattle.saa_core.specs.Slots.{Slots}
+use Rattle.saa_core.proofs.gate.GateCore.vacate.Goals as goal
+
+pub returns-then-is_some-clause-wakes : goal.returns-then-is_some-clause-wakes
+returns-then-is_some-clause-wakes c =
+    rw (← c.self.view_is)
+    (owes-from c.self.inside.line c.take.new.self c.take.new.self (ap (λ (s : Slots). s.line) c.take.ensures.taken) (ap (λ (s : Slots). s.owed) c.take.ensures.taken) (owes-same c.take.new.self c.take.ensures.sound))
+
+pub returns-then-leave-clause-wakes : goal.returns-then-leave-clause-wakes
+returns-then-leave-clause-wakes c =
+    let waits : 0 < times c.args.slot c.take.new.self.line = c.if-leave.ensures.waited.0 refl in
+    rw (c.answer_all.ensures.answered, c.if-leave.ensures.left, ← c.self.view_is)
+    (owes-from c.self.inside.line c.take.new.self _ (ap (λ (s : Slots). s.line) c.take.ensures.taken) (ap (λ (s : Slots). s.owed) c.take.ensures.taken) (owes-left_all _ c.take.new.self c.args.slot c.take.ensures.sound waits))
+
+pub returns-else-leave-clause-wakes : goal.returns-else-leave-clause-wakes
+returns-else-leave-clause-wakes c =
+    rw (c.if-leave.ensures.unchanged, ← c.self.view_is)
+    (owes-from c.self.inside.line c.take.new.self c.take.new.self (ap (λ (s : Slots). s.line) c.take.ensures.taken) (ap (λ (s : Slots). s.owed) c.take.ensures.taken) (owes-same c.take.new.self c.take.ensures.sound))

@@ -1,0 +1,26 @@
+-- The slot has an answer, so it isn't free, and the free slots leave a place in what is reserved.
+use Rattle.std.proofs.Common.{◌≡◌, Some, sym, ap, ◌∙◌, arith}
+use Rattle.std.proofs.lemmas.List.{length-set}
+use Rattle.saa_core.specs.Slots.{Slots, answer_in}
+use Rattle.saa_core.proofs.LineLemmas.{IsLine-taken, IsLine-not_free}
+use Rattle.saa_core.proofs.line.LineOf.take.Goals as goal
+
+pub push_reserved-requires : goal.push_reserved-requires
+push_reserved-requires g c =
+    let there : answer_in c.self.inside.answers.items c.args.slot ≡ Some c.in_ok-value.value =
+    ap (λ (s : Slots). answer_in s.answers c.args.slot) c.self.view_is ∙ sym c.in_ok-value.ensures.answer in
+    let fewer = IsLine-not_free _ _ _ _ _ _ there c.self.invariant.agrees in
+    omega (arith, fewer, c.self.invariant.free_reserved)
+
+pub invariant_of-self : goal.invariant_of-self
+invariant_of-self g c =
+    let there : answer_in c.self.inside.answers.items c.args.slot ≡ Some c.in_ok-value.value =
+    ap (λ (s : Slots). answer_in s.answers c.args.slot) c.self.view_is ∙ sym c.in_ok-value.ensures.answer in
+    let size = length-set c.self.inside.answers.items c.from.result c.new.result in
+    record {
+      agrees = rw (c.from.ensures, c.new.ensures, c.push_reserved.ensures.items) (IsLine-taken _ _ _ _ _ _ there c.self.invariant.agrees);
+      order_room = omega (arith, size, c.self.invariant.order_room);
+      free_reserved = omega (arith, size, c.push_reserved.ensures.capacity, c.self.invariant.free_reserved);
+      wakes_room = omega (arith, size, c.self.invariant.wakes_room);
+      owed = rw size c.self.invariant.owed;
+    }

@@ -1,0 +1,301 @@
+//! The barrier: as many tasks as its size wait for one another, and pass together.
+//!
+//! The core is held to `specs/Barrier.antt` of `saa_core_spec` by every call, with any tickets that are registered in it.
+//! Those who wait stand in a line; the last arrival of a round never does. That a round stays incomplete while tasks
+//! wait is `specs/BarrierStanding.antt`.
+
+ghost use Rattle.std.specs.Prelude.{true, false, ◌≡◌, ℕ, ◌+◌, ◌-◌, ◌<◌, ◌≤◌, ◌==◌, ◌||◌, length, min, replicate, slice_get, IsOk, IfOk, IfSome, OnErr, IsErr};
+ghost use Rattle.saa_core_spec.specs.declared.request.Request.TheVariants.{Arrive};
+ghost use Rattle.saa_core_spec.specs.declared.polling.Error.TheVariants.{NotRegistered};
+ghost use Rattle.saa_core.specs.declared.ticket.Registration.TheVariants.{Unregistered, AtOnce};
+ghost use Rattle.saa_core_spec.specs.Held.{OfBarrier, max_tasks};
+ghost use Rattle.saa_core_spec.specs.Asking.{registered};
+ghost use Rattle.saa_core_spec.specs.Polling.{polled, read_as};
+ghost use Rattle.saa_core_spec.specs.Values.{barrier_value, leader_value, passed_value};
+ghost use Rattle.saa_core_spec.specs.Barrier.{size_of, barrier_step, new_barrier};
+ghost use Rattle.saa_core.specs.Slots.{OwesAnswered, empty_slots, held_slots, room_of, wake_told, all_slots_answered};
+ghost use Rattle.saa_core.specs.Tickets.{Acts, Calls, Belong, Polled, IsForeign, dropping, fault_of, is_busy, is_yes, object_of};
+ghost use Rattle.saa_core.specs.BarrierStanding.{IsBarrierStanding};
+ghost use Rattle.saa_core.specs.Waiters.{IsWaiting, left_by};
+ghost use Rattle.saa_core.specs.GatheringParts.{vacated};
+
+use crate::bench::Primitive;
+use crate::line::Line;
+use crate::ticket::{Error, Full, How, Registration, Ticket};
+pub use saa_core_spec::barrier::{BarrierAnswer, BarrierCall};
+use saa_core_spec::request::Request;
+use std::alloc::{AllocError, Global};
+use std::fmt;
+use std::marker::Model;
+
+// The answer of an arrival whose round another one completed.
+const PASSED: u8 = 0;
+
+// The answer of the arrival that completes a round.
+const LEADER: u8 = 1;
+
+/// The core of a barrier for at most 63 tasks.
+///
+/// It is used by one task at a time; a threaded form puts a lock round it. Each ticket is used with the core that
+/// it was registered in. Only making takes memory, and nothing is refused for want of it afterwards.
+#[derive(Drop)]
+pub struct BarrierCore {
+    size: usize,
+    line: Line,
+}
+
+impl Model for BarrierCore {
+    ghost use Rattle.std.specs.Prelude.{◌≤◌};
+    ghost use Rattle.saa_core_spec.specs.Held.{OfBarrier, max_tasks};
+    ghost use Rattle.saa_core.specs.Slots.{IsSound};
+    ghost use Rattle.saa_core.specs.Tickets.{Core};
+    ghost use Rattle.saa_core.specs.BarrierStanding.{IsBarrierOf};
+
+    ghost Value = { Core };
+
+    ghost view = { λ barrier. record { held = OfBarrier barrier.size; slots = barrier.line } };
+
+    ghost invariant = { λ barrier. record {
+      sound : IsSound barrier.line;
+      small : barrier.size ≤ max_tasks;
+      incomplete : IsBarrierOf (OfBarrier barrier.size) barrier.line.line;
+    } };
+}
+
+impl BarrierCore {
+    /// The most tasks that a barrier is for.
+    pub const MAX_TASKS: usize = 63;
+
+    /// A barrier for so many tasks, and room for so many slots of those who wait. A number above 63 is cut to it.
+    /// Costs O(`room`).
+    ///
+    /// The size never changes. At a barrier of size 0 every arrival waits, and none is ever answered; at one of size 1
+    /// every arrival passes at once. Reserves all the memory that it will ever need; the error comes only where that was
+    /// refused.
+    pub fn with_count(alloc: Global, count: usize, room: u16) -> Result<Self, AllocError>
+        ensures made { IfOk result (λ core.
+            core ≡ record { held = OfBarrier (min count max_tasks); slots = empty_slots room }) }
+        ensures no_room { room ≡ 0 → IsOk result }
+        ensures idle_tickets { IfOk result (λ core. (names : ℕ) → Belong core.slots (replicate names Unregistered)) }
+        ensures object { IfOk result (λ core. (names : ℕ)
+            → object_of core (replicate names Unregistered) ≡ new_barrier count room names) }
+    {
+        let line = Line::with_room(alloc, room)?;
+        Ok(BarrierCore {
+            size: count.min(Self::MAX_TASKS),
+            line,
+        })
+    }
+
+    /// How many arrivals the round still waits for: the size less those who wait, and 0 at a barrier of size 0. Costs O(1).
+    pub fn count(&self) -> usize
+        ensures calls { Calls self.now self.now (barrier_step BarrierCall.Count) (BarrierAnswer.Count result) }
+        ensures answer { result ≡ size_of self.now.held - length self.now.slots.line }
+        ensures within { result ≤ max_tasks }
+    {
+        self.size.saturating_sub(usize::from(self.line.waiting()))
+    }
+
+    /// Registers an idle ticket as an arrival, as sync or as async.
+    ///
+    /// `Ok(true)`: where all others of the round wait, the round is complete: they are answered that they passed, and this
+    /// arrival is answered at once that it is the leader, and needs no slot. Else it waits, last in the line, in a slot.
+    /// `Ok(false)`: the ticket isn't idle; nothing changes. `Err(Full)`: it would have to wait, and as many slots are held
+    /// as there is room; nothing changes. Costs O(how many are answered).
+    pub fn arrive(&mut self, ticket: &mut Ticket, is_sync: bool) -> Result<bool, Full>
+        ensures acts { Acts self.old self.new ticket.old ticket.new (λ s name. registered s name Arrive is_sync) result }
+        ensures ticket { is_busy ticket.new ≡ (is_busy ticket.old || is_yes result) }
+        ensures busy { is_busy ticket.old ≡ true
+            → (result ≡ Ok false) × (self.new ≡ self.old) × (ticket.new ≡ ticket.old) }
+        ensures last { is_busy ticket.old ≡ false → length self.old.slots.line + 1 ≡ size_of self.old.held
+            → (result ≡ Ok true) × (self.new ≡ record self.old { slots = all_slots_answered passed_value self.old.slots })
+            × (ticket.new ≡ AtOnce leader_value Arrive is_sync) }
+        ensures full { IsErr result → held_slots self.old.slots ≡ room_of self.old.slots }
+        ensures nobody { ¬ (length self.old.slots.line + 1 ≡ size_of self.old.held)
+            → self.new.slots.owed ≡ self.old.slots.owed }
+        ensures refused { is_yes result ≡ false → (self.new ≡ self.old) × (ticket.new ≡ ticket.old) }
+        ensures size { self.new.held ≡ self.old.held }
+        ensures wakes { OwesAnswered self.old.slots self.new.slots }
+        ensures standing { IsBarrierStanding self.new }
+    {
+        if ticket.is_registered() {
+            let _opened = &self.line;
+            return Ok(false);
+        }
+        if self.completes_round() {
+            self.line.answer_all(PASSED);
+            ticket.set(Registration::AtOnce(LEADER, Request::Arrive, is_sync));
+            return Ok(true);
+        }
+        let Some(slot) = self.line.join(Request::Arrive) else {
+            return Err(Full);
+        };
+        ticket.set(Registration::InSlot(slot, Request::Arrive, is_sync));
+        Ok(true)
+    }
+
+    /// Polls a ticket for its answer: whether it is the leader of its round; a core never waits. Costs O(1).
+    ///
+    /// `NotRegistered`: the ticket is idle, or its slot isn't held in this core. `WrongMode`: it was registered as
+    /// async and is polled as sync, or the other way round. `NotReady`: its round isn't complete. None of these changes
+    /// anything. `Ok`: its slot is free again, and the ticket is idle.
+    pub fn poll(&mut self, ticket: &mut Ticket, how: How) -> Result<bool, Error>
+        ensures acts { Acts self.old self.new ticket.old ticket.new (λ s name. read_as barrier_value (polled s name how)) result }
+        ensures ticket { Polled ticket.old ticket.new how (fault_of result) }
+        ensures foreign { IsForeign self.old.slots ticket.old
+            → (result ≡ Err NotRegistered) × (self.new ≡ self.old) × (ticket.new ≡ ticket.old) }
+        ensures unchanged { OnErr result (self.new ≡ self.old) }
+        ensures size { self.new.held ≡ self.old.held }
+        ensures owed { self.new.slots.owed ≡ self.old.slots.owed }
+        ensures standing { IsBarrierStanding self.new }
+    {
+        let answer = self.poll_number(ticket, how);
+        read_answer(answer)
+    }
+
+    /// Polls a ticket for the number of its answer, as [`Self::poll`] does: 1 for the leader, and 0 for all others.
+    pub fn poll_number(&mut self, ticket: &mut Ticket, how: How) -> Result<u8, Error>
+        ensures acts { Acts self.old self.new ticket.old ticket.new (λ s name. polled s name how) result }
+        ensures ticket { Polled ticket.old ticket.new how (fault_of result) }
+        ensures foreign { IsForeign self.old.slots ticket.old
+            → (result ≡ Err NotRegistered) × (self.new ≡ self.old) × (ticket.new ≡ ticket.old) }
+        ensures unchanged { OnErr result (self.new ≡ self.old) }
+        ensures size { self.new.held ≡ self.old.held }
+        ensures owed { self.new.slots.owed ≡ self.old.slots.owed }
+        ensures standing { IsBarrierStanding self.new }
+    {
+        ticket.poll_in(&mut self.line, how)
+    }
+
+    /// Drops what a ticket is registered for: it is idle afterwards in every case, and nobody is answered.
+    ///
+    /// A waiter leaves the line, so the round waits for one arrival more. An answer that wasn't consumed is only consumed.
+    /// A ticket whose slot isn't held in this core changes nothing here. Costs O(how many wait) for a waiter, and else
+    /// O(1).
+    pub fn cancel(&mut self, ticket: &mut Ticket)
+        ensures acts { Acts self.old self.new ticket.old ticket.new dropping result }
+        ensures idle { ticket.new ≡ Unregistered }
+        ensures unregistered { ticket.old ≡ Unregistered → self.new ≡ self.old }
+        ensures taken_back { IsWaiting self.old.slots ticket.old
+            → self.new ≡ record self.old { slots = left_by ticket.old self.old.slots } }
+        ensures consumed { ¬ IsWaiting self.old.slots ticket.old → self.new.slots.line ≡ self.old.slots.line }
+        ensures foreign { IsForeign self.old.slots ticket.old → self.new ≡ self.old }
+        ensures nobody { self.new.slots.owed ≡ self.old.slots.owed }
+        ensures size { self.new.held ≡ self.old.held }
+        ensures wakes { OwesAnswered self.old.slots self.new.slots }
+        ensures standing { IsBarrierStanding self.new }
+    {
+        let _opened = &self.line;
+        let registration = ticket.registration();
+        ticket.set(Registration::Unregistered);
+        match registration {
+            Registration::Unregistered => {}
+            Registration::AtOnce(_value, _request, _is_sync) => {}
+            Registration::InSlot(slot, _request, _is_sync) => self.vacate(slot),
+        }
+    }
+
+    /// The oldest wake that is owed, which is told by this: the slot that was answered first out of those that weren't told
+    /// yet; `None` exactly where none is owed. A slot comes once however often it was answered in between. Costs O(1).
+    pub fn next_answered(&mut self) -> Option<u16>
+        ensures oldest { result ≡ slice_get self.old.slots.owed 0 }
+        ensures told { self.new ≡ record self.old { slots = wake_told self.old.slots } }
+        ensures within { IfSome result (λ slot. slot < room_of self.old.slots) }
+        ensures standing { IsBarrierStanding self.new }
+    {
+        self.line.next_answered()
+    }
+
+    // Whether all others of the round wait, so that one more arrival completes it.
+    fn completes_round(&self) -> bool
+        ensures { result ≡ (length self.now.slots.line + 1 == size_of self.now.held) }
+    {
+        usize::from(self.line.waiting()) + 1 == self.size
+    }
+
+    // Frees a slot of this core: its answer is consumed, or it leaves the line; a slot that isn't held is nothing.
+    fn vacate(&mut self, slot: u16)
+        ensures vacated { self.new ≡ record self.old { slots = vacated (λ s. s) self.old.slots slot } }
+        ensures nobody { self.new.slots.owed ≡ self.old.slots.owed }
+        ensures wakes { OwesAnswered self.old.slots self.new.slots }
+        ensures standing { IsBarrierStanding self.new }
+    {
+        if self.line.take(slot).is_none() {
+            let _left = self.line.leave(slot);
+        }
+    }
+}
+
+// What the number of an answer means: the leader or not.
+fn read_answer(answer: Result<u8, Error>) -> Result<bool, Error>
+    ensures { result ≡ barrier_value answer }
+{
+    match answer {
+        Ok(value) => Ok(value == LEADER),
+        Err(error) => Err(error),
+    }
+}
+
+impl Primitive for BarrierCore {
+    ghost use Rattle.saa_core_spec.specs.Barrier.{arrive_request, barrier_step};
+    ghost use Rattle.saa_core_spec.specs.Values.{barrier_value};
+    ghost use Rattle.saa_core.specs.BarrierStanding.{BarrierStands};
+
+    type Call = BarrierCall;
+
+    type Ask = ();
+
+    type Answer = BarrierAnswer;
+
+    type Value = Result<bool, Error>;
+
+    ghost core = { λ core. core };
+
+    ghost request = { arrive_request };
+
+    ghost step = { barrier_step };
+
+    ghost value = { barrier_value };
+
+    ghost stands = { BarrierStands };
+
+    fn stands(&self) {
+        let _opened = &self.line;
+    }
+
+    fn call(&mut self, call: BarrierCall) -> BarrierAnswer {
+        // The proof learns that a call which only reads owes nobody a wake.
+        let _opened = &self.line;
+        match call {
+            BarrierCall::Count => BarrierAnswer::Count(self.count()),
+        }
+    }
+
+    fn register(&mut self, ticket: &mut Ticket, _ask: (), is_sync: bool) -> Result<bool, Full> {
+        self.arrive(ticket, is_sync)
+    }
+
+    fn poll_number(&mut self, ticket: &mut Ticket, how: How) -> Result<u8, Error> {
+        BarrierCore::poll_number(self, ticket, how)
+    }
+
+    fn value_of(answer: Result<u8, Error>) -> Result<bool, Error> {
+        read_answer(answer)
+    }
+
+    fn cancel(&mut self, ticket: &mut Ticket) {
+        BarrierCore::cancel(self, ticket);
+    }
+
+    fn next_answered(&mut self) -> Option<u16> {
+        BarrierCore::next_answered(self)
+    }
+}
+
+impl fmt::Debug for BarrierCore {
+    fn fmt<W: fmt::Write>(&self, f: &mut fmt::Formatter<W>) -> fmt::Result {
+        let count = self.count();
+        let waiting = self.line.waiting();
+        write!(f, "BarrierCore {{ count: {count}, waiting: {waiting} }}")
+    }
+}

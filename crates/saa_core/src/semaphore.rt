@@ -1,0 +1,425 @@
+//! The semaphore: permits that are taken and given back, in the order of asking.
+//!
+//! The core is held to `specs/Semaphore.antt` of `saa_core_spec` by every call, with any tickets that are registered in it.
+//! It is thin: asking, settling and dropping stand in `granting`, and here what is out, and which counts there are.
+
+ghost use Rattle.std.specs.Prelude.{true, false, ◌≡◌, ℕ, ◌+◌, ◌-◌, ◌<◌, ◌≤◌, ◌↔◌, ◌==◌, ◌||◌, [], if◌then◌else◌, min, nat_lt, replicate, slice_get, IsTrue, IsNone, IsOk, IfOk, IfSome, OnErr, IsErr};
+ghost use Rattle.std.specs.Bool.{OnTrue, OnFalse};
+ghost use Rattle.saa_core_spec.specs.declared.request.Request.TheVariants.{Permits};
+ghost use Rattle.saa_core_spec.specs.declared.polling.Error.TheVariants.{NotRegistered};
+ghost use Rattle.saa_core.specs.declared.ticket.Registration.TheVariants.{Unregistered};
+ghost use Rattle.saa_core_spec.specs.Held.{OfSemaphore};
+ghost use Rattle.saa_core_spec.specs.Asking.{tried, registered};
+ghost use Rattle.saa_core_spec.specs.Polling.{polled, given_back, read_as};
+ghost use Rattle.saa_core_spec.specs.Values.{semaphore_value};
+ghost use Rattle.saa_core_spec.specs.Semaphore.{bound_of, out_of, available, new_semaphore};
+ghost use Rattle.saa_core.specs.Slots.{OwesAnswered, empty_slots, held_slots, room_of, wake_told};
+ghost use Rattle.saa_core_words.specs.Words.{count_bits, word_number, word_of};
+ghost use Rattle.saa_core.specs.MainWord.{core_word};
+ghost use Rattle.saa_core.specs.Tickets.{Acts, Calls, Belong, IsCoreSettled, Polled, IsForeign, dropping, fault_of, is_busy, is_yes, object_of};
+
+use crate::bench::Primitive;
+use crate::granting::{Granting, Needs};
+use crate::line::LinkedLine;
+use crate::ticket::{Error, Full, How, Ticket};
+use saa_core_spec::request::Request;
+pub use saa_core_spec::semaphore::{SemaphoreAnswer, SemaphoreCall};
+use saa_core_words::links::Links;
+use saa_core_words::requests::ForPermits;
+use saa_core_words::word::Word;
+use std::alloc::{AllocError, Global};
+use std::fmt;
+use std::marker::Model;
+
+/// The core of a semaphore of 63 permits.
+pub type SemaphoreCore = SemaphoreCoreOf<63>;
+
+/// The core of a semaphore of at most `MAX` permits, 1 to 65,535.
+///
+/// It is used by one task at a time; a threaded form puts a lock round it. Each ticket is used with the core that
+/// it was registered in. Only making takes memory, and nothing is refused for want of it afterwards.
+#[derive(Drop)]
+pub struct SemaphoreCoreOf<const MAX: usize> {
+    core: Granting<PermitsOut<MAX>>,
+}
+
+impl<const MAX: usize> Model for SemaphoreCoreOf<MAX> {
+    ghost use Rattle.saa_core.specs.Tickets.{Core};
+
+    ghost Value = { Core };
+
+    ghost view = { λ core. core.core };
+}
+
+impl SemaphoreCoreOf<63> {
+    /// The most permits of a semaphore.
+    pub const MAX_PERMITS: usize = 63;
+
+    /// The semaphore in one number, laid out as `docs/WORDS.md` draws it: from bit 0 the permits that are out, in 6 bits;
+    /// bits 6 and 7 clear; from bit 8 the newest who waits, by its slot plus 1, and 0 where nobody waits. Costs O(1).
+    pub fn word(&self) -> u64
+        ensures number { result ≡ word_number count_bits (core_word self.now) }
+        ensures read { word_of count_bits result ≡ core_word self.now }
+        ensures nobody { ((word_of count_bits result).tail ≡ 0) ↔ (self.now.slots.line ≡ []) }
+        ensures within { (word_of count_bits result).tail ≤ room_of self.now.slots }
+    {
+        let word = Word {
+            count: self.core.needs().out as u16,
+            is_flagged: false,
+            is_poisoned: false,
+            tail: self.core.waiters().tail(),
+        };
+        word.pack()
+    }
+}
+
+impl<const MAX: usize> SemaphoreCoreOf<MAX> {
+    /// A semaphore with all its permits available, and room for so many slots of those who wait. Costs O(`room`).
+    ///
+    /// Reserves all the memory that it will ever need; the error comes only where that was refused, and so never for
+    /// room 0, which takes none.
+    pub fn new(alloc: Global, room: u16) -> Result<Self, AllocError>
+        requires bound { 0 < MAX }
+        requires narrow { MAX < 65536 }
+        ensures made { IfOk result (λ core. core ≡ record { held = OfSemaphore MAX 0; slots = empty_slots room }) }
+        ensures no_room { room ≡ 0 → IsOk result }
+        ensures idle_tickets { IfOk result (λ core. (names : ℕ) → Belong core.slots (replicate names Unregistered)) }
+        ensures object { IfOk result (λ core. (names : ℕ)
+            → object_of core (replicate names Unregistered) ≡ new_semaphore MAX MAX room names) }
+    {
+        Self::with_permits(alloc, MAX, room)
+    }
+
+    /// A semaphore with at most so many permits available; the others count as out, and may be released.
+    /// A number above the bound is cut to it. Costs O(`room`).
+    ///
+    /// Reserves all the memory that it will ever need; the error comes only where that was refused, and so never for
+    /// room 0, which takes none.
+    pub fn with_permits(alloc: Global, permits: usize, room: u16) -> Result<Self, AllocError>
+        requires bound { 0 < MAX }
+        requires narrow { MAX < 65536 }
+        ensures made { IfOk result (λ core.
+            core ≡ record { held = OfSemaphore MAX (MAX - min permits MAX); slots = empty_slots room }) }
+        ensures no_room { room ≡ 0 → IsOk result }
+        ensures idle_tickets { IfOk result (λ core. (names : ℕ) → Belong core.slots (replicate names Unregistered)) }
+        ensures object { IfOk result (λ core. (names : ℕ)
+            → object_of core (replicate names Unregistered) ≡ new_semaphore MAX permits room names) }
+    {
+        let line = LinkedLine::<ForPermits>::with_room(alloc, room)?;
+        let needs = PermitsOut {
+            out: MAX - permits.min(MAX),
+        };
+        Ok(SemaphoreCoreOf {
+            core: Granting::new(needs, line),
+        })
+    }
+
+    /// How many permits are available. Costs O(1).
+    pub fn available_permits(&self) -> usize
+        ensures answer { result ≡ available self.now.held }
+        ensures within { result ≤ MAX }
+    {
+        MAX - self.core.needs().out
+    }
+
+    /// Whether a permit is available. Costs O(1).
+    pub fn is_open(&self) -> bool
+        ensures { result ≡ nat_lt (out_of self.now.held) (bound_of self.now.held) }
+    {
+        self.core.needs().out < MAX
+    }
+
+    /// Whether no permit is available. Costs O(1).
+    pub fn is_closed(&self) -> bool
+        ensures { result ≡ (out_of self.now.held == bound_of self.now.held) }
+    {
+        self.core.needs().out == MAX
+    }
+
+    /// Takes one permit if nobody waits and one is available; see [`Self::try_acquire_many`].
+    pub fn try_acquire(&mut self) -> bool
+        ensures calls { Calls self.old self.new (λ s. tried s (Permits 1)) result }
+        ensures answer { IsTrue result ↔ ((self.old.slots.line ≡ []) × (1 ≤ available self.old.held)) }
+        ensures refused { OnFalse result (self.new ≡ self.old) }
+        ensures wakes { OwesAnswered self.old.slots self.new.slots }
+        ensures settled { IsCoreSettled self.new }
+    {
+        self.try_acquire_many(1)
+    }
+
+    /// Takes `count` permits if nobody waits and they are available; never waits itself. Costs O(1).
+    ///
+    /// A count above the bound is never granted. 0 permits are refused too while somebody waits.
+    /// A `false` changes nothing. Rule: docs/DEFINITIONS.md, "Asking".
+    pub fn try_acquire_many(&mut self, count: usize) -> bool
+        ensures calls { Calls self.old self.new (λ s. tried s (Permits count)) result }
+        ensures answer { IsTrue result ↔ ((self.old.slots.line ≡ []) × (count ≤ available self.old.held)) }
+        ensures too_many { MAX < count → result ≡ false }
+        ensures taken { OnTrue result (available self.new.held + count ≡ available self.old.held) }
+        ensures refused { OnFalse result (self.new ≡ self.old) }
+        ensures wakes { OwesAnswered self.old.slots self.new.slots }
+        ensures settled { IsCoreSettled self.new }
+    {
+        let Some(request) = self.request_of(count) else {
+            return false;
+        };
+        self.core.try_take(request)
+    }
+
+    /// Gives one permit back; see [`Self::release_many`].
+    pub fn release(&mut self) -> bool
+        ensures calls { Calls self.old self.new (λ s. given_back s (Permits 1)) result }
+        ensures answer { IsTrue result ↔ (1 ≤ out_of self.old.held) }
+        ensures refused { OnFalse result (self.new ≡ self.old) }
+        ensures wakes { OwesAnswered self.old.slots self.new.slots }
+        ensures settled { IsCoreSettled self.new }
+    {
+        self.release_many(1)
+    }
+
+    /// Gives `count` permits back, and grants those who wait, oldest first, while they fit.
+    ///
+    /// `false` comes exactly where fewer permits are out, and changes nothing. 0 permits are given back always, and
+    /// change nothing. Costs O(how many are granted). Rule: docs/DEFINITIONS.md, "Settling".
+    pub fn release_many(&mut self, count: usize) -> bool
+        ensures calls { Calls self.old self.new (λ s. given_back s (Permits count)) result }
+        ensures answer { IsTrue result ↔ (count ≤ out_of self.old.held) }
+        ensures too_many { MAX < count → result ≡ false }
+        ensures refused { OnFalse result (self.new ≡ self.old) }
+        ensures wakes { OwesAnswered self.old.slots self.new.slots }
+        ensures settled { IsCoreSettled self.new }
+    {
+        let Some(request) = self.request_of(count) else {
+            return false;
+        };
+        self.core.take_back(request)
+    }
+
+    /// Registers an idle ticket for `count` permits, as sync or as async.
+    ///
+    /// `Ok(true)`: it is answered at once, where nobody waits and the permits are available; or it waits, last in the
+    /// line, in a slot. `Ok(false)`: the ticket isn't idle, or the count is above the bound; nothing changes.
+    /// `Err(Full)`: it would have to wait, and as many slots are held as there is room; nothing changes.
+    /// Costs O(1). Rule: docs/DEFINITIONS.md, "Asking".
+    pub fn register(
+        &mut self,
+        ticket: &mut Ticket,
+        count: usize,
+        is_sync: bool,
+    ) -> Result<bool, Full>
+        ensures acts { Acts self.old self.new ticket.old ticket.new (λ s name. registered s name (Permits count) is_sync) result }
+        ensures ticket { is_busy ticket.new ≡ (is_busy ticket.old || is_yes result) }
+        ensures busy { is_busy ticket.old ≡ true
+            → (result ≡ Ok false) × (self.new ≡ self.old) × (ticket.new ≡ ticket.old) }
+        ensures too_many { MAX < count
+            → (result ≡ Ok false) × (self.new ≡ self.old) × (ticket.new ≡ ticket.old) }
+        ensures full { IsErr result → held_slots self.old.slots ≡ room_of self.old.slots }
+        ensures refused { is_yes result ≡ false → (self.new ≡ self.old) × (ticket.new ≡ ticket.old) }
+        ensures wakes { OwesAnswered self.old.slots self.new.slots }
+        ensures settled { IsCoreSettled self.new }
+    {
+        let Some(request) = self.request_of(count) else {
+            return Ok(false);
+        };
+        self.core.register(ticket, request, is_sync)
+    }
+
+    /// Polls a ticket for its grant; a core never waits. Costs O(1).
+    ///
+    /// `NotRegistered`: the ticket is idle, or its slot isn't held in this core. `WrongMode`: it was registered as
+    /// async and is polled as sync, or the other way round. `NotReady`: it waits. None of these changes anything.
+    /// `Ok(())`: it was granted, its slot is free again, and the ticket is idle.
+    pub fn poll(&mut self, ticket: &mut Ticket, how: How) -> Result<(), Error>
+        ensures acts { Acts self.old self.new ticket.old ticket.new (λ s name. read_as semaphore_value (polled s name how)) result }
+        ensures ticket { Polled ticket.old ticket.new how (fault_of result) }
+        ensures foreign { IsForeign self.old.slots ticket.old
+            → (result ≡ Err NotRegistered) × (self.new ≡ self.old) × (ticket.new ≡ ticket.old) }
+        ensures unchanged { OnErr result (self.new ≡ self.old) }
+        ensures owed { self.new.slots.owed ≡ self.old.slots.owed }
+        ensures settled { IsCoreSettled self.new }
+    {
+        match self.poll_number(ticket, how) {
+            Ok(_granted) => Ok(()),
+            Err(error) => Err(error),
+        }
+    }
+
+    /// Polls a ticket for the number of its answer, as [`Self::poll`] does.
+    pub fn poll_number(&mut self, ticket: &mut Ticket, how: How) -> Result<u8, Error>
+        ensures acts { Acts self.old self.new ticket.old ticket.new (λ s name. polled s name how) result }
+        ensures ticket { Polled ticket.old ticket.new how (fault_of result) }
+        ensures foreign { IsForeign self.old.slots ticket.old
+            → (result ≡ Err NotRegistered) × (self.new ≡ self.old) × (ticket.new ≡ ticket.old) }
+        ensures unchanged { OnErr result (self.new ≡ self.old) }
+        ensures owed { self.new.slots.owed ≡ self.old.slots.owed }
+        ensures settled { IsCoreSettled self.new }
+    {
+        self.core.poll_number(ticket, how)
+    }
+
+    /// Drops what a ticket is registered for: it is idle afterwards in every case.
+    ///
+    /// A waiter leaves the line, and those behind it are granted while they fit. A grant that wasn't consumed is given
+    /// back as [`Self::release_many`] would. A ticket whose slot isn't held in this core changes nothing here.
+    /// Costs O(how many are granted), wherever a waiter stands.
+    pub fn cancel(&mut self, ticket: &mut Ticket)
+        ensures acts { Acts self.old self.new ticket.old ticket.new dropping result }
+        ensures idle { ticket.new ≡ Unregistered }
+        ensures unregistered { ticket.old ≡ Unregistered → self.new ≡ self.old }
+        ensures foreign { IsForeign self.old.slots ticket.old → self.new ≡ self.old }
+        ensures wakes { OwesAnswered self.old.slots self.new.slots }
+        ensures settled { IsCoreSettled self.new }
+    {
+        self.core.cancel(ticket);
+    }
+
+    /// The oldest wake that is owed, which is told by this: the slot that was answered first out of those that weren't told
+    /// yet; `None` exactly where none is owed. A slot comes once however often it was answered in between. Costs O(1).
+    pub fn next_answered(&mut self) -> Option<u16>
+        ensures oldest { result ≡ slice_get self.old.slots.owed 0 }
+        ensures told { self.new ≡ record self.old { slots = wake_told self.old.slots } }
+        ensures within { IfSome result (λ slot. slot < room_of self.old.slots) }
+    {
+        self.core.next_answered()
+    }
+
+    // The request for so many permits; `None` where that is more than there ever are.
+    fn request_of(&self, count: usize) -> Option<Request>
+        ensures request { result ≡ (if nat_lt MAX count then None else Some (Permits count)) }
+        ensures too_many { IsNone result ↔ (MAX < count) }
+        ensures held { self.now.held ≡ OfSemaphore MAX (out_of self.now.held) }
+        ensures bounded { out_of self.now.held ≤ MAX }
+        ensures quiet { OwesAnswered self.now.slots self.now.slots }
+        ensures settled { IsCoreSettled self.now }
+    {
+        let _permits = self.core.needs().out;
+        if count > MAX {
+            return None;
+        }
+        Some(Request::Permits(count as u16))
+    }
+}
+
+// The permits that are out.
+#[derive(Drop)]
+struct PermitsOut<const MAX: usize> {
+    out: usize,
+    ghost bounded: { out ≤ MAX },
+    ghost narrow: { MAX < 65536 },
+}
+
+impl<const MAX: usize> Needs for PermitsOut<MAX> {
+    ghost use Rattle.saa_core_spec.specs.Held.{OfSemaphore};
+
+    type Order = Links<ForPermits>;
+
+    ghost held = { λ permits. OfSemaphore MAX permits.out };
+
+    ghost grants = { λ permits. tt };
+
+    fn fits(&self, request: Request) -> bool {
+        let Request::Permits(count) = request else {
+            return false;
+        };
+        usize::from(count) <= MAX - self.out
+    }
+
+    fn take(&mut self, request: Request) {
+        if let Request::Permits(count) = request {
+            self.out += usize::from(count);
+        }
+    }
+
+    fn give_back(&mut self, request: Request) -> bool {
+        let Request::Permits(count) = request else {
+            return false;
+        };
+        let count = usize::from(count);
+        if count > self.out {
+            return false;
+        }
+        self.out -= count;
+        true
+    }
+
+    fn answer_to_all(&self) -> Option<u8> {
+        None
+    }
+}
+
+impl<const MAX: usize> Primitive for SemaphoreCoreOf<MAX> {
+    ghost use Rattle.saa_core_spec.specs.declared.request.Request.TheVariants.{Permits};
+    ghost use Rattle.saa_core_spec.specs.Semaphore.{semaphore_step};
+    ghost use Rattle.saa_core_spec.specs.Values.{semaphore_value};
+    ghost use Rattle.saa_core.specs.SemaphoreStanding.{SemaphoreStands};
+
+    type Call = SemaphoreCall;
+
+    type Ask = usize;
+
+    type Answer = SemaphoreAnswer;
+
+    type Value = Result<(), Error>;
+
+    ghost core = { λ core. core };
+
+    ghost request = { λ count. Permits count };
+
+    ghost step = { semaphore_step };
+
+    ghost value = { semaphore_value };
+
+    ghost stands = { SemaphoreStands MAX };
+
+    fn stands(&self) {
+        let _permits = self.core.needs();
+    }
+
+    fn call(&mut self, call: SemaphoreCall) -> SemaphoreAnswer {
+        // The proof learns that a call which only reads owes nobody a wake.
+        let _waiting = self.core.waiting();
+        match call {
+            SemaphoreCall::TryAcquireMany(count) => SemaphoreAnswer::Bool(self.try_acquire_many(
+                count,
+            )),
+            SemaphoreCall::ReleaseMany(count) => SemaphoreAnswer::Bool(self.release_many(count)),
+            SemaphoreCall::AvailablePermits => SemaphoreAnswer::Number(self.available_permits()),
+            SemaphoreCall::IsOpen => SemaphoreAnswer::Bool(self.is_open()),
+            SemaphoreCall::IsClosed => SemaphoreAnswer::Bool(self.is_closed()),
+        }
+    }
+
+    fn register(&mut self, ticket: &mut Ticket, count: usize, is_sync: bool) -> Result<bool, Full> {
+        SemaphoreCoreOf::register(self, ticket, count, is_sync)
+    }
+
+    fn poll_number(&mut self, ticket: &mut Ticket, how: How) -> Result<u8, Error> {
+        SemaphoreCoreOf::poll_number(self, ticket, how)
+    }
+
+    fn value_of(answer: Result<u8, Error>) -> Result<(), Error> {
+        match answer {
+            Ok(_granted) => Ok(()),
+            Err(error) => Err(error),
+        }
+    }
+
+    fn cancel(&mut self, ticket: &mut Ticket) {
+        SemaphoreCoreOf::cancel(self, ticket);
+    }
+
+    fn next_answered(&mut self) -> Option<u16> {
+        SemaphoreCoreOf::next_answered(self)
+    }
+}
+
+impl<const MAX: usize> fmt::Debug for SemaphoreCoreOf<MAX> {
+    fn fmt<W: fmt::Write>(&self, f: &mut fmt::Formatter<W>) -> fmt::Result {
+        let available = self.available_permits();
+        let waiting = self.core.waiting();
+        write!(
+            f,
+            "SemaphoreCore {{ available_permits: {available}, waiting: {waiting} }}"
+        )
+    }
+}

@@ -1,0 +1,124 @@
+-- What every step of a barrier keeps, and so every run.
+use Rattle.std.proofs.Common.{◌≡◌, ℕ, ◌+◌, ◌<◌, ◌≤◌, eqb, List, [], ◌∷◌, ◌++◌, length, Some, None, refl, ap, arith, All, length-append}
+use Rattle.std.proofs.lemmas.Bool.{eqb-false}
+use Rattle.std.proofs.lemmas.Option.{cond_some}
+use Rattle.saa_core_spec.specs.declared.request.Request.{Request}
+use Rattle.saa_core_spec.specs.declared.barrier.BarrierCall.{BarrierCall}
+use Rattle.saa_core_spec.specs.declared.barrier.BarrierCall.TheVariants.{Count}
+use Rattle.saa_core_spec.specs.declared.barrier.BarrierAnswer.{BarrierAnswer}
+use Rattle.saa_core_spec.specs.declared.run.CommandOf.{CommandOf}
+use Rattle.saa_core_spec.specs.Held.{Held, OfSemaphore, OfLock, OfGate, OfBarrier}
+use Rattle.saa_core_spec.specs.Object.{Object, After, Idle, Waiter, newly_made, with_entry, without}
+use Rattle.saa_core_spec.specs.Settling.{all_answered}
+use Rattle.saa_core_spec.specs.Asking.{answer_in}
+use Rattle.saa_core_spec.specs.Polling.{left_of, undone_of}
+use Rattle.saa_core_spec.specs.Values.{barrier_value, passed_value, leader_value}
+use Rattle.saa_core_spec.specs.Barrier.{barrier_step, arrive_request}
+use Rattle.saa_core_spec.specs.Run.{IsWithin, state_after}
+use Rattle.saa_core_laws.specs.Laws.{IsBarrierInOrder}
+use Rattle.saa_core_laws.proofs.Kept.{IsInOrder-kept, IsKept-newly_made, IsKept-all_answered, is_waiting-all_answered}
+use Rattle.saa_core_laws.proofs.Commands.{IsRight, IsRightAnswer, KeepsRight, IsRight-state_after, cond_none}
+use Rattle.saa_core_spec.proofs.Counts.{length-without}
+
+-- a barrier of this size whose round is incomplete, where one ever completes
+abbrev pub IsFineBarrier : ℕ → Held → List Waiter → Type 0
+IsFineBarrier most (OfBarrier size) line = (size ≡ most) × (0 < most → length line < most)
+IsFineBarrier most (OfSemaphore bound out) line = ⊥
+IsFineBarrier most (OfLock lock) line = ⊥
+IsFineBarrier most (OfGate gate) line = ⊥
+
+-- a barrier at which no more wait is fine
+pub IsFineBarrier-fewer : (most : ℕ) (held : Held) (line fewer : List Waiter) → length fewer ≤ length line → IsFineBarrier most held line
+    → IsFineBarrier most held fewer
+IsFineBarrier-fewer most (OfBarrier size) line fewer less fine = (fine.0, λ some. omega (arith, fine.1 some))
+IsFineBarrier-fewer most (OfSemaphore bound out) line fewer less fine = fine
+IsFineBarrier-fewer most (OfLock lock) line fewer less fine = fine
+IsFineBarrier-fewer most (OfGate gate) line fewer less fine = fine
+
+-- every call of a barrier changes nothing
+pub IsRight-barrier_step : (most names : ℕ) (call : BarrierCall) (s : Object) → IsRight (IsFineBarrier most) names s
+    → IsRight (IsFineBarrier most) names (barrier_step call s).state
+IsRight-barrier_step most names Count s right = right
+
+-- the last arrival of a round lets all pass who wait
+pub IsRightAnswer-arrived : (most names : ℕ) (s : Object) (held : Held) (line : List Waiter) (request : Request) (answer : After ℕ)
+    → IsFineBarrier most held line
+    → answer_in s held request ≡ Some answer
+    → IsRight (IsFineBarrier most) names s → IsRightAnswer (IsFineBarrier most) names s answer
+IsRightAnswer-arrived most names s (OfBarrier size) line request answer fine e right =
+    let parts = cond_some (eqb (length s.line + 1) size) (record { state = all_answered passed_value s; reply = leader_value }) answer e in
+    rw (← parts.1) (record {
+      right = record {
+        kept = IsKept-all_answered names passed_value s right.kept;
+        kind = IsFineBarrier-fewer most s.held s.line [] (omega arith) right.kind;
+      };
+      still = λ name before. is_waiting-all_answered names passed_value s name right.kept;
+    })
+IsRightAnswer-arrived most names s (OfSemaphore bound out) line request answer fine e right = absurd fine
+IsRightAnswer-arrived most names s (OfLock lock) line request answer fine e right = absurd fine
+IsRightAnswer-arrived most names s (OfGate gate) line request answer fine e right = absurd fine
+
+-- another arrival waits, and the round is still incomplete
+pub IsFineBarrier-joined : (most : ℕ) (s : Object) (held : Held) (waiter : Waiter) (request : Request) → IsFineBarrier most held s.line
+    → answer_in s held request ≡ None → IsFineBarrier most held (s.line ++ waiter ∷ [])
+IsFineBarrier-joined most s (OfBarrier size) waiter request fine e =
+    let incomplete = eqb-false (length s.line + 1) size (cond_none (eqb (length s.line + 1) size) _ e) in
+    (fine.0, λ some. omega (arith, fine.0, fine.1 some, length-append s.line (waiter ∷ [])))
+IsFineBarrier-joined most s (OfSemaphore bound out) waiter request fine e = absurd fine
+IsFineBarrier-joined most s (OfLock lock) waiter request fine e = absurd fine
+IsFineBarrier-joined most s (OfGate gate) waiter request fine e = absurd fine
+
+-- a name that waited has left
+pub IsRight-barrier_left : (most names : ℕ) (left : Object) (held : Held) (line : List Waiter) → IsFineBarrier most held line
+    → IsRight (IsFineBarrier most) names left → IsRight (IsFineBarrier most) names (left_of left held)
+IsRight-barrier_left most names left (OfBarrier size) line fine right = right
+IsRight-barrier_left most names left (OfSemaphore bound out) line fine right = absurd fine
+IsRight-barrier_left most names left (OfLock lock) line fine right = absurd fine
+IsRight-barrier_left most names left (OfGate gate) line fine right = absurd fine
+
+-- a dropped answer of a barrier gives nothing back
+pub IsRight-barrier_undone : (most names : ℕ) (s : Object) (held : Held) (line : List Waiter) (request : Request) → IsFineBarrier most held line
+    → IsRight (IsFineBarrier most) names s → IsRight (IsFineBarrier most) names (undone_of s held request)
+IsRight-barrier_undone most names s (OfBarrier size) line request fine right = right
+IsRight-barrier_undone most names s (OfSemaphore bound out) line request fine right = absurd fine
+IsRight-barrier_undone most names s (OfLock lock) line request fine right = absurd fine
+IsRight-barrier_undone most names s (OfGate gate) line request fine right = absurd fine
+
+-- every step of a barrier
+pub KeepsRight-barrier : (most names : ℕ) → KeepsRight BarrierCall BarrierAnswer (Unit {0}) (IsFineBarrier most) names arrive_request barrier_step
+KeepsRight-barrier most names = record {
+  calls = IsRight-barrier_step most names;
+  answers = λ s ask answer right e. IsRightAnswer-arrived most names s s.held s.line (arrive_request ask) answer right.kind e right;
+  joins = λ s name ask right e not_too_much. IsFineBarrier-joined most s s.held (name, arrive_request ask) (arrive_request ask) right.kind e;
+  leaves = λ s name right kept.
+      IsRight-barrier_left most names (record (with_entry s name Idle) { line = without name s.line }) s.held s.line right.kind
+      (record { kept = kept; kind = IsFineBarrier-fewer most s.held s.line (without name s.line) (omega (arith, length-without name s.line)) right.kind });
+  undoes = λ s asked right. IsRight-barrier_undone most names s s.held s.line asked right.kind right;
+}
+
+-- a fine barrier is one of this size
+pub barrier-bounded : (most : ℕ) (held : Held) (line : List Waiter) → IsFineBarrier most held line → held ≡ OfBarrier most
+barrier-bounded most (OfBarrier size) line fine = ap (λ (n : ℕ). OfBarrier n) fine.0
+barrier-bounded most (OfSemaphore bound out) line fine = absurd fine
+barrier-bounded most (OfLock lock) line fine = absurd fine
+barrier-bounded most (OfGate gate) line fine = absurd fine
+
+-- whose round is incomplete
+pub barrier-incomplete : (most : ℕ) (held : Held) (line : List Waiter) → IsFineBarrier most held line → 0 < most → length line < most
+barrier-incomplete most (OfBarrier size) line fine = fine.1
+barrier-incomplete most (OfSemaphore bound out) line fine = absurd fine
+barrier-incomplete most (OfLock lock) line fine = absurd fine
+barrier-incomplete most (OfGate gate) line fine = absurd fine
+
+-- every run of a newly made barrier leaves it in order
+pub barrier-in_order : (size room names : ℕ) (commands : List (CommandOf BarrierCall (Unit {0}))) → All (IsWithin names) commands
+    → IsBarrierInOrder size (state_after arrive_request barrier_step barrier_value commands (newly_made (OfBarrier size) room names))
+barrier-in_order size room names commands within =
+    let right = IsRight-state_after (IsFineBarrier size) names arrive_request barrier_step barrier_value
+    (KeepsRight-barrier size names) commands (newly_made (OfBarrier size) room names) within
+    (record { kept = IsKept-newly_made (OfBarrier size) room names; kind = (refl, λ some. some) }) in
+    record {
+      order = IsInOrder-kept names _ right.kept;
+      bounded = barrier-bounded size _ _ right.kind;
+      incomplete = barrier-incomplete size _ _ right.kind;
+    }

@@ -1,0 +1,484 @@
+-- Worked stories of the object: commands to a newly made primitive, each beside its reply.
+-- Each theorem holds by computation alone, over the very definitions of a run.
+-- Pagers go by their numbers. A registration is as sync where the comment doesn't say async.
+use Rattle.std.specs.Prelude.{◌≡◌, ℕ, Bool, true, false, List, [], ◌∷◌, ◌++◌, replicate, Some, None, Result, Ok, Err, refl}
+use Rattle.saa_core_spec.specs.declared.request.Request.TheVariants.{Permits}
+use Rattle.saa_core_spec.specs.declared.polling.Error.{Error}
+use Rattle.saa_core_spec.specs.declared.polling.Error.TheVariants.{NotReady}
+use Rattle.saa_core_spec.specs.declared.run.CommandOf.{CommandOf}
+use Rattle.saa_core_spec.specs.declared.run.CommandOf.TheVariants.{Call, Register, TryPoll, PollSync, PollAsync, Drop}
+use Rattle.saa_core_spec.specs.declared.run.ReplyOf.{ReplyOf}
+use Rattle.saa_core_spec.specs.declared.run.ReplyOf.TheVariants.{Answered, Registered, Polled, Dropped}
+use Rattle.saa_core_spec.specs.declared.semaphore.SemaphoreCall.{SemaphoreCall}
+use Rattle.saa_core_spec.specs.declared.semaphore.SemaphoreCall.TheVariants.{TryAcquireMany, ReleaseMany, AvailablePermits}
+use Rattle.saa_core_spec.specs.declared.semaphore.SemaphoreAnswer.{SemaphoreAnswer}
+use Rattle.saa_core_spec.specs.declared.semaphore.SemaphoreAnswer.TheVariants.{Bool as SemaphoreBool, Number}
+use Rattle.saa_core_spec.specs.declared.lock.Mode.{Mode}
+use Rattle.saa_core_spec.specs.declared.lock.Mode.TheVariants.{Exclusive, Shared, WaitExclusive, WaitShared}
+use Rattle.saa_core_spec.specs.declared.lock.TryLockError.TheVariants.{WouldBlock}
+use Rattle.saa_core_spec.specs.declared.lock.LockCall.{LockCall}
+use Rattle.saa_core_spec.specs.declared.lock.LockCall.TheVariants.{TryLock, TryShare, ReleaseLock, ReleaseShare, PoisonLock, ClearPoison, IsLocked, IsPoisoned}
+use Rattle.saa_core_spec.specs.declared.lock.LockAnswer.{LockAnswer}
+use Rattle.saa_core_spec.specs.declared.lock.LockAnswer.TheVariants.{Bool as LockBool, Tried}
+use Rattle.saa_core_spec.specs.declared.gate.State.{State}
+use Rattle.saa_core_spec.specs.declared.gate.State.TheVariants.{Controlled, Sealed, Open}
+use Rattle.saa_core_spec.specs.declared.gate.Error.{Error as GateError}
+use Rattle.saa_core_spec.specs.declared.gate.Error.TheVariants.{Sealed as SealedError, SpuriousFailure, NotRegistered as GateNotRegistered, WrongMode as GateWrongMode}
+use Rattle.saa_core_spec.specs.declared.gate.GateCall.{GateCall}
+use Rattle.saa_core_spec.specs.declared.gate.GateCall.TheVariants.{State as AskState, Reset, Permit, Open as DoOpen, Seal}
+use Rattle.saa_core_spec.specs.declared.gate.GateAnswer.{GateAnswer}
+use Rattle.saa_core_spec.specs.declared.gate.GateAnswer.TheVariants.{State as SaysState, Reset as SaysReset, Answered as SaysAnswered, Moved}
+use Rattle.saa_core_spec.specs.declared.barrier.BarrierCall.{BarrierCall}
+use Rattle.saa_core_spec.specs.declared.barrier.BarrierCall.TheVariants.{Count}
+use Rattle.saa_core_spec.specs.declared.barrier.BarrierAnswer.{BarrierAnswer}
+use Rattle.saa_core_spec.specs.declared.barrier.BarrierAnswer.TheVariants.{Count as SaysCount}
+use Rattle.saa_core_spec.specs.Held.{max_permits}
+use Rattle.saa_core_spec.specs.Settling.{settled}
+use Rattle.saa_core_spec.specs.Values.{semaphore_value, lock_value, gate_value, barrier_value}
+use Rattle.saa_core_spec.specs.Semaphore.{semaphore_step, new_semaphore}
+use Rattle.saa_core_spec.specs.Lock.{mode_request, lock_step, new_lock}
+use Rattle.saa_core_spec.specs.Gate.{enter_request, gate_step, new_gate}
+use Rattle.saa_core_spec.specs.Barrier.{arrive_request, barrier_step, new_barrier}
+use Rattle.saa_core_spec.specs.Run.{replies}
+
+-- a command and the reply that it gets
+abbrev pub LineOf : (C K A V : Type 0) → Type 0
+LineOf C K A V = CommandOf C K × ReplyOf A V
+
+-- the commands of a story
+abbrev pub commands_of : {C K A V : Type 0} → List (LineOf C K A V) → List (CommandOf C K)
+commands_of [] = []
+commands_of (line ∷ story) = line.0 ∷ commands_of story
+
+-- the replies that a story tells
+abbrev pub replies_of : {C K A V : Type 0} → List (LineOf C K A V) → List (ReplyOf A V)
+replies_of [] = []
+replies_of (line ∷ story) = line.1 ∷ replies_of story
+
+-- the number of names in each story; the stories use 1 to 4
+abbrev pub names : ℕ
+names = 5
+
+-- the room of a primitive where nothing else is said
+abbrev pub usual_room : ℕ
+usual_room = 4
+
+-- the story of a semaphore of 63 permits, made with so many of them available and with this room, goes as it is told
+abbrev pub SemaphoreTells : (permits room : ℕ) → List (LineOf SemaphoreCall ℕ SemaphoreAnswer (Result (Unit {0}) Error)) → Type 0
+SemaphoreTells permits room story =
+    replies Permits semaphore_step semaphore_value (commands_of story) (new_semaphore max_permits permits room names)
+    ≡ replies_of story
+
+-- the same of a lock
+abbrev pub LockTells : (room : ℕ) → List (LineOf LockCall Mode LockAnswer (Result Bool Error)) → Type 0
+LockTells room story =
+    replies mode_request lock_step lock_value (commands_of story) (new_lock room names) ≡ replies_of story
+
+-- the same of a gate
+abbrev pub GateTells : (room : ℕ) → List (LineOf GateCall (Unit {0}) GateAnswer (Result State GateError)) → Type 0
+GateTells room story =
+    replies enter_request gate_step gate_value (commands_of story) (new_gate room names) ≡ replies_of story
+
+-- the same of a barrier of a size
+abbrev pub BarrierTells : (size room : ℕ) → List (LineOf BarrierCall (Unit {0}) BarrierAnswer (Result Bool Error)) → Type 0
+BarrierTells size room story =
+    replies arrive_request barrier_step barrier_value (commands_of story) (new_barrier size room names) ≡ replies_of story
+
+-- a registration as sync
+abbrev reg : {C K : Type 0} → ℕ → K → CommandOf C K
+reg name ask = Register name ask true
+
+-- a registration as async
+abbrev reg_async : {C K : Type 0} → ℕ → K → CommandOf C K
+reg_async name ask = Register name ask false
+
+-- the registration stands: it was answered at once, or waits
+abbrev stands : {A V : Type 0} → ReplyOf A V
+stands = Registered (Ok true)
+
+-- the registration was refused, and changed nothing
+abbrev refused : {A V : Type 0} → ReplyOf A V
+refused = Registered (Ok false)
+
+-- the registration had to wait, and the room is full
+abbrev full : {A V : Type 0} → ReplyOf A V
+full = Registered (Err (record {}))
+
+-- an answer by a semaphore's call
+abbrev says : Bool → ReplyOf SemaphoreAnswer (Result (Unit {0}) Error)
+says answer = Answered (SemaphoreBool answer)
+
+-- the number of permits that are available
+abbrev number : ℕ → ReplyOf SemaphoreAnswer (Result (Unit {0}) Error)
+number permits = Answered (Number permits)
+
+-- the registration was granted
+abbrev granted : {A : Type 0} → ReplyOf A (Result (Unit {0}) Error)
+granted = Polled (Ok tt)
+
+-- an answer by a lock's call that isn't a try
+abbrev lock_says : Bool → ReplyOf LockAnswer (Result Bool Error)
+lock_says answer = Answered (LockBool answer)
+
+-- a try on a lock had what it asked
+abbrev taken : ReplyOf LockAnswer (Result Bool Error)
+taken = Answered (Tried (Ok tt))
+
+-- a try on a lock was refused, since it would wait
+abbrev would_block : ReplyOf LockAnswer (Result Bool Error)
+would_block = Answered (Tried (Err WouldBlock))
+
+-- the poll of a lock or a barrier had this answer
+abbrev polled_as : {A : Type 0} → Bool → ReplyOf A (Result Bool Error)
+polled_as answer = Polled (Ok answer)
+
+-- no answer yet, as a semaphore, a lock and a barrier say it
+abbrev not_ready : {A V : Type 0} → ReplyOf A (Result V Error)
+not_ready = Polled (Err NotReady)
+
+-- Semaphore
+
+-- Five permits wait while there are fewer, and the small ask behind them waits too; a try passes nobody.
+-- The release that makes five available grants them, and a later one the small ask.
+pub the_line_of_a_semaphore_is_fair : SemaphoreTells 63 usual_room (
+    (Call (TryAcquireMany 60), says true)
+    ∷ (reg 1 5, stands)
+    ∷ (reg 2 1, stands)
+    ∷ (Call (TryAcquireMany 1), says false)
+    ∷ (Call (ReleaseMany 1), says true)
+    ∷ (Call AvailablePermits, number 4)
+    ∷ (Call (ReleaseMany 1), says true)
+    ∷ (Call AvailablePermits, number 0)
+    ∷ (PollSync 1, granted)
+    ∷ (PollSync 2, not_ready)
+    ∷ (Call (ReleaseMany 5), says true)
+    ∷ (PollSync 2, granted)
+    ∷ (Call AvailablePermits, number 4)
+    ∷ [])
+unfolding settled
+the_line_of_a_semaphore_is_fair = refl
+
+-- Nine of the permits that are given back don't fit the waiter in front, which leaves; the one behind it has them then.
+pub a_waiter_that_leaves_lets_the_next_one_fit : SemaphoreTells 63 usual_room (
+    (Call (TryAcquireMany 63), says true)
+    ∷ (reg 1 11, stands)
+    ∷ (reg 2 9, stands)
+    ∷ (Call (ReleaseMany 9), says true)
+    ∷ (Call AvailablePermits, number 9)
+    ∷ (Drop 1, Dropped)
+    ∷ (PollSync 2, granted)
+    ∷ (Call AvailablePermits, number 0)
+    ∷ [])
+unfolding settled
+a_waiter_that_leaves_lets_the_next_one_fit = refl
+
+-- Room for one: a slot is held from joining until the answer is consumed, not only while it waits.
+pub an_answered_slot_is_still_held : SemaphoreTells 63 1 (
+    (Call (TryAcquireMany 63), says true)
+    ∷ (reg 1 1, stands)
+    ∷ (reg 2 1, full)
+    ∷ (Call (ReleaseMany 1), says true)
+    ∷ (reg 2 1, full)
+    ∷ (PollSync 1, granted)
+    ∷ (reg 2 1, stands)
+    ∷ [])
+unfolding settled
+an_answered_slot_is_still_held = refl
+
+-- No room: what would wait is refused as full, and what is granted at once needs no slot. The task that would wait
+-- registers here; that its callback isn't run is no matter of the object.
+pub without_room_only_a_grant_at_once_stands : SemaphoreTells 63 0 (
+    (Call (TryAcquireMany 63), says true)
+    ∷ (reg 1 1, full)
+    ∷ (reg 1 0, stands)
+    ∷ (PollSync 1, granted)
+    ∷ [])
+unfolding settled
+without_room_only_a_grant_at_once_stands = refl
+
+-- An ask for no permits passes nobody either: it waits behind the others, and is granted with them.
+-- Giving no permits back is true and grants nothing.
+pub no_permits_wait_in_turn : SemaphoreTells 63 usual_room (
+    (Call (TryAcquireMany 63), says true)
+    ∷ (reg 1 1, stands)
+    ∷ (Call (TryAcquireMany 0), says false)
+    ∷ (reg 2 0, stands)
+    ∷ (Call (ReleaseMany 0), says true)
+    ∷ (PollSync 2, not_ready)
+    ∷ (Call (ReleaseMany 1), says true)
+    ∷ (PollSync 1, granted)
+    ∷ (PollSync 2, granted)
+    ∷ (Call AvailablePermits, number 0)
+    ∷ [])
+unfolding settled
+no_permits_wait_in_turn = refl
+
+-- Made with 100 permits a semaphore has 63. Asks and releases above 63 are false, also one of 256.
+pub more_than_all_permits_is_never_granted : SemaphoreTells 100 usual_room (
+    (Call AvailablePermits, number 63)
+    ∷ (Call (TryAcquireMany 64), says false)
+    ∷ (reg 1 64, refused)
+    ∷ (Call (ReleaseMany 64), says false)
+    ∷ (Call (ReleaseMany 256), says false)
+    ∷ (Call AvailablePermits, number 63)
+    ∷ [])
+unfolding settled
+more_than_all_permits_is_never_granted = refl
+
+-- Permits that were withheld at the start may be released, and no more than 63 in all.
+pub withheld_permits_may_be_released : SemaphoreTells 0 usual_room (
+    (Call (ReleaseMany 1), says true)
+    ∷ (Call AvailablePermits, number 1)
+    ∷ (Call (TryAcquireMany 1), says true)
+    ∷ (Call (ReleaseMany 63), says true)
+    ∷ (Call (ReleaseMany 1), says false)
+    ∷ [])
+unfolding settled
+withheld_permits_may_be_released = refl
+
+-- The first use: 62 permits, which a task that may wait has at once, one more, and no other.
+-- The wait is its registration and its poll.
+pub taking_all_permits_and_giving_them_back : SemaphoreTells 63 usual_room (
+    (reg 1 62, stands)
+    ∷ (PollSync 1, granted)
+    ∷ (Call (TryAcquireMany 1), says true)
+    ∷ (Call (TryAcquireMany 1), says false)
+    ∷ (Call (ReleaseMany 1), says true)
+    ∷ (Call (ReleaseMany 63), says false)
+    ∷ (Call (ReleaseMany 62), says true)
+    ∷ (Call AvailablePermits, number 63)
+    ∷ [])
+unfolding settled
+taking_all_permits_and_giving_them_back = refl
+
+-- A grant made at once, and dropped before it is polled, goes back.
+pub a_dropped_grant_goes_back : SemaphoreTells 63 usual_room (
+    (Call (TryAcquireMany 60), says true)
+    ∷ (reg 1 3, stands)
+    ∷ (Call AvailablePermits, number 0)
+    ∷ (Drop 1, Dropped)
+    ∷ (Call AvailablePermits, number 3)
+    ∷ [])
+unfolding settled
+a_dropped_grant_goes_back = refl
+
+-- Lock
+
+-- All registrations are async. The share is granted alone, since the next in line wants the lock free. Once it is
+-- free, the task that only wants to hear of it is answered together with the owner behind it. Poison answers a wait
+-- mode too.
+pub shares_waits_and_owners_go_in_turn : LockTells usual_room (
+    (Call TryLock, taken)
+    ∷ (reg_async 1 Shared, stands)
+    ∷ (reg_async 2 WaitExclusive, stands)
+    ∷ (reg_async 3 Exclusive, stands)
+    ∷ (Call ReleaseLock, lock_says true)
+    ∷ (TryPoll 1, polled_as true)
+    ∷ (TryPoll 2, not_ready)
+    ∷ (TryPoll 3, not_ready)
+    ∷ (Call ReleaseShare, lock_says true)
+    ∷ (TryPoll 2, polled_as true)
+    ∷ (TryPoll 3, polled_as true)
+    ∷ (reg_async 2 WaitShared, stands)
+    ∷ (TryPoll 2, not_ready)
+    ∷ (Call PoisonLock, lock_says true)
+    ∷ (TryPoll 2, polled_as false)
+    ∷ [])
+unfolding settled
+shares_waits_and_owners_go_in_turn = refl
+
+-- 62 owners share a lock, and no more. Who waits to hear of a share takes none, so another task has it.
+pub at_most_62_owners_share : LockTells usual_room (
+    replicate 62 (Call TryShare, taken)
+    ++ (Call TryShare, would_block)
+    ∷ (reg 1 WaitShared, stands)
+    ∷ (Call ReleaseShare, lock_says true)
+    ∷ (PollSync 1, polled_as true)
+    ∷ (Call TryShare, taken)
+    ∷ [])
+unfolding settled
+at_most_62_owners_share = refl
+
+-- A waiter that poison answered gives nothing back when it is dropped: the later owner keeps the lock.
+pub a_dropped_poisoned_answer_gives_nothing_back : LockTells usual_room (
+    (Call TryLock, taken)
+    ∷ (reg 1 Exclusive, stands)
+    ∷ (Call PoisonLock, lock_says true)
+    ∷ (Call ClearPoison, lock_says true)
+    ∷ (Call TryLock, taken)
+    ∷ (Drop 1, Dropped)
+    ∷ (Call IsLocked, lock_says true)
+    ∷ [])
+unfolding settled
+a_dropped_poisoned_answer_gives_nothing_back = refl
+
+-- A waiter that leaves settles the line: the share behind it fits beside the share that is out.
+pub a_waiting_owner_that_leaves_lets_shares_in : LockTells usual_room (
+    (Call TryShare, taken)
+    ∷ (reg 1 Exclusive, stands)
+    ∷ (reg 2 Shared, stands)
+    ∷ (Drop 1, Dropped)
+    ∷ (TryPoll 2, polled_as true)
+    ∷ (Call ReleaseShare, lock_says true)
+    ∷ (Call ReleaseShare, lock_says true)
+    ∷ (Call ReleaseShare, lock_says false)
+    ∷ [])
+unfolding settled
+a_waiting_owner_that_leaves_lets_shares_in = refl
+
+-- A grant that is dropped before it is polled goes to the next in line.
+pub a_dropped_grant_goes_to_the_next : LockTells usual_room (
+    (Call TryLock, taken)
+    ∷ (reg 1 Exclusive, stands)
+    ∷ (reg 2 Exclusive, stands)
+    ∷ (Call ReleaseLock, lock_says true)
+    ∷ (Drop 1, Dropped)
+    ∷ (TryPoll 2, polled_as true)
+    ∷ (Call IsLocked, lock_says true)
+    ∷ [])
+unfolding settled
+a_dropped_grant_goes_to_the_next = refl
+
+-- An owner by a grant that isn't polled yet: the lock is poisoned meanwhile, and dropping the grant leaves the poison.
+pub a_grant_dropped_under_poison_leaves_the_poison : LockTells usual_room (
+    (reg 1 Exclusive, stands)
+    ∷ (Call PoisonLock, lock_says true)
+    ∷ (Drop 1, Dropped)
+    ∷ (Call IsPoisoned, lock_says true)
+    ∷ [])
+unfolding settled
+a_grant_dropped_under_poison_leaves_the_poison = refl
+
+-- The first use: an owner keeps all others out, and a share that nobody has isn't released. A wait is its
+-- registration and its poll: the free lock is granted, the poisoned one answers that it is poisoned.
+pub locking_poisoning_and_clearing : LockTells usual_room (
+    (Call TryLock, taken)
+    ∷ (Call TryLock, would_block)
+    ∷ (Call TryShare, would_block)
+    ∷ (Call ReleaseShare, lock_says false)
+    ∷ (Call ReleaseLock, lock_says true)
+    ∷ (reg 1 Exclusive, stands)
+    ∷ (PollSync 1, polled_as true)
+    ∷ (Call PoisonLock, lock_says true)
+    ∷ (reg 1 Exclusive, stands)
+    ∷ (PollSync 1, polled_as false)
+    ∷ (Call ClearPoison, lock_says true)
+    ∷ [])
+unfolding settled
+locking_poisoning_and_clearing = refl
+
+-- Gate
+
+-- Resetting a sealed gate makes it controlled, and tells what it was. A controlled gate has nothing to reset.
+pub a_reset_gate_is_controlled : GateTells usual_room (
+    (Call Seal, Answered (Moved Controlled 0))
+    ∷ (Call Reset, Answered (SaysReset (Some Sealed)))
+    ∷ (Call AskState, Answered (SaysState Controlled))
+    ∷ (Call Reset, Answered (SaysReset None))
+    ∷ [])
+unfolding settled
+a_reset_gate_is_controlled = refl
+
+-- A waiter of a gate that gives up wakes the others, which have to ask again; then nobody waits who could be let
+-- through, and an open gate can't permit.
+pub giving_up_at_a_gate_wakes_the_others : GateTells usual_room (
+    (reg 1 tt, stands)
+    ∷ (reg 2 tt, stands)
+    ∷ (Drop 1, Dropped)
+    ∷ (TryPoll 2, Polled (Err SpuriousFailure))
+    ∷ (Call Permit, Answered (SaysAnswered (Ok 0)))
+    ∷ (Call DoOpen, Answered (Moved Controlled 0))
+    ∷ (Call Permit, Answered (SaysAnswered (Err Open)))
+    ∷ [])
+unfolding settled
+giving_up_at_a_gate_wakes_the_others = refl
+
+-- A poll in the wrong mode leaves an answer that is there: the pager stays registered, which its next poll shows by
+-- having the answer. After that it is idle.
+pub a_poll_in_the_wrong_mode_leaves_the_answer : GateTells usual_room (
+    (TryPoll 1, Polled (Err GateNotRegistered))
+    ∷ (reg 1 tt, stands)
+    ∷ (Call DoOpen, Answered (Moved Controlled 1))
+    ∷ (PollAsync 1, Polled (Err GateWrongMode))
+    ∷ (PollSync 1, Polled (Ok Open))
+    ∷ (PollSync 1, Polled (Err GateNotRegistered))
+    ∷ [])
+unfolding settled
+a_poll_in_the_wrong_mode_leaves_the_answer = refl
+
+-- No room: at a controlled gate nobody can wait, and an open gate answers at once and needs no slot.
+pub a_gate_without_room_answers_once_it_is_open : GateTells 0 (
+    (reg 1 tt, full)
+    ∷ (Call DoOpen, Answered (Moved Controlled 0))
+    ∷ (reg 1 tt, stands)
+    ∷ (TryPoll 1, Polled (Ok Open))
+    ∷ [])
+unfolding settled
+a_gate_without_room_answers_once_it_is_open = refl
+
+-- A sealed gate refuses at once, an open one lets pass at once. Entering is its registration and its poll.
+pub a_sealed_gate_refuses_and_an_open_one_lets_pass : GateTells usual_room (
+    (Call Seal, Answered (Moved Controlled 0))
+    ∷ (reg 1 tt, stands)
+    ∷ (PollSync 1, Polled (Err SealedError))
+    ∷ (Call DoOpen, Answered (Moved Sealed 0))
+    ∷ (reg 1 tt, stands)
+    ∷ (PollSync 1, Polled (Ok Open))
+    ∷ [])
+unfolding settled
+a_sealed_gate_refuses_and_an_open_one_lets_pass = refl
+
+-- Barrier
+
+-- Three have to arrive. The arrival of a task that gives up is taken back, so the one after it waits, and the
+-- next is the leader of the round.
+pub an_arrival_that_is_taken_back_counts_no_more : BarrierTells 3 usual_room (
+    (reg 1 tt, stands)
+    ∷ (reg 2 tt, stands)
+    ∷ (PollSync 1, not_ready)
+    ∷ (PollSync 2, not_ready)
+    ∷ (Call Count, Answered (SaysCount 1))
+    ∷ (Drop 1, Dropped)
+    ∷ (Call Count, Answered (SaysCount 2))
+    ∷ (reg 3 tt, stands)
+    ∷ (PollSync 3, not_ready)
+    ∷ (reg 4 tt, stands)
+    ∷ (PollSync 4, polled_as true)
+    ∷ (PollSync 2, polled_as false)
+    ∷ (PollSync 3, polled_as false)
+    ∷ (Call Count, Answered (SaysCount 3))
+    ∷ [])
+unfolding settled
+an_arrival_that_is_taken_back_counts_no_more = refl
+
+-- A barrier of size 0 lets nobody pass: its first arrival waits. (That its callback runs is no matter of the object.)
+pub at_a_barrier_of_size_0_all_wait : BarrierTells 0 usual_room (
+    (reg 1 tt, stands)
+    ∷ (PollSync 1, not_ready)
+    ∷ (Call Count, Answered (SaysCount 0))
+    ∷ [])
+unfolding settled
+at_a_barrier_of_size_0_all_wait = refl
+
+-- At a barrier of size 1 each arrival is a leader at once, and so needs no room.
+pub at_a_barrier_of_size_1_nobody_waits : BarrierTells 1 0 (
+    (reg 1 tt, stands)
+    ∷ (PollSync 1, polled_as true)
+    ∷ (Call Count, Answered (SaysCount 1))
+    ∷ [])
+unfolding settled
+at_a_barrier_of_size_1_nobody_waits = refl
+
+-- The last arrival of a round needs no slot: room for one serves two. Until the one that waited has taken its answer,
+-- its slot is held, and the next round can't begin.
+pub the_last_arrival_needs_no_slot : BarrierTells 2 1 (
+    (reg 1 tt, stands)
+    ∷ (reg 2 tt, stands)
+    ∷ (reg 3 tt, full)
+    ∷ (PollSync 1, polled_as false)
+    ∷ (PollSync 2, polled_as true)
+    ∷ (reg 3 tt, stands)
+    ∷ (Call Count, Answered (SaysCount 1))
+    ∷ [])
+unfolding settled
+the_last_arrival_needs_no_slot = refl

@@ -1,0 +1,62 @@
+-- Laws that show that the definitions mean what they should. The functions of the module `laws` have them as
+-- their contracts; nothing else cites them.
+use Rattle.std.specs.Prelude.{◌≡◌, ◌⊎◌, ℕ, ◌<◌, ◌≤◌, Bool, true, false, IsTrue, List, [], ◌∷◌, length, take, drop, Some, slice_get, Contains}
+use Rattle.saa_core_spec.specs.declared.request.Request.{Request}
+use Rattle.saa_core_spec.specs.declared.gate.State.{State}
+use Rattle.saa_core_spec.specs.declared.gate.State.TheVariants.{Controlled}
+use Rattle.saa_core_spec.specs.Held.{Held, OfSemaphore, OfLock, OfGate, OfBarrier, LockState, Free, Poisoned, fits, IsLockState}
+use Rattle.saa_core_spec.specs.Object.{Object, Entry, Idle, Waiting, Answered, Waiter, entry_at, used, one_if, times}
+use Rattle.saa_core_spec.specs.Settling.{plus_all}
+
+-- Each of the first k of the line fits what is held plus the requests before it. A relation, which computes no k
+pub record IsFittingFront (held : Held) (line : List Waiter) (k : ℕ) : Type 0 where
+  pub within : k ≤ length line
+  pub each : (i : ℕ) (waiter : Waiter) → i < k → slice_get line i ≡ Some waiter → IsTrue (fits (plus_all held (take i line)) waiter.1)
+
+-- nobody in front fits
+abbrev pub StandsSettled : Held → List Waiter → Type 0
+StandsSettled held line = (k : ℕ) → IsFittingFront held line k → k ≡ 0
+
+-- fitting fronts of these lengths are granted one after another, and then the line stands settled
+abbrev pub GrantsInTurn : Held → List Waiter → List ℕ → Type 0
+GrantsInTurn held line [] = StandsSettled held line
+GrantsInTurn held line (k ∷ ks) = IsFittingFront held line k × GrantsInTurn (plus_all held (take k line)) (drop k line) ks
+
+-- whether an entry waits
+abbrev pub is_waiting : Entry → Bool
+is_waiting Idle = false
+is_waiting (Waiting request is_sync) = true
+is_waiting (Answered value request is_sync slotted) = false
+
+-- An object in order: the line holds exactly the names that wait, each once, and beside each what its entry waits for;
+-- and no more slots are held than there is room
+pub record IsInOrder (s : Object) : Type 0 where
+  pub once : (name : ℕ) → times name s.line ≡ one_if (is_waiting (entry_at s.book name))
+  pub same_request : (name : ℕ) (request : Request) → Contains s.line (name, request) → (is_sync : Bool) × (entry_at s.book name ≡ Waiting request is_sync)
+  pub within_room : used s ≤ s.room
+
+-- a semaphore in order: it keeps its bound, stands settled, and nobody waits while nothing is out
+pub record IsSemaphoreInOrder (bound : ℕ) (s : Object) : Type 0 where
+  pub order : IsInOrder s
+  pub bounded : (out : ℕ) × (s.held ≡ OfSemaphore bound out) × (out ≤ bound)
+  pub stands : StandsSettled s.held s.line
+  pub idle : s.held ≡ OfSemaphore bound 0 → s.line ≡ []
+
+-- a lock in order: it stands settled, and nobody waits while it is free or poisoned
+pub record IsLockInOrder (s : Object) : Type 0 where
+  pub order : IsInOrder s
+  pub bounded : (lock : LockState) × (s.held ≡ OfLock lock) × IsLockState lock
+  pub stands : StandsSettled s.held s.line
+  pub free : s.held ≡ OfLock Free → s.line ≡ []
+  pub poisoned : s.held ≡ OfLock Poisoned → s.line ≡ []
+
+-- a gate in order: nobody waits while it isn't controlled
+pub record IsGateInOrder (s : Object) : Type 0 where
+  pub order : IsInOrder s
+  pub bounded : (gate : State) × (s.held ≡ OfGate gate) × ((gate ≡ Controlled) ⊎ (s.line ≡ []))
+
+-- a barrier in order: it keeps its size, and fewer wait than pass together, where anybody ever does
+pub record IsBarrierInOrder (size : ℕ) (s : Object) : Type 0 where
+  pub order : IsInOrder s
+  pub bounded : s.held ≡ OfBarrier size
+  pub incomplete : 0 < size → length s.line < size

@@ -1,0 +1,17 @@
+pub mod Laws
+pub mod RunLaws
+pub mod Registrations
+pub mod Steps
+pub mod Leaders
+pub mod Conservation
+pub use Rattle.saa_core_spec.specs.Held
+pub use Rattle.saa_core_spec.specs.Object
+pub use Rattle.saa_core_spec.specs.Values
+pub use Rattle.saa_core_spec.specs.Settling
+pub use Rattle.saa_core_spec.specs.Asking
+pub use Rattle.saa_core_spec.specs.Polling
+pub use Rattle.saa_core_spec.specs.Semaphore
+pub use Rattle.saa_core_spec.specs.Lock
+pub use Rattle.saa_core_spec.specs.Gate
+pub use Rattle.saa_core_spec.specs.Barrier
+pub use Rattle.saa_core_spec.specs.Run

@@ -1,0 +1,45 @@
+-- The semaphore object: permits that are taken and given back.
+use Rattle.std.specs.Prelude.{ℕ, ◌-◌, Bool, ◌==◌, nat_lt, min}
+use Rattle.saa_core_spec.specs.declared.request.Request.TheVariants.{Permits}
+use Rattle.saa_core_spec.specs.declared.semaphore.SemaphoreCall.{SemaphoreCall}
+use Rattle.saa_core_spec.specs.declared.semaphore.SemaphoreCall.TheVariants.{TryAcquireMany, ReleaseMany, AvailablePermits, IsOpen, IsClosed}
+use Rattle.saa_core_spec.specs.declared.semaphore.SemaphoreAnswer.{SemaphoreAnswer}
+use Rattle.saa_core_spec.specs.declared.semaphore.SemaphoreAnswer.TheVariants.{Bool as SaysBool, Number}
+use Rattle.saa_core_spec.specs.Held.{Held, OfSemaphore, OfLock, OfGate, OfBarrier}
+use Rattle.saa_core_spec.specs.Object.{Object, After, newly_made}
+use Rattle.saa_core_spec.specs.Asking.{tried}
+use Rattle.saa_core_spec.specs.Polling.{given_back}
+
+-- the most permits that can be out; only a semaphore has any
+abbrev pub bound_of : Held → ℕ
+bound_of (OfSemaphore bound out) = bound
+bound_of (OfLock lock) = 0
+bound_of (OfGate gate) = 0
+bound_of (OfBarrier size) = 0
+
+-- the permits that are out; only a semaphore has any
+abbrev pub out_of : Held → ℕ
+out_of (OfSemaphore bound out) = out
+out_of (OfLock lock) = 0
+out_of (OfGate gate) = 0
+out_of (OfBarrier size) = 0
+
+-- how many permits are available
+abbrev pub available : Held → ℕ
+available held = bound_of held - out_of held
+
+-- a call's answer in the answers' type
+abbrev pub says_bool : After Bool → After SemaphoreAnswer
+says_bool after = record { state = after.state; reply = SaysBool after.reply }
+
+-- what each call of a semaphore answers, and leaves
+abbrev pub semaphore_step : SemaphoreCall → Object → After SemaphoreAnswer
+semaphore_step (TryAcquireMany count) s = says_bool (tried s (Permits count))
+semaphore_step (ReleaseMany count) s = says_bool (given_back s (Permits count))
+semaphore_step AvailablePermits s = record { state = s; reply = Number (available s.held) }
+semaphore_step IsOpen s = record { state = s; reply = SaysBool (nat_lt (out_of s.held) (bound_of s.held)) }
+semaphore_step IsClosed s = record { state = s; reply = SaysBool (out_of s.held == bound_of s.held) }
+
+-- a newly made semaphore that has at most so many permits available; the others are out, and may be released
+abbrev pub new_semaphore : (bound permits room names : ℕ) → Object
+new_semaphore bound permits room names = newly_made (OfSemaphore bound (bound - min permits bound)) room names

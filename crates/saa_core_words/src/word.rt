@@ -1,0 +1,46 @@
+//! The main word: what is held, whether somebody works on the line, poison, and the newest who waits.
+
+ghost use Rattle.std.specs.Prelude.{◌≡◌, ◌<◌};
+ghost use Rattle.saa_core_words.specs.Words.{count_bits, word_number, word_of};
+
+// How many counts a main word tells apart: 2 to the number of bits that it has for them.
+const COUNTS: u64 = 64;
+
+/// The parts of a main word.
+#[derive(Clone, Copy, Debug, Eq, PartialEq)]
+pub struct Word {
+    /// What is held, below 64: the permits that are out; of a lock 63 for one owner alone, and else how many share it.
+    pub count: u16,
+    /// Whether somebody works on the line.
+    pub is_flagged: bool,
+    /// Whether a lock is poisoned.
+    pub is_poisoned: bool,
+    /// The newest who waits, by its place plus 1; 0 where nobody waits.
+    pub tail: u16,
+}
+
+impl Word {
+    /// The number of a word: from bit 0 the count, in 6 bits, then the flag, then poison, and from bit 8 the tail.
+    /// It is read back by [`Self::unpack`].
+    pub fn pack(self) -> u64
+        requires { self.count < 64 }
+        ensures number { result ≡ word_number count_bits self }
+        ensures read { word_of count_bits result ≡ self }
+    {
+        let marks = u64::from(self.is_flagged) + 2 * u64::from(self.is_poisoned);
+        u64::from(self.count) + COUNTS * (marks + 4 * u64::from(self.tail))
+    }
+
+    /// The word of a number; bits behind the tail are passed over.
+    pub fn unpack(number: u64) -> Word
+        ensures { result ≡ word_of count_bits number }
+    {
+        let above = number / COUNTS;
+        Word {
+            count: (number % COUNTS) as u16,
+            is_flagged: above % 2 == 1,
+            is_poisoned: above / 2 % 2 == 1,
+            tail: (above / 4 % 65_536) as u16,
+        }
+    }
+}

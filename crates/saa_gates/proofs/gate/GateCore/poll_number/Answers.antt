@@ -1,5 +1,0 @@
-use Rattle.saa_object.specs.Held.{OfGate}
-use Rattle.saa_gates.proofs.gate.GateCore.poll_number.Goals as goal
-
-pub returns-clause-acts : goal.returns-clause-acts
-returns-clause-acts c = rw (← c.self.view_is) (c.poll_in.ensures.acts (OfGate c.self.inside.state))

@@ -1,5 +1,0 @@
-use Rattle.saa_tickets.proofs.Waking.{owes-same}
-use Rattle.saa_gates.proofs.gate.GateCore.reset.Goals as goal
-
-pub returns-in-Controlled-clause-wakes : goal.returns-in-Controlled-clause-wakes
-returns-in-Controlled-clause-wakes c = rw (← c.self.view_is) (owes-same c.self.inside.line c.self.invariant.sound)

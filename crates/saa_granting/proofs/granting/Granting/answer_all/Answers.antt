@@ -1,5 +1,0 @@
-use Rattle.saa_tickets.proofs.Waking.{owes-all}
-use Rattle.saa_granting.proofs.granting.Granting.answer_all.Goals as goal
-
-pub returns-clause-wakes : goal.returns-clause-wakes
-returns-clause-wakes g c = rw (c.answer_all.ensures.answered, ← c.self.view_is) (owes-all c.args.value c.self.inside.line c.self.invariant.sound)

@@ -1,5 +1,0 @@
-use Rattle.saa_tickets.proofs.Waking.{owes-same}
-use Rattle.saa_granting.proofs.granting.Granting.try_take.Goals as goal
-
-pub returns-then-not-takes_now-clause-wakes : goal.returns-then-not-takes_now-clause-wakes
-returns-then-not-takes_now-clause-wakes g c = rw (← c.self.view_is) (owes-same c.self.inside.line c.self.invariant.sound)

@@ -1,5 +1,0 @@
-use Rattle.saa_tickets.proofs.Waking.{owes-same}
-use Rattle.saa_granting.proofs.granting.Granting.waiting.Goals as goal
-
-pub returns-clause-quiet : goal.returns-clause-quiet
-returns-clause-quiet g c = rw (← c.self.view_is) (owes-same c.self.inside.line c.self.invariant.sound)

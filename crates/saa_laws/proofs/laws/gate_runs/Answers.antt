@@ -1,6 +1,0 @@
--- Every run of a newly made gate leaves it in order.
-use Rattle.saa_laws.proofs.GateLaws.{gate-in_order}
-use Rattle.saa_laws.proofs.laws.gate_runs.Goals as goal
-
-pub returns : goal.returns
-returns c = gate-in_order

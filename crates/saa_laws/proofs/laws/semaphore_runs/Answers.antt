@@ -1,6 +1,0 @@
--- Every run of a newly made semaphore leaves it in order.
-use Rattle.saa_laws.proofs.SemaphoreLaws.{semaphore-in_order}
-use Rattle.saa_laws.proofs.laws.semaphore_runs.Goals as goal
-
-pub returns : goal.returns
-returns c = semaphore-in_order

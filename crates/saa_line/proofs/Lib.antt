@@ -1,2 +1,0 @@
-pub mod WakesLemmas
-pub mod LineLemmas

@@ -1,4 +1,0 @@
-pub mod Slots
-pub mod LineParts
-pub use Rattle.saa_object.specs.Held
-pub use Rattle.saa_object.specs.Object

@@ -1,0 +1,64 @@
+//! What scripts say to a barrier, and what it answers. Held to `specs/BarrierWords.antt`.
+//!
+//! A poll that answers true or false, and a registration that says nothing of what it asks, are here too: a lock and a
+//! gate share them.
+ghost use Rattle.std.specs.Prelude.{◌≡◌};
+ghost use Rattle.saa_run.specs.Language.{lone_call_in};
+ghost use Rattle.saa_run.specs.BarrierWords.{barrier_answer, barrier_readings};
+ghost use Rattle.saa_run.specs.Replies.{truth_poll};
+ghost use Rattle.saa_run.specs.ScriptSaid.{said_words};
+
+use crate::script::said::Said;
+use crate::script::spoken::{Spoken, nothing_asked, said_truth};
+use saa_core::barrier::{BarrierAnswer, BarrierCall, BarrierCore};
+use saa_core::ticket::Error;
+
+impl Spoken for BarrierCore {
+    ghost readings = { barrier_readings };
+
+    ghost answer_words = { barrier_answer };
+
+    ghost poll_words = { truth_poll };
+
+    fn lone_call(word: &[u8]) -> Option<BarrierCall> {
+        lone_call(word)
+    }
+
+    #[tactic(auto, unfolding(crate::specs::Language::counted_call_in))]
+    fn counted_call(_word: &[u8], _count: usize) -> Option<BarrierCall> {
+        None
+    }
+
+    #[tactic(auto, unfolding(crate::specs::Language::ask_in))]
+    fn ask(field: Option<&[u8]>) -> Option<()> {
+        nothing_asked(field)
+    }
+
+    fn said_answer(answer: BarrierAnswer) -> Said {
+        said_answer(answer)
+    }
+
+    fn said_poll(answer: Result<bool, Error>) -> Said {
+        said_truth(answer)
+    }
+}
+
+/// The call.
+#[tactic(auto, unfolding(crate::specs::Language::lone_call_in))]
+fn lone_call(word: &[u8]) -> Option<BarrierCall>
+    ensures { result ≡ lone_call_in barrier_readings word.now }
+{
+    if word == b"count".as_slice() {
+        return Some(BarrierCall::Count);
+    }
+    None
+}
+
+/// What the call's answer says.
+fn said_answer(answer: BarrierAnswer) -> Said
+    ensures { said_words result ≡ barrier_answer answer }
+{
+    match answer {
+        BarrierAnswer::Count(number) => Said::Number(number),
+    }
+}

@@ -1,0 +1,276 @@
+//! Workers on threads of their own, over one gate, one barrier, one semaphore and one journal.
+//!
+//! Each enters the gate, passes the barrier some times, takes and gives back permits, and calls the journal; then its share
+//! of the journal is handed in. What the threads do at the three shared forms no contract can say. What the journal's
+//! shares count together is proved: a worker is done only with all its calls, and the count comes only where all are.
+
+#[cfg(test)]
+mod tests;
+
+ghost use Rattle.std.specs.Prelude.{◌≡◌, ◌<◌, ◌*◌, All, IfOk, replicate};
+ghost use Rattle.saa_core.specs.declared.ticket.Registration.TheVariants.{Unregistered};
+ghost use Rattle.saa_core.specs.Tickets.{object_of};
+
+use saa::barrier::Barrier;
+use saa::bench::CommandOf;
+use saa::gate::Gate;
+use saa::journal::{Journal, Journalled, Share};
+use saa::semaphore::{Semaphore, SemaphoreCall, SemaphoreCore};
+use std::alloc::{AllocError, Global};
+use std::marker::Brand;
+use std::sync::atomic::Ordering;
+use std::sync::ledger::Blank;
+use std::sync::{Mutex, Wait};
+use std::thread::{self, Threads};
+
+// How often a worker waits at the barrier, how often it takes permits, and how often it calls the journal.
+const PHASES: u8 = 4;
+
+const TURNS: u8 = 100;
+
+const CALLS: usize = 50;
+
+// How many permits it takes at a time.
+const PERMITS: usize = 2;
+
+/// What the workers counted together.
+#[derive(Clone, Copy, Debug, Eq, PartialEq)]
+pub struct Counts {
+    /// How many arrivals at the barrier were told that they were the last of their round: one in each.
+    pub leaders: usize,
+    /// How many permits are available when all are done: as many as there were.
+    pub available: usize,
+    /// How many calls were written into the journal.
+    pub journal: usize,
+}
+
+/// Somebody who watches the workers; for tests.
+pub(crate) trait Watch {
+    /// The worker of this number, counted from 0, is about to wait at the barrier for the first time.
+    fn begin(&self, worker: u8);
+
+    /// A worker has permits of this semaphore, and is about to give them back.
+    fn hold<R: Wait + Drop>(&self, permits: &Semaphore<R>);
+}
+
+/// Nobody watches.
+struct Nobody;
+
+impl Watch for Nobody {
+    fn begin(&self, _worker: u8) {}
+
+    fn hold<R: Wait + Drop>(&self, _permits: &Semaphore<R>) {}
+}
+
+/// A worker that hasn't started.
+#[derive(Drop)]
+struct Worker<J: Journal> {
+    number: u8,
+    share: Share<J>,
+    ghost unused: { share.calls ≡ 0 },
+}
+
+/// What a worker has that is done with everything.
+#[derive(Drop)]
+struct Done<J: Journal> {
+    leaders: usize,
+    share: Share<J>,
+    ghost called: { share.calls ≡ 50 },
+}
+
+/// What the workers share.
+#[derive(Drop)]
+struct Place<'r, J: Journal, R: Wait> {
+    rt: &'r R,
+    gate: Gate<&'r R>,
+    barrier: Barrier<&'r R>,
+    permits: Semaphore<&'r R>,
+    journal: Mutex<Journalled<SemaphoreCore, J>>,
+    done: Mutex<Vec<Done<J>>>,
+}
+
+impl<'r, J: Journal, R: Wait> Place<'r, J, R> {
+    // All that one worker does. It ends at a sealed gate, and where the journal gets no memory: then it isn't done.
+    fn work<W: Watch>(&self, worker: Worker<J>, watch: &W) {
+        let Worker { number, share } = worker;
+        let Ok(Ok(_open)) = self.gate.enter_sync() else {
+            return;
+        };
+        watch.begin(number);
+        let leaders = self.meet();
+        self.share_permits(watch);
+        // Last, so that nobody waits for a worker that gets no memory here.
+        if let Some(done) = self.write(leaders, share) {
+            let _ = self.done.lock(self.rt).push(done);
+        }
+    }
+
+    // Passes the barrier, and tells how often it was the last to come.
+    fn meet(&self) -> usize {
+        let mut leaders = 0usize;
+        for _phase in 0..PHASES {
+            let is_last = self.barrier.wait_sync() == Ok(true);
+            leaders = leaders.saturating_add(usize::from(is_last));
+        }
+        leaders
+    }
+
+    // Takes permits and gives them back.
+    fn share_permits<W: Watch>(&self, watch: &W) {
+        for _turn in 0..TURNS {
+            if self.permits.acquire_many_sync(PERMITS) == Ok(true) {
+                watch.hold(&self.permits);
+                let _ = self.permits.release_many(PERMITS);
+            }
+        }
+    }
+
+    // Makes all calls of the journal; nothing where memory for one of them was refused.
+    fn write(&self, leaders: usize, share: Share<J>) -> Option<Done<J>>
+        requires { share.calls ≡ 0 }
+    {
+        let mut share = share;
+        let command = CommandOf::Call(SemaphoreCall::TryAcquireMany(1));
+        while share.calls() < CALLS {
+            let _reply = self.journal.lock(self.rt).call(&command, &mut share).ok()?;
+        }
+        Some(Done { leaders, share })
+    }
+}
+
+// Starts a thread for each worker, and opens the gate once all have started. Where one can't be started, the gate is
+// sealed, at which those that have started end. Whether all were.
+fn start_all<J: Journal + Send + Sync, R: Threads + Wait + Sync, W: Watch + Sync>(
+    place: &Place<'_, J, R>,
+    workers: Vec<Worker<J>>,
+    watch: &W,
+) -> bool {
+    thread::scope(thread::scope_env(), place.rt, |scope| {
+        for worker in workers {
+            if scope.spawn(move || place.work(worker, watch)).is_err() {
+                let _ = place.gate.seal();
+                return false;
+            }
+        }
+        let _ = place.gate.open();
+        true
+    })
+}
+
+// A worker for each share.
+fn workers_of<J: Journal>(
+    alloc: Global,
+    shares: Vec<Share<J>>,
+) -> Result<Vec<Worker<J>>, AllocError>
+    requires { All (λ share. share.calls ≡ 0) shares.items }
+{
+    let mut workers = Vec::with_capacity(alloc, shares.len())?;
+    let (mut shares, mut number) = (shares, 0u8);
+    while let Some(share) = shares.pop() {
+        workers.push_reserved(Worker { number, share });
+        number = number.wrapping_add(1);
+    }
+    Ok(workers)
+}
+
+// How often those that are done led at the barrier, and how many calls the journal has. The error comes where a worker
+// isn't done, or memory was refused.
+fn gather<J: Journal>(
+    alloc: Global,
+    journal: Journalled<SemaphoreCore, J>,
+    done: Vec<Done<J>>,
+) -> Result<(usize, usize), AllocError>
+    requires { J.dealt ≡ J.parts }
+    ensures { IfOk result (λ counted. counted.1 ≡ 50 * J.parts) }
+{
+    let mut shares = Vec::with_capacity(alloc, done.len())?;
+    let (mut done, mut leaders) = (done, 0usize);
+    while let Some(
+        Done {
+            leaders: led,
+            share,
+        },
+    ) = done.pop()
+    {
+        leaders = leaders.saturating_add(led);
+        shares.push_reserved(share);
+    }
+    let mut journal = journal;
+    match journal.gather(shares) {
+        Some(calls) => Ok((leaders, calls)),
+        None => Err(AllocError),
+    }
+}
+
+// Runs the workers over a journal of a core that is handed in.
+fn run_over<J: Journal + Send + Sync, R: Threads + Wait + Sync, W: Watch + Sync>(
+    rt: &R,
+    alloc: Global,
+    core: SemaphoreCore,
+    blank: Blank,
+    workers: u8,
+    watch: &W,
+) -> Result<Counts, AllocError>
+    requires some { 0 < workers }
+    requires name { blank.name ≡ J.name }
+    requires parts { blank.parts ≡ J.parts }
+    requires dealt { blank.parts ≡ workers }
+    requires one_each { J.dealt ≡ J.parts }
+    requires opening { object_of core (replicate 0 Unregistered) ≡ J.opening }
+    ensures { IfOk result (λ counts. counts.journal ≡ 50 * workers) }
+{
+    let size = usize::from(workers);
+    let room = u16::from(workers);
+    let (journal, shares) = Journalled::<SemaphoreCore, J>::new(alloc, core, 0, blank, room)?;
+    let starting = workers_of(alloc, shares)?;
+    let place = Place {
+        rt,
+        gate: Gate::new(rt, alloc, room)?,
+        barrier: Barrier::with_count(rt, alloc, size, room)?,
+        permits: Semaphore::new(rt, alloc, room)?,
+        journal: Mutex::new(journal),
+        done: Mutex::new(Vec::with_capacity(alloc, size)?),
+    };
+    if !start_all(&place, starting, watch) {
+        return Err(AllocError);
+    }
+    let available = place.permits.available_permits(Ordering::SeqCst);
+    let (leaders, journal) = gather(alloc, place.journal.into_inner(), place.done.into_inner())?;
+    Ok(Counts {
+        leaders,
+        available,
+        journal,
+    })
+}
+
+/// Starts so many workers, each on a thread of its own, lets `watch` see them, and counts what they did when all are done.
+pub(crate) fn run_with<R: Threads + Wait + Sync, W: Watch + Sync>(
+    rt: &R,
+    alloc: Global,
+    workers: u8,
+    watch: &W,
+) -> Result<Counts, AllocError>
+    requires { 0 < workers }
+    ensures { IfOk result (λ counts. counts.journal ≡ 50 * workers) }
+{
+    let core = SemaphoreCore::new(alloc, 0)?;
+    let blank = Blank::new(u64::from(workers));
+    run_over::<Brand, R, W>(rt, alloc, core, blank, workers, watch)
+}
+
+/// Starts so many workers, each on a thread of its own, and counts what they did when all are done. There are at most 63, since
+/// a barrier is for no more: of more, some would wait for ever.
+///
+/// Each passes a barrier for all of them 4 times, takes and gives back 2 of 63 permits 100 times, and makes 50 calls by
+/// one journal. The error comes where memory was refused or a thread can't be started; no worker is left running then
+/// either. A worker that gets no memory for the journal ends without the rest of its calls, and nobody waits for it.
+pub fn run<R: Threads + Wait + Sync>(
+    rt: &R,
+    alloc: Global,
+    workers: u8,
+) -> Result<Counts, AllocError>
+    requires { 0 < workers }
+    ensures { IfOk result (λ counts. counts.journal ≡ 50 * workers) }
+{
+    run_with(rt, alloc, workers, &Nobody)
+}

@@ -1,5 +1,0 @@
-use Rattle.saa_standing.proofs.Calls.{under-next}
-use Rattle.saa_standing.proofs.laws.calls.Goals as goal
-
-pub returns : goal.returns
-returns c = λ needs call registered me place found events under. under-next needs call registered me place place.stage found events under

@@ -1,6 +1,0 @@
-use Rattle.std.proofs.Common.{refl}
-use Rattle.saa_standing.proofs.Polls.{only-stalls}
-use Rattle.saa_standing.proofs.waiting.waits.Goals as goal
-
-pub returns : goal.returns
-returns c = λ needs places row standing lazy me here s waits. only-stalls needs places row standing lazy me here s (standing me).stage refl waits

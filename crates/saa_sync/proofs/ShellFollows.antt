@@ -1,0 +1,42 @@
+-- How a call that may wait begins, as one step of the object, and what a registration at a core that stands answers.
+use Rattle.std.proofs.Common.{◌≡◌, ℕ, Result, Ok, Err, IfOk, IsErr, List, [], ◌∷◌, Bool, true, refl, ap, subst}
+use Rattle.saa_core_spec.specs.declared.request.Request.{Request}
+use Rattle.saa_core_spec.specs.declared.request.Full.{Full}
+use Rattle.saa_core_spec.specs.declared.polling.Error.{Error}
+use Rattle.saa_core_spec.specs.declared.polling.How.TheVariants.{Sync}
+use Rattle.saa_core.specs.declared.ticket.Registration.{Registration}
+use Rattle.saa_core_spec.specs.Object.{Object}
+use Rattle.saa_core_spec.specs.Asking.{registered}
+use Rattle.saa_core_spec.specs.Polling.{polled, read_as}
+use Rattle.saa_core.specs.declared.ticket.Registration.TheVariants.{Unregistered}
+use Rattle.saa_core.specs.Tickets.{Core, Acts, IsNeverTooMuch, object_of}
+use Rattle.saa_core.proofs.TicketLemmas.Modes.{registered-or-full}
+use Rattle.saa_core.proofs.TicketLemmas.Follows.{follow, then}
+use Rattle.saa_sync.specs.declared.shell.Begun.{Begun}
+use Rattle.saa_sync.specs.Waits.{begun, begun_from, begun_poll, registration_of}
+
+-- a true registration as sync and then a poll as sync are the beginning of a call that may wait
+pub begun-polled : (old mid new : Core) (t0 t1 t2 : Registration) (request : Request) (is_registered : Bool) (answer : Result ℕ Error)
+    → is_registered ≡ true
+    → Acts old mid t0 t1 (λ s name. registered s name request true) (Ok is_registered)
+    → Acts mid new t1 t2 (λ s name. polled s name Sync) answer
+    → Acts old new t0 t2 (λ s name. begun s name request) (begun_poll answer)
+begun-polled old mid new t0 t1 t2 request is_registered answer is_true call later =
+    follow old mid new t0 t1 t2 (λ s name. registered s name request true) (λ s name. read_as begun_poll (polled s name Sync)) (λ s name. begun s name request)
+    (Ok true) (begun_poll answer)
+    (λ s next name leads. ap (begun_from name) leads)
+    (subst (λ b. Acts old mid t0 t1 (λ s name. registered s name request true) (Ok b)) is_true call)
+    (then mid new t1 t2 (λ s name. polled s name Sync) (λ s name. read_as begun_poll (polled s name Sync)) answer (begun_poll answer)
+    (λ s next name leads. ap (read_as begun_poll) leads) later)
+
+-- a refusal hands its one error on
+pub full-stays : (begun : Result Begun Full) (full : Full) → IsErr begun → registration_of begun ≡ Err full
+full-stays (Ok begun) full is = cc
+full-stays (Err other) full is = refl
+
+-- an idle ticket that asks for no more than such a core ever has is registered there, or finds the room full
+pub registered-where-it-stands : (stands : Object → Type 0) (old new : Core) (ticket : Registration) (request : Request) (is_sync : Bool) (reply : Result Bool Full)
+    → ((tickets : List Registration) → stands (object_of old tickets)) → IsNeverTooMuch stands request
+    → Acts old new Unregistered ticket (λ s name. registered s name request is_sync) reply → IfOk reply (λ is_registered. is_registered ≡ true)
+registered-where-it-stands stands old new ticket request is_sync reply stood never call =
+    registered-or-full old new ticket request is_sync reply (never (object_of old (Unregistered ∷ [])) (stood (Unregistered ∷ []))) call

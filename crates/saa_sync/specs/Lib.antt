@@ -1,0 +1,6 @@
+pub mod Guards
+pub mod Waits
+pub mod BarrierAnswers
+pub mod GateAnswers
+pub mod LockAnswers
+pub mod SemaphoreAnswers

@@ -1,0 +1,18 @@
+-- What the answers of a semaphore mean to its pagers, to those who wait, and to its futures; a future without an answer was
+-- refused its registration.
+use Rattle.std.specs.Prelude.{ℕ, Bool, true, false, Option, Some, None, Result, Ok, Err}
+use Rattle.saa_core_spec.specs.declared.polling.Error.{Error}
+
+-- a semaphore's answer: every value is a grant, and an error stays itself
+abbrev pub semaphore_answer : ℕ → Option Error → Result (Unit {0}) Error
+semaphore_answer value None = Ok tt
+semaphore_answer value (Some error) = Err error
+
+-- one permit is granted
+abbrev pub one_permit : Option ℕ → Unit {0}
+one_permit answer = tt
+
+-- so many permits are granted, or were more than there are
+abbrev pub many_permits : Option ℕ → Bool
+many_permits None = false
+many_permits (Some value) = true

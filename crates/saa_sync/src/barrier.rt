@@ -1,0 +1,216 @@
+//! The barrier that threads share: a `BarrierCore` in a shell.
+//!
+//! Each call is one lock round the core, one step of it, and the wakes that it owes. What reads the core is lent it at
+//! the end of this file, and an arrival is the shell's registration; both are held to `specs/Barrier.antt` and
+//! `specs/Asking.antt` of `saa_core_spec` through the core's calls.
+
+ghost use Rattle.std.specs.Prelude.{◌≡◌, ◌-◌, ◌≤◌, ◌||◌, ◌==◌, true, false, length, IfOk, IsOk, Ok, Some};
+ghost use Rattle.saa_core_spec.specs.Barrier.{size_of};
+ghost use Rattle.saa_core_spec.specs.Held.{max_tasks};
+ghost use Rattle.saa_core_spec.specs.declared.request.Request.TheVariants.{Arrive as AskArrive};
+ghost use Rattle.saa_core.specs.declared.ticket.Registration.TheVariants.{Unregistered};
+ghost use Rattle.saa_core.specs.Tickets.{is_busy, is_yes};
+ghost use Rattle.saa_core.specs.Beginning.{mode_of};
+
+use crate::future::barrier::{ArriveFuture, ArriveFutureWith, Asked, AskedWith};
+use crate::pager::{Pager, SyncResult};
+use crate::seat::PATIENCE;
+use crate::shell::Shell;
+use futures::task::{Context, Poll};
+use saa_core::barrier::BarrierCore;
+use saa_core::ticket::{Error, Full, How, Ticket};
+use std::alloc::{AllocError, Global};
+use std::sync::Wait;
+use std::sync::atomic::Ordering;
+
+// The answer of the last arrival of a round.
+const LEADER: u8 = 1;
+
+/// A barrier that threads share, at which at most 63 tasks wait for one another and pass together, round after round.
+///
+/// The last arrival of a round is its leader, never waits, and wakes all others of the round. At a barrier of size 0 every
+/// arrival waits, and none is ever answered. `R` is the leave to wait, as a reference to the runtime. Every call may wait
+/// for the lock round the core, which is held for one short step at a time; all but making take no memory.
+///
+/// Each ticket and pager is used with the barrier that it was registered in.
+#[derive(Drop)]
+pub struct Barrier<R: Wait + Drop> {
+    shell: Shell<R, BarrierCore>,
+}
+
+impl<R: Wait + Drop> Barrier<R> {
+    /// The most tasks that a barrier is for.
+    pub const MAX_TASKS: usize = BarrierCore::MAX_TASKS;
+
+    /// A barrier for so many tasks, and room for so many slots of those who wait. A number above [`Self::MAX_TASKS`] is
+    /// cut to it. Costs O(`room`).
+    ///
+    /// A round of `count` tasks needs room for one fewer, and where its tasks go on to the next round at once, for as many
+    /// as there are tasks: a slot is held until its task has its answer. Reserves all the memory that it will ever need;
+    /// the error comes only where that was refused, and so never for room 0, which takes none.
+    pub fn with_count(rt: R, alloc: Global, count: usize, room: u16) -> Result<Self, AllocError>
+        ensures no_room { room ≡ 0 → IsOk result }
+    {
+        let core = BarrierCore::with_count(alloc, count, room)?;
+        Ok(Self::on_shell(Shell::new(rt, alloc, core, room, PATIENCE)?))
+    }
+
+    /// The barrier on a shell that is handed in, for who wants another patience of those who wait, or has a core in use.
+    ///
+    /// Its room and its patience are the shell's. Takes no memory.
+    pub fn on_shell(shell: Shell<R, BarrierCore>) -> Self
+        ensures { result.shell ≡ shell }
+    {
+        Barrier { shell }
+    }
+
+    /// What it stands on; for tests and measurements.
+    pub fn shell(&self) -> &Shell<R, BarrierCore>
+        ensures { result.now ≡ self.now.shell }
+    {
+        &self.shell
+    }
+
+    /// How many arrivals the round still waits for: the size less those who wait, and 0 at a barrier of size 0. Every
+    /// ordering acts as the sequentially consistent one; none panics.
+    pub fn count(&self, _mo: Ordering) -> usize
+        ensures { result ≤ max_tasks }
+    {
+        count_missing(&self.shell.lock().core)
+    }
+
+    /// Arrives, and waits in the line until the round is complete.
+    ///
+    /// `Ok(true)`: this was the last arrival of the round, which never waits; all others of the round are answered
+    /// `Ok(false)` by it, and woken, and nobody else is. `Full`: it would have to wait, and as many slots are held as
+    /// there is room; nothing is changed. Nothing stays registered in any case. At a barrier of size 0 this waits for
+    /// ever, and at one of size 1 never.
+    pub fn wait_sync(&self) -> Result<bool, Full> {
+        let value = self.shell.acquire(())?;
+        Ok(is_leader(value))
+    }
+
+    /// Arrives as [`Self::wait_sync`] does, and calls `begin_wait` where it joins the line.
+    ///
+    /// The callback runs once, after the join and before the wait, with the lock round the core free; it may use this
+    /// barrier. It doesn't run for the last arrival of a round, nor where the room is full.
+    pub fn wait_sync_with<F: FnOnce() + Drop>(&self, begin_wait: F) -> Result<bool, Full>
+        requires { F.pre begin_wait }
+    {
+        let value = self.shell.acquire_with((), begin_wait)?;
+        Ok(is_leader(value))
+    }
+
+    /// The future of an arrival: its output is that of [`Self::wait_sync`].
+    ///
+    /// Nothing is asked before its first poll. See [`Asked`](crate::future::asked::Asked).
+    pub fn wait_async(&self) -> ArriveFuture<'_, R>
+        ensures request { result.asking.request ≡ AskArrive }
+        ensures idle { result.asking.ticket ≡ Unregistered }
+        ensures fresh { result.asking.has_ended ≡ false }
+    {
+        Asked::new(&self.shell, ())
+    }
+
+    /// The future of [`Self::wait_async`], which calls `begin_wait` where it joins the line.
+    ///
+    /// The callback runs once, in the poll that joined, after the join and with the lock round the core free; it may use
+    /// this barrier. It doesn't run where the answer is there at once, nor where the room is full.
+    pub fn wait_async_with<F: FnOnce() + Drop>(&self, begin_wait: F) -> ArriveFutureWith<'_, R, F>
+        ensures request { result.asked.asking.request ≡ AskArrive }
+        ensures idle { result.asked.asking.ticket ≡ Unregistered }
+        ensures fresh { result.asked.asking.has_ended ≡ false }
+        ensures callback { result.begin_wait ≡ Some begin_wait }
+    {
+        AskedWith::new(self.wait_async(), begin_wait)
+    }
+
+    /// Registers a pager as an arrival, to be polled as sync or as async.
+    ///
+    /// `Ok(true)`: it was the last arrival of its round, and all others of the round are answered and woken; or it waits,
+    /// last in the line. `Ok(false)`: the pager is registered already, here or elsewhere. `Full`: it would have to wait,
+    /// and as many slots are held as there is room. All but `Ok(true)` change nothing.
+    pub fn register_pager<'s>(
+        &'s self,
+        pager: &mut Pager<'s, Self>,
+        is_sync: bool,
+    ) -> Result<bool, Full>
+        ensures registered { is_busy pager.new ≡ (is_busy pager.old || is_yes result) }
+        ensures busy { is_busy pager.old ≡ true → result ≡ Ok false }
+        ensures unchanged { is_yes result ≡ false → pager.new ≡ pager.old }
+        ensures mode { is_yes result ≡ true → mode_of pager.new ≡ Some is_sync }
+        ensures idle { is_busy pager.old ≡ false → IfOk result (λ is_registered. is_registered ≡ true) }
+    {
+        if pager.is_registered() {
+            return Ok(false);
+        }
+        let mut ticket = Ticket::new();
+        let is_registered = self.shell.register(&mut ticket, (), is_sync)?;
+        pager.hold(ticket, self);
+        Ok(is_registered)
+    }
+}
+
+impl<R: Wait + Drop> SyncResult for Barrier<R> {
+    ghost use Rattle.saa_core.specs.Tickets.{fault_of};
+    ghost use Rattle.saa_sync.specs.BarrierAnswers.{barrier_answer};
+
+    type Result = Result<bool, Error>;
+
+    ghost is_value = { λ value. Unit {0} };
+
+    ghost is_answer = { λ value. Unit {0} };
+
+    ghost answer = { barrier_answer };
+
+    ghost fault = { λ result. fault_of result };
+
+    ghost source = { λ form. form.shell.source.id };
+
+    /// Without an error `Ok(true)` for 1, the leader, and `Ok(false)` for every other value; and else the error.
+    fn to_result(value: u8, pager_error: Option<Error>) -> Result<bool, Error> {
+        match pager_error {
+            Some(error) => Err(error),
+            None => Ok(is_leader(value)),
+        }
+    }
+
+    /// `Ok(true)`: it was the last arrival of its round; `Ok(false)`: another one was. The ticket is idle then; its slot,
+    /// if it had one, is free again.
+    fn take(&self, ticket: &mut Ticket, how: How) -> Result<bool, Error> {
+        match self.shell.take(ticket, how) {
+            Ok(value) => Ok(is_leader(value)),
+            Err(error) => Err(error),
+        }
+    }
+
+    /// As [`Self::take`] as async, for a task: it is woken once the answer is there.
+    fn poll_task(&self, ticket: &mut Ticket, cx: &mut Context<'_>) -> Poll<Result<bool, Error>> {
+        match self.shell.poll_task(ticket, cx) {
+            Poll::Ready(Ok(value)) => Poll::Ready(Ok(is_leader(value))),
+            Poll::Ready(Err(error)) => Poll::Ready(Err(error)),
+            Poll::Pending => Poll::Pending,
+        }
+    }
+
+    /// A waiter's arrival is taken back, so the round waits for one more, and nobody is answered. An answer that wasn't
+    /// consumed is only consumed. Costs O(how many wait) for a waiter.
+    fn cancel(&self, ticket: &mut Ticket) {
+        self.shell.cancel(ticket);
+    }
+}
+
+// Whether a value is that of the leader.
+pub(crate) fn is_leader(value: u8) -> bool
+    ensures { result ≡ (value == 1) }
+{
+    value == LEADER
+}
+
+// How many arrivals are missing, of the core that is lent.
+fn count_missing(core: &BarrierCore) -> usize
+    ensures number { result ≡ size_of core.now.held - length core.now.slots.line }
+    ensures within { result ≤ max_tasks }
+{
+    core.count()
+}

@@ -1,0 +1,326 @@
+//! The gate that threads share: a `GateCore` in a shell.
+//!
+//! Each call is one lock round the core, one step of it, and the wakes that it owes. The steps stand at the end of this
+//! file as functions that are lent the core, and are held to `specs/Gate.antt` of `saa_core_spec` through its calls.
+
+ghost use Rattle.std.specs.Prelude.{◌≡◌, ◌↔◌, ◌||◌, true, false, length, None, Ok, Some, IfErr, IfOk, IfSome, IsNone, IsOk};
+ghost use Rattle.saa_core_spec.specs.declared.gate.GateAnswer.{GateAnswer};
+ghost use Rattle.saa_core_spec.specs.declared.gate.GateCall.{GateCall};
+ghost use Rattle.saa_core_spec.specs.declared.gate.State.TheVariants.{Controlled, Sealed, Open};
+ghost use Rattle.saa_core_spec.specs.Gate.{gate_state, gate_step};
+ghost use Rattle.saa_core_spec.specs.Held.{OfGate};
+ghost use Rattle.saa_core_spec.specs.Values.{gate_value, permitted_value, rejected_value, opened_value, sealed_value};
+ghost use Rattle.saa_core.specs.Slots.{all_slots_answered};
+ghost use Rattle.saa_core_spec.specs.declared.request.Request.TheVariants.{Enter as AskEnter};
+ghost use Rattle.saa_core.specs.declared.ticket.Registration.TheVariants.{Unregistered};
+ghost use Rattle.saa_core.specs.Tickets.{Calls, is_busy, is_yes};
+ghost use Rattle.saa_core.specs.Beginning.{mode_of};
+ghost use Rattle.saa_sync.specs.GateAnswers.{gate_fault};
+
+use crate::future::gate::{Asked, AskedWith, Enter, EnterWith};
+use crate::pager::{Pager, SyncResult};
+use crate::seat::PATIENCE;
+use crate::shell::Shell;
+use futures::task::{Context, Poll};
+use saa_core::bench::Primitive;
+use saa_core::gate::GateCore;
+pub use saa_core::gate::{Error, State};
+use saa_core::ticket::{Full, How, Ticket};
+use saa_core_spec::polling;
+use std::alloc::{AllocError, Global};
+use std::sync::Wait;
+use std::sync::atomic::Ordering;
+
+/// A gate that threads share, at which tasks wait until it is decided for all of them together whether they pass.
+///
+/// At a controlled gate those who enter wait in a line until somebody permits or rejects them all; a sealed gate refuses
+/// everybody at once, and an open one lets everybody pass. `R` is the leave to wait, as a reference to the runtime. Every
+/// call may wait for the lock round the core, which is held for one short step at a time; all but making take no memory.
+///
+/// Each ticket and pager is used with the gate that it was registered in.
+#[derive(Drop)]
+pub struct Gate<R: Wait + Drop> {
+    shell: Shell<R, GateCore>,
+}
+
+impl<R: Wait + Drop> Gate<R> {
+    /// A controlled gate, and room for so many slots of those who wait. Costs O(`room`).
+    ///
+    /// Reserves all the memory that it will ever need; the error comes only where that was refused, and so never for
+    /// room 0, which takes none.
+    pub fn new(rt: R, alloc: Global, room: u16) -> Result<Self, AllocError>
+        ensures no_room { room ≡ 0 → IsOk result }
+    {
+        let core = GateCore::new(alloc, room)?;
+        Ok(Self::on_shell(Shell::new(rt, alloc, core, room, PATIENCE)?))
+    }
+
+    /// The gate on a shell that is handed in, for who wants another patience of those who wait, or has a core in use.
+    ///
+    /// Its room and its patience are the shell's. Takes no memory.
+    pub fn on_shell(shell: Shell<R, GateCore>) -> Self
+        ensures { result.shell ≡ shell }
+    {
+        Gate { shell }
+    }
+
+    /// What it stands on; for tests and measurements.
+    pub fn shell(&self) -> &Shell<R, GateCore>
+        ensures { result.now ≡ self.now.shell }
+    {
+        &self.shell
+    }
+
+    /// How the gate treats those who enter. Every ordering acts as the sequentially consistent one; none panics.
+    pub fn state(&self, _mo: Ordering) -> State {
+        tell_state(&self.shell.lock().core)
+    }
+
+    /// Makes a sealed or open gate controlled, and answers the state that it was in. Nobody waits at one; wakes nobody.
+    ///
+    /// `None` comes exactly where it was controlled, and changes nothing.
+    pub fn reset(&self) -> Option<State>
+        ensures { IfSome result (λ before. ¬ (before ≡ Controlled)) }
+    {
+        control(&mut self.shell.lock().core)
+    }
+
+    /// Lets all pass who wait at a controlled gate, wakes exactly those, and answers how many they were.
+    ///
+    /// An error says that the gate is sealed or open, and changes nothing. Each who passes costs a ring at its seat, and
+    /// each second one of them a short lock more.
+    pub fn permit(&self) -> Result<usize, State>
+        ensures { IfErr result (λ state. ¬ (state ≡ Controlled)) }
+    {
+        self.shell.step(let_pass)
+    }
+
+    /// Rejects all who wait at a controlled gate, wakes exactly those, and answers how many they were.
+    ///
+    /// An error says that the gate is sealed or open, and changes nothing. Costs what [`Self::permit`] does.
+    pub fn reject(&self) -> Result<usize, State>
+        ensures { IfErr result (λ state. ¬ (state ≡ Controlled)) }
+    {
+        self.shell.step(turn_away)
+    }
+
+    /// Opens the gate, from every state, lets all pass who wait, and wakes exactly those.
+    ///
+    /// Answers the state before, and how many waited. Costs what [`Self::permit`] does.
+    pub fn open(&self) -> (State, usize) {
+        self.shell.step(open_up)
+    }
+
+    /// Seals the gate, from every state, refuses all who wait, and wakes exactly those.
+    ///
+    /// Answers the state before, and how many waited. Costs what [`Self::permit`] does.
+    pub fn seal(&self) -> (State, usize) {
+        self.shell.step(seal_up)
+    }
+
+    /// Passes the gate, and waits in the line where it is controlled.
+    ///
+    /// `Ok(Ok(state))`: it passed, permitted at a controlled gate or at an open one. `Ok(Err(Rejected))`: all who waited
+    /// were rejected. `Ok(Err(Sealed))`: the gate is sealed, or was while this waited. `Ok(Err(SpuriousFailure))`:
+    /// somebody who waited too gave up, so all others may enter again. No other error comes. `Full`: it would have to
+    /// wait, and as many slots are held as there is room; nothing is changed. Nothing stays registered in any case.
+    pub fn enter_sync(&self) -> Result<Result<State, Error>, Full>
+        ensures { IfOk result (λ answer. gate_fault answer ≡ None) }
+    {
+        let value = self.shell.acquire(())?;
+        Ok(read_value(value))
+    }
+
+    /// Passes the gate as [`Self::enter_sync`] does, and calls `begin_wait` where it joins the line.
+    ///
+    /// The callback runs once, after the join and before the wait, with the lock round the core free; it may use this
+    /// gate. It doesn't run where the answer is there at once, nor where the room is full.
+    pub fn enter_sync_with<F: FnOnce() + Drop>(
+        &self,
+        begin_wait: F,
+    ) -> Result<Result<State, Error>, Full>
+        requires { F.pre begin_wait }
+        ensures { IfOk result (λ answer. gate_fault answer ≡ None) }
+    {
+        let value = self.shell.acquire_with((), begin_wait)?;
+        Ok(read_value(value))
+    }
+
+    /// The future of passing the gate: its output is that of [`Self::enter_sync`].
+    ///
+    /// Nothing is asked before its first poll. See [`Asked`](crate::future::asked::Asked).
+    pub fn enter_async(&self) -> Enter<'_, R>
+        ensures request { result.asking.request ≡ AskEnter }
+        ensures idle { result.asking.ticket ≡ Unregistered }
+        ensures fresh { result.asking.has_ended ≡ false }
+    {
+        Asked::new(&self.shell, ())
+    }
+
+    /// The future of [`Self::enter_async`], which calls `begin_wait` where it joins the line.
+    ///
+    /// The callback runs once, in the poll that joined, after the join and with the lock round the core free; it may use
+    /// this gate. It doesn't run where the answer is there at once, nor where the room is full.
+    pub fn enter_async_with<F: FnOnce() + Drop>(&self, begin_wait: F) -> EnterWith<'_, R, F>
+        ensures request { result.asked.asking.request ≡ AskEnter }
+        ensures idle { result.asked.asking.ticket ≡ Unregistered }
+        ensures fresh { result.asked.asking.has_ended ≡ false }
+        ensures callback { result.begin_wait ≡ Some begin_wait }
+    {
+        AskedWith::new(self.enter_async(), begin_wait)
+    }
+
+    /// Registers a pager to pass the gate, to be polled as sync or as async.
+    ///
+    /// `Ok(true)`: it was answered at once, at a sealed or an open gate, or waits, last in the line. `Ok(false)`: the
+    /// pager is registered already, here or elsewhere. `Full`: it would have to wait, and as many slots are held as there
+    /// is room. All but `Ok(true)` change nothing.
+    pub fn register_pager<'s>(
+        &'s self,
+        pager: &mut Pager<'s, Self>,
+        is_sync: bool,
+    ) -> Result<bool, Full>
+        ensures registered { is_busy pager.new ≡ (is_busy pager.old || is_yes result) }
+        ensures busy { is_busy pager.old ≡ true → result ≡ Ok false }
+        ensures unchanged { is_yes result ≡ false → pager.new ≡ pager.old }
+        ensures mode { is_yes result ≡ true → mode_of pager.new ≡ Some is_sync }
+        ensures idle { is_busy pager.old ≡ false → IfOk result (λ is_registered. is_registered ≡ true) }
+    {
+        if pager.is_registered() {
+            return Ok(false);
+        }
+        let mut ticket = Ticket::new();
+        let is_registered = self.shell.register(&mut ticket, (), is_sync)?;
+        pager.hold(ticket, self);
+        Ok(is_registered)
+    }
+}
+
+impl<R: Wait + Drop> SyncResult for Gate<R> {
+    ghost use Rattle.std.specs.Prelude.{◌≡◌, None, Ok};
+    ghost use Rattle.saa_core_spec.specs.Values.{gate_value};
+    ghost use Rattle.saa_sync.specs.GateAnswers.{gate_answer, gate_fault};
+
+    type Result = Result<State, Error>;
+
+    ghost is_value = { λ value. Unit {0} };
+
+    ghost is_answer = { λ value. gate_fault (gate_value (Ok value)) ≡ None };
+
+    ghost answer = { gate_answer };
+
+    ghost fault = { gate_fault };
+
+    ghost source = { λ form. form.shell.source.id };
+
+    /// Without an error the value's two low bits are the state that let it pass, and the rest is the gate's error, if it
+    /// isn't 0: a gate answers 0, 2, 4, 9 and 12. Else it is the gate's error of the same name.
+    fn to_result(value: u8, pager_error: Option<polling::Error>) -> Result<State, Error> {
+        match pager_error {
+            Some(error) => GateCore::value_of(Err(error)),
+            None => GateCore::value_of(Ok(value)),
+        }
+    }
+
+    /// `Ok(state)`, `Rejected`, `Sealed` and `SpuriousFailure` are answers: the ticket is idle then, and its slot, if it
+    /// had one, is free again.
+    fn take(&self, ticket: &mut Ticket, how: How) -> Result<State, Error> {
+        match self.shell.take(ticket, how) {
+            Ok(value) => read_value(value),
+            Err(error) => GateCore::value_of(Err(error)),
+        }
+    }
+
+    /// As [`Self::take`] as async, for a task: it is woken once the answer is there.
+    fn poll_task(&self, ticket: &mut Ticket, cx: &mut Context<'_>) -> Poll<Result<State, Error>> {
+        match self.shell.poll_task(ticket, cx) {
+            Poll::Ready(Ok(value)) => Poll::Ready(read_value(value)),
+            Poll::Ready(Err(error)) => Poll::Ready(GateCore::value_of(Err(error))),
+            Poll::Pending => Poll::Pending,
+        }
+    }
+
+    /// A waiter leaves the line, and all others who wait are answered that somebody gave up (`SpuriousFailure`), and
+    /// woken. An answer that wasn't consumed is only consumed. Costs O(how many wait) for a waiter, and a wake for each
+    /// who is answered.
+    fn cancel(&self, ticket: &mut Ticket) {
+        self.shell.cancel(ticket);
+    }
+}
+
+// What a number means that the core answered.
+//
+// No gate answers a number that reads as an error of a poll. Such a one would say that somebody gave up, so that whoever
+// has an answer isn't told that it has none.
+fn read_value(value: u8) -> Result<State, Error>
+    ensures means { gate_fault (gate_value (Ok value)) ≡ None → result ≡ gate_value (Ok value) }
+    ensures answered { gate_fault result ≡ None }
+{
+    match GateCore::value_of(Ok(value)) {
+        Err(Error::NotRegistered) | Err(Error::WrongMode) | Err(Error::NotReady) => {
+            Err(Error::SpuriousFailure)
+        }
+        answer => answer,
+    }
+}
+
+// The state, of the core that is lent.
+fn tell_state(core: &GateCore) -> State
+    ensures { result ≡ gate_state core.now.held }
+{
+    core.state()
+}
+
+// The reset of the core that is lent.
+fn control(core: &mut GateCore) -> Option<State>
+    ensures calls { Calls core.old core.new (gate_step GateCall.Reset) (GateAnswer.Reset result) }
+    ensures answer { IsNone result ↔ (gate_state core.old.held ≡ Controlled) }
+    ensures before { IfSome result (λ before. before ≡ gate_state core.old.held) }
+    ensures controlled { core.new ≡ record core.old { held = OfGate Controlled } }
+{
+    core.reset()
+}
+
+// The permit, on the core that is lent.
+fn let_pass(core: &mut GateCore) -> Result<usize, State>
+    ensures calls { Calls core.old core.new (gate_step GateCall.Permit) (GateAnswer.Answered result) }
+    ensures answer { IsOk result ↔ (gate_state core.old.held ≡ Controlled) }
+    ensures permitted { IfOk result (λ count. (count ≡ length core.old.slots.line)
+        × (core.new ≡ record core.old { slots = all_slots_answered permitted_value core.old.slots })) }
+    ensures refused { IfErr result (λ state. (state ≡ gate_state core.old.held) × (core.new ≡ core.old)) }
+    ensures told { IfErr result (λ state. ¬ (state ≡ Controlled)) }
+{
+    core.permit()
+}
+
+// The rejection, on the core that is lent.
+fn turn_away(core: &mut GateCore) -> Result<usize, State>
+    ensures calls { Calls core.old core.new (gate_step GateCall.Reject) (GateAnswer.Answered result) }
+    ensures answer { IsOk result ↔ (gate_state core.old.held ≡ Controlled) }
+    ensures rejected { IfOk result (λ count. (count ≡ length core.old.slots.line)
+        × (core.new ≡ record core.old { slots = all_slots_answered rejected_value core.old.slots })) }
+    ensures refused { IfErr result (λ state. (state ≡ gate_state core.old.held) × (core.new ≡ core.old)) }
+    ensures told { IfErr result (λ state. ¬ (state ≡ Controlled)) }
+{
+    core.reject()
+}
+
+// The opening of the core that is lent.
+fn open_up(core: &mut GateCore) -> (State, usize)
+    ensures calls { Calls core.old core.new (gate_step GateCall.Open) (GateAnswer.Moved result.0 result.1) }
+    ensures before { result.0 ≡ gate_state core.old.held }
+    ensures count { result.1 ≡ length core.old.slots.line }
+    ensures opened { core.new ≡ record { held = OfGate Open; slots = all_slots_answered opened_value core.old.slots } }
+{
+    core.open()
+}
+
+// The sealing of the core that is lent.
+fn seal_up(core: &mut GateCore) -> (State, usize)
+    ensures calls { Calls core.old core.new (gate_step GateCall.Seal) (GateAnswer.Moved result.0 result.1) }
+    ensures before { result.0 ≡ gate_state core.old.held }
+    ensures count { result.1 ≡ length core.old.slots.line }
+    ensures sealed { core.new ≡ record { held = OfGate Sealed; slots = all_slots_answered sealed_value core.old.slots } }
+{
+    core.seal()
+}

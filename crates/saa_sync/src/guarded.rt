@@ -1,0 +1,98 @@
+//! A value and the lock whose turns it is used in: what mutexes and reader-writer locks share.
+//!
+//! The value stands in a lock of std, which keeps it from whoever has no guard. It is asked only by who has the turn, and
+//! given up before the turn is passed on, so nobody ever waits for it.
+
+ghost use Rattle.std.specs.Prelude.{◌≡◌, IfOk, IfSome, IsOk};
+
+use crate::lock::Lock;
+use crate::turn::{Alone, Leave, Shared};
+use saa_core::ticket::Full;
+use std::alloc::{AllocError, Global};
+use std::sync::{RwLock, RwLockReadGuard, RwLockWriteGuard, Wait};
+
+/// A value, and the lock whose turns it is used in.
+#[derive(Drop)]
+pub(crate) struct Guarded<R: Wait + Drop, T> {
+    rt: R,
+    /// Whose turn it is.
+    pub(crate) turn: Lock<Leave<R>>,
+    value: RwLock<T>,
+}
+
+impl<R: Wait + Drop, T> Guarded<R, T> {
+    // A value that nobody uses yet, and room for so many who wait for it.
+    pub(crate) fn new(rt: R, alloc: Global, value: T, room: u16) -> Result<Self, AllocError>
+    where
+        T: Drop,
+        ensures no_room { room ≡ 0 → IsOk result }
+    {
+        let turn = Lock::new(Leave::of(&rt), alloc, room)?;
+        Ok(Guarded {
+            rt,
+            turn,
+            value: RwLock::new(value),
+        })
+    }
+
+    // The value, which nobody else can use meanwhile.
+    pub(crate) fn get_mut(&mut self) -> &mut T {
+        self.value.get_mut()
+    }
+
+    // The value, which nobody uses any more.
+    pub(crate) fn into_inner(self) -> T {
+        let Guarded {
+            rt: _rt,
+            turn: _turn,
+            value,
+        } = self;
+        value.into_inner()
+    }
+
+    // Takes the turn alone, and the value to write, if that needs no wait.
+    pub(crate) fn try_write(&self) -> Option<(Alone<'_, R>, RwLockWriteGuard<'_, T>)>
+        ensures { IfSome result (λ taken. taken.0.lock.now ≡ self.now.turn) }
+    {
+        let turn = Alone::try_take(&self.turn)?;
+        Some((turn, self.value.write(&self.rt)))
+    }
+
+    // Waits for the turn alone, and takes the value to write.
+    pub(crate) fn write(&self) -> Result<(Alone<'_, R>, RwLockWriteGuard<'_, T>), Full>
+        ensures { IfOk result (λ taken. taken.0.lock.now ≡ self.now.turn) }
+    {
+        let turn = Alone::take(&self.turn, &self.rt)?;
+        Ok((turn, self.value.write(&self.rt)))
+    }
+
+    // Takes a share of the turn, and the value to read, if that needs no wait.
+    pub(crate) fn try_read(&self) -> Option<(Shared<'_, R>, RwLockReadGuard<'_, T>)>
+        ensures { IfSome result (λ taken. taken.0.lock.now ≡ self.now.turn) }
+    {
+        let turn = Shared::try_take(&self.turn)?;
+        Some((turn, self.value.read(&self.rt)))
+    }
+
+    // Waits for a share of the turn, and takes the value to read.
+    pub(crate) fn read(&self) -> Result<(Shared<'_, R>, RwLockReadGuard<'_, T>), Full>
+        ensures { IfOk result (λ taken. taken.0.lock.now ≡ self.now.turn) }
+    {
+        let turn = Shared::take(&self.turn, &self.rt)?;
+        Ok((turn, self.value.read(&self.rt)))
+    }
+
+    // The turn alone that a future was granted, and the value to write.
+    pub(crate) fn granted_to_write(&self) -> (Alone<'_, R>, RwLockWriteGuard<'_, T>)
+        ensures { result.0.lock.now ≡ self.now.turn }
+    {
+        (Alone::granted(&self.turn), self.value.write(&self.rt))
+    }
+
+    // The share of the turn that a future was granted, and the value to read.
+    pub(crate) fn granted_to_read(&self) -> (Shared<'_, R>, RwLockReadGuard<'_, T>)
+        ensures { result.0.lock.now ≡ self.now.turn }
+    {
+        (Shared::granted(&self.turn), self.value.read(&self.rt))
+    }
+}

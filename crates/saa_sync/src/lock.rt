@@ -1,0 +1,395 @@
+//! The lock that threads share: a `LockCore` in a shell.
+//!
+//! Each call is one lock round the core, one step of it, and the wakes that it owes. The steps stand at the end of this
+//! file as functions that are lent the core, and are held to `specs/Lock.antt` of `saa_core_spec` through its calls.
+
+ghost use Rattle.std.specs.Prelude.{◌≡◌, ◌⊎◌, ◌||◌, ◌==◌, true, false, IfOk, IsOk, Ok, Some};
+ghost use Rattle.std.specs.Bool.{OnFalse};
+ghost use Rattle.saa_core_spec.specs.declared.request.Request.TheVariants.{Exclusive as AskExclusive, Shared as AskShared};
+ghost use Rattle.saa_core_spec.specs.Polling.{given_back};
+ghost use Rattle.saa_core_spec.specs.Lock.{is_free, is_locked, is_shared, is_poisoned, poisoned_of, cleared_of};
+ghost use Rattle.saa_core.specs.Slots.{OwesAnswered};
+ghost use Rattle.saa_core.specs.declared.ticket.Registration.TheVariants.{Unregistered};
+ghost use Rattle.saa_core.specs.Tickets.{Calls, is_busy, is_yes};
+ghost use Rattle.saa_core.specs.LockCalls.{lock_tried};
+ghost use Rattle.saa_core.specs.Beginning.{mode_of};
+
+use crate::future::lock::{
+    Asked, AskedWith, LockFuture, LockFutureWith, ShareFuture, ShareFutureWith,
+};
+use crate::pager::{Pager, SyncResult};
+use crate::seat::PATIENCE;
+use crate::shell::Shell;
+use futures::task::{Context, Poll};
+use saa_core::lock::LockCore;
+pub use saa_core::lock::{Mode, TryLockError};
+use saa_core::ticket::{Error, Full, How, Ticket};
+use std::alloc::{AllocError, Global};
+use std::sync::Wait;
+use std::sync::atomic::Ordering;
+
+/// A lock that threads share, of one owner alone or of up to 62 that share it, taken in the order of asking.
+///
+/// A task that must wait joins a line, and the line is served strictly in order: while somebody waits, nobody who asks
+/// later is granted first, readers beside readers included. The lock doesn't know who its owners are: whoever calls a
+/// release releases, so keep the call with the owner. `R` is the leave to wait, as a reference to the runtime. Every call
+/// may wait for the lock round the core, which is held for one short step at a time; all but making take no memory.
+///
+/// Each ticket and pager is used with the lock that it was registered in.
+#[derive(Drop)]
+pub struct Lock<R: Wait + Drop> {
+    shell: Shell<R, LockCore>,
+}
+
+impl<R: Wait + Drop> Lock<R> {
+    /// The most owners that share a lock.
+    pub const MAX_SHARED_OWNERS: usize = LockCore::MAX_SHARED_OWNERS;
+
+    /// A free lock, and room for so many slots of those who wait. Costs O(`room`).
+    ///
+    /// Reserves all the memory that it will ever need; the error comes only where that was refused, and so never for
+    /// room 0, which takes none.
+    pub fn new(rt: R, alloc: Global, room: u16) -> Result<Self, AllocError>
+        ensures no_room { room ≡ 0 → IsOk result }
+    {
+        let core = LockCore::new(alloc, room)?;
+        Ok(Self::on_shell(Shell::new(rt, alloc, core, room, PATIENCE)?))
+    }
+
+    /// The lock on a shell that is handed in, for who wants another patience of those who wait, or has a core in use.
+    ///
+    /// Its room and its patience are the shell's. Takes no memory.
+    pub fn on_shell(shell: Shell<R, LockCore>) -> Self
+        ensures { result.shell ≡ shell }
+    {
+        Lock { shell }
+    }
+
+    /// What it stands on; for tests and measurements.
+    pub fn shell(&self) -> &Shell<R, LockCore>
+        ensures { result.now ≡ self.now.shell }
+    {
+        &self.shell
+    }
+
+    /// Whether nobody has the lock and it isn't poisoned. Every ordering acts as the sequentially consistent one; none
+    /// panics.
+    pub fn is_free(&self, _mo: Ordering) -> bool {
+        tell_free(&self.shell.lock().core)
+    }
+
+    /// Whether one owner has the lock alone. Every ordering acts as the sequentially consistent one; none panics.
+    pub fn is_locked(&self, _mo: Ordering) -> bool {
+        tell_locked(&self.shell.lock().core)
+    }
+
+    /// Whether the lock is shared. Every ordering acts as the sequentially consistent one; none panics.
+    pub fn is_shared(&self, _mo: Ordering) -> bool {
+        tell_shared(&self.shell.lock().core)
+    }
+
+    /// Whether the lock is poisoned. Every ordering acts as the sequentially consistent one; none panics.
+    pub fn is_poisoned(&self, _mo: Ordering) -> bool {
+        tell_poisoned(&self.shell.lock().core)
+    }
+
+    /// Takes the lock for one owner alone if nobody waits and it is free; never waits for it. Wakes nobody.
+    ///
+    /// `Poisoned`: the lock is poisoned. `WouldBlock`: somebody has it, or somebody waits. Both change nothing.
+    pub fn try_lock(&self) -> Result<(), TryLockError> {
+        lock_now(&mut self.shell.lock().core)
+    }
+
+    /// Takes a share of the lock if nobody waits and one is left; never waits for it. Wakes nobody.
+    ///
+    /// `Poisoned`: the lock is poisoned. `WouldBlock`: one owner has it alone, or 62 share it, or somebody waits. Both
+    /// change nothing.
+    pub fn try_share(&self) -> Result<(), TryLockError> {
+        share_now(&mut self.shell.lock().core)
+    }
+
+    /// Gives the lock of one owner back, grants those who wait, oldest first, while they fit, and wakes exactly those.
+    ///
+    /// `false` comes exactly where the lock isn't one owner's alone, and changes nothing. Nobody is asked whose lock it
+    /// ends. Each who is granted costs a ring at its seat, and each second one of them a short lock more.
+    #[inline(always)]
+    pub fn release_lock(&self) -> bool {
+        self.shell.step(end_lock)
+    }
+
+    /// Gives one share back, grants those who wait, oldest first, while they fit, and wakes exactly those.
+    ///
+    /// `false` comes exactly where the lock isn't shared, and changes nothing. Nobody is asked whose share it ends.
+    #[inline(always)]
+    pub fn release_share(&self) -> bool {
+        self.shell.step(end_share)
+    }
+
+    /// Poisons the lock that one owner has alone: all who wait are answered that it is poisoned, and woken.
+    ///
+    /// `false` comes exactly where the lock isn't one owner's alone, and changes nothing. Answers that were there before
+    /// stay as they are.
+    pub fn poison_lock(&self) -> bool {
+        self.shell.step(poison)
+    }
+
+    /// Makes a poisoned lock free; nobody waits at one. Wakes nobody.
+    ///
+    /// `false` comes exactly where the lock isn't poisoned, and changes nothing.
+    pub fn clear_poison(&self) -> bool {
+        clear(&mut self.shell.lock().core)
+    }
+
+    /// Takes the lock for one owner alone, and waits for it in the line where it must.
+    ///
+    /// `Ok(true)`: it is granted. `Ok(false)`: the lock is poisoned, or was while this waited. `Full`: it would have to
+    /// wait, and as many slots are held as there is room; nothing is changed. Nothing stays registered in any case.
+    #[inline(always)]
+    pub fn lock_sync(&self) -> Result<bool, Full> {
+        let value = self.shell.acquire(Mode::Exclusive)?;
+        Ok(is_granted(value))
+    }
+
+    /// Takes a share of the lock, and waits for it in the line where it must; answers as [`Self::lock_sync`] does.
+    #[inline(always)]
+    pub fn share_sync(&self) -> Result<bool, Full> {
+        let value = self.shell.acquire(Mode::Shared)?;
+        Ok(is_granted(value))
+    }
+
+    /// Takes the lock as [`Self::lock_sync`] does, and calls `begin_wait` where it joins the line.
+    ///
+    /// The callback runs once, after the join and before the wait, with the lock round the core free; it may use this
+    /// lock. It doesn't run where the answer is there at once, nor where the room is full.
+    pub fn lock_sync_with<F: FnOnce() + Drop>(&self, begin_wait: F) -> Result<bool, Full>
+        requires { F.pre begin_wait }
+    {
+        let value = self.shell.acquire_with(Mode::Exclusive, begin_wait)?;
+        Ok(is_granted(value))
+    }
+
+    /// Takes a share as [`Self::share_sync`] does, and calls `begin_wait` where it joins the line, as
+    /// [`Self::lock_sync_with`] does.
+    pub fn share_sync_with<F: FnOnce() + Drop>(&self, begin_wait: F) -> Result<bool, Full>
+        requires { F.pre begin_wait }
+    {
+        let value = self.shell.acquire_with(Mode::Shared, begin_wait)?;
+        Ok(is_granted(value))
+    }
+
+    /// The future of the lock for one owner alone: its output is that of [`Self::lock_sync`].
+    ///
+    /// Nothing is asked before its first poll. See [`Asked`](crate::future::asked::Asked).
+    pub fn lock_async(&self) -> LockFuture<'_, R>
+        ensures request { result.asking.request ≡ AskExclusive }
+        ensures idle { result.asking.ticket ≡ Unregistered }
+        ensures fresh { result.asking.has_ended ≡ false }
+    {
+        Asked::new(&self.shell, Mode::Exclusive)
+    }
+
+    /// The future of [`Self::lock_async`], which calls `begin_wait` where it joins the line.
+    ///
+    /// The callback runs once, in the poll that joined, after the join and with the lock round the core free; it may use
+    /// this lock. It doesn't run where the answer is there at once, nor where the room is full.
+    pub fn lock_async_with<F: FnOnce() + Drop>(&self, begin_wait: F) -> LockFutureWith<'_, R, F>
+        ensures request { result.asked.asking.request ≡ AskExclusive }
+        ensures idle { result.asked.asking.ticket ≡ Unregistered }
+        ensures fresh { result.asked.asking.has_ended ≡ false }
+        ensures callback { result.begin_wait ≡ Some begin_wait }
+    {
+        AskedWith::new(self.lock_async(), begin_wait)
+    }
+
+    /// The future of a share of the lock: its output is that of [`Self::share_sync`].
+    ///
+    /// Nothing is asked before its first poll. See [`Asked`](crate::future::asked::Asked).
+    pub fn share_async(&self) -> ShareFuture<'_, R>
+        ensures request { result.asking.request ≡ AskShared }
+        ensures idle { result.asking.ticket ≡ Unregistered }
+        ensures fresh { result.asking.has_ended ≡ false }
+    {
+        Asked::new(&self.shell, Mode::Shared)
+    }
+
+    /// The future of [`Self::share_async`], which calls `begin_wait` where it joins the line.
+    ///
+    /// The callback runs once, in the poll that joined, after the join and with the lock round the core free; it may use
+    /// this lock. It doesn't run where the answer is there at once, nor where the room is full.
+    pub fn share_async_with<F: FnOnce() + Drop>(&self, begin_wait: F) -> ShareFutureWith<'_, R, F>
+        ensures request { result.asked.asking.request ≡ AskShared }
+        ensures idle { result.asked.asking.ticket ≡ Unregistered }
+        ensures fresh { result.asked.asking.has_ended ≡ false }
+        ensures callback { result.begin_wait ≡ Some begin_wait }
+    {
+        AskedWith::new(self.share_async(), begin_wait)
+    }
+
+    /// Registers a pager in a mode, to be polled as sync or as async.
+    ///
+    /// `Ok(true)`: it was answered at once, granted or poisoned, or waits, last in the line. `Ok(false)`: the pager is
+    /// registered already, here or elsewhere. `Full`: it would have to wait, and as many slots are held as there is room.
+    /// All but `Ok(true)` change nothing.
+    pub fn register_pager<'s>(
+        &'s self,
+        pager: &mut Pager<'s, Self>,
+        mode: Mode,
+        is_sync: bool,
+    ) -> Result<bool, Full>
+        ensures registered { is_busy pager.new ≡ (is_busy pager.old || is_yes result) }
+        ensures busy { is_busy pager.old ≡ true → result ≡ Ok false }
+        ensures unchanged { is_yes result ≡ false → pager.new ≡ pager.old }
+        ensures mode { is_yes result ≡ true → mode_of pager.new ≡ Some is_sync }
+        ensures idle { is_busy pager.old ≡ false → IfOk result (λ is_registered. is_registered ≡ true) }
+    {
+        if pager.is_registered() {
+            return Ok(false);
+        }
+        let mut ticket = Ticket::new();
+        let is_registered = self.shell.register(&mut ticket, mode, is_sync)?;
+        pager.hold(ticket, self);
+        Ok(is_registered)
+    }
+}
+
+impl<R: Wait + Drop> SyncResult for Lock<R> {
+    ghost use Rattle.std.specs.Prelude.{◌≡◌, ◌⊎◌};
+    ghost use Rattle.saa_core.specs.Tickets.{fault_of};
+    ghost use Rattle.saa_sync.specs.LockAnswers.{lock_answer};
+
+    type Result = Result<bool, Error>;
+
+    ghost is_value = { λ value. (value ≡ 0) ⊎ (value ≡ 2) };
+
+    ghost is_answer = { λ value. Unit {0} };
+
+    ghost answer = { lock_answer };
+
+    ghost fault = { λ result. fault_of result };
+
+    ghost source = { λ form. form.shell.source.id };
+
+    /// Without an error the value is 0, granted, or 2, poisoned: `Ok(true)` or `Ok(false)`; and else the error.
+    fn to_result(value: u8, pager_error: Option<Error>) -> Result<bool, Error> {
+        match pager_error {
+            Some(error) => Err(error),
+            None => Ok(is_granted(value)),
+        }
+    }
+
+    /// `Ok(true)`: granted; `Ok(false)`: the lock was poisoned. The ticket is idle then; its slot, if it had one, is free
+    /// again.
+    fn take(&self, ticket: &mut Ticket, how: How) -> Result<bool, Error> {
+        match self.shell.take(ticket, how) {
+            Ok(value) => Ok(is_granted(value)),
+            Err(error) => Err(error),
+        }
+    }
+
+    /// As [`Self::take`] as async, for a task: it is woken once the answer is there.
+    fn poll_task(&self, ticket: &mut Ticket, cx: &mut Context<'_>) -> Poll<Result<bool, Error>> {
+        match self.shell.poll_task(ticket, cx) {
+            Poll::Ready(Ok(value)) => Poll::Ready(Ok(is_granted(value))),
+            Poll::Ready(Err(error)) => Poll::Ready(Err(error)),
+            Poll::Pending => Poll::Pending,
+        }
+    }
+
+    /// A waiter leaves the line, and those behind it are granted while they fit; what was granted and not consumed is
+    /// given back as by the release of its mode, and nothing where the lock is poisoned by then. A granted wait mode and
+    /// a Poisoned answer give nothing back. Costs O(1), wherever a waiter stands, and a wake for each who is granted.
+    fn cancel(&self, ticket: &mut Ticket) {
+        self.shell.cancel(ticket);
+    }
+}
+
+// Whether a value is that of a grant.
+pub(crate) fn is_granted(value: u8) -> bool
+    ensures { result ≡ (value == 0) }
+{
+    value == 0
+}
+
+// Whether the lock is free, of the core that is lent.
+fn tell_free(core: &LockCore) -> bool
+    ensures { result ≡ is_free core.now.held }
+{
+    core.is_free()
+}
+
+// Whether one owner has the lock alone, of the core that is lent.
+fn tell_locked(core: &LockCore) -> bool
+    ensures { result ≡ is_locked core.now.held }
+{
+    core.is_locked()
+}
+
+// Whether the lock is shared, of the core that is lent.
+fn tell_shared(core: &LockCore) -> bool
+    ensures { result ≡ is_shared core.now.held }
+{
+    core.is_shared()
+}
+
+// Whether the lock is poisoned, of the core that is lent.
+fn tell_poisoned(core: &LockCore) -> bool
+    ensures { result ≡ is_poisoned core.now.held }
+{
+    core.is_poisoned()
+}
+
+// A try for one owner alone, on the core that is lent.
+fn lock_now(core: &mut LockCore) -> Result<(), TryLockError>
+    ensures calls { Calls core.old core.new (λ s. lock_tried s AskExclusive) result }
+    ensures wakes { OwesAnswered core.old.slots core.new.slots }
+{
+    core.try_lock()
+}
+
+// A try for a share, on the core that is lent.
+fn share_now(core: &mut LockCore) -> Result<(), TryLockError>
+    ensures calls { Calls core.old core.new (λ s. lock_tried s AskShared) result }
+    ensures wakes { OwesAnswered core.old.slots core.new.slots }
+{
+    core.try_share()
+}
+
+// The release of one owner, on the core that is lent.
+fn end_lock(core: &mut LockCore) -> bool
+    ensures calls { Calls core.old core.new (λ s. given_back s AskExclusive) result }
+    ensures answer { result ≡ is_locked core.old.held }
+    ensures refused { OnFalse result (core.new ≡ core.old) }
+    ensures wakes { OwesAnswered core.old.slots core.new.slots }
+{
+    core.release_lock()
+}
+
+// The release of a share, on the core that is lent.
+fn end_share(core: &mut LockCore) -> bool
+    ensures calls { Calls core.old core.new (λ s. given_back s AskShared) result }
+    ensures answer { result ≡ is_shared core.old.held }
+    ensures refused { OnFalse result (core.new ≡ core.old) }
+    ensures wakes { OwesAnswered core.old.slots core.new.slots }
+{
+    core.release_share()
+}
+
+// Poison, on the core that is lent.
+fn poison(core: &mut LockCore) -> bool
+    ensures calls { Calls core.old core.new (λ s. poisoned_of s (is_locked s.held)) result }
+    ensures answer { result ≡ is_locked core.old.held }
+    ensures refused { OnFalse result (core.new ≡ core.old) }
+    ensures wakes { OwesAnswered core.old.slots core.new.slots }
+{
+    core.poison_lock()
+}
+
+// The end of poison, on the core that is lent.
+fn clear(core: &mut LockCore) -> bool
+    ensures calls { Calls core.old core.new (λ s. cleared_of s (is_poisoned s.held)) result }
+    ensures answer { result ≡ is_poisoned core.old.held }
+    ensures refused { OnFalse result (core.new ≡ core.old) }
+    ensures wakes { OwesAnswered core.old.slots core.new.slots }
+{
+    core.clear_poison()
+}

@@ -1,0 +1,371 @@
+//! The semaphore that threads share: a `SemaphoreCore` in a shell.
+//!
+//! Each call is one lock, one step of the core, and the wakes that the core owes. The steps stand at the end of this
+//! file as functions that are lent the core, and are held to `specs/Semaphore.antt` of `saa_core_spec` through its calls.
+
+ghost use Rattle.std.specs.Prelude.{◌≡◌, ◌↔◌, ◌≤◌, ◌<◌, ◌||◌, ◌==◌, true, false, [], nat_lt, IfOk, IsOk, IsTrue, Ok, Some};
+ghost use Rattle.std.specs.Bool.{OnFalse};
+ghost use Rattle.saa_core_spec.specs.declared.request.Request.TheVariants.{Permits};
+ghost use Rattle.saa_core_spec.specs.Asking.{tried};
+ghost use Rattle.saa_core_spec.specs.Polling.{given_back};
+ghost use Rattle.saa_core_spec.specs.Semaphore.{available, bound_of, out_of};
+ghost use Rattle.saa_core.specs.Slots.{OwesAnswered};
+ghost use Rattle.saa_core.specs.declared.ticket.Registration.TheVariants.{Unregistered};
+ghost use Rattle.saa_core.specs.Tickets.{Calls, is_busy, is_yes};
+ghost use Rattle.saa_core.specs.Beginning.{mode_of};
+
+use crate::future::semaphore::{
+    Acquire, AcquireMany, AcquireManyWith, AcquireWith, Asked, AskedWith,
+};
+use crate::pager::{Pager, SyncResult};
+use crate::seat::PATIENCE;
+use crate::shell::Shell;
+use futures::task::{Context, Poll};
+use saa_core::semaphore::SemaphoreCore;
+use saa_core::ticket::{Error, Full, How, Ticket};
+use std::alloc::{AllocError, Global};
+use std::sync::Wait;
+use std::sync::atomic::Ordering;
+
+/// Up to 63 permits that threads share, taken in the order of asking.
+///
+/// A task that must wait joins a line, and the line is served strictly in order: while somebody waits, nobody who asks
+/// later is granted first, 0 permits included. `R` is the leave to wait, as a reference to the runtime. Every call may
+/// wait for the lock, which is held for one short step of the core at a time; all but making take no memory.
+///
+/// Each ticket and pager is used with the semaphore that it was registered in.
+#[derive(Drop)]
+pub struct Semaphore<R: Wait + Drop> {
+    shell: Shell<R, SemaphoreCore>,
+}
+
+impl<R: Wait + Drop> Semaphore<R> {
+    /// The most permits of a semaphore.
+    pub const MAX_PERMITS: usize = SemaphoreCore::MAX_PERMITS;
+
+    /// A semaphore with all its permits available, and room for so many slots of those who wait. Costs O(`room`).
+    ///
+    /// Reserves all the memory that it will ever need; the error comes only where that was refused, and so never for
+    /// room 0, which takes none.
+    pub fn new(rt: R, alloc: Global, room: u16) -> Result<Self, AllocError>
+        ensures no_room { room ≡ 0 → IsOk result }
+    {
+        Self::with_permits(rt, alloc, Self::MAX_PERMITS, room)
+    }
+
+    /// A semaphore with at most so many permits available; the others count as out, and may be released.
+    /// A number above [`Self::MAX_PERMITS`] is cut to it. Costs O(`room`).
+    ///
+    /// Reserves all the memory that it will ever need; the error comes only where that was refused, and so never for
+    /// room 0, which takes none.
+    pub fn with_permits(rt: R, alloc: Global, permits: usize, room: u16) -> Result<Self, AllocError>
+        ensures no_room { room ≡ 0 → IsOk result }
+    {
+        let core = SemaphoreCore::with_permits(alloc, permits, room)?;
+        Ok(Self::on_shell(Shell::new(rt, alloc, core, room, PATIENCE)?))
+    }
+
+    /// The semaphore on a shell that is handed in, for who wants another patience of those who wait, or has a core in use.
+    ///
+    /// Its room and its patience are the shell's. Takes no memory.
+    pub fn on_shell(shell: Shell<R, SemaphoreCore>) -> Self
+        ensures { result.shell ≡ shell }
+    {
+        Semaphore { shell }
+    }
+
+    /// What it stands on; for tests and measurements.
+    pub fn shell(&self) -> &Shell<R, SemaphoreCore>
+        ensures { result.now ≡ self.now.shell }
+    {
+        &self.shell
+    }
+
+    /// Whether a permit is available. Every ordering acts as the sequentially consistent one; none panics.
+    pub fn is_open(&self, _mo: Ordering) -> bool {
+        tell_open(&self.shell.lock().core)
+    }
+
+    /// Whether no permit is available. Every ordering acts as the sequentially consistent one; none panics.
+    pub fn is_closed(&self, _mo: Ordering) -> bool {
+        tell_closed(&self.shell.lock().core)
+    }
+
+    /// How many permits are available, 0 to 63. Every ordering acts as the sequentially consistent one; none panics.
+    pub fn available_permits(&self, _mo: Ordering) -> usize
+        ensures { result ≤ 63 }
+    {
+        count_available(&self.shell.lock().core)
+    }
+
+    /// Takes one permit if nobody waits and one is available; see [`Self::try_acquire_many`].
+    pub fn try_acquire(&self) -> bool {
+        self.try_acquire_many(1)
+    }
+
+    /// Takes `count` permits if nobody waits and they are available; never waits for them. Wakes nobody.
+    ///
+    /// A count above [`Self::MAX_PERMITS`] is never granted. 0 permits are refused too while somebody waits.
+    /// A `false` changes nothing.
+    pub fn try_acquire_many(&self, count: usize) -> bool
+        ensures too_many { 63 < count → result ≡ false }
+    {
+        take_now(&mut self.shell.lock().core, count)
+    }
+
+    /// Gives one permit back; see [`Self::release_many`].
+    pub fn release(&self) -> bool {
+        self.release_many(1)
+    }
+
+    /// Gives `count` permits back, grants those who wait, oldest first, while they fit, and wakes exactly those.
+    ///
+    /// `false` comes exactly where fewer permits are out, and changes nothing. 0 permits are given back always, and
+    /// change nothing. Each who is granted costs a ring at its seat, which is a system call only where it sleeps, and
+    /// each second one of them a short lock more; where nobody is granted nothing is added.
+    #[inline(always)]
+    pub fn release_many(&self, count: usize) -> bool
+        ensures none { count ≡ 0 → result ≡ true }
+        ensures too_many { 63 < count → result ≡ false }
+    {
+        self.shell.step(|core| give_back(core, count))
+    }
+
+    /// Takes one permit, and waits for it in the line where it must.
+    ///
+    /// `Ok`: the core answered that it is granted. `Full`: it would have to wait, and as many slots are held as there
+    /// is room; nothing is changed. Nothing stays registered either way. No core refuses to register one permit, or
+    /// forgets a ticket that waits; one that did would be asked again.
+    pub fn acquire_sync(&self) -> Result<(), Full> {
+        let _granted = self.shell.acquire(1)?;
+        Ok(())
+    }
+
+    /// Takes `count` permits, all at once, and waits for them in the line where it must.
+    ///
+    /// `Ok(true)`: the core answered that they are granted. `Ok(false)` comes at once, exactly where the count is above
+    /// [`Self::MAX_PERMITS`]. `Full`: it would have to wait, and as many slots are held as there is room. The last two
+    /// change nothing. Nothing stays registered in any case.
+    #[inline(always)]
+    pub fn acquire_many_sync(&self, count: usize) -> Result<bool, Full>
+        ensures answer { IfOk result (λ is_granted. IsTrue is_granted ↔ (count ≤ 63)) }
+        ensures too_many { 63 < count → result ≡ Ok false }
+    {
+        if is_too_many(count) {
+            return Ok(false);
+        }
+        let _granted = self.shell.acquire(count)?;
+        Ok(true)
+    }
+
+    /// Takes one permit as [`Self::acquire_sync`] does, and calls `begin_wait` where it joins the line.
+    ///
+    /// The callback runs once, after the join and before the wait, with the lock free; it may use this semaphore. It
+    /// doesn't run where the permit is there at once, nor where the room is full.
+    pub fn acquire_sync_with<F: FnOnce() + Drop>(&self, begin_wait: F) -> Result<(), Full>
+        requires { F.pre begin_wait }
+    {
+        let _granted = self.shell.acquire_with(1, begin_wait)?;
+        Ok(())
+    }
+
+    /// Takes `count` permits as [`Self::acquire_many_sync`] does, and calls `begin_wait` where it joins the line.
+    ///
+    /// The callback runs once, after the join and before the wait, with the lock free; it may use this semaphore. It
+    /// doesn't run where the answer is there at once, `Ok(false)` among them, nor where the room is full.
+    pub fn acquire_many_sync_with<F: FnOnce() + Drop>(
+        &self,
+        count: usize,
+        begin_wait: F,
+    ) -> Result<bool, Full>
+        requires { F.pre begin_wait }
+        ensures answer { IfOk result (λ is_granted. IsTrue is_granted ↔ (count ≤ 63)) }
+        ensures too_many { 63 < count → result ≡ Ok false }
+    {
+        if is_too_many(count) {
+            return Ok(false);
+        }
+        let _granted = self.shell.acquire_with(count, begin_wait)?;
+        Ok(true)
+    }
+
+    /// The future of one permit: its output is that of [`Self::acquire_sync`].
+    ///
+    /// Nothing is asked before its first poll. See [`Asked`](crate::future::asked::Asked).
+    pub fn acquire_async(&self) -> Acquire<'_, R>
+        ensures request { result.asking.request ≡ Permits 1 }
+        ensures idle { result.asking.ticket ≡ Unregistered }
+        ensures fresh { result.asking.has_ended ≡ false }
+    {
+        Asked::new(&self.shell, 1)
+    }
+
+    /// The future of [`Self::acquire_async`], which calls `begin_wait` where it joins the line.
+    ///
+    /// The callback runs once, in the poll that joined, after the join and with the lock round the core free; it may use
+    /// this semaphore. It doesn't run where the answer is there at once, nor where the room is full.
+    pub fn acquire_async_with<F: FnOnce() + Drop>(&self, begin_wait: F) -> AcquireWith<'_, R, F>
+        ensures request { result.asked.asking.request ≡ Permits 1 }
+        ensures idle { result.asked.asking.ticket ≡ Unregistered }
+        ensures fresh { result.asked.asking.has_ended ≡ false }
+        ensures callback { result.begin_wait ≡ Some begin_wait }
+    {
+        AskedWith::new(self.acquire_async(), begin_wait)
+    }
+
+    /// The future of `count` permits, all at once: its output is that of [`Self::acquire_many_sync`].
+    ///
+    /// Nothing is asked before its first poll. See [`Asked`](crate::future::asked::Asked).
+    pub fn acquire_many_async(&self, count: usize) -> AcquireMany<'_, R>
+        ensures request { result.asking.request ≡ Permits count }
+        ensures idle { result.asking.ticket ≡ Unregistered }
+        ensures fresh { result.asking.has_ended ≡ false }
+    {
+        Asked::new(&self.shell, count)
+    }
+
+    /// The future of [`Self::acquire_many_async`], which calls `begin_wait` where it joins the line.
+    ///
+    /// The callback runs once, in the poll that joined, after the join and with the lock round the core free; it may use
+    /// this semaphore. It doesn't run where the answer is there at once, nor where the room is full.
+    pub fn acquire_many_async_with<F: FnOnce() + Drop>(
+        &self,
+        count: usize,
+        begin_wait: F,
+    ) -> AcquireManyWith<'_, R, F>
+        ensures request { result.asked.asking.request ≡ Permits count }
+        ensures idle { result.asked.asking.ticket ≡ Unregistered }
+        ensures fresh { result.asked.asking.has_ended ≡ false }
+        ensures callback { result.begin_wait ≡ Some begin_wait }
+    {
+        AskedWith::new(self.acquire_many_async(count), begin_wait)
+    }
+
+    /// Registers a pager for `count` permits, to be polled as sync or as async.
+    ///
+    /// `Ok(true)`: it was granted at once, or waits, last in the line. `Ok(false)`: the pager is registered already,
+    /// here or elsewhere, or the count is above [`Self::MAX_PERMITS`]. `Full`: it would have to wait, and as many
+    /// slots are held as there is room. All but `Ok(true)` change nothing.
+    pub fn register_pager<'s>(
+        &'s self,
+        pager: &mut Pager<'s, Self>,
+        count: usize,
+        is_sync: bool,
+    ) -> Result<bool, Full>
+        ensures registered { is_busy pager.new ≡ (is_busy pager.old || is_yes result) }
+        ensures busy { is_busy pager.old ≡ true → result ≡ Ok false }
+        ensures too_many { 63 < count → result ≡ Ok false }
+        ensures unchanged { is_yes result ≡ false → pager.new ≡ pager.old }
+        ensures mode { is_yes result ≡ true → mode_of pager.new ≡ Some is_sync }
+        ensures idle { is_busy pager.old ≡ false → count ≤ 63 → IfOk result (λ is_registered. is_registered ≡ true) }
+    {
+        if pager.is_registered() || is_too_many(count) {
+            return Ok(false);
+        }
+        let mut ticket = Ticket::new();
+        let is_registered = self.shell.register(&mut ticket, count, is_sync)?;
+        pager.hold(ticket, self);
+        Ok(is_registered)
+    }
+}
+
+impl<R: Wait + Drop> SyncResult for Semaphore<R> {
+    ghost use Rattle.saa_core.specs.Tickets.{fault_of};
+    ghost use Rattle.saa_sync.specs.SemaphoreAnswers.{semaphore_answer};
+
+    type Result = Result<(), Error>;
+
+    ghost is_value = { λ value. Unit {0} };
+
+    ghost is_answer = { λ value. Unit {0} };
+
+    ghost answer = { semaphore_answer };
+
+    ghost fault = { λ result. fault_of result };
+
+    ghost source = { λ form. form.shell.source.id };
+
+    /// `Ok(())` for every value, and else the error.
+    fn to_result(_value: u8, pager_error: Option<Error>) -> Result<(), Error> {
+        match pager_error {
+            Some(error) => Err(error),
+            None => Ok(()),
+        }
+    }
+
+    /// `Ok(())`: granted, and the ticket is idle; its slot, if it had one, is free again.
+    fn take(&self, ticket: &mut Ticket, how: How) -> Result<(), Error> {
+        match self.shell.take(ticket, how) {
+            Ok(_granted) => Ok(()),
+            Err(error) => Err(error),
+        }
+    }
+
+    /// As [`Self::take`] as async, for a task: it is woken once the answer is there.
+    fn poll_task(&self, ticket: &mut Ticket, cx: &mut Context<'_>) -> Poll<Result<(), Error>> {
+        match self.shell.poll_task(ticket, cx) {
+            Poll::Ready(Ok(_granted)) => Poll::Ready(Ok(())),
+            Poll::Ready(Err(error)) => Poll::Ready(Err(error)),
+            Poll::Pending => Poll::Pending,
+        }
+    }
+
+    /// A waiter leaves the line, and those behind it are granted while they fit; what was granted and not consumed is
+    /// given back, as by `release_many`. Costs O(1), wherever a waiter stands, and a wake for each
+    /// who is granted.
+    fn cancel(&self, ticket: &mut Ticket) {
+        self.shell.cancel(ticket);
+    }
+}
+
+// Whether a count is above the bound, so that it can never be granted.
+fn is_too_many(count: usize) -> bool
+    ensures { IsTrue result ↔ (63 < count) }
+{
+    count > SemaphoreCore::MAX_PERMITS
+}
+
+// Whether a permit is available, of the core that is lent.
+fn tell_open(core: &SemaphoreCore) -> bool
+    ensures { result ≡ nat_lt (out_of core.now.held) (bound_of core.now.held) }
+{
+    core.is_open()
+}
+
+// Whether no permit is available, of the core that is lent.
+fn tell_closed(core: &SemaphoreCore) -> bool
+    ensures { result ≡ (out_of core.now.held == bound_of core.now.held) }
+{
+    core.is_closed()
+}
+
+// How many permits are available, of the core that is lent.
+fn count_available(core: &SemaphoreCore) -> usize
+    ensures number { result ≡ available core.now.held }
+    ensures within { result ≤ 63 }
+{
+    core.available_permits()
+}
+
+// A try on the core that is lent.
+fn take_now(core: &mut SemaphoreCore, count: usize) -> bool
+    ensures calls { Calls core.old core.new (λ s. tried s (Permits count)) result }
+    ensures answer { IsTrue result ↔ ((core.old.slots.line ≡ []) × (count ≤ available core.old.held)) }
+    ensures too_many { 63 < count → result ≡ false }
+    ensures refused { OnFalse result (core.new ≡ core.old) }
+    ensures wakes { OwesAnswered core.old.slots core.new.slots }
+{
+    core.try_acquire_many(count)
+}
+
+// A release on the core that is lent.
+fn give_back(core: &mut SemaphoreCore, count: usize) -> bool
+    ensures calls { Calls core.old core.new (λ s. given_back s (Permits count)) result }
+    ensures answer { IsTrue result ↔ (count ≤ out_of core.old.held) }
+    ensures none { count ≡ 0 → result ≡ true }
+    ensures too_many { 63 < count → result ≡ false }
+    ensures refused { OnFalse result (core.new ≡ core.old) }
+    ensures wakes { OwesAnswered core.old.slots core.new.slots }
+{
+    core.release_many(count)
+}

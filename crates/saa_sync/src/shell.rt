@@ -1,0 +1,556 @@
+//! One lock round any core, and a seat for each slot of its room: what every threaded form stands on.
+//!
+//! A wait is a registration followed by polls: a task that waits looks at its seat, then yields, and only then sleeps
+//! there. A call that answered somebody wakes exactly those, with the lock free. The methods of `Inside` are lent the
+//! core, and say what they do to it; those of `Shell` only take the lock round one of them, and wake.
+//!
+//! What nobody waits in is inlined, and the waiting and waking isn't: each register that a call saves in memory before it
+//! takes the lock is waited for there, which cost a lock some 10 ns.
+
+ghost use Rattle.std.specs.Prelude.{◌≡◌, ◌||◌, ◌&&◌, not, true, false, Some, IfErr, IfOk, IsOk, slice_get};
+ghost use Rattle.saa_core_spec.specs.declared.polling.Error.TheVariants.{NotRegistered};
+ghost use Rattle.saa_core_spec.specs.declared.polling.How.TheVariants.{Sync, Async};
+ghost use Rattle.saa_core.specs.declared.ticket.Registration.TheVariants.{Unregistered};
+ghost use Rattle.saa_core_spec.specs.Asking.{registered};
+ghost use Rattle.saa_core_spec.specs.Polling.{polled};
+ghost use Rattle.saa_core.specs.Tickets.{Acts, Polled, dropping, fault_of, is_busy, is_not_ready, is_yes, IsNeverTooMuch};
+ghost use Rattle.saa_core.specs.Slots.{OwesAnswered, wake_told};
+ghost use Rattle.saa_core.specs.Beginning.{BeginOwes, alone, mode_of};
+ghost use Rattle.saa_sync.specs.Waits.{begun, has_joined, registration_of, slot_woken};
+ghost use Rattle.futures.specs.Task.{Hears, IsArmed, Keeps};
+ghost use Rattle.futures.specs.Poll.{IfReady, OnPending};
+
+use crate::seat::{Patience, Seat};
+use crate::wakers::Wakers;
+use crossbeam_utils::CachePadded;
+use futures::task::{Context, Poll, Source, Waker};
+use saa_core::bench::Primitive;
+use saa_core::future::{Asking, Progress};
+use saa_core::ticket::{Error, Full, How, Ticket};
+use std::alloc::{AllocError, Global};
+use std::sync::{Mutex, MutexGuard, Wait};
+use std::thread::yield_now;
+
+/// A wake that was taken out of the core: who waits at this slot has an answer.
+#[derive(Drop)]
+pub(crate) struct Wake {
+    /// The slot, whose seat is to be rung for a thread.
+    pub slot: u16,
+    /// The waker of a task, which wakes it when it is dropped.
+    pub waker: Option<Waker>,
+}
+
+/// Wakes that were taken out of the core under one lock.
+#[derive(Drop)]
+pub(crate) struct Wakes {
+    /// The oldest.
+    pub first: Wake,
+    /// The next, if there is one; then more may be owed.
+    pub second: Option<Wake>,
+}
+
+/// What stands under the lock.
+#[derive(Drop)]
+pub(crate) struct Inside<P: Primitive> {
+    /// The core, to be lent to one step at a time.
+    pub(crate) core: P,
+    /// The wakers of the tasks that poll for an answer.
+    wakers: Wakers,
+}
+
+impl<P: Primitive> Inside<P> {
+    /// The slot of the oldest wake that the core owes, told and so taken out of its list; mostly there is none.
+    ///
+    /// Its waker is taken by [`Self::wakes_from`], in a call of its own: what a call that wakes nobody costs is this look.
+    #[inline(always)]
+    pub(crate) fn next_answered(&mut self) -> Option<u16>
+        ensures oldest { slice_get (P.core self.old.core).slots.owed 0 ≡ result }
+        ensures told { P.core self.new.core ≡ record (P.core self.old.core) { slots = wake_told (P.core self.old.core).slots } }
+    {
+        self.core.next_answered()
+    }
+
+    /// The wake of a slot that was told, and the next that the core owes, told too; both with the waker of the task that
+    /// waits there, if one does.
+    #[inline(never)]
+    pub(crate) fn wakes_from(&mut self, slot: u16) -> Wakes
+        ensures first { result.first.slot ≡ slot }
+        ensures second { slice_get (P.core self.old.core).slots.owed 0 ≡ slot_woken result.second }
+        ensures told { P.core self.new.core ≡ record (P.core self.old.core) { slots = wake_told (P.core self.old.core).slots } }
+    {
+        let first = self.wake_at(slot);
+        let second = match self.next_answered() {
+            Some(next) => Some(self.wake_at(next)),
+            None => None,
+        };
+        Wakes { first, second }
+    }
+
+    // The wake of a slot, with the waker that is kept there.
+    fn wake_at(&mut self, slot: u16) -> Wake
+        ensures slot { result.slot ≡ slot }
+        ensures core { self.new.core ≡ self.old.core }
+    {
+        let waker = self.wakers.take(slot);
+        Wake { slot, waker }
+    }
+
+    // Registers a ticket.
+    fn register(&mut self, ticket: &mut Ticket, ask: P::Ask, is_sync: bool) -> Result<bool, Full>
+        ensures acts { Acts (P.core self.old.core) (P.core self.new.core) ticket.old ticket.new
+            (λ s name. registered s name (P.request ask) is_sync) result }
+        ensures ticket { is_busy ticket.new ≡ (is_busy ticket.old || is_yes result) }
+        ensures mode { ticket.old ≡ Unregistered → is_yes result ≡ true → mode_of ticket.new ≡ Some is_sync }
+        ensures wakes { OwesAnswered (P.core self.old.core).slots (P.core self.new.core).slots }
+    {
+        self.core.register(ticket, ask, is_sync)
+    }
+
+    // Registers a pager's ticket. An idle one that asks for no more than there ever is is registered, or finds the room
+    // full.
+    fn register_pager(
+        &mut self,
+        ticket: &mut Ticket,
+        ask: P::Ask,
+        is_sync: bool,
+    ) -> Result<bool, Full>
+        ensures acts { Acts (P.core self.old.core) (P.core self.new.core) ticket.old ticket.new
+            (λ s name. registered s name (P.request ask) is_sync) result }
+        ensures ticket { is_busy ticket.new ≡ (is_busy ticket.old || is_yes result) }
+        ensures mode { ticket.old ≡ Unregistered → is_yes result ≡ true → mode_of ticket.new ≡ Some is_sync }
+        ensures sure { ticket.old ≡ Unregistered → IsNeverTooMuch P.stands (P.request ask)
+            → IfOk result (λ is_registered. is_registered ≡ true) }
+        ensures wakes { OwesAnswered (P.core self.old.core).slots (P.core self.new.core).slots }
+    {
+        self.core.stands();
+        self.register(ticket, ask, is_sync)
+    }
+
+    // Registers an idle ticket as sync, and consumes the answer if that is there at once.
+    #[inline(always)]
+    fn begin(&mut self, ticket: &mut Ticket, ask: P::Ask) -> Result<Begun, Full>
+        requires { ticket.old ≡ Unregistered }
+        ensures acts { Acts (P.core self.old.core) (P.core self.new.core) ticket.old ticket.new
+            (λ s name. begun s name (P.request ask)) result }
+        ensures registration { registration_of result ≡ (registered (alone (P.core self.old.core)) 0 (P.request ask) true).reply }
+        ensures ticket { is_busy ticket.new ≡ has_joined result }
+        ensures mode { has_joined result ≡ true → mode_of ticket.new ≡ Some true }
+        ensures wakes { BeginOwes (P.core self.old.core) (P.core self.new.core) ticket.old (P.request ask) true (registration_of result) }
+    {
+        if !self.register(ticket, ask, true)? {
+            return Ok(Begun::Refused);
+        }
+        match self.poll(ticket, How::Sync) {
+            Ok(value) => Ok(Begun::Answered(value)),
+            Err(_not_ready) => Ok(Begun::Joined),
+        }
+    }
+
+    // Polls a ticket; doesn't wait.
+    fn poll(&mut self, ticket: &mut Ticket, how: How) -> Result<u8, Error>
+        ensures acts { Acts (P.core self.old.core) (P.core self.new.core) ticket.old ticket.new
+            (λ s name. polled s name how) result }
+        ensures ticket { Polled ticket.old ticket.new how (fault_of result) }
+        ensures owed { (P.core self.new.core).slots.owed ≡ (P.core self.old.core).slots.owed }
+    {
+        self.core.poll_number(ticket, how)
+    }
+
+    // Drops what a ticket is registered for.
+    fn cancel(&mut self, ticket: &mut Ticket)
+        ensures acts { Acts (P.core self.old.core) (P.core self.new.core) ticket.old ticket.new dropping result }
+        ensures idle { ticket.new ≡ Unregistered }
+        ensures wakes { OwesAnswered (P.core self.old.core).slots (P.core self.new.core).slots }
+    {
+        self.core.cancel(ticket);
+    }
+}
+
+/// How a call that may wait began.
+#[derive(Drop)]
+pub(crate) enum Begun {
+    /// The registration is false: nothing is registered.
+    Refused,
+    /// It was answered at once, with this value.
+    Answered(u8),
+    /// It joined the line.
+    Joined,
+}
+
+/// A core that threads share.
+#[derive(Drop)]
+pub struct Shell<R: Wait + Drop, P: Primitive> {
+    rt: R,
+    lock: Mutex<Inside<P>>,
+    // One for each slot of the room, each on cache lines of its own: a task that looks at its seat would be held up by every ring
+    // of its neighbours, which cost two threads that take turns a third of the time.
+    seats: Vec<CachePadded<Seat>>,
+    patience: Patience,
+    /// What tasks wait for.
+    pub(crate) source: Source,
+}
+
+impl<R: Wait + Drop, P: Primitive> Shell<R, P> {
+    /// The core that is handed in, whose slots are those of so large a room. Costs O(`room`).
+    ///
+    /// Only this takes memory; the error comes only where that was refused, and so never for room 0, which takes none. Where
+    /// it comes, the core is dropped.
+    pub fn new(
+        rt: R,
+        alloc: Global,
+        core: P,
+        room: u16,
+        patience: Patience,
+    ) -> Result<Self, AllocError>
+        ensures no_room { room ≡ 0 → IsOk result }
+    {
+        let mut seats = Vec::with_capacity(alloc, usize::from(room))?;
+        for _slot in 0..room {
+            seats.push_reserved(CachePadded::new(Seat::new()));
+        }
+        let wakers = Wakers::with_room(alloc, room)?;
+        Ok(Shell {
+            rt,
+            lock: Mutex::new(Inside { core, wakers }),
+            seats,
+            patience,
+            source: Source::new(),
+        })
+    }
+
+    /// Takes the lock; waits for whoever has it.
+    #[inline(always)]
+    pub(crate) fn lock(&self) -> MutexGuard<'_, Inside<P>> {
+        self.lock.lock(&self.rt)
+    }
+
+    /// Makes one step of the core under the lock, and wakes whom the core owes a wake by then, with the lock free.
+    ///
+    /// The answer is one that the step gives at some core.
+    #[inline(always)]
+    pub(crate) fn step<A, F: FnOnce(&mut P) -> A + Drop>(&self, step: F) -> A
+        requires { F.IsAlwaysCallable step }
+        ensures { (lent : _) × (left : _) × F.post step lent result left }
+    {
+        let mut inside = self.lock();
+        let answer = step(&mut inside.core);
+        self.leave(inside);
+        answer
+    }
+
+    /// Lets the lock go, and wakes whom the core owes a wake, with the lock free.
+    #[inline(always)]
+    pub(crate) fn leave<'s>(&'s self, mut inside: MutexGuard<'s, Inside<P>>) {
+        match inside.next_answered() {
+            Some(slot) => self.wake(inside, slot),
+            None => drop(inside),
+        }
+    }
+
+    // Wakes as the core says, from this slot on, whose wake was told: lets the lock go before each wake.
+    //
+    // Each costs a ring of its seat, which is a system call only where somebody sleeps there, and each second one a
+    // short lock, to ask for more.
+    #[inline(never)]
+    fn wake<'s>(&'s self, inside: MutexGuard<'s, Inside<P>>, first: u16) {
+        let mut inside = inside;
+        let mut slot = first;
+        for _ in self.rt.forever() {
+            let wakes = inside.wakes_from(slot);
+            drop(inside);
+            self.ring(wakes.first);
+            let Some(second) = wakes.second else {
+                return;
+            };
+            self.ring(second);
+            inside = self.lock();
+            let Some(next) = inside.next_answered() else {
+                return;
+            };
+            slot = next;
+        }
+    }
+
+    /// Asks, waits for the answer if it isn't there at once, and consumes it; nothing stays registered.
+    ///
+    /// For what the core never refuses. A core that refused all the same, or that forgot a ticket which waits, is
+    /// asked again, so that every value is one that the core answered. `Full`: it would have to wait, and the room is
+    /// full.
+    #[inline(always)]
+    pub(crate) fn acquire(&self, ask: P::Ask) -> Result<u8, Full> {
+        for _ in self.rt.forever() {
+            let mut ticket = Ticket::new();
+            match self.begin(&mut ticket, ask)? {
+                Begun::Refused => {}
+                Begun::Answered(value) => return Ok(value),
+                Begun::Joined => {
+                    if let Ok(value) = self.finish(&mut ticket) {
+                        return Ok(value);
+                    }
+                }
+            }
+        }
+        unreachable!()
+    }
+
+    /// Asks, and where that joins the line calls `begin_wait` and waits, as [`Self::acquire`] does.
+    pub(crate) fn acquire_with<F: FnOnce() + Drop>(
+        &self,
+        ask: P::Ask,
+        begin_wait: F,
+    ) -> Result<u8, Full>
+        requires { F.pre begin_wait }
+    {
+        let mut ticket = Ticket::new();
+        match self.begin(&mut ticket, ask)? {
+            Begun::Refused => self.acquire(ask),
+            Begun::Answered(value) => Ok(value),
+            Begun::Joined => {
+                begin_wait();
+                match self.finish(&mut ticket) {
+                    Ok(value) => Ok(value),
+                    Err(_lost) => self.acquire(ask),
+                }
+            }
+        }
+    }
+
+    /// Registers a ticket, and wakes whom that answered. An idle one that asks for no more than there ever is is
+    /// registered, or the room is full.
+    pub(crate) fn register(
+        &self,
+        ticket: &mut Ticket,
+        ask: P::Ask,
+        is_sync: bool,
+    ) -> Result<bool, Full>
+        ensures ticket { is_busy ticket.new ≡ (is_busy ticket.old || is_yes result) }
+        ensures mode { ticket.old ≡ Unregistered → is_yes result ≡ true → mode_of ticket.new ≡ Some is_sync }
+        ensures sure { ticket.old ≡ Unregistered → IsNeverTooMuch P.stands (P.request ask)
+            → IfOk result (λ is_registered. is_registered ≡ true) }
+    {
+        let mut inside = self.lock();
+        let answer = inside.register_pager(ticket, ask, is_sync);
+        self.take_seat(ticket);
+        self.leave(inside);
+        answer
+    }
+
+    /// Polls a ticket: as sync it waits for the answer, else it answers `NotReady` where that isn't there yet.
+    pub(crate) fn take(&self, ticket: &mut Ticket, how: How) -> Result<u8, Error>
+        ensures polled { Polled ticket.old ticket.new how (fault_of result) }
+        ensures waited { how ≡ Sync → is_not_ready (fault_of result) ≡ false }
+    {
+        let answer = self.lock().poll(ticket, how);
+        if matches!(how, How::Sync) && matches!(answer, Err(Error::NotReady)) {
+            return self.wait(ticket);
+        }
+        answer
+    }
+
+    /// Polls a ticket as async for a task: where the answer isn't there yet, the task's waker is kept in the slot's place,
+    /// so that it is woken once the answer is there, and the poll stays pending.
+    ///
+    /// Where no waker can be made, the task is woken at once. A waker of another task that polled for the same slot before
+    /// gives way to this one, and wakes that task for nothing.
+    pub(crate) fn poll_task(
+        &self,
+        ticket: &mut Ticket,
+        cx: &mut Context<'_>,
+    ) -> Poll<Result<u8, Error>>
+        ensures ready { IfReady result (λ answer. Polled ticket.old ticket.new Async (fault_of answer)) }
+        ensures waited { IfReady result (λ answer. is_not_ready (fault_of answer) ≡ false) }
+        ensures pending { OnPending result (ticket.new ≡ ticket.old) }
+        ensures armed { OnPending result (IsArmed cx.new) }
+        ensures heard { OnPending result (Hears cx.new self.now.source.id) }
+        ensures kept { Keeps cx.old cx.new }
+    {
+        let slot = ticket.slot();
+        let mut inside = self.lock();
+        let answer = inside.poll(ticket, How::Async);
+        if matches!(answer, Err(Error::NotReady)) {
+            return inside.wakers.keep(slot, &self.source, cx);
+        }
+        let _unused = inside.wakers.take_of(slot);
+        drop(inside);
+        Poll::Ready(answer)
+    }
+
+    /// Drops what a ticket is registered for, and wakes whom that answered.
+    pub(crate) fn cancel(&self, ticket: &mut Ticket)
+        ensures { ticket.new ≡ Unregistered }
+    {
+        let slot = ticket.slot();
+        let mut inside = self.lock();
+        inside.cancel(ticket);
+        let _unused = inside.wakers.take_of(slot);
+        self.leave(inside);
+    }
+
+    /// Polls a future for a task, and says whether it joined the line by that; wakes whom a first poll answered.
+    ///
+    /// Where it waits the task's waker is kept, as [`Self::poll_task`] does.
+    pub(crate) fn advance(
+        &self,
+        asking: &mut Asking<P>,
+        cx: &mut Context<'_>,
+    ) -> (Poll<Result<Option<u8>, Full>>, bool)
+        requires { asking.old.has_ended ≡ false }
+        ensures armed { OnPending result.0 (IsArmed cx.new) }
+        ensures heard { OnPending result.0 (Hears cx.new self.now.source.id) }
+        ensures kept { Keeps cx.old cx.new }
+        ensures ended { IfReady result.0 (λ answer. asking.new.has_ended ≡ true) }
+        ensures pending { OnPending result.0 (asking.new.has_ended ≡ false) }
+        ensures joined { result.1 ≡ (not (is_busy asking.old.ticket) && is_busy asking.new.ticket) }
+        ensures asking { asking.new.request ≡ asking.old.request }
+    {
+        let slot = asking.slot();
+        let mut inside = self.lock();
+        let progress = asking.poll_on(&mut inside.core);
+        let now = asking.slot();
+        let mut _unused = None;
+        let polled = match progress {
+            Progress::Done(answer) => {
+                _unused = inside.wakers.take_of(slot);
+                Poll::Ready(Ok(answer))
+            }
+            Progress::Refused(full) => Poll::Ready(Err(full)),
+            _ => inside.wakers.keep(now, &self.source, cx),
+        };
+        let has_joined = matches!(progress, Progress::Joined);
+        if has_joined {
+            self.reset_seat(now);
+        }
+        self.leave(inside);
+        (polled, has_joined)
+    }
+
+    /// Drops what a future is registered for, and wakes whom that answered. Takes no lock where it isn't registered.
+    pub(crate) fn give_up(&self, asking: &mut Asking<P>)
+        ensures { asking.new.ticket ≡ Unregistered }
+    {
+        let slot = asking.slot();
+        if slot.is_none() {
+            return;
+        }
+        let mut inside = self.lock();
+        asking.cancel_on(&mut inside.core);
+        let _unused = inside.wakers.take_of(slot);
+        self.leave(inside);
+    }
+
+    // Registers a ticket as sync and polls it once, under one lock, and wakes whom that answered.
+    #[inline(always)]
+    fn begin(&self, ticket: &mut Ticket, ask: P::Ask) -> Result<Begun, Full>
+        requires { ticket.old ≡ Unregistered }
+        ensures ticket { is_busy ticket.new ≡ has_joined result }
+        ensures mode { has_joined result ≡ true → mode_of ticket.new ≡ Some true }
+    {
+        let mut inside = self.lock();
+        let begun = inside.begin(ticket, ask);
+        self.take_seat(ticket);
+        self.leave(inside);
+        begun
+    }
+
+    // Waits for the answer of a ticket that joined the line as sync, and consumes it.
+    //
+    // The one error is that the core doesn't know the ticket; it is idle then too.
+    #[inline(never)]
+    fn finish(&self, ticket: &mut Ticket) -> Result<u8, Error>
+        requires { mode_of ticket.old ≡ Some true }
+        ensures idle { is_busy ticket.new ≡ false }
+        ensures lost { IfErr result (λ error. error ≡ NotRegistered) }
+    {
+        let answer = self.wait(ticket);
+        if answer.is_err() {
+            self.cancel(ticket);
+        }
+        answer
+    }
+
+    // Waits for the answer of a ticket: until a poll as sync says anything else than that it isn't there yet.
+    //
+    // A ticket without a seat has its answer, or is refused, so it waits for nothing.
+    fn wait(&self, ticket: &mut Ticket) -> Result<u8, Error>
+        ensures polled { Polled ticket.old ticket.new Sync (fault_of result) }
+        ensures waited { is_not_ready (fault_of result) ≡ false }
+        ensures lost { mode_of ticket.old ≡ Some true → IfErr result (λ error. error ≡ NotRegistered) }
+    {
+        let seat = self.seat_of(ticket);
+        if let Some(seat) = seat {
+            seat.linger(self.patience);
+        }
+        let mut inside = self.lock();
+        for _ in self.rt.forever() {
+            match inside.poll(ticket, How::Sync) {
+                Err(Error::NotReady) => {}
+                answer => return answer,
+            }
+            inside = match seat {
+                Some(seat) => seat.sleep(&self.rt, inside),
+                None => self.step_aside(inside),
+            };
+        }
+        unreachable!()
+    }
+
+    // Lets others have the lock for a while.
+    fn step_aside(&self, inside: MutexGuard<'_, Inside<P>>) -> MutexGuard<'_, Inside<P>> {
+        drop(inside);
+        yield_now();
+        self.lock()
+    }
+
+    // Wakes who waits at a slot: a thread at its seat, and a task by its waker, which wakes it as it is dropped here.
+    fn ring(&self, wake: Wake) {
+        if let Some(seat) = self.seat(wake.slot) {
+            seat.ring();
+        }
+    }
+
+    // Makes the seat of a ticket that joined ready for it.
+    fn take_seat(&self, ticket: &Ticket) {
+        if let Some(seat) = self.seat_of(ticket) {
+            seat.reset();
+        }
+    }
+
+    // Makes the seat of a slot that a future joined in ready for it.
+    fn reset_seat(&self, slot: Option<u16>) {
+        if let Some(slot) = slot {
+            if let Some(seat) = self.seat(slot) {
+                seat.reset();
+            }
+        }
+    }
+
+    // The seat at which a ticket waits: that of its slot, if it has one.
+    fn seat_of(&self, ticket: &Ticket) -> Option<&Seat> {
+        self.seat(ticket.slot()?)
+    }
+
+    // The seat of a slot of the room; a slot past it has none.
+    fn seat(&self, slot: u16) -> Option<&Seat> {
+        let seat = self.seats.get(usize::from(slot))?;
+        Some(seat)
+    }
+
+    /// Whether the seat of a slot is rung; for the tests of the forms above.
+    pub fn is_rung(&self, slot: u16) -> bool {
+        match self.seat(slot) {
+            Some(seat) => seat.is_rung(),
+            None => false,
+        }
+    }
+
+    /// How many holders sleep; all those have let go of the lock. For the tests of the forms above.
+    pub fn asleep(&self) -> usize {
+        let _inside = self.lock();
+        self.seats.iter().filter(|seat| seat.is_asleep()).count()
+    }
+
+    /// How many seats are rung; for the tests of the forms above.
+    pub fn rung(&self) -> usize {
+        self.seats.iter().filter(|seat| seat.is_rung()).count()
+    }
+}

@@ -1,0 +1,50 @@
+//! For tests and measurements alone: what threaded forms stand on, and what a test may see of it.
+//!
+//! A program has no use for this: a form's own constructor makes its shell. Tests make one with another patience, so that every
+//! wait is surely sent to sleep, and ask how many holders sleep and whose seats are rung.
+
+ghost use Rattle.std.specs.Prelude.{◌≡◌, ◌||◌, false};
+ghost use Rattle.saa_core.specs.Tickets.{Polled, is_busy, is_not_ready, is_yes, slot_of};
+ghost use Rattle.saa_core_spec.specs.declared.polling.How.TheVariants.{Sync};
+
+use crate::pager::{How, Pager, SyncResult, Ticket};
+pub use crate::seat::{PATIENCE, Patience};
+pub use crate::shell::Shell;
+use saa_core::bench::Primitive;
+use saa_core::ticket::Full;
+use std::sync::Wait;
+
+/// The slot in which a pager waits, or its answer stands. `None` where it is idle or was answered at once.
+pub fn slot_of<S: SyncResult>(pager: &Pager<'_, S>) -> Option<u16>
+    ensures { result ≡ slot_of pager.now }
+{
+    pager.slot()
+}
+
+/// One poll of a pager in this way, which its own calls choose by their names.
+pub fn poll_as<S: SyncResult>(pager: &mut Pager<'_, S>, how: How) -> S::Result
+    ensures polled { Polled pager.old pager.new how (S.fault result) }
+    ensures waited { how ≡ Sync → is_not_ready (S.fault result) ≡ false }
+{
+    pager.poll(how)
+}
+
+/// Registers a ticket at a shell, as the `register_pager` of its form does.
+pub fn register<R: Wait + Drop, P: Primitive>(
+    shell: &Shell<R, P>,
+    ticket: &mut Ticket,
+    ask: P::Ask,
+    is_sync: bool,
+) -> Result<bool, Full>
+    ensures { is_busy ticket.new ≡ (is_busy ticket.old || is_yes result) }
+{
+    shell.register(ticket, ask, is_sync)
+}
+
+/// Has a pager take over a ticket that was registered at this primitive, or an idle one.
+pub fn hold<'s, S: SyncResult>(pager: &mut Pager<'s, S>, ticket: Ticket, primitive: &'s S)
+    requires { is_busy pager.old ≡ false }
+    ensures { pager.new ≡ ticket }
+{
+    pager.hold(ticket, primitive);
+}

@@ -1,0 +1,154 @@
+//! The turn at a lock, of one owner alone or shared, and that it ends behind the value's guard.
+//!
+//! No turn can be dropped, so each that is taken is passed on; and `pass_on` asks for a `PutDown`, which only giving up a
+//! guard of the value makes. That a turn is really the lock's, and is given back to it, is shown by tests.
+
+ghost use Rattle.std.specs.Prelude.{◌≡◌, IfOk, IfSome};
+ghost use Rattle.futures.specs.Task.{Covers, Keeps};
+ghost use Rattle.futures.specs.Poll.{OnPending};
+
+use crate::future::lock::{Asked, Turn};
+use crate::lock::Lock;
+use futures::Future;
+use futures::task::{Context, Poll};
+use saa_core::ticket::Full;
+use std::marker::PhantomData;
+use std::sync::{RwLockReadGuard, RwLockWriteGuard, Wait};
+
+/// The leave to wait that an `R` gives, for a lock that is kept beside the `R` itself.
+#[derive(Drop)]
+pub(crate) struct Leave<R: Wait + Drop> {
+    of: PhantomData<R>,
+}
+
+impl<R: Wait + Drop> Leave<R> {
+    // The leave that this one gives.
+    pub(crate) fn of(_rt: &R) -> Self {
+        Leave { of: PhantomData }
+    }
+}
+
+impl<R: Wait + Drop> Wait for Leave<R> {}
+
+/// Says that a guard of the value was given up; only that makes one.
+pub(crate) struct PutDown {
+    by: PhantomData<()>,
+}
+
+impl PutDown {
+    // Gives up a reader's guard of the value.
+    pub(crate) fn by_reader<T>(value: RwLockReadGuard<'_, T>) -> Self {
+        drop(value);
+        PutDown { by: PhantomData }
+    }
+
+    // Gives up a writer's guard of the value.
+    pub(crate) fn by_writer<T>(value: RwLockWriteGuard<'_, T>) -> Self {
+        drop(value);
+        PutDown { by: PhantomData }
+    }
+}
+
+/// The turn of one owner alone.
+pub(crate) struct Alone<'a, R: Wait + Drop> {
+    // Whose turn it is.
+    lock: &'a Lock<Leave<R>>,
+}
+
+impl<'a, R: Wait + Drop> Alone<'a, R> {
+    // Takes the turn if it is free and nobody waits for it.
+    pub(crate) fn try_take(lock: &'a Lock<Leave<R>>) -> Option<Self>
+        ensures { IfSome result (λ turn. turn.lock ≡ lock.entry) }
+    {
+        match lock.try_lock() {
+            Ok(()) => Some(Alone { lock }),
+            Err(_taken) => None,
+        }
+    }
+
+    // Waits for the turn. A lock that says it is poisoned, as none here ever is, is cleared and asked again.
+    pub(crate) fn take(lock: &'a Lock<Leave<R>>, rt: &R) -> Result<Self, Full>
+        ensures { IfOk result (λ turn. turn.lock ≡ lock.entry) }
+    {
+        for _ in rt.forever() {
+            if lock.lock_sync()? {
+                return Ok(Alone { lock });
+            }
+            lock.clear_poison();
+        }
+        unreachable!()
+    }
+
+    // The turn that a future was granted.
+    pub(crate) fn granted(lock: &'a Lock<Leave<R>>) -> Self
+        ensures { result.lock ≡ lock.entry }
+    {
+        Alone { lock }
+    }
+
+    // Gives the turn back, to whoever is next.
+    pub(crate) fn pass_on(self, value: PutDown) {
+        let (Alone { lock }, PutDown { by: _by }) = (self, value);
+        lock.release_lock();
+    }
+}
+
+/// A turn that is shared with others.
+pub(crate) struct Shared<'a, R: Wait + Drop> {
+    // Whose turn it is.
+    lock: &'a Lock<Leave<R>>,
+}
+
+impl<'a, R: Wait + Drop> Shared<'a, R> {
+    // Takes a share of the turn if one is left and nobody waits.
+    pub(crate) fn try_take(lock: &'a Lock<Leave<R>>) -> Option<Self>
+        ensures { IfSome result (λ turn. turn.lock ≡ lock.entry) }
+    {
+        match lock.try_share() {
+            Ok(()) => Some(Shared { lock }),
+            Err(_taken) => None,
+        }
+    }
+
+    // Waits for a share of the turn, as `Alone::take` does for all of it.
+    pub(crate) fn take(lock: &'a Lock<Leave<R>>, rt: &R) -> Result<Self, Full>
+        ensures { IfOk result (λ turn. turn.lock ≡ lock.entry) }
+    {
+        for _ in rt.forever() {
+            if lock.share_sync()? {
+                return Ok(Shared { lock });
+            }
+            lock.clear_poison();
+        }
+        unreachable!()
+    }
+
+    // The share that a future was granted.
+    pub(crate) fn granted(lock: &'a Lock<Leave<R>>) -> Self
+        ensures { result.lock ≡ lock.entry }
+    {
+        Shared { lock }
+    }
+
+    // Gives the share back.
+    pub(crate) fn pass_on(self, value: PutDown) {
+        let (Shared { lock }, PutDown { by: _by }) = (self, value);
+        lock.release_share();
+    }
+}
+
+// Polls a future for the turn, alone or a share of it. A turn that is poisoned, as none here ever is, never comes.
+pub(crate) fn poll_turn<'a, R: Wait + Drop>(
+    asked: &mut Asked<'a, Leave<R>, Turn>,
+    cx: &mut Context<'_>,
+) -> Poll<Result<(), Full>>
+    ensures heard { OnPending result (Covers cx.new (λ source. source ≡ asked.new.shell.now.source.id)) }
+    ensures kept { Keeps cx.old cx.new }
+{
+    match asked.poll(cx) {
+        Poll::Ready(Ok(true)) => Poll::Ready(Ok(())),
+        Poll::Ready(Ok(false)) => cx.yield_now(),
+        Poll::Ready(Err(full)) => Poll::Ready(Err(full)),
+        Poll::Pending => Poll::Pending,
+    }
+}

@@ -1,5 +1,0 @@
-//! The lock that threads and tasks share: one lock round its core, and its named futures.
-#![tactic(auto)]
-
-pub mod future;
-pub mod lock;

@@ -1,0 +1,4 @@
+pub mod SoloLemmas
+pub mod Balance
+pub mod StepBoundLemmas
+pub mod RefinementLemmas

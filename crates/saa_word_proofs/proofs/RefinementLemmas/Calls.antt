@@ -1,0 +1,180 @@
+-- A call's stages name its events, and once it is done its events name its answer.
+use Rattle.std.proofs.Common.{ℕ, ◌+◌, ◌%◌, true, not, ◌&&◌, List, [], ◌∷◌, ◌++◌, ◌==◌, refl, ap, inl, inr, append-nil}
+use Rattle.std.proofs.lemmas.Bool.{cases_Bool}
+use Rattle.saa_core_spec.proofs.Counts.{number_same}
+use Rattle.saa_core_words.specs.Words.{count_bits, word_number, word_of, line_word_of, answer_of}
+use Rattle.saa_word_steps.specs.declared.call.WordCall.{WordCall}
+use Rattle.saa_word_steps.specs.declared.call.Answer.TheVariants.{Bool as Says}
+use Rattle.saa_word_steps.specs.declared.place.Place.{Place}
+use Rattle.saa_word_steps.specs.declared.place.Registration.{Registration}
+use Rattle.saa_word_steps.specs.declared.place.Stage.{Stage}
+use Rattle.saa_word_steps.specs.declared.place.Stage.TheVariants.{Quiet, ReadLoad, AskLoad, AskExchange, Prepare, Join, ReleaseLoad, ReleaseExchange, BackLoad, BackStore, Forward, CutToClose, CutToGoRound, Close, Empty, GoRound, ShowLoad, ShowStore, Take, FlagLoad, FlagExchange, LookLoad, LookStore, Unlink, DropTail, PoisonLoad, PoisonExchange, Clear}
+use Rattle.saa_word_steps.specs.Needs.{Needs, fits_count}
+use Rattle.saa_word_steps.specs.Lazy.{Event, Joined, Left, Gave, Poisoned, Cleared, NotCleared, Read}
+use Rattle.saa_word_steps.specs.Steps.{next_of, read_as, poisoned_word}
+use Rattle.saa_word_proofs.specs.Stepped.{named_at}
+use Rattle.saa_word_proofs.specs.Calls.{IsUnder, IsUnderNext}
+use Rattle.saa_word_proofs.proofs.RefinementLemmas.Naming.{ask-answered, read-answered, cancel-answered, unnamed, granted-under, decided-under, finished-under, shown-under, gave-working, given-under, taken-under, left-cancelled, left-working, flagging-under, poisoning-under, poison-working}
+
+-- A call at a stage goes on so, with the events that the stage names
+pub under-next : (needs : Needs) (call : WordCall) (registered : Registration) (me : ℕ) (place : Place) (stage : Stage) (found : ℕ) (events : List Event)
+    → IsUnder needs call registered place.back stage events
+    → IsUnderNext needs call registered place.back stage (events ++ named_at needs stage found) (next_of needs me place stage found)
+under-next needs call registered me place Quiet found events h = absurd h
+under-next needs call registered me place (ReadLoad reading) found events h =
+    rw h.1 (read-answered needs call registered reading (Read (word_of count_bits found).count (word_of count_bits found).is_poisoned)
+    (read_as needs reading (word_of count_bits found).count (word_of count_bits found).is_poisoned) h.0 refl)
+under-next needs call registered me place (AskLoad ask) found events h =
+    rw h.1 (decided-under needs call registered (AskLoad ask) place ask (word_of count_bits found) h.0)
+under-next needs call registered me place (AskExchange ask seen) found events h =
+    elim (cases_Bool (found == word_number count_bits seen)) [
+      | inl same ↦ rw (h.1, same) (granted-under needs call registered (AskExchange ask seen) place ask h.0)
+      | inr differs ↦ rw (h.1, differs) (decided-under needs call registered (AskExchange ask seen) place ask (word_of count_bits found) h.0)
+    ]
+under-next needs call registered me place (Prepare request seen) found events h = (h.0, ap (λ (l : List Event). l ++ []) h.1)
+under-next needs call registered me place (Join request seen) found events h =
+    elim (cases_Bool (found == word_number count_bits seen)) [
+      | inl same ↦ rw (h.1, same)
+          (ask-answered needs call registered (record { request = request; joins = true }) (Joined request) (Says true) h.0 (rw (number_same request) refl))
+      | inr differs ↦ rw (h.1, differs)
+          (decided-under needs call registered (Join request seen) place (record { request = request; joins = true }) (word_of count_bits found) h.0)
+    ]
+under-next needs call registered me place (ReleaseLoad request) found events h =
+    given-under needs call registered (ReleaseLoad request) place request (word_of count_bits found) events h
+under-next needs call registered me place (ReleaseExchange request seen) found events h =
+    elim (cases_Bool (found == word_number count_bits seen)) [
+      | inl same ↦
+          elim (cases_Bool (not (seen.tail == 0) && not seen.is_flagged)) [
+            | inl works ↦ rw (same, works) (gave-working needs call registered place.back request events h)
+            | inr ends ↦ rw (same, ends)
+                (finished-under needs call registered place.back (ReleaseExchange request seen) (events ++ Gave request ∷ []) place place.back
+                (gave-working needs call registered place.back request events h))
+          ]
+      | inr differs ↦ rw differs (given-under needs call registered (ReleaseExchange request seen) place request (word_of count_bits found) events h)
+    ]
+under-next needs call registered me place (BackLoad seen current newer) found events h =
+    unnamed needs call registered place.back (BackLoad seen current newer) events (next_of needs me place (BackLoad seen current newer) found) h
+under-next needs call registered me place (BackStore seen current newer line) found events h =
+    unnamed needs call registered place.back (BackStore seen current newer line) events (next_of needs me place (BackStore seen current newer line) found)
+    (elim (cases_Bool (line.older == 0)) [
+      | inl first ↦ rw first h
+      | inr more ↦ rw more h
+    ])
+under-next needs call registered me place (Forward seen current count) found events h =
+    unnamed needs call registered place.back (Forward seen current count) events (next_of needs me place (Forward seen current count) found)
+    (elim (cases_Bool (fits_count needs count (line_word_of found).request)) [
+      | inl fits ↦
+          elim (cases_Bool (current == seen.tail)) [
+            | inl last ↦ rw (fits, last) h
+            | inr more ↦ rw (fits, more) h
+          ]
+      | inr unfit ↦
+          elim (cases_Bool ((line_word_of found).older == 0)) [
+            | inl first ↦ rw (unfit, first) h
+            | inr more ↦ rw (unfit, more) h
+          ]
+    ])
+under-next needs call registered me place (CutToClose seen current count line) found events h =
+    unnamed needs call registered place.back (CutToClose seen current count line) events (next_of needs me place (CutToClose seen current count line) found) h
+under-next needs call registered me place (CutToGoRound seen current count line) found events h =
+    unnamed needs call registered place.back (CutToGoRound seen current count line) events (next_of needs me place (CutToGoRound seen current count line) found) h
+under-next needs call registered me place (Close seen count top) found events h =
+    unnamed needs call registered place.back (Close seen count top) events (next_of needs me place (Close seen count top) found)
+    (elim (cases_Bool (found == word_number count_bits seen)) [
+      | inl same ↦
+          elim (cases_Bool (top == 0)) [
+            | inl nobody ↦ rw (same, nobody) (finished-under needs call registered place.back (Close seen count top) events place place.back h)
+            | inr some ↦ rw (same, some) h
+          ]
+      | inr differs ↦
+          elim (cases_Bool ((word_of count_bits found).count == seen.count)) [
+            | inl counted ↦ rw (differs, counted) h
+            | inr less ↦ rw (differs, less) h
+          ]
+    ])
+under-next needs call registered me place (Empty seen current count line) found events h =
+    unnamed needs call registered place.back (Empty seen current count line) events (next_of needs me place (Empty seen current count line) found)
+    (elim (cases_Bool (found == word_number count_bits seen)) [
+      | inl same ↦ rw same h
+      | inr differs ↦
+          elim (cases_Bool (line.older == 0)) [
+            | inl first ↦ rw (differs, first) h
+            | inr more ↦ rw (differs, more) h
+          ]
+    ])
+under-next needs call registered me place (GoRound seen count top) found events h =
+    unnamed needs call registered place.back (GoRound seen count top) events (next_of needs me place (GoRound seen count top) found)
+    (elim (cases_Bool (top == 0)) [
+      | inl nobody ↦ rw nobody h
+      | inr some ↦ rw some h
+    ])
+under-next needs call registered me place (ShowLoad current value afterwards) found events h =
+    unnamed needs call registered place.back (ShowLoad current value afterwards) events (next_of needs me place (ShowLoad current value afterwards) found) h
+under-next needs call registered me place (ShowStore current next value afterwards) found events h =
+    unnamed needs call registered place.back (ShowStore current next value afterwards) events
+    (next_of needs me place (ShowStore current next value afterwards) found)
+    (elim (cases_Bool (next == 0)) [
+      | inl last ↦ rw last (shown-under needs call registered (ShowStore current next value afterwards) events place afterwards h)
+      | inr more ↦ rw more h
+    ])
+under-next needs call registered me place (Take taking) found events h =
+    taken-under needs call registered place taking (answer_of (found % 65536)) events h
+under-next needs call registered me place FlagLoad found events h =
+    unnamed needs call registered place.back FlagLoad events (next_of needs me place FlagLoad found)
+    (flagging-under needs call registered FlagLoad place (word_of count_bits found) events h h)
+under-next needs call registered me place (FlagExchange seen) found events h =
+    unnamed needs call registered place.back (FlagExchange seen) events (next_of needs me place (FlagExchange seen) found)
+    (elim (cases_Bool (found == word_number count_bits seen)) [
+      | inl same ↦ rw same h
+      | inr differs ↦ rw differs (flagging-under needs call registered (FlagExchange seen) place (word_of count_bits found) events h h)
+    ])
+under-next needs call registered me place (LookLoad seen current newer previous) found events h =
+    unnamed needs call registered place.back (LookLoad seen current newer previous) events (next_of needs me place (LookLoad seen current newer previous) found)
+    (elim (cases_Bool (current == me + 1)) [
+      | inl found_me ↦
+          elim (cases_Bool (newer == 0)) [
+            | inl last ↦ rw (found_me, last) h
+            | inr more ↦ rw (found_me, more) h
+          ]
+      | inr another ↦ rw another h
+    ])
+under-next needs call registered me place (LookStore seen current newer line) found events h =
+    unnamed needs call registered place.back (LookStore seen current newer line) events (next_of needs me place (LookStore seen current newer line) found)
+    (elim (cases_Bool (line.older == 0)) [
+      | inl first ↦ rw first (left-working needs call registered place.back events h)
+      | inr more ↦ rw more h
+    ])
+under-next needs call registered me place (Unlink seen newer line older) found events h =
+    elim (cases_Bool (older == 0)) [
+      | inl first ↦ rw first (left-cancelled needs call registered place.back events h)
+      | inr more ↦ rw more (left-cancelled needs call registered place.back events h)
+    ]
+under-next needs call registered me place (DropTail seen older) found events h =
+    let left = left-cancelled needs call registered place.back events h in
+    elim (cases_Bool (found == word_number count_bits seen)) [
+      | inl same ↦
+          elim (cases_Bool (older == 0)) [
+            | inl alone ↦ rw (same, alone) (cancel-answered needs call registered (events ++ Left ∷ []) left.0 left.1)
+            | inr more ↦ rw (same, more) left
+          ]
+      | inr differs ↦ rw (differs, append-nil events) h
+    ]
+under-next needs call registered me place PoisonLoad found events h =
+    rw h.2 (poisoning-under needs call registered PoisonLoad place (word_of count_bits found) h.0 h.1 (h.0, h.1, refl))
+under-next needs call registered me place (PoisonExchange seen) found events h =
+    let works = poison-working needs call registered place.back h.0 h.1 in
+    elim (cases_Bool (found == word_number count_bits seen)) [
+      | inl same ↦
+          elim (cases_Bool (seen.tail == 0)) [
+            | inl nobody ↦ rw (h.2, same, nobody)
+                (finished-under needs call registered place.back (PoisonExchange seen) (Poisoned ∷ []) place place.back works)
+            | inr some ↦ rw (h.2, same, some) works
+          ]
+      | inr differs ↦ rw (h.2, differs)
+          (poisoning-under needs call registered (PoisonExchange seen) place (word_of count_bits found) h.0 h.1 (h.0, h.1, refl))
+    ]
+under-next needs call registered me place Clear found events h =
+    elim (cases_Bool (found == word_number count_bits poisoned_word)) [
+      | inl same ↦ rw (h.1, h.0, same) (Cleared, refl, refl)
+      | inr differs ↦ rw (h.1, h.0, differs) (NotCleared, refl, refl)
+    ]

@@ -1,0 +1,157 @@
+-- The holder of the flag cuts those who are granted off from those who stay: each step keeps how words, places and the lazy object
+-- stand together.
+use Rattle.std.proofs.Common.{◌≡◌, ℕ, ◌+◌, ◌<◌, ◌≤◌, pred, true, false, List, [], ◌∷◌, ◌++◌, refl, sym, ap, subst, ◌∙◌, arith}
+use Rattle.saa_core_spec.specs.Object.{one_if}
+use Rattle.saa_core_spec.proofs.Counts.{number_same}
+use Rattle.saa_core_words.specs.declared.word.Word.{Word}
+use Rattle.saa_core_words.specs.declared.line_word.LineWord.{LineWord}
+use Rattle.saa_core_words.specs.Words.{line_number}
+use Rattle.saa_core_words.proofs.Words.{line_word-read}
+use Rattle.saa_word_steps.specs.declared.place.Place.{Place}
+use Rattle.saa_word_steps.specs.declared.place.Stage.{Stage}
+use Rattle.saa_word_steps.specs.declared.place.Stage.TheVariants.{CutToClose, CutToGoRound, Close, GoRound}
+use Rattle.saa_word_steps.specs.Needs.{Needs, AreNeeds, fits_count}
+use Rattle.saa_word_steps.specs.Lazy.{Lazy, IsSettledAt, is_in, waits_times}
+use Rattle.saa_word_steps.specs.Steps.{IsRanged}
+use Rattle.saa_word_proofs.specs.Standing.{updated, line_of, IsBehind, is_holder, gives_up, IsAlone, IsOwn, IsShowing, Work, IsAt, IsHolding, IsLine, AreSeats, Stands}
+use Rattle.saa_word_proofs.specs.Stepped.{Stepped}
+use Rattle.saa_word_proofs.proofs.RefinementLemmas.Lists.{times-append, behind-frame, behind-front, behind-rest}
+use Rattle.saa_word_proofs.proofs.RefinementLemmas.Frames.{oldest-stands, work-behind}
+use Rattle.saa_word_proofs.proofs.RefinementLemmas.Rows.{apart-at, line-at, line-other}
+use Rattle.saa_word_proofs.proofs.RefinementLemmas.Linking.{flag-held, flag-knows, in-line, line-room, relinked, IsLooked, looked, linked-all, tail-room}
+
+-- who stands once in a line stands in one part of it
+once-before : (front rest : List (ℕ × ℕ)) (asker : ℕ × ℕ) (place : ℕ) → waits_times asker.0 (front ++ asker ∷ rest) ≤ 1
+    → 0 < waits_times place front → place ≡ asker.0 → ⊥
+once-before front rest asker place once there is =
+    omega (arith, once, times-append asker.0 front (asker ∷ rest), ap one_if (number_same asker.0), there, ap (λ (n : ℕ). waits_times n front) is)
+
+once-behind : (front rest : List (ℕ × ℕ)) (asker : ℕ × ℕ) (place : ℕ) → waits_times asker.0 (front ++ asker ∷ rest) ≤ 1
+    → 0 < waits_times place rest → place ≡ asker.0 → ⊥
+once-behind front rest asker place once there is =
+    omega (arith, once, times-append asker.0 front (asker ∷ rest), ap one_if (number_same asker.0), there, ap (λ (n : ℕ). waits_times n rest) is)
+
+-- A line is linked in two parts once nobody is before the first of the second
+cut-line : (words new : ℕ → LineWord) (line front rest : List (ℕ × ℕ)) (asker : ℕ × ℕ)
+    → line ≡ front ++ asker ∷ rest → IsBehind words 0 line → waits_times asker.0 line ≤ 1
+    → (new asker.0).request ≡ (words asker.0).request → (new asker.0).older ≡ 0
+    → ((place : ℕ) → (place ≡ asker.0 → ⊥) → new place ≡ words place)
+    → IsLine new line front (asker ∷ rest)
+cut-line words new line front rest asker parts linked once request older others =
+    let all : IsBehind words 0 (front ++ asker ∷ rest) = subst (λ l. IsBehind words 0 l) parts linked in
+    let times : waits_times asker.0 (front ++ asker ∷ rest) ≤ 1 = subst (λ l. waits_times asker.0 l ≤ 1) parts once in
+    let second = behind-rest words 0 front (asker ∷ rest) all in
+    record {
+      parts = parts;
+      granted = behind-frame words new 0 front (λ place there. kept place (once-before front rest asker place times there))
+          (behind-front words 0 front (asker ∷ rest) all);
+      stays = (
+        request ∙ second.0,
+        older,
+        behind-frame words new (asker.0 + 1) rest
+            (λ place there. kept place (once-behind front rest asker place times there)) second.2,
+      );
+      some = λ none. absurd (cc);
+    }
+  where
+    kept : (place : ℕ) → (place ≡ asker.0 → ⊥) → ((new place).request ≡ (words place).request) × ((new place).older ≡ (words place).older)
+    kept place apart = (ap (λ (w : LineWord). w.request) (others place apart), ap (λ (w : LineWord). w.older) (others place apart))
+
+-- What both cuts leave, for any stage that the holder goes on at: the front is cut off
+cut : (needs : Needs) (places : ℕ) (row : ℕ → ℕ) (standing : ℕ → Place) (lazy : Lazy) (me : ℕ) (s : Stands needs places row standing lazy)
+    (seen : Word) (work : Work lazy.count lazy.line seen) (current : ℕ) (line : LineWord) (next : Stage)
+    → me < places → is_holder (standing me).stage ≡ true → s.cut ≡ [] → IsAt (line_of row) work.behind current → line ≡ line_of row (pred current)
+    → IsRanged needs next → IsAlone needs (standing me).registration (standing me).back next
+    → (gives_up (standing me).back next ≡ true → is_in me lazy.line ≡ false) → ((word : LineWord) → IsOwn word next) → IsShowing (s.owed me) (s.worth me) next
+    → is_holder next ≡ true
+    → (IsLooked (line_of row) lazy.count lazy.line seen work current → (new : ℕ → LineWord) → IsHolding needs new me lazy.count lazy.line work.front next)
+    → Stands needs places (updated row current (line_number (record line { older = 0 }))) (updated standing me (record (standing me) { stage = next })) lazy
+cut needs places row standing lazy me s seen work current line next here holds none at word ranged alone apart own showing holder holding =
+    let flag = flag-held needs places row standing lazy me s holds in
+    let there = oldest-stands work.behind current at.1 at.0 in
+    let waits = work-behind lazy.count lazy.line seen work (pred current) there.0 in
+    let seat = in-line places standing lazy (pred current) s.seats waits in
+    let linked = linked-all (line_of row) lazy.line s.cut s.uncut s.line none in
+    let look : IsLooked (line_of row) lazy.count lazy.line seen work current = looked (line_of row) lazy.count lazy.line seen work current linked at in
+    let place : pred current ≡ look.asker.0 = omega (arith, look.link) in
+    let number : ℕ = line_number (record line { older = 0 }) in
+    let new : ℕ → LineWord = line_of (updated row (pred current + 1) number) in
+    let small : (line.request < 65536) × (line.older < 65536) × (line.newer < 65536) =
+    subst (λ (w : LineWord). (w.request < 65536) × (w.older < 65536) × (w.newer < 65536)) (sym word) (line-room (row (pred current + 1))) in
+    let written : new (pred current) ≡ record line { older = 0 } =
+    line-at row (pred current) number ∙ line_word-read (record line { older = 0 }) small.0 (omega arith) small.2 in
+    let written_there : new look.asker.0 ≡ record line { older = 0 } = subst (λ (n : ℕ). new n ≡ record line { older = 0 }) place written in
+    let line_is : IsLine new lazy.line work.front (look.asker ∷ (look.rest ++ work.joined)) =
+    cut-line (line_of row) new lazy.line work.front (look.rest ++ work.joined) look.asker
+    (work.parts ∙ ap (λ (l : List (ℕ × ℕ)). work.front ++ (l ++ work.joined)) look.behind) linked
+    (omega (arith, seat.2, ap (λ (n : ℕ). waits_times n lazy.line) place))
+    (ap (λ (w : LineWord). w.request) written_there
+    ∙ ap (λ (w : LineWord). w.request) word ∙ ap (λ (n : ℕ). (line_of row n).request) place)
+    (ap (λ (w : LineWord). w.older) written_there)
+    (λ other apart. line-other row (pred current) number other (λ is. apart (is ∙ place))) in
+    subst (λ (link : ℕ). Stands needs places (updated row link number) (updated standing me (record (standing me) { stage = next })) lazy) (sym there.1)
+    (relinked needs places row standing lazy me s next (pred current) number work.front (look.asker ∷ (look.rest ++ work.joined)) here flag waits line_is
+    ranged alone apart (own (new me)) showing holder (holding look new))
+
+-- the place that is cut off from is a place
+cut-inside : (places : ℕ) (row : ℕ → ℕ) (standing : ℕ → Place) (lazy : Lazy) (seen : Word) (work : Work lazy.count lazy.line seen) (current : ℕ)
+    → AreSeats places standing lazy → IsAt (line_of row) work.behind current → current < places + places + 1
+cut-inside places row standing lazy seen work current seats at =
+    let there = oldest-stands work.behind current at.1 at.0 in
+    omega (arith, there.1, (in-line places standing lazy (pred current) seats (work-behind lazy.count lazy.line seen work (pred current) there.0)).0)
+
+-- The cut before the line is closed: the oldest of those who stay does not fit
+pub step-CutToClose : (needs : Needs) → AreNeeds needs → needs.top < 64 → (places : ℕ) (row : ℕ → ℕ) (standing : ℕ → Place) (lazy : Lazy) (me : ℕ)
+    → places < 65536 → me < places → (s : Stands needs places row standing lazy)
+    → (seen : Word) (current count : ℕ) (line : LineWord) → (standing me).stage ≡ CutToClose seen current count line
+    → Stepped needs places row standing lazy me (CutToClose seen current count line)
+step-CutToClose needs lawful wide places row standing lazy me room here s seen current count line at =
+    let knows = flag-knows needs places row standing lazy me s (CutToClose seen current count line) at refl in
+    record {
+      events = [];
+      last = lazy;
+      run = refl;
+      names = refl;
+      calm = λ semaphore. refl;
+      inside = cut-inside places row standing lazy seen knows.0 current s.seats knows.3;
+      stands = cut needs places row standing lazy me s seen knows.0 current line (Close seen count line.older) here (ap is_holder at)
+          knows.1 knows.3 knows.4
+          (subst (λ stage. IsRanged needs stage) at (s.stages.ranged me)) (
+            tail-room places standing lazy seen knows.0 s.seats room knows.3.1,
+            subst (λ stage. IsAlone needs (standing me).registration (standing me).back stage) at (s.stages.alone me),
+          )
+          (apart-at needs places row standing lazy me s (CutToClose seen current count line) at) (λ word. tt)
+          (subst (λ stage. IsShowing (s.owed me) (s.worth me) stage) at (s.stages.showing me)) refl
+          (λ look new. (
+            knows.0,
+            refl,
+            knows.2,
+            ap (λ (w : LineWord). w.older) knows.4 ∙ look.older,
+            knows.3.1,
+            subst (λ l. IsSettledAt needs count l) (sym look.behind)
+                (ap (λ (n : ℕ). fits_count needs count n) (sym look.request) ∙ ap (λ (w : LineWord). fits_count needs count w.request) (sym knows.4) ∙ knows.5),
+          ));
+    }
+
+-- The cut before the holder goes round: the line could not be emptied, and its last waits on
+pub step-CutToGoRound : (needs : Needs) → AreNeeds needs → needs.top < 64 → (places : ℕ) (row : ℕ → ℕ) (standing : ℕ → Place) (lazy : Lazy) (me : ℕ)
+    → places < 65536 → me < places → (s : Stands needs places row standing lazy)
+    → (seen : Word) (current count : ℕ) (line : LineWord) → (standing me).stage ≡ CutToGoRound seen current count line
+    → Stepped needs places row standing lazy me (CutToGoRound seen current count line)
+step-CutToGoRound needs lawful wide places row standing lazy me room here s seen current count line at =
+    let knows = flag-knows needs places row standing lazy me s (CutToGoRound seen current count line) at refl in
+    record {
+      events = [];
+      last = lazy;
+      run = refl;
+      names = refl;
+      calm = λ semaphore. refl;
+      inside = cut-inside places row standing lazy seen knows.0 current s.seats knows.3;
+      stands = cut needs places row standing lazy me s seen knows.0 current line (GoRound seen count line.older) here (ap is_holder at)
+          knows.1 knows.3 knows.4
+          (subst (λ stage. IsRanged needs stage) at (s.stages.ranged me))
+          (subst (λ stage. IsAlone needs (standing me).registration (standing me).back stage) at (s.stages.alone me))
+          (apart-at needs places row standing lazy me s (CutToGoRound seen current count line) at) (λ word. tt)
+          (subst (λ stage. IsShowing (s.owed me) (s.worth me) stage) at (s.stages.showing me)) refl
+          (λ look new. (knows.0, refl, knows.2, ap (λ (w : LineWord). w.older) knows.4 ∙ look.older, knows.3.1));
+    }

@@ -1,0 +1,179 @@
+-- The step that empties a line: it keeps how words, places and the lazy object stand together.
+use Rattle.std.proofs.Common.{◌≡◌, ℕ, ◌+◌, ◌-◌, ◌<◌, ◌≤◌, pred, true, false, List, [], ◌∷◌, ◌++◌, ◌==◌, refl, sym, ap, subst, ◌∙◌, arith, inl, inr, append-nil}
+use Rattle.std.proofs.lemmas.Bool.{cases_Bool}
+use Rattle.saa_core_spec.proofs.Counts.{one_if-same}
+use Rattle.saa_core_words.specs.declared.word.Word.{Word}
+use Rattle.saa_core_words.specs.declared.line_word.LineWord.{LineWord}
+use Rattle.saa_core_words.specs.Words.{count_bits, word_number}
+use Rattle.saa_word_steps.specs.declared.place.Place.{Place}
+use Rattle.saa_word_steps.specs.declared.place.Afterwards.TheVariants.{Ends}
+use Rattle.saa_word_steps.specs.declared.place.Stage.{Stage}
+use Rattle.saa_word_steps.specs.declared.place.Stage.TheVariants.{CutToGoRound, Empty, GoRound, ShowLoad}
+use Rattle.saa_word_steps.specs.Needs.{Needs, AreNeeds, fits_count}
+use Rattle.saa_word_steps.specs.Lazy.{Lazy, IsFront, is_empty, is_in, waits_times, takes_of}
+use Rattle.saa_word_steps.specs.Steps.{IsRanged, settled_word}
+use Rattle.saa_word_proofs.specs.Standing.{updated, main_of, line_of, newest, oldest, IsBehind, is_holder, gives_up, IsAlone, IsShowing, Work, IsHolding, Stands}
+use Rattle.saa_word_proofs.specs.Stepped.{Stepped}
+use Rattle.saa_word_proofs.proofs.RefinementLemmas.Lists.{newest-in, newest-last, empty-nil, behind-rest, front-append, takes-append}
+use Rattle.saa_word_proofs.proofs.RefinementLemmas.Rows.{apart-at, main-found, moved, loaded}
+use Rattle.saa_word_proofs.proofs.RefinementLemmas.Holders.{calm-held}
+use Rattle.saa_word_proofs.proofs.RefinementLemmas.Granting.{granted, close-run, some-append, newest-rest, times-parts, settled-main, front-bounded, front-none, parts-linked, held-once, holder-none, nobody, granting}
+use Rattle.saa_word_proofs.proofs.RefinementLemmas.Linking.{flag-held}
+
+-- one place alone stands there, at this link
+record IsOne (line : List (ℕ × ℕ)) (link : ℕ) : Type 0 where
+  asker : ℕ × ℕ
+  is : line ≡ asker ∷ []
+  stands : link ≡ asker.0 + 1
+
+-- a line whose oldest is its newest is one place
+oldest-newest : (line : List (ℕ × ℕ)) (link : ℕ) → is_empty line ≡ false → link ≡ oldest line → link ≡ newest 0 line
+    → ((place : ℕ) → waits_times place line ≤ 1) → IsOne line link
+oldest-newest [] link some first last once = absurd (cc)
+oldest-newest (asker ∷ rest) link some first last once =
+    elim (cases_Bool (is_empty rest)) [
+      | inl none ↦ record { asker = asker; is = ap (λ (l : List (ℕ × ℕ)). asker ∷ l) (empty-nil rest none); stands = first }
+      | inr more ↦
+          let again : 0 < waits_times asker.0 rest = newest-in (asker.0 + 1) asker.0 rest more (sym last ∙ first) in
+          absurd (omega (arith, again, once asker.0, one_if-same asker.0))
+    ]
+
+oldest-append : (front behind : List (ℕ × ℕ)) → is_empty front ≡ false → oldest (front ++ behind) ≡ oldest front
+oldest-append [] behind some = absurd (cc)
+oldest-append (asker ∷ rest) behind some = refl
+
+some-last : (front : List (ℕ × ℕ)) (last : ℕ × ℕ) → is_empty (front ++ last ∷ []) ≡ false
+some-last [] last = refl
+some-last (asker ∷ rest) last = refl
+
+-- the line word of the oldest names who is before it
+older-first : (words : ℕ → LineWord) (older : ℕ) (line : List (ℕ × ℕ)) (link : ℕ) → is_empty line ≡ false → link ≡ oldest line
+    → IsBehind words older line → (words (pred link)).older ≡ older
+older-first words older [] link some first linked = absurd (cc)
+older-first words older (asker ∷ rest) link some first linked =
+    let place : pred link ≡ asker.0 = omega (arith, first) in
+    ap (λ (n : ℕ). (words n).older) place ∙ linked.1
+
+-- the exchange succeeds
+emptied-step : (needs : Needs) → AreNeeds needs → (places : ℕ) (row : ℕ → ℕ) (standing : ℕ → Place) (lazy : Lazy) (me : ℕ)
+    → me < places → (s : Stands needs places row standing lazy)
+    → (seen : Word) (current count : ℕ) (word : LineWord) → row 0 == word_number count_bits seen ≡ true
+    → s.holder ≡ me + 1 → IsRanged needs (Empty seen current count word)
+    → IsAlone needs (standing me).registration (standing me).back (Empty seen current count word)
+    → (gives_up (standing me).back (Empty seen current count word) ≡ true → is_in me lazy.line ≡ false) → s.owed me ≡ []
+    → IsHolding needs (line_of row) me lazy.count lazy.line s.cut (Empty seen current count word)
+    → Stepped needs places row standing lazy me (Empty seen current count word)
+emptied-step needs lawful places row standing lazy me here s seen current count word same mine ranged alone apart none holding =
+    let work : Work lazy.count lazy.line seen = holding.0 in
+    let rest : List (ℕ × ℕ) = work.behind ++ work.joined in
+    let found : main_of row ≡ seen = main-found (row 0) seen ranged.0 alone.0 same in
+    let counted : seen.count ≡ lazy.count = sym (ap (λ (w : Word). w.count) found) ∙ s.main.count in
+    let some : is_empty rest ≡ false = some-append work.behind work.joined holding.3.1 in
+    let tail : current ≡ newest 0 rest =
+    sym holding.5 ∙ sym (ap (λ (w : Word). w.tail) found) ∙ s.main.tail
+    ∙ ap (λ (l : List (ℕ × ℕ)). newest 0 l) work.parts ∙ newest-rest 0 work.front rest some in
+    let once : (place : ℕ) → waits_times place rest ≤ 1 = λ place.
+    let both = times-parts place lazy.line work.front rest work.parts in
+    omega (arith, both, held-once places standing lazy s.seats place) in
+    let one : IsOne rest current =
+    oldest-newest rest current some (holding.3.0 ∙ sym (oldest-append work.behind work.joined holding.3.1)) tail once in
+    let asker : ℕ × ℕ = one.asker in
+    let all : List (ℕ × ℕ) = work.front ++ asker ∷ [] in
+    let whole : lazy.line ≡ all = work.parts ∙ ap (λ (l : List (ℕ × ℕ)). work.front ++ l) one.is in
+    let parts : lazy.line ≡ all ++ [] = whole ∙ sym (append-nil all) in
+    let linked : IsBehind (line_of row) 0 all =
+    subst (λ (l : List (ℕ × ℕ)). IsBehind (line_of row) 0 l) whole
+    (parts-linked (line_of row) lazy.line s.cut s.uncut [] lazy.line s.line holding.1 refl).1 in
+    let last = behind-rest (line_of row) 0 work.front (asker ∷ []) linked in
+    let place : pred current ≡ asker.0 = omega (arith, one.stands) in
+    let asks : word.request ≡ asker.1 = ap (λ (w : LineWord). w.request) (holding.4 ∙ ap (line_of row) place) ∙ last.0 in
+    let fits : IsFront needs lazy.count all =
+    subst (λ (n : ℕ). IsFront needs n all) counted
+    (front-append needs seen.count work.front (asker ∷ []) holding.2
+    (subst (λ (n : ℕ). fits_count needs (seen.count + takes_of needs work.front) n ≡ true) asks holding.6, tt)) in
+    let adds : count ≡ lazy.count + takes_of needs all =
+    omega (arith, counted, holding.7, ap needs.takes asks, takes-append needs work.front (asker ∷ [])) in
+    let bounded : count ≤ needs.top = omega (arith, adds, front-bounded needs lawful lazy.count all fits s.main.bounded) in
+    let main = settled-main needs lazy all [] count 0 (calm-held needs places row standing lazy me s mine) ranged.1 (omega arith) adds bounded refl tt in
+    let grant = close-run needs lazy me all [] parts fits tt s.main.settled in
+    record {
+      events = grant.events;
+      last = granted needs lazy all [] false;
+      run = grant.run;
+      names = grant.names;
+      calm = λ semaphore. grant.calm;
+      inside = omega arith;
+      stands =
+          rw same
+          (granting needs places row standing lazy me s (word_number count_bits (settled_word count 0)) (ShowLoad current 0 Ends) all [] 0 false
+          here mine none parts linked tt main tt alone.1 apart tt
+          (newest-last 0 work.front asker ∙ sym one.stands, some-last work.front asker, refl)
+          (sym (nobody me))
+          (λ is. absurd (omega (arith, is))) (λ other apart. holder-none s.holder me other mine apart));
+    }
+
+-- the exchange fails: another word stands there, and all but the last go round
+missed-step : (needs : Needs) (places : ℕ) (row : ℕ → ℕ) (standing : ℕ → Place) (lazy : Lazy) (me : ℕ)
+    → me < places → (s : Stands needs places row standing lazy)
+    → (seen : Word) (current count : ℕ) (word : LineWord) → (standing me).stage ≡ Empty seen current count word
+    → row 0 == word_number count_bits seen ≡ false
+    → s.holder ≡ me + 1 → IsRanged needs (Empty seen current count word)
+    → IsAlone needs (standing me).registration (standing me).back (Empty seen current count word)
+    → (gives_up (standing me).back (Empty seen current count word) ≡ true → is_in me lazy.line ≡ false) → s.owed me ≡ []
+    → IsHolding needs (line_of row) me lazy.count lazy.line s.cut (Empty seen current count word)
+    → Stepped needs places row standing lazy me (Empty seen current count word)
+missed-step needs places row standing lazy me here s seen current count word at differs mine ranged alone apart none holding =
+    let work : Work lazy.count lazy.line seen = holding.0 in
+    let rest : List (ℕ × ℕ) = work.behind ++ work.joined in
+    let fewer : ℕ = count - needs.takes word.request in
+    let left : fewer ≡ seen.count + takes_of needs work.front = omega (arith, holding.7) in
+    let small : fewer < 64 = omega (arith, ranged.1) in
+    let linked : IsBehind (line_of row) (newest 0 work.front) rest =
+    behind-rest (line_of row) 0 work.front rest
+    (subst (λ (l : List (ℕ × ℕ)). IsBehind (line_of row) 0 l) work.parts
+    (parts-linked (line_of row) lazy.line s.cut s.uncut [] lazy.line s.line holding.1 refl).1) in
+    let older : word.older ≡ newest 0 work.front =
+    ap (λ (w : LineWord). w.older) holding.4
+    ∙ older-first (line_of row) (newest 0 work.front) rest current (some-append work.behind work.joined holding.3.1)
+    (holding.3.0 ∙ sym (oldest-append work.behind work.joined holding.3.1)) linked in
+    record {
+      events = [];
+      last = lazy;
+      run = refl;
+      names = refl;
+      calm = λ semaphore. refl;
+      inside = omega arith;
+      stands =
+          elim (cases_Bool (word.older == 0)) [
+            | inl only ↦
+                let front : work.front ≡ [] = front-none work.front word.older older only in
+                rw (differs, only)
+                (loaded needs places row (updated standing me (record (standing me) { stage = GoRound seen fewer 0 })) lazy 0
+                (moved needs places row standing lazy me s (record (standing me) { stage = GoRound seen fewer 0 }) here refl
+                (ranged.0, small) alone.1 apart tt none (ap is_holder (sym at))
+                (λ is. (work, holding.1 ∙ sym front, (holding.2, left), sym (ap (λ (l : List (ℕ × ℕ)). newest 0 l) front), holding.3.1))))
+            | inr others ↦
+                rw (differs, others)
+                (loaded needs places row (updated standing me (record (standing me) { stage = CutToGoRound seen current fewer word })) lazy 0
+                (moved needs places row standing lazy me s (record (standing me) { stage = CutToGoRound seen current fewer word }) here refl
+                (ranged.0, small) alone.1 apart tt none (ap is_holder (sym at))
+                (λ is. (work, holding.1, (holding.2, left), holding.3, holding.4))))
+          ];
+    }
+
+-- Where all fit, the line is emptied; else all but the last of them go round
+pub step-Empty : (needs : Needs) → AreNeeds needs → needs.top < 64 → (places : ℕ) (row : ℕ → ℕ) (standing : ℕ → Place) (lazy : Lazy) (me : ℕ)
+    → places < 65536 → me < places → (s : Stands needs places row standing lazy)
+    → (seen : Word) (current count : ℕ) (word : LineWord) → (standing me).stage ≡ Empty seen current count word
+    → Stepped needs places row standing lazy me (Empty seen current count word)
+step-Empty needs lawful wide places row standing lazy me room here s seen current count word at =
+    let mine : s.holder ≡ me + 1 = flag-held needs places row standing lazy me s (ap is_holder at) in
+    let ranged = subst (λ (stage : Stage). IsRanged needs stage) at (s.stages.ranged me) in
+    let alone = subst (λ (stage : Stage). IsAlone needs (standing me).registration (standing me).back stage) at (s.stages.alone me) in
+    let apart = apart-at needs places row standing lazy me s (Empty seen current count word) at in
+    let none = subst (λ (stage : Stage). IsShowing (s.owed me) (s.worth me) stage) at (s.stages.showing me) in
+    let holding = subst (λ (stage : Stage). IsHolding needs (line_of row) me lazy.count lazy.line s.cut stage) at (s.stages.holding me mine) in
+    elim (cases_Bool (row 0 == word_number count_bits seen)) [
+      | inl same ↦ emptied-step needs lawful places row standing lazy me here s seen current count word same mine ranged alone apart none holding
+      | inr differs ↦ missed-step needs places row standing lazy me here s seen current count word at differs mine ranged alone apart none holding
+    ]

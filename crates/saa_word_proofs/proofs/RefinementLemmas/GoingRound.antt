@@ -1,0 +1,123 @@
+-- The step that adds what was granted to the count: it keeps how words, places and the lazy object stand together.
+use Rattle.std.proofs.Common.{◌≡◌, ℕ, ◌+◌, ◌-◌, ◌/◌, ◌%◌, ◌^◌, ◌<◌, ◌≤◌, true, false, List, [], ◌∷◌, ◌++◌, ◌==◌, refl, sym, ap, subst, ◌∙◌, arith, inl, inr, append-nil}
+use Rattle.std.proofs.lemmas.Bool.{cases_Bool}
+use Rattle.saa_core_words.specs.declared.word.Word.{Word}
+use Rattle.saa_core_words.specs.Words.{count_bits, word_of}
+use Rattle.saa_word_steps.specs.declared.place.Place.{Place}
+use Rattle.saa_word_steps.specs.declared.place.Afterwards.TheVariants.{Again}
+use Rattle.saa_word_steps.specs.declared.place.Stage.{Stage}
+use Rattle.saa_word_steps.specs.declared.place.Stage.TheVariants.{BackLoad, GoRound, ShowLoad}
+use Rattle.saa_word_steps.specs.Needs.{Needs, AreNeeds}
+use Rattle.saa_word_steps.specs.Lazy.{Lazy, IsFront, IsSettledAt, is_empty, takes_of}
+use Rattle.saa_word_proofs.specs.Standing.{line_of, newest, is_holder, IsAlone, IsShowing, Work, IsHolding, IsMain, Stands}
+use Rattle.saa_word_proofs.specs.Stepped.{Stepped}
+use Rattle.saa_word_proofs.proofs.RefinementLemmas.Lists.{front-lower}
+use Rattle.saa_word_proofs.proofs.RefinementLemmas.Rows.{apart-at, count-small}
+use Rattle.saa_word_proofs.proofs.RefinementLemmas.Holders.{calm-held, never-barren}
+use Rattle.saa_word_proofs.proofs.RefinementLemmas.Granting.{granted, round-run, some-append, newest-rest, settled-front, front-bounded, front-none, front-some, parts-linked, granting}
+use Rattle.saa_word_proofs.proofs.RefinementLemmas.Linking.{flag-held}
+
+-- an addition within the bits of the count raises it, and leaves all else
+raised-word : (number more : ℕ) → number % 64 + more < 64
+    → word_of count_bits (number + more) ≡ record (word_of count_bits number) { count = (word_of count_bits number).count + more }
+raised-word number more small =
+    let low : (number + more) % 64 ≡ number % 64 + more = omega (arith, small) in
+    let high : (number + more) / 64 ≡ number / 64 = omega (arith, small) in
+    rw (low, high) refl
+
+raised-number : (number more : ℕ) → number < 16777216 → number % 64 + more < 64 → (number + more) % 2 ^ 64 ≡ number + more
+raised-number number more whole small = omega (arith, whole, small)
+
+raised-whole : (number more : ℕ) → number < 16777216 → number % 64 + more < 64 → number + more < 16777216
+raised-whole number more whole small = omega (arith, whole, small)
+
+-- where the line isn't open nobody is granted, and it stays settled
+round-settled : (needs : Needs) (count : ℕ) (line front rest : List (ℕ × ℕ)) → line ≡ front ++ rest → IsFront needs count front
+    → IsSettledAt needs count line → IsSettledAt needs (count + takes_of needs front) rest
+round-settled needs count line [] rest parts fits settled =
+    subst (λ (n : ℕ). IsSettledAt needs n rest) (omega arith) (subst (λ (l : List (ℕ × ℕ)). IsSettledAt needs count l) parts settled)
+round-settled needs count line (asker ∷ more) rest parts fits settled =
+    let none : asker ∷ more ≡ [] = settled-front needs count line (asker ∷ more) rest parts fits settled in
+    absurd (cc)
+
+-- The main word once what a front takes is added to it says what the object is
+raised-main : (needs : Needs) → AreNeeds needs → needs.top < 64 → (lazy : Lazy) (number holder more : ℕ) (front rest : List (ℕ × ℕ))
+    → lazy.poisoned ≡ false → IsMain needs number lazy holder → IsFront needs lazy.count front → lazy.line ≡ front ++ rest → is_empty rest ≡ false
+    → more ≡ takes_of needs front → IsMain needs ((number + more) % 2 ^ 64) (granted needs lazy front rest lazy.unclosed) holder
+raised-main needs lawful wide lazy number holder more front rest calm was fits parts some adds =
+    let bounded : lazy.count + takes_of needs front ≤ needs.top = front-bounded needs lawful lazy.count front fits was.bounded in
+    let small : number % 64 + more < 64 = omega (arith, was.count, bounded, wide, adds) in
+    let is : (number + more) % 2 ^ 64 ≡ number + more = raised-number number more was.whole small in
+    let word =
+    ap (word_of count_bits) is ∙ raised-word number more small in
+    record {
+      whole = rw is (raised-whole number more was.whole small);
+      count = ap (λ (w : Word). w.count) word ∙ ap (λ (n : ℕ). n + more) was.count ∙ ap (λ (n : ℕ). lazy.count + n) adds;
+      tail = ap (λ (w : Word). w.tail) word ∙ was.tail ∙ ap (λ (l : List (ℕ × ℕ)). newest 0 l) parts ∙ newest-rest 0 front rest some;
+      flag = ap (λ (w : Word). w.is_flagged) word ∙ was.flag;
+      poison = ap (λ (w : Word). w.is_poisoned) word ∙ was.poison;
+      barren = never-barren needs (granted needs lazy front rest lazy.unclosed) calm;
+      bounded = bounded;
+      closed = was.closed;
+      settled = λ closed. round-settled needs lazy.count lazy.line front rest parts fits (was.settled closed);
+    }
+
+-- Whoever goes round adds what it granted to the count, shows the answers, and walks anew
+pub step-GoRound : (needs : Needs) → AreNeeds needs → needs.top < 64 → (places : ℕ) (row : ℕ → ℕ) (standing : ℕ → Place) (lazy : Lazy) (me : ℕ)
+    → places < 65536 → me < places → (s : Stands needs places row standing lazy)
+    → (seen : Word) (count top : ℕ) → (standing me).stage ≡ GoRound seen count top → Stepped needs places row standing lazy me (GoRound seen count top)
+step-GoRound needs lawful wide places row standing lazy me room here s seen count top at =
+    let mine : s.holder ≡ me + 1 = flag-held needs places row standing lazy me s (ap is_holder at) in
+    let none = subst (λ (stage : Stage). IsShowing (s.owed me) (s.worth me) stage) at (s.stages.showing me) in
+    let holding = subst (λ (stage : Stage). IsHolding needs (line_of row) me lazy.count lazy.line s.cut stage) at (s.stages.holding me mine) in
+    let work : Work lazy.count lazy.line seen = holding.0 in
+    let rest : List (ℕ × ℕ) = work.behind ++ work.joined in
+    let some : is_empty rest ≡ false = some-append work.behind work.joined holding.4 in
+    let fits : IsFront needs lazy.count work.front = front-lower needs lawful lazy.count seen.count work.front work.count holding.2.0 in
+    let adds : count - seen.count ≡ takes_of needs work.front = omega (arith, holding.2.1) in
+    let number : ℕ = (row 0 + (count - seen.count)) % 2 ^ 64 in
+    let now : Word = word_of count_bits number in
+    let main : IsMain needs number (granted needs lazy work.front rest lazy.unclosed) s.holder =
+    raised-main needs lawful wide lazy (row 0) s.holder (count - seen.count) work.front rest
+    (calm-held needs places row standing lazy me s mine) s.main fits work.parts some adds in
+    let linked = parts-linked (line_of row) lazy.line s.cut s.uncut work.front rest s.line holding.1 work.parts in
+    let grant = round-run needs lazy me work.front rest work.parts fits s.main.settled in
+    let held : lazy.count + takes_of needs work.front ≤ now.count = omega (arith, main.count) in
+    let tail : now.tail ≡ newest 0 (rest ++ []) = main.tail ∙ ap (λ (l : List (ℕ × ℕ)). newest 0 l) (sym (append-nil rest)) in
+    let alone = subst (λ (stage : Stage). IsAlone needs (standing me).registration (standing me).back stage) at (s.stages.alone me) in
+    let apart = apart-at needs places row standing lazy me s (GoRound seen count top) at in
+    let holder : true ≡ (s.holder == me + 1) = sym (ap is_holder at) ∙ s.stages.one me in
+    record {
+      events = grant.events;
+      last = granted needs lazy work.front rest lazy.unclosed;
+      run = grant.run;
+      names = grant.names;
+      calm = λ semaphore. grant.calm;
+      inside = omega arith;
+      stands =
+          elim (cases_Bool (top == 0)) [
+            | inl empty ↦
+                let front : work.front ≡ [] = front-none work.front top holding.3 empty in
+                rw empty
+                (granting needs places row standing lazy me s number (BackLoad now now.tail 0) work.front rest s.holder lazy.unclosed
+                here mine none work.parts linked.0 linked.1 main (count-small number) alone apart tt front holder
+                (λ is. (
+                  record { front = rest; behind = []; joined = []; parts = sym (append-nil rest); tail = tail; count = held },
+                  refl,
+                  (main.tail, some, refl, tt),
+                ))
+                (λ other apart. refl))
+            | inr there ↦
+                let front : is_empty work.front ≡ false = front-some work.front top holding.3 there in
+                rw there
+                (granting needs places row standing lazy me s number (ShowLoad top 0 (Again now)) work.front rest s.holder lazy.unclosed
+                here mine none work.parts linked.0 linked.1 main (count-small number) alone apart tt (sym holding.3, front, refl) holder
+                (λ is. (
+                  record { front = []; behind = rest; joined = []; parts = sym (append-nil rest); tail = main.tail; count = held },
+                  refl,
+                  refl,
+                  some,
+                ))
+                (λ other apart. refl))
+          ];
+    }

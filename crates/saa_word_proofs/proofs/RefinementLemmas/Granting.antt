@@ -1,0 +1,350 @@
+-- Those of a front are granted: they leave the line, and their answers are owed by whoever granted them.
+use Rattle.std.proofs.Common.{◌≡◌, ℕ, ◌+◌, ◌<◌, ◌≤◌, Bool, true, false, ◌||◌, List, [], ◌∷◌, ◌++◌, length, take, drop, ◌==◌, if◌then◌else◌, Some, is_some, refl, sym, ap, subst, ◌∙◌, arith, inl, inr}
+use Rattle.std.proofs.lemmas.Bool.{cases_Bool}
+use Rattle.std.proofs.Math.ListN.{length-append}
+use Rattle.saa_core_spec.specs.Object.{one_if}
+use Rattle.saa_core_spec.proofs.Counts.{one_if-le, number_same, same_number, number_other}
+use Rattle.saa_core_words.specs.declared.word.Word.{Word}
+use Rattle.saa_core_words.specs.declared.line_word.LineWord.{LineWord}
+use Rattle.saa_core_words.specs.Words.{count_bits, word_number}
+use Rattle.saa_core_words.proofs.Words.{word-read}
+use Rattle.saa_word_steps.specs.declared.place.Place.{Place}
+use Rattle.saa_word_steps.specs.declared.place.Stage.{Stage}
+use Rattle.saa_word_steps.specs.Needs.{Needs, AreNeeds, fits_count}
+use Rattle.saa_word_steps.specs.Lazy.{Lazy, Event, Granted, Closed, IsAllowed, after_event, IsRun, IsFront, IsSettledAt, is_empty, is_in, waits_times, takes_of, answered_with, held_by}
+use Rattle.saa_word_steps.specs.Steps.{IsRanged, settled_word}
+use Rattle.saa_word_proofs.specs.Standing.{updated, line_of, newest, IsBehind, is_slot, is_holder, gives_up, IsAlone, IsOwn, IsShowing, IsHolding, IsMain, IsLine, AreSeats, AreDebts, Stands}
+use Rattle.saa_word_proofs.specs.Stepped.{of_place, named, never_poisons}
+use Rattle.saa_word_proofs.proofs.RefinementLemmas.Lists.{each-updated, in-append, in-none, times-append, newest-append, newest-any, newest-empty, empty-nil, take-front, drop-front}
+use Rattle.saa_word_proofs.proofs.RefinementLemmas.Frames.{stages-next}
+use Rattle.saa_word_proofs.proofs.RefinementLemmas.Holders.{never-barren}
+use Rattle.saa_word_proofs.proofs.RefinementLemmas.Rows.{word-whole, line-main, row-other, seats-next}
+
+-- The object once those of a front are granted, with the rest of the line
+abbrev pub granted : Needs → Lazy → List (ℕ × ℕ) → List (ℕ × ℕ) → Bool → Lazy
+granted needs lazy front rest unclosed = record lazy {
+  count = lazy.count + takes_of needs front;
+  line = rest;
+  unclosed = unclosed;
+  due = answered_with 0 front lazy.due;
+}
+
+-- The events of a grant: an answer names none of them
+pub record IsGrant (needs : Needs) (lazy : Lazy) (me : ℕ) (last : Lazy) : Type 0 where
+  pub events : List Event
+  pub run : IsRun needs lazy (of_place me events) last
+  pub names : named events ≡ []
+  pub calm : never_poisons events ≡ true
+
+-- Lines
+
+-- a line is what is before it, and the rest is what is left of it
+pub same-rest : (front one other : List (ℕ × ℕ)) → front ++ one ≡ front ++ other → one ≡ other
+same-rest front one other same = sym (drop-front front one) ∙ ap (λ (l : List (ℕ × ℕ)). drop (length front) l) same ∙ drop-front front other
+
+pub some-append : (front behind : List (ℕ × ℕ)) → is_empty front ≡ false → is_empty (front ++ behind) ≡ false
+some-append [] behind some = absurd (cc)
+some-append (asker ∷ rest) behind some = refl
+
+-- the newest of a line is that of its rest, where somebody stands in that
+pub newest-rest : (older : ℕ) (front rest : List (ℕ × ℕ)) → is_empty rest ≡ false → newest older (front ++ rest) ≡ newest 0 rest
+newest-rest older front rest some = newest-append older front rest ∙ newest-any (newest older front) 0 rest some
+
+-- a line is settled by those of it that stand first
+pub settled-append : (needs : Needs) (count : ℕ) (front behind : List (ℕ × ℕ)) → is_empty front ≡ false → IsSettledAt needs count front
+    → IsSettledAt needs count (front ++ behind)
+settled-append needs count [] behind some settled = absurd (cc)
+settled-append needs count (asker ∷ rest) behind some settled = settled
+
+-- nobody fits in a settled line
+pub settled-front : (needs : Needs) (count : ℕ) (line front rest : List (ℕ × ℕ)) → line ≡ front ++ rest → IsFront needs count front
+    → IsSettledAt needs count line → front ≡ []
+settled-front needs count line [] rest parts fits settled = refl
+settled-front needs count line (asker ∷ more) rest parts fits settled =
+    let unfit : fits_count needs count asker.1 ≡ false = subst (λ (l : List (ℕ × ℕ)). IsSettledAt needs count l) parts settled in
+    let wrong : true ≡ false = sym fits.0 ∙ unfit in
+    absurd (cc)
+
+-- a front that fits stays within the greatest count
+pub front-bounded : (needs : Needs) → AreNeeds needs → (count : ℕ) (front : List (ℕ × ℕ)) → IsFront needs count front → count ≤ needs.top
+    → count + takes_of needs front ≤ needs.top
+front-bounded needs lawful count [] fits small = omega (arith, small)
+front-bounded needs lawful count (asker ∷ rest) fits small =
+    omega (arith, front-bounded needs lawful (count + needs.takes asker.1) rest fits.1 (lawful.bounded count asker.1 fits.0))
+
+some-length : (line : List (ℕ × ℕ)) → is_empty line ≡ false → 0 < length line
+some-length [] some = absurd (cc)
+some-length (asker ∷ rest) some = omega arith
+
+-- a place that is seen in a line waits there
+pub in-waits : (place : ℕ) (line : List (ℕ × ℕ)) → is_in place line ≡ true → 0 < waits_times place line
+in-waits place [] some = absurd (cc)
+in-waits place (asker ∷ rest) some =
+    elim (cases_Bool (asker.0 == place)) [
+      | inl same ↦ omega (arith, ap one_if same)
+      | inr apart ↦ omega (arith, in-waits place rest (rw apart at some))
+    ]
+
+pub in-no : (place : ℕ) (line : List (ℕ × ℕ)) → is_in place line ≡ false → waits_times place line ≡ 0
+in-no place [] none = refl
+in-no place (asker ∷ rest) none =
+    elim (cases_Bool (asker.0 == place)) [
+      | inl same ↦ let wrong : true ≡ false = rw same at none in absurd (cc)
+      | inr apart ↦ omega (arith, ap one_if apart, in-no place rest (rw apart at none))
+    ]
+
+-- how often a place stands in a line, by its parts
+pub times-parts : (place : ℕ) (line front rest : List (ℕ × ℕ)) → line ≡ front ++ rest
+    → waits_times place line ≡ waits_times place front + waits_times place rest
+times-parts place line front rest parts = ap (λ (l : List (ℕ × ℕ)). waits_times place l) parts ∙ times-append place front rest
+
+-- the newest of a front is there exactly where somebody stands in it
+pub front-none : (front : List (ℕ × ℕ)) (top : ℕ) → top ≡ newest 0 front → top == 0 ≡ true → front ≡ []
+front-none front top is none = empty-nil front (sym (newest-empty front) ∙ ap (λ (n : ℕ). n == 0) (sym is) ∙ none)
+
+pub front-some : (front : List (ℕ × ℕ)) (top : ℕ) → top ≡ newest 0 front → top == 0 ≡ false → is_empty front ≡ false
+front-some front top is some = sym (newest-empty front) ∙ ap (λ (n : ℕ). n == 0) (sym is) ∙ some
+
+-- a line behind those who are granted is linked, and so are they
+pub parts-linked : (words : ℕ → LineWord) (line cut uncut front rest : List (ℕ × ℕ)) → IsLine words line cut uncut → cut ≡ front
+    → line ≡ front ++ rest → IsBehind words 0 front × IsBehind words 0 rest
+parts-linked words line cut uncut front rest was same parts =
+    let left : uncut ≡ rest = same-rest front uncut rest (ap (λ (l : List (ℕ × ℕ)). l ++ uncut) (sym same) ∙ sym was.parts ∙ parts) in
+    (subst (λ (l : List (ℕ × ℕ)). IsBehind words 0 l) same was.granted, subst (λ (l : List (ℕ × ℕ)). IsBehind words 0 l) left was.stays)
+
+-- Runs
+
+-- an object that differs in nothing else
+same-lazy : (lazy : Lazy) (count : ℕ) (line : List (ℕ × ℕ)) (unclosed : Bool) → lazy.count ≡ count → lazy.line ≡ line → lazy.unclosed ≡ unclosed
+    → lazy ≡ record lazy { count = count; line = line; unclosed = unclosed }
+same-lazy lazy count line unclosed same_count same_line same_unclosed =
+    λ i. record lazy { count = same_count i; line = same_line i; unclosed = same_unclosed i }
+
+-- the event of a grant, before the line is closed
+after-granted : (needs : Needs) (lazy : Lazy) (me : ℕ) (front rest : List (ℕ × ℕ)) → lazy.line ≡ front ++ rest
+    → after_event needs lazy me (Granted (length front)) ≡ granted needs lazy front rest lazy.unclosed
+after-granted needs lazy me front rest parts =
+    let first : take (length front) lazy.line ≡ front = ap (λ (l : List (ℕ × ℕ)). take (length front) l) parts ∙ take-front front rest in
+    let last : drop (length front) lazy.line ≡ rest = ap (λ (l : List (ℕ × ℕ)). drop (length front) l) parts ∙ drop-front front rest in
+    λ i. record lazy { count = lazy.count + takes_of needs (first i); line = last i; due = answered_with 0 (first i) lazy.due }
+
+granted-allowed : (needs : Needs) (lazy : Lazy) (me : ℕ) (front rest : List (ℕ × ℕ)) → lazy.line ≡ front ++ rest → lazy.unclosed ≡ true
+    → is_empty front ≡ false → IsFront needs lazy.count front → IsAllowed needs lazy me (Granted (length front))
+granted-allowed needs lazy me front rest parts opened some fits =
+    let first : take (length front) lazy.line ≡ front = ap (λ (l : List (ℕ × ℕ)). take (length front) l) parts ∙ take-front front rest in
+    let within : length lazy.line ≡ length front + length rest = ap (λ (l : List (ℕ × ℕ)). length l) parts ∙ length-append front rest in
+    (opened, some-length front some, omega (arith, within), subst (λ (l : List (ℕ × ℕ)). IsFront needs lazy.count l) (sym first) fits)
+
+granted-none : (needs : Needs) (lazy : Lazy) (rest : List (ℕ × ℕ)) (unclosed : Bool) → lazy.line ≡ rest → lazy.unclosed ≡ unclosed
+    → lazy ≡ granted needs lazy [] rest unclosed
+granted-none needs lazy rest unclosed parts same = same-lazy lazy (lazy.count + 0) rest unclosed (omega arith) parts same
+
+-- Where a front is granted and the line stays open
+pub round-run : (needs : Needs) (lazy : Lazy) (me : ℕ) (front rest : List (ℕ × ℕ)) → lazy.line ≡ front ++ rest → IsFront needs lazy.count front
+    → (lazy.unclosed ≡ false → IsSettledAt needs lazy.count lazy.line) → IsGrant needs lazy me (granted needs lazy front rest lazy.unclosed)
+round-run needs lazy me [] rest parts fits settled =
+    record { events = []; run = granted-none needs lazy rest lazy.unclosed parts refl; names = refl; calm = refl }
+round-run needs lazy me (asker ∷ more) rest parts fits settled =
+    elim (cases_Bool lazy.unclosed) [
+      | inl opened ↦ record {
+        events = Granted (length (asker ∷ more)) ∷ [];
+        run = (granted-allowed needs lazy me (asker ∷ more) rest parts opened refl fits, after-granted needs lazy me (asker ∷ more) rest parts);
+        names = refl;
+        calm = refl;
+      }
+      | inr closed ↦
+          let none : asker ∷ more ≡ [] = settled-front needs lazy.count lazy.line (asker ∷ more) rest parts fits (settled closed) in
+          absurd (cc)
+    ]
+
+-- Where a front is granted and the line is closed; a line that wasn't open is settled, and nobody is granted
+pub close-run : (needs : Needs) (lazy : Lazy) (me : ℕ) (front rest : List (ℕ × ℕ)) → lazy.line ≡ front ++ rest → IsFront needs lazy.count front
+    → IsSettledAt needs (lazy.count + takes_of needs front) rest
+    → (lazy.unclosed ≡ false → IsSettledAt needs lazy.count lazy.line) → IsGrant needs lazy me (granted needs lazy front rest false)
+close-run needs lazy me [] rest parts fits closes settled =
+    elim (cases_Bool lazy.unclosed) [
+      | inl opened ↦ record {
+        events = Closed ∷ [];
+        run = (
+          (
+            opened,
+            subst (λ (l : List (ℕ × ℕ)). IsSettledAt needs lazy.count l) (sym parts)
+                (subst (λ (n : ℕ). IsSettledAt needs n rest) (omega arith) closes),
+          ),
+          ap (λ (z : Lazy). record z { unclosed = false }) (granted-none needs lazy rest lazy.unclosed parts refl),
+        );
+        names = refl;
+        calm = refl;
+      }
+      | inr closed ↦ record { events = []; run = granted-none needs lazy rest false parts closed; names = refl; calm = refl }
+    ]
+close-run needs lazy me (asker ∷ more) rest parts fits closes settled =
+    elim (cases_Bool lazy.unclosed) [
+      | inl opened ↦
+          let after = after-granted needs lazy me (asker ∷ more) rest parts in
+          record {
+            events = Granted (length (asker ∷ more)) ∷ (Closed ∷ []);
+            run = (
+              granted-allowed needs lazy me (asker ∷ more) rest parts opened refl fits,
+              (
+                (opened, subst (λ (z : Lazy). IsSettledAt needs z.count z.line) (sym after) closes),
+                ap (λ (z : Lazy). record z { unclosed = false }) after,
+              ),
+            );
+            names = refl;
+            calm = refl;
+          }
+      | inr closed ↦
+          let none : asker ∷ more ≡ [] = settled-front needs lazy.count lazy.line (asker ∷ more) rest parts fits (settled closed) in
+          absurd (cc)
+    ]
+
+-- Seats and debts
+
+-- nobody is held twice
+pub held-once : (places : ℕ) (standing : ℕ → Place) (lazy : Lazy) → AreSeats places standing lazy → (place : ℕ) → held_by place lazy ≤ 1
+held-once places standing lazy seats place = omega (arith, seats.held place, one_if-le (is_slot (standing place).registration))
+
+-- who is due stands in no part of the line
+pub due-apart : (lazy : Lazy) (front rest : List (ℕ × ℕ)) (place : ℕ) → lazy.line ≡ front ++ rest → held_by place lazy ≤ 1
+    → is_some (lazy.due place) ≡ true → is_in place front ≡ false
+due-apart lazy front rest place parts once due =
+    let both = times-parts place lazy.line front rest parts in
+    in-none place front (omega (arith, once, both, ap one_if due))
+
+-- a grant changes how a place is held, and not whether it is
+pub held-granted : (needs : Needs) (lazy : Lazy) (front rest : List (ℕ × ℕ)) (unclosed : Bool) (place : ℕ)
+    → lazy.line ≡ front ++ rest → held_by place lazy ≤ 1 → held_by place (granted needs lazy front rest unclosed) ≡ held_by place lazy
+held-granted needs lazy front rest unclosed place parts once =
+    let both = times-parts place lazy.line front rest parts in
+    elim (cases_Bool (is_in place front)) [
+      | inl some ↦ rw some (omega (arith, once, both, in-waits place front some))
+      | inr none ↦ rw none (omega (arith, both, in-no place front none))
+    ]
+
+-- who shows the answers of a front that is granted
+abbrev pub shower_after : (ℕ → ℕ) → ℕ → List (ℕ × ℕ) → ℕ → ℕ
+shower_after shower me front other = if is_in other front then me else shower other
+
+pub debts-granted : (words : ℕ → LineWord) (lazy : Lazy) (owed : ℕ → List (ℕ × ℕ)) (shower worth : ℕ → ℕ) (me value : ℕ) (front rest : List (ℕ × ℕ))
+    → AreDebts words lazy.due owed shower worth → value < 256 → lazy.line ≡ front ++ rest → ((place : ℕ) → held_by place lazy ≤ 1) → owed me ≡ [] → IsBehind words 0 front
+    → AreDebts words (answered_with value front lazy.due) (updated owed me front) (shower_after shower me front) (updated worth me value)
+debts-granted words lazy owed shower worth me value front rest was fits parts once none linked = record {
+  due_to = λ place other.
+      each-updated
+      (λ (n : ℕ) (l : List (ℕ × ℕ)). is_in other l ≡ true
+      → (shower_after shower me front other ≡ n) × (answered_with value front lazy.due other ≡ Some (updated worth me value n)))
+      owed me front
+      (λ there. (rw there refl, rw (there, number_same me) refl))
+      (λ other_place apart there.
+      let old = was.due_to other_place other there in
+      let out : is_in other front ≡ false = due-apart lazy front rest other parts (once other) (ap is_some old.1) in
+      (rw out old.0, rw (out, number_other other_place me apart) old.1))
+      place;
+  paid_by = λ other due.
+      elim (cases_Bool (is_in other front)) [
+        | inl there ↦ rw (there, number_same me) there
+        | inr out ↦
+            let old : is_in other (owed (shower other)) ≡ true = was.paid_by other (rw out at due) in
+            elim (cases_Bool (shower other == me)) [
+              | inl same ↦
+                  let empty : owed (shower other) ≡ [] = ap owed (same_number (shower other) me same) ∙ none in
+                  let wrong : false ≡ true = rw empty at old in
+                  absurd (cc)
+              | inr apart ↦ rw (out, apart) old
+            ]
+      ];
+  once = λ place other.
+      each-updated (λ (n : ℕ) (l : List (ℕ × ℕ)). waits_times other l ≤ 1) owed me front
+      (let both = times-parts other lazy.line front rest parts in omega (arith, both, once other))
+      (λ other_place apart. was.once other_place other)
+      place;
+  links = each-updated (λ (n : ℕ) (l : List (ℕ × ℕ)). IsBehind words 0 l) owed me front linked (λ other apart. was.links other);
+  small = each-updated (λ (n value : ℕ). value < 256) worth me value fits (λ other apart. was.small other);
+}
+
+-- The whole
+
+-- the link 0 is that of no place
+pub nobody : (place : ℕ) → (0 == place + 1) ≡ false
+nobody place = number_other 0 (place + 1) (λ is. absurd (omega (arith, is)))
+
+-- where nobody holds the flag any more, nobody else did
+pub holder-none : (holder me other : ℕ) → holder ≡ me + 1 → (other ≡ me → ⊥) → (holder == other + 1) ≡ (0 == other + 1)
+holder-none holder me other mine apart = number_other holder (other + 1) (λ is. apart (omega (arith, mine, is))) ∙ sym (nobody other)
+
+-- The main word of a line that is settled says what the object is once the line is closed
+pub settled-main : (needs : Needs) (lazy : Lazy) (front rest : List (ℕ × ℕ)) (count tail : ℕ) → lazy.poisoned ≡ false → count < 64 → tail < 65536
+    → count ≡ lazy.count + takes_of needs front → count ≤ needs.top → tail ≡ newest 0 rest → IsSettledAt needs count rest
+    → IsMain needs (word_number count_bits (settled_word count tail)) (granted needs lazy front rest false) 0
+settled-main needs lazy front rest count tail calm small room adds bounded is settled =
+    let read = word-read count_bits (settled_word count tail) small room in
+    record {
+      whole = word-whole (settled_word count tail) small room;
+      count = ap (λ (w : Word). w.count) read ∙ adds;
+      tail = ap (λ (w : Word). w.tail) read ∙ is;
+      flag = ap (λ (w : Word). w.is_flagged) read;
+      poison = ap (λ (w : Word). w.is_poisoned) read ∙ sym calm;
+      barren = never-barren needs (granted needs lazy front rest false) calm;
+      bounded = rw (← adds) bounded;
+      closed = λ unheld. refl;
+      settled = λ closed. rw (← adds) settled;
+    }
+
+-- who stands in no line stands in no part of it
+pub out-of-rest : (place : ℕ) (front rest line : List (ℕ × ℕ)) → line ≡ front ++ rest → is_in place line ≡ false → is_in place rest ≡ false
+out-of-rest place front rest line parts out =
+    out-of-both (is_in place front) (is_in place rest) (sym (ap (is_in place) parts ∙ in-append place front rest) ∙ out)
+  where
+    out-of-both : (one other : Bool) → one || other ≡ false → other ≡ false
+    out-of-both true other h = absurd (cc)
+    out-of-both false other h = h
+
+-- The holder grants a front by a write to the main word, and goes on at a stage
+pub granting : (needs : Needs) (places : ℕ) (row : ℕ → ℕ) (standing : ℕ → Place) (lazy : Lazy) (me : ℕ) (s : Stands needs places row standing lazy)
+    (number : ℕ) (stage : Stage) (front rest : List (ℕ × ℕ)) (next : ℕ) (unclosed : Bool)
+    → me < places → s.holder ≡ me + 1 → s.owed me ≡ [] → lazy.line ≡ front ++ rest → IsBehind (line_of row) 0 front → IsBehind (line_of row) 0 rest
+    → IsMain needs number (granted needs lazy front rest unclosed) next
+    → IsRanged needs stage → IsAlone needs (standing me).registration (standing me).back stage
+    → (gives_up (standing me).back stage ≡ true → is_in me lazy.line ≡ false) → IsOwn (line_of row me) stage → IsShowing front 0 stage
+    → is_holder stage ≡ (next == me + 1)
+    → (next ≡ me + 1 → IsHolding needs (line_of row) me (lazy.count + takes_of needs front) rest [] stage)
+    → ((other : ℕ) → (other ≡ me → ⊥) → (s.holder == other + 1) ≡ (next == other + 1))
+    → Stands needs places (updated row 0 number) (updated standing me (record (standing me) { stage = stage }))
+    (granted needs lazy front rest unclosed)
+granting needs places row standing lazy me s number stage front rest next unclosed here mine none parts linked stays main ranged alone apart own showing
+    holder holding others =
+    let once = held-once places standing lazy s.seats in
+    let seats = seats-next places standing lazy me (record (standing me) { stage = stage }) s.seats here refl in
+    let debts = debts-granted (line_of row) lazy s.owed s.shower s.worth me 0 front rest s.debts (omega arith) parts once none linked in
+    let stages = stages-next needs (line_of row) (line_of row) standing lazy.count (lazy.count + takes_of needs front) lazy.line rest s.cut []
+    s.holder next s.owed (updated s.owed me front) s.worth (updated s.worth me 0) me (record (standing me) { stage = stage }) s.stages
+    ranged alone (λ gives. out-of-rest me front rest lazy.line parts (apart gives)) own (rw (number_same me) showing) holder holding
+    (λ other differs. out-of-rest other front rest lazy.line parts)
+    (λ other differs. s.stages.own other)
+    (λ other differs. rw (number_other other me differs) refl)
+    (λ other differs. rw (number_other other me differs) refl)
+    others
+    (λ other apart is. absurd (apart (omega (arith, mine, is)))) in
+    record {
+      holder = next;
+      cut = [];
+      uncut = rest;
+      owed = updated s.owed me front;
+      shower = shower_after s.shower me front;
+      worth = updated s.worth me 0;
+      free = λ unheld. refl;
+      main = main;
+      line = record { parts = refl; granted = tt; stays = rw (line-main row number) stays; some = λ gone. refl };
+      seats = record {
+        held = λ place. held-granted needs lazy front rest unclosed place parts (once place) ∙ seats.held place;
+        within = seats.within;
+        beyond = seats.beyond;
+      };
+      answers = record {
+        words = λ place inside. row-other row 0 number (places + place + 1) (λ is. absurd (omega (arith, is))) ∙ s.answers.words place inside;
+        small = s.answers.small;
+      };
+      debts = rw (line-main row number) debts;
+      stages = rw (line-main row number) stages;
+    }

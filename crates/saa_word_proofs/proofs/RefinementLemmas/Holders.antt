@@ -1,0 +1,124 @@
+-- Where nobody waits nobody holds the flag; and the main word as an exchange has written it.
+use Rattle.std.proofs.Common.{◌≡◌, ℕ, ◌+◌, ◌<◌, ◌≤◌, pred, true, false, not, List, [], ◌∷◌, ◌++◌, ◌==◌, if◌then◌else◌, refl, sym, ap, ◌∙◌, arith, inl, inr}
+use Rattle.std.proofs.lemmas.Bool.{cases_Bool}
+use Rattle.std.proofs.lemmas.Bool.Decides.{nat_tests}
+use Rattle.saa_core_words.specs.declared.word.Word.{Word}
+use Rattle.saa_core_words.specs.declared.line_word.LineWord.{LineWord}
+use Rattle.saa_core_words.specs.Words.{count_bits, word_number}
+use Rattle.saa_core_words.proofs.Words.{word-read}
+use Rattle.saa_word_steps.specs.declared.place.Place.{Place}
+use Rattle.saa_word_steps.specs.declared.place.Afterwards.TheVariants.{Ends, Again}
+use Rattle.saa_word_steps.specs.declared.place.Stage.{Stage}
+use Rattle.saa_word_steps.specs.declared.place.Stage.TheVariants.{Quiet, ReadLoad, AskLoad, AskExchange, Prepare, Join, ReleaseLoad, ReleaseExchange, BackLoad, BackStore, Forward, CutToClose, CutToGoRound, Close, Empty, GoRound, ShowLoad, ShowStore, Take, FlagLoad, FlagExchange, LookLoad, LookStore, Unlink, DropTail, PoisonLoad, PoisonExchange, Clear}
+use Rattle.saa_word_steps.specs.Needs.{Needs}
+use Rattle.saa_word_steps.specs.Lazy.{Lazy, is_empty, IsSettledAt}
+use Rattle.saa_word_steps.specs.Steps.{IsSmall}
+use Rattle.saa_word_proofs.specs.Standing.{updated, line_of, newest, Work, IsHolding, IsMain, Stands}
+use Rattle.saa_word_proofs.proofs.RefinementLemmas.Rows.{word-whole, loaded}
+
+-- a line whose front or whose rest isn't empty isn't empty
+some-front : (front behind : List (ℕ × ℕ)) → is_empty front ≡ false → is_empty (front ++ behind) ≡ false
+some-front [] behind some = absurd (cc)
+some-front (asker ∷ rest) behind some = refl
+
+some-behind : (front behind : List (ℕ × ℕ)) → is_empty behind ≡ false → is_empty (front ++ behind) ≡ false
+some-behind [] behind some = some
+some-behind (asker ∷ rest) behind some = refl
+
+front-waits : (held : ℕ) (line : List (ℕ × ℕ)) (seen : Word) (work : Work held line seen) → is_empty work.front ≡ false → is_empty line ≡ false
+front-waits held line seen work some = rw work.parts (some-front work.front (work.behind ++ work.joined) some)
+
+behind-waits : (held : ℕ) (line : List (ℕ × ℕ)) (seen : Word) (work : Work held line seen) → is_empty work.behind ≡ false → is_empty line ≡ false
+behind-waits held line seen work some = rw work.parts (some-behind work.front (work.behind ++ work.joined) (some-front work.behind work.joined some))
+
+-- somebody waits wherever the flag is held
+pub holding-some : (needs : Needs) (words : ℕ → LineWord) (me held : ℕ) (line cut : List (ℕ × ℕ)) (stage : Stage)
+    → IsHolding needs words me held line cut stage → is_empty line ≡ false
+holding-some needs words me held line cut Quiet h = absurd h
+holding-some needs words me held line cut (ReadLoad reading) h = absurd h
+holding-some needs words me held line cut (AskLoad ask) h = absurd h
+holding-some needs words me held line cut (AskExchange ask seen) h = absurd h
+holding-some needs words me held line cut (Prepare request seen) h = absurd h
+holding-some needs words me held line cut (Join request seen) h = absurd h
+holding-some needs words me held line cut (ReleaseLoad given) h = absurd h
+holding-some needs words me held line cut (ReleaseExchange given seen) h = absurd h
+holding-some needs words me held line cut (BackLoad seen current newer) h = front-waits held line seen h.0 h.2.1
+holding-some needs words me held line cut (BackStore seen current newer word) h = front-waits held line seen h.0 h.2.1
+holding-some needs words me held line cut (Forward seen current count) h = behind-waits held line seen h.0 h.3.1
+holding-some needs words me held line cut (CutToClose seen current count word) h = behind-waits held line seen h.0 h.3.1
+holding-some needs words me held line cut (CutToGoRound seen current count word) h = behind-waits held line seen h.0 h.3.1
+holding-some needs words me held line cut (Close seen count top) h = behind-waits held line seen h.0 h.4
+holding-some needs words me held line cut (Empty seen current count word) h = behind-waits held line seen h.0 h.3.1
+holding-some needs words me held line cut (GoRound seen count top) h = behind-waits held line seen h.0 h.4
+holding-some needs words me held line cut (ShowLoad current value Ends) h = absurd h
+holding-some needs words me held line cut (ShowStore current next value Ends) h = absurd h
+holding-some needs words me held line cut (ShowLoad current value (Again seen)) h = behind-waits held line seen h.0 h.3
+holding-some needs words me held line cut (ShowStore current next value (Again seen)) h = behind-waits held line seen h.0 h.3
+holding-some needs words me held line cut (Take taking) h = absurd h
+holding-some needs words me held line cut FlagLoad h = absurd h
+holding-some needs words me held line cut (FlagExchange seen) h = absurd h
+holding-some needs words me held line cut (LookLoad seen current newer previous) h = front-waits held line seen h.0 h.2.1
+holding-some needs words me held line cut (LookStore seen current newer word) h = front-waits held line seen h.0 h.2.1
+holding-some needs words me held line cut (Unlink seen newer word older) h = behind-waits held line seen h.0 h.3.1
+holding-some needs words me held line cut (DropTail seen older) h =
+    front-waits held line seen h.0 (rw h.2.2 (some-behind h.2.0 ((me, h.2.1) ∷ []) refl))
+holding-some needs words me held line cut PoisonLoad h = absurd h
+holding-some needs words me held line cut (PoisonExchange seen) h = absurd h
+holding-some needs words me held line cut Clear h = absurd h
+
+-- where nobody waits nobody holds the flag
+pub nobody-holds : (needs : Needs) (places : ℕ) (row : ℕ → ℕ) (standing : ℕ → Place) (lazy : Lazy) (s : Stands needs places row standing lazy)
+    → is_empty lazy.line ≡ true → s.holder == 0 ≡ true
+nobody-holds needs places row standing lazy s none =
+    elim (cases_Bool (s.holder == 0)) [
+      | inl nobody ↦ nobody
+      | inr somebody ↦
+          let is : s.holder ≡ pred s.holder + 1 = grind (arith, nat_tests, somebody) in
+          let some = holding-some needs (line_of row) (pred s.holder) lazy.count lazy.line s.cut (standing (pred s.holder)).stage (s.stages.holding (pred s.holder) is) in
+          let wrong : true ≡ false = sym none ∙ some in
+          absurd (cc)
+    ]
+
+-- the main word that an exchange has written
+pub main-now : (needs : Needs) (lazy : Lazy) (holder : ℕ) (word : Word) → IsSmall word → word.tail < 65536
+    → word.count ≡ lazy.count → word.tail ≡ newest 0 lazy.line → word.is_flagged ≡ not (holder == 0) → word.is_poisoned ≡ lazy.poisoned
+    → (lazy.poisoned ≡ true → (lazy.count ≡ 0) × (lazy.line ≡ []) × (needs.is_lock ≡ true)) → lazy.count ≤ needs.top → ((holder == 0) ≡ true → lazy.unclosed ≡ false)
+    → (lazy.unclosed ≡ false → IsSettledAt needs lazy.count lazy.line) → IsMain needs (word_number count_bits word) lazy holder
+main-now needs lazy holder word small tail_small count tail flag poison barren bounded closed settled =
+    let read = word-read count_bits word small tail_small in record {
+      whole = word-whole word small tail_small;
+      count = ap (λ (w : Word). w.count) read ∙ count;
+      tail = ap (λ (w : Word). w.tail) read ∙ tail;
+      flag = ap (λ (w : Word). w.is_flagged) read ∙ flag;
+      poison = ap (λ (w : Word). w.is_poisoned) read ∙ poison;
+      barren = barren;
+      bounded = bounded;
+      closed = closed;
+      settled = settled;
+    }
+
+-- an exchange that fails leaves the row
+pub failed : (needs : Needs) (places : ℕ) (row : ℕ → ℕ) (standing : ℕ → Place) (lazy : Lazy) (old new : ℕ) → row 0 == old ≡ false
+    → Stands needs places row standing lazy → Stands needs places (updated row 0 (if row 0 == old then new else row 0)) standing lazy
+failed needs places row standing lazy old new test s = rw test (loaded needs places row standing lazy 0 s)
+
+-- where somebody waits, or holds the flag, nothing is poisoned
+pub calm-some : (needs : Needs) (number : ℕ) (lazy : Lazy) (holder : ℕ) → IsMain needs number lazy holder → is_empty lazy.line ≡ false → lazy.poisoned ≡ false
+calm-some needs number lazy holder main some =
+    elim (cases_Bool lazy.poisoned) [
+      | inl poisoned ↦
+          let wrong : true ≡ false = sym (ap is_empty (main.barren poisoned).1) ∙ some in
+          absurd (cc)
+      | inr calm ↦ calm
+    ]
+
+pub calm-held : (needs : Needs) (places : ℕ) (row : ℕ → ℕ) (standing : ℕ → Place) (lazy : Lazy) (me : ℕ) (s : Stands needs places row standing lazy)
+    → s.holder ≡ me + 1 → lazy.poisoned ≡ false
+calm-held needs places row standing lazy me s held =
+    calm-some needs (row 0) lazy s.holder s.main
+    (holding-some needs (line_of row) me lazy.count lazy.line s.cut (standing me).stage (s.stages.holding me held))
+
+-- what isn't poisoned isn't barren
+pub never-barren : (needs : Needs) (lazy : Lazy) → lazy.poisoned ≡ false → lazy.poisoned ≡ true
+    → (lazy.count ≡ 0) × (lazy.line ≡ []) × (needs.is_lock ≡ true)
+never-barren needs lazy calm poisoned = let wrong : true ≡ false = sym poisoned ∙ calm in absurd (cc)

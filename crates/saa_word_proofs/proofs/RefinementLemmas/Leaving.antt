@@ -1,0 +1,248 @@
+-- The holder of the flag leaves the line: what this leaves of the object, of the seats and of what the others remember.
+use Rattle.std.proofs.Common.{◌≡◌, ℕ, ◌+◌, ◌<◌, ◌≤◌, true, false, not, List, [], ◌∷◌, ◌++◌, ◌==◌, is_some, refl, sym, ap, subst, ◌∙◌, arith, inl, inr, append_assoc}
+use Rattle.std.proofs.lemmas.Bool.{cases_Bool}
+use Rattle.saa_core_spec.specs.Object.{one_if}
+use Rattle.saa_core_spec.proofs.Counts.{number_same, same_number, number_other, one_if-same}
+use Rattle.saa_core_words.specs.declared.word.Word.{Word}
+use Rattle.saa_core_words.specs.declared.line_word.LineWord.{LineWord}
+use Rattle.saa_word_steps.specs.declared.place.Place.{Place}
+use Rattle.saa_word_steps.specs.declared.place.Registration.TheVariants.{Idle}
+use Rattle.saa_word_steps.specs.declared.place.Back.TheVariants.{Ends as EndsCall}
+use Rattle.saa_word_steps.specs.declared.place.Stage.{Stage}
+use Rattle.saa_word_steps.specs.declared.place.Stage.TheVariants.{Quiet}
+use Rattle.saa_word_steps.specs.Needs.{Needs}
+use Rattle.saa_word_steps.specs.Lazy.{Lazy, Left, IsRun, is_empty, is_in, waits_times, line_without, held_by}
+use Rattle.saa_word_steps.specs.Steps.{IsRanged, left_line}
+use Rattle.saa_word_proofs.specs.Standing.{updated, line_of, newest, IsBehind, is_slot, is_holder, gives_up, IsAlone, IsOwn, IsShowing, Work, IsFound, IsHolding, IsMain, AreSeats, AreDebts, Stands}
+use Rattle.saa_word_proofs.specs.Stepped.{of_place}
+use Rattle.saa_word_proofs.proofs.RefinementLemmas.Lists.{each-updated, in-none, in-some, times-append, newest-append, newest-in, empty-nil, behind-append, behind-frame, behind-front, behind-rest}
+use Rattle.saa_word_proofs.proofs.RefinementLemmas.Frames.{stages-next}
+use Rattle.saa_word_proofs.proofs.RefinementLemmas.Rows.{row-other, own-any}
+use Rattle.saa_word_proofs.proofs.RefinementLemmas.Granting.{in-waits, in-no}
+use Rattle.saa_word_proofs.proofs.RefinementLemmas.Linking.{apart-by, in-line, line-room}
+
+-- The object once a place has left the line, with those who still wait
+abbrev pub left : Lazy → List (ℕ × ℕ) → Lazy
+left lazy rest = record lazy { line = rest; unclosed = not (is_empty rest) }
+
+-- Lines
+
+-- a line without a place that doesn't wait is as it was
+pub without-out : (place : ℕ) (line : List (ℕ × ℕ)) → is_in place line ≡ false → line_without place line ≡ line
+without-out place [] out = refl
+without-out place (asker ∷ rest) out =
+    elim (cases_Bool (asker.0 == place)) [
+      | inl same ↦ let wrong : true ≡ false = rw same at out in absurd (cc)
+      | inr apart ↦ rw apart (ap (λ (l : List (ℕ × ℕ)). asker ∷ l) (without-out place rest (rw apart at out)))
+    ]
+
+-- each part of a line is left for itself
+pub without-append : (place : ℕ) (front behind : List (ℕ × ℕ))
+    → line_without place (front ++ behind) ≡ line_without place front ++ line_without place behind
+without-append place [] behind = refl
+without-append place (asker ∷ rest) behind =
+    elim (cases_Bool (asker.0 == place)) [
+      | inl same ↦ rw same (without-append place rest behind)
+      | inr apart ↦ rw apart (ap (λ (l : List (ℕ × ℕ)). asker ∷ l) (without-append place rest behind))
+    ]
+
+-- how often a place waits where one of the line is left out
+pub times-left : (place : ℕ) (before after : List (ℕ × ℕ)) (asker : ℕ × ℕ)
+    → waits_times place (before ++ asker ∷ after) ≡ one_if (asker.0 == place) + waits_times place (before ++ after)
+times-left place before after asker = omega (arith, times-append place before (asker ∷ after), times-append place before after)
+
+-- who waits once leaves those before it and those behind it
+pub without-once : (place request : ℕ) (before after : List (ℕ × ℕ)) → waits_times place (before ++ (place, request) ∷ after) ≡ 1
+    → line_without place (before ++ (place, request) ∷ after) ≡ before ++ after
+without-once place request before after once =
+    let all = times-append place before ((place, request) ∷ after) in
+    let out_before : is_in place before ≡ false = in-none place before (omega (arith, once, all, one_if-same place)) in
+    let out_after : is_in place after ≡ false = in-none place after (omega (arith, once, all, one_if-same place)) in
+    let here : line_without place ((place, request) ∷ after) ≡ after = rw (number_same place) (without-out place after out_after) in
+    without-append place before ((place, request) ∷ after)
+    ∙ ap (λ (l : List (ℕ × ℕ)). l ++ line_without place ((place, request) ∷ after)) (without-out place before out_before)
+    ∙ ap (λ (l : List (ℕ × ℕ)). before ++ l) here
+
+-- who isn't in a line isn't in one that somebody has left
+pub out-left : (place : ℕ) (line before after : List (ℕ × ℕ)) (asker : ℕ × ℕ) → line ≡ before ++ asker ∷ after
+    → is_in place line ≡ false → is_in place (before ++ after) ≡ false
+out-left place line before after asker parts out =
+    in-none place (before ++ after)
+    (omega (arith, in-no place line out, ap (λ (l : List (ℕ × ℕ)). waits_times place l) parts, times-left place before after asker))
+
+-- nobody is behind a place that waits once and is the newest of the line
+pub alone-behind : (me request : ℕ) (before joined : List (ℕ × ℕ)) → waits_times me (before ++ (me, request) ∷ joined) ≡ 1
+    → newest 0 (before ++ (me, request) ∷ joined) ≡ me + 1 → joined ≡ []
+alone-behind me request before joined once last =
+    elim (cases_Bool (is_empty joined)) [
+      | inl none ↦ empty-nil joined none
+      | inr some ↦
+          let again : 0 < waits_times me joined =
+          newest-in (me + 1) me joined some (sym (newest-append 0 before ((me, request) ∷ joined)) ∙ last) in
+          absurd (omega (arith, again, once, times-append me before ((me, request) ∷ joined), one_if-same me))
+    ]
+
+-- the line with the holder in it, as it found itself, and those behind it
+pub found-parts : (me held older : ℕ) (line : List (ℕ × ℕ)) (seen : Word) (work : Work held line seen) (found : IsFound me work.front older)
+    → line ≡ found.0 ++ (me, found.1) ∷ (work.behind ++ work.joined)
+found-parts me held older line seen work found =
+    work.parts ∙ ap (λ (l : List (ℕ × ℕ)). l ++ (work.behind ++ work.joined)) found.2
+    ∙ append_assoc found.0 ((me, found.1) ∷ []) (work.behind ++ work.joined)
+
+-- the link to whoever is before the holder is within its bits
+pub found-room : (row : ℕ → ℕ) (line before after : List (ℕ × ℕ)) (asker : ℕ × ℕ)
+    → IsBehind (line_of row) 0 line → line ≡ before ++ asker ∷ after → newest 0 before < 65536
+found-room row line before after asker linked parts =
+    let all = behind-rest (line_of row) 0 before (asker ∷ after) (subst (λ (l : List (ℕ × ℕ)). IsBehind (line_of row) 0 l) parts linked) in
+    subst (λ (n : ℕ). n < 65536) all.1 (line-room (row (asker.0 + 1))).1
+
+-- The event, for the object with those who still wait
+pub left-run : (needs : Needs) (lazy : Lazy) (me request : ℕ) (before after : List (ℕ × ℕ)) → lazy.line ≡ before ++ (me, request) ∷ after
+    → waits_times me lazy.line ≡ 1 → IsRun needs lazy (of_place me (Left ∷ [])) (left lazy (before ++ after))
+left-run needs lazy me request before after parts once =
+    let rest : line_without me lazy.line ≡ before ++ after =
+    ap (λ (l : List (ℕ × ℕ)). line_without me l) parts
+    ∙ without-once me request before after (ap (λ (l : List (ℕ × ℕ)). waits_times me l) (sym parts) ∙ once) in
+    (in-some me lazy.line (omega (arith, once)), ap (λ (l : List (ℕ × ℕ)). left lazy l) rest)
+
+-- Links
+
+-- the first of those behind who leaves is linked to whoever is before that
+pub unlinked : (words new : ℕ → LineWord) (before rest : List (ℕ × ℕ)) (gone asker : ℕ × ℕ)
+    → IsBehind words 0 (before ++ gone ∷ (asker ∷ rest)) → waits_times asker.0 (before ++ gone ∷ (asker ∷ rest)) ≤ 1
+    → (new asker.0).request ≡ (words asker.0).request → (new asker.0).older ≡ newest 0 before
+    → ((place : ℕ) → (place ≡ asker.0 → ⊥) → new place ≡ words place)
+    → IsBehind new 0 (before ++ (asker ∷ rest))
+unlinked words new before rest gone asker linked once request older others =
+    let second = behind-rest words 0 before (gone ∷ (asker ∷ rest)) linked in
+    behind-append new 0 before (asker ∷ rest)
+    (behind-frame words new 0 before (λ place there. kept place (not-before place there)) (behind-front words 0 before (gone ∷ (asker ∷ rest)) linked)) (
+      request ∙ second.2.0,
+      older,
+      behind-frame words new (asker.0 + 1) rest (λ place there. kept place (not-behind place there)) second.2.2,
+    )
+  where
+    kept : (place : ℕ) → (place ≡ asker.0 → ⊥) → ((new place).request ≡ (words place).request) × ((new place).older ≡ (words place).older)
+    kept place apart = (ap (λ (w : LineWord). w.request) (others place apart), ap (λ (w : LineWord). w.older) (others place apart))
+
+    not-before : (place : ℕ) → 0 < waits_times place before → place ≡ asker.0 → ⊥
+    not-before place there is =
+        omega (arith, once, times-append asker.0 before (gone ∷ (asker ∷ rest)), one_if-same asker.0, there, ap (λ (n : ℕ). waits_times n before) is)
+
+    not-behind : (place : ℕ) → 0 < waits_times place rest → place ≡ asker.0 → ⊥
+    not-behind place there is =
+        omega (arith, once, times-append asker.0 before (gone ∷ (asker ∷ rest)), one_if-same asker.0, there, ap (λ (n : ℕ). waits_times n rest) is)
+
+-- a line word that is written with another older link leaves whom the newer ones name
+pub newer-same : (words new : ℕ → LineWord) (at : ℕ) → (new at).newer ≡ (words at).newer → ((place : ℕ) → (place ≡ at → ⊥) → new place ≡ words place)
+    → (place : ℕ) → (new place).newer ≡ (words place).newer
+newer-same words new at newer others place =
+    elim (cases_Bool (place == at)) [
+      | inl here ↦ subst (λ (n : ℕ). (new n).newer ≡ (words n).newer) (sym (same_number place at here)) newer
+      | inr apart ↦ ap (λ (w : LineWord). w.newer) (others place (apart-by place at apart))
+    ]
+
+-- Seats and debts
+
+-- who waits where the holder found itself waits once
+pub found-once : (places : ℕ) (standing : ℕ → Place) (lazy : Lazy) (me request : ℕ) (before after : List (ℕ × ℕ))
+    → AreSeats places standing lazy → lazy.line ≡ before ++ (me, request) ∷ after → waits_times me lazy.line ≡ 1
+found-once places standing lazy me request before after seats parts =
+    let waits : 0 < waits_times me lazy.line =
+    omega (arith, ap (λ (l : List (ℕ × ℕ)). waits_times me l) parts, times-append me before ((me, request) ∷ after), one_if-same me) in
+    (in-line places standing lazy me seats waits).2
+
+-- who leaves is held no more, and the others are held as they were
+pub seats-left : (places : ℕ) (standing : ℕ → Place) (lazy : Lazy) (me request : ℕ) (before after : List (ℕ × ℕ)) (stage : Stage)
+    → AreSeats places standing lazy → me < places → lazy.line ≡ before ++ (me, request) ∷ after
+    → AreSeats places (updated standing me (record (left_line (standing me)) { stage = stage })) (left lazy (before ++ after))
+seats-left places standing lazy me request before after stage was here parts =
+    let times : (place : ℕ) → waits_times place lazy.line ≡ one_if (me == place) + waits_times place (before ++ after) =
+    λ place. ap (λ (l : List (ℕ × ℕ)). waits_times place l) parts ∙ times-left place before after (me, request) in
+    let waits : 0 < waits_times me lazy.line = omega (arith, times me, one_if-same me) in
+    let slot : is_slot (standing me).registration ≡ true = (in-line places standing lazy me was waits).1 in
+    let place_now : Place = record (left_line (standing me)) { stage = stage } in
+    record {
+      held = each-updated (λ (n : ℕ) (p : Place). held_by n (left lazy (before ++ after)) ≡ one_if (is_slot p.registration)) standing me place_now
+          (omega (arith, times me, one_if-same me, was.held me, ap one_if slot))
+          (λ other apart.
+          omega (arith, times other, ap one_if (number_other me other (λ is. apart (sym is))), was.held other));
+      within = each-updated (λ (n : ℕ) (p : Place). is_slot p.registration ≡ true → n < places) standing me place_now (λ slot. here)
+          (λ other apart. was.within other);
+      beyond = each-updated (λ (n : ℕ) (p : Place). places ≤ n → p.stage ≡ Quiet) standing me place_now (λ out. absurd (omega (arith, out, here)))
+          (λ other apart. was.beyond other);
+    }
+
+-- no answer is due to who waits, so nobody owes it one
+pub owed-out : (places : ℕ) (words : ℕ → LineWord) (standing : ℕ → Place) (lazy : Lazy) (owed : ℕ → List (ℕ × ℕ)) (shower worth : ℕ → ℕ)
+    → AreSeats places standing lazy → AreDebts words lazy.due owed shower worth
+    → (place other : ℕ) → 0 < waits_times other (owed place) → is_in other lazy.line ≡ false
+owed-out places words standing lazy owed shower worth seats debts place other owes =
+    elim (cases_Bool (is_in other lazy.line)) [
+      | inl waits ↦
+          let due : is_some (lazy.due other) ≡ true = ap is_some (debts.due_to place other (in-some other (owed place) owes)).1 in
+          let none : is_some (lazy.due other) ≡ false = (in-line places standing lazy other seats (in-waits other lazy.line waits)).3 in
+          let wrong : true ≡ false = sym due ∙ none in
+          absurd (cc)
+      | inr out ↦ out
+    ]
+
+-- The whole
+
+-- The holder leaves the line by a write that leaves the line words of all who don't wait, and goes on at a stage
+pub leaving : (needs : Needs) (places : ℕ) (row : ℕ → ℕ) (standing : ℕ → Place) (lazy : Lazy) (me : ℕ) (s : Stands needs places row standing lazy)
+    (at number request : ℕ) (stage : Stage) (before after : List (ℕ × ℕ)) (next : ℕ)
+    → me < places → at ≤ places → s.holder ≡ me + 1 → lazy.line ≡ before ++ (me, request) ∷ after
+    → ((place : ℕ) → is_in place lazy.line ≡ false → line_of (updated row at number) place ≡ line_of row place)
+    → IsBehind (line_of (updated row at number)) 0 (before ++ after)
+    → IsMain needs (updated row at number 0) (left lazy (before ++ after)) next
+    → IsRanged needs stage → IsAlone needs Idle EndsCall stage → (gives_up EndsCall stage ≡ false)
+    → IsOwn (line_of (updated row at number) me) stage → IsShowing (s.owed me) (s.worth me) stage
+    → is_holder stage ≡ (next == me + 1)
+    → (next ≡ me + 1 → IsHolding needs (line_of (updated row at number)) me lazy.count (before ++ after) [] stage)
+    → ((other : ℕ) → (other ≡ me → ⊥) → (s.holder == other + 1) ≡ (next == other + 1))
+    → Stands needs places (updated row at number) (updated standing me (record (left_line (standing me)) { stage = stage })) (left lazy (before ++ after))
+leaving needs places row standing lazy me s at number request stage before after next here below mine parts words linked main ranged alone stays own showing
+    holder holding others = record {
+      holder = next;
+      cut = [];
+      uncut = before ++ after;
+      owed = s.owed;
+      shower = s.shower;
+      worth = s.worth;
+      free = λ nobody. refl;
+      main = main;
+      line = record { parts = refl; granted = tt; stays = linked; some = λ none. refl };
+      seats = seats-left places standing lazy me request before after stage s.seats here parts;
+      answers = record {
+        words = λ place inside. row-other row at number (places + place + 1) (λ is. omega (arith, is, below)) ∙ s.answers.words place inside;
+        small = s.answers.small;
+      };
+      debts = record {
+        due_to = s.debts.due_to;
+        paid_by = s.debts.paid_by;
+        once = s.debts.once;
+        small = s.debts.small;
+        links = λ place.
+            behind-frame (line_of row) (line_of (updated row at number)) 0 (s.owed place)
+            (λ other owes.
+            let same = words other (owed-out places (line_of row) standing lazy s.owed s.shower s.worth s.seats s.debts place other owes) in
+            (ap (λ (w : LineWord). w.request) same, ap (λ (w : LineWord). w.older) same))
+            (s.debts.links place);
+      };
+      stages = stages-next needs (line_of row) (line_of (updated row at number)) standing lazy.count lazy.count lazy.line (before ++ after) s.cut []
+          s.holder next s.owed s.owed s.worth s.worth me (record (left_line (standing me)) { stage = stage }) s.stages
+          ranged alone (λ gives. let wrong : true ≡ false = sym gives ∙ stays in absurd (cc)) own showing holder holding
+          (λ other differs. out-left other lazy.line before after (me, request) parts)
+          (λ other differs. owns other) (λ other differs. refl) (λ other differs. refl) others
+          (λ other differs is. absurd (differs (omega (arith, is, mine))));
+    }
+  where
+    owns : (other : ℕ) → IsOwn (line_of (updated row at number) other) (standing other).stage
+    owns other =
+        elim (cases_Bool (is_in other lazy.line)) [
+          | inl waits ↦
+              own-any needs (standing other).registration (standing other).back (standing other).stage (line_of (updated row at number) other)
+              (s.stages.alone other) (in-line places standing lazy other s.seats (in-waits other lazy.line waits)).1
+          | inr out ↦ subst (λ (w : LineWord). IsOwn w (standing other).stage) (sym (words other out)) (s.stages.own other)
+        ]

@@ -1,0 +1,215 @@
+-- The holder of the flag writes the line word of a place that stands in the line: what this leaves as it was.
+use Rattle.std.proofs.Common.{◌≡◌, ℕ, ◌+◌, ◌<◌, pred, true, false, List, [], ◌∷◌, ◌++◌, ◌==◌, Some, is_some, refl, sym, ap, subst, ◌∙◌, arith, inl, inr}
+use Rattle.std.proofs.lemmas.Bool.{cases_Bool}
+use Rattle.saa_core_spec.specs.Object.{one_if}
+use Rattle.saa_core_spec.proofs.Counts.{number_same, same_number}
+use Rattle.saa_core_words.specs.declared.word.Word.{Word}
+use Rattle.saa_core_words.specs.declared.line_word.LineWord.{LineWord}
+use Rattle.saa_core_words.specs.Words.{line_word_of}
+use Rattle.saa_word_steps.specs.declared.place.Place.{Place}
+use Rattle.saa_word_steps.specs.declared.place.Stage.{Stage}
+use Rattle.saa_word_steps.specs.Needs.{Needs}
+use Rattle.saa_word_steps.specs.Lazy.{Lazy, is_empty, is_in, waits_times}
+use Rattle.saa_word_steps.specs.Steps.{IsRanged}
+use Rattle.saa_word_proofs.specs.Standing.{updated, line_of, newest, oldest, IsBehind, IsAhead, is_slot, is_holder, gives_up, IsAlone, IsOwn, IsShowing, Work, IsHolding, IsAt, IsMain, IsLine, AreSeats, Stands}
+use Rattle.saa_word_proofs.proofs.RefinementLemmas.Lists.{in-some, behind-frame, behind-rest, newest-append, newest-last, empty-nil}
+use Rattle.saa_word_proofs.proofs.RefinementLemmas.Frames.{stages-next, newest-stands, oldest-stands, work-behind}
+use Rattle.saa_word_proofs.proofs.RefinementLemmas.Rows.{line-other, row-other, own-any, seats-next}
+
+-- a place that holds the flag is its holder, and knows what a holder does
+pub flag-held : (needs : Needs) (places : ℕ) (row : ℕ → ℕ) (standing : ℕ → Place) (lazy : Lazy) (me : ℕ) (s : Stands needs places row standing lazy)
+    → is_holder (standing me).stage ≡ true → s.holder ≡ me + 1
+flag-held needs places row standing lazy me s holds = same_number s.holder (me + 1) (sym (s.stages.one me) ∙ holds)
+
+pub flag-knows : (needs : Needs) (places : ℕ) (row : ℕ → ℕ) (standing : ℕ → Place) (lazy : Lazy) (me : ℕ) (s : Stands needs places row standing lazy)
+    (stage : Stage) → (standing me).stage ≡ stage → is_holder stage ≡ true → IsHolding needs (line_of row) me lazy.count lazy.line s.cut stage
+flag-knows needs places row standing lazy me s stage at holds =
+    subst (λ (other : Stage). IsHolding needs (line_of row) me lazy.count lazy.line s.cut other) at
+    (s.stages.holding me (flag-held needs places row standing lazy me s (ap is_holder at ∙ holds)))
+
+-- numbers whose test fails are two
+pub apart-by : (one other : ℕ) → one == other ≡ false → one ≡ other → ⊥
+apart-by one other apart is = let same : one == other ≡ true = ap (λ (n : ℕ). n == other) is ∙ number_same other in absurd (cc)
+
+-- Whoever stands in the line is a place that is registered in it, stands there once, and no answer is due to it
+pub in-line : (places : ℕ) (standing : ℕ → Place) (lazy : Lazy) (place : ℕ) → AreSeats places standing lazy → 0 < waits_times place lazy.line
+    → (place < places) × (is_slot (standing place).registration ≡ true) × (waits_times place lazy.line ≡ 1) × (is_some (lazy.due place) ≡ false)
+in-line places standing lazy place seats there =
+    elim (cases_Bool (is_slot (standing place).registration)) [
+      | inl slot ↦
+          let held = seats.held place ∙ ap one_if slot in
+          elim (cases_Bool (is_some (lazy.due place))) [
+            | inl due ↦ absurd (omega (arith, there, held, ap one_if due))
+            | inr none ↦ (seats.within place slot, slot, omega (arith, there, held), none)
+          ]
+      | inr other ↦ absurd (omega (arith, there, seats.held place, ap one_if other))
+    ]
+
+-- so the link to the oldest or the newest of those in line is that of a place
+pub oldest-room : (places : ℕ) (standing : ℕ → Place) (lazy : Lazy) (seen : Word) (work : Work lazy.count lazy.line seen)
+    → AreSeats places standing lazy → places < 65536 → oldest work.behind < 65536
+oldest-room places standing lazy seen work seats room =
+    elim (cases_Bool (is_empty work.behind)) [
+      | inl none ↦ rw (oldest-none work.behind none) (omega arith)
+      | inr some ↦
+          let there = oldest-stands work.behind (oldest work.behind) some refl in
+          omega (
+            arith,
+            there.1,
+            room,
+            (in-line places standing lazy (pred (oldest work.behind)) seats (work-behind lazy.count lazy.line seen work (pred (oldest work.behind)) there.0)).0,
+          )
+    ]
+  where
+    oldest-none : (line : List (ℕ × ℕ)) → is_empty line ≡ true → oldest line ≡ 0
+    oldest-none [] none = refl
+    oldest-none (asker ∷ rest) none = absurd (cc)
+
+-- and the tail that the holder saw is that of a place too
+pub tail-room : (places : ℕ) (standing : ℕ → Place) (lazy : Lazy) (seen : Word) (work : Work lazy.count lazy.line seen)
+    → AreSeats places standing lazy → places < 65536 → is_empty work.behind ≡ false → seen.tail < 65536
+tail-room places standing lazy seen work seats room some =
+    let tail : seen.tail ≡ newest (newest 0 work.front) work.behind = work.tail ∙ newest-append 0 work.front work.behind in
+    let there = newest-stands-behind (newest 0 work.front) work.behind seen.tail some tail in
+    omega (
+      arith,
+      there.1,
+      room,
+      (in-line places standing lazy (pred seen.tail) seats (work-behind lazy.count lazy.line seen work (pred seen.tail) there.0)).0,
+    )
+  where
+    newest-stands-behind : (older : ℕ) (line : List (ℕ × ℕ)) (link : ℕ) → is_empty line ≡ false → link ≡ newest older line
+        → (0 < waits_times (pred link) line) × (link ≡ pred link + 1)
+    newest-stands-behind older [] link some is = absurd (cc)
+    newest-stands-behind older (asker ∷ rest) link some is = newest-stands (asker ∷ rest) link refl is
+
+-- Numbers of a line word are within their bits
+pub line-room : (number : ℕ) → ((line_word_of number).request < 65536) × ((line_word_of number).older < 65536) × ((line_word_of number).newer < 65536)
+line-room number = (omega arith, omega arith, omega arith)
+
+-- The holder writes the line word of a place in line, and goes on as a holder that knows the line by the new words
+pub relinked : (needs : Needs) (places : ℕ) (row : ℕ → ℕ) (standing : ℕ → Place) (lazy : Lazy) (me : ℕ) (s : Stands needs places row standing lazy)
+    (next : Stage) (at number : ℕ) (off rest : List (ℕ × ℕ))
+    → me < places → s.holder ≡ me + 1 → 0 < waits_times at lazy.line
+    → IsLine (line_of (updated row (at + 1) number)) lazy.line off rest
+    → IsRanged needs next → IsAlone needs (standing me).registration (standing me).back next
+    → (gives_up (standing me).back next ≡ true → is_in me lazy.line ≡ false)
+    → IsOwn (line_of (updated row (at + 1) number) me) next → IsShowing (s.owed me) (s.worth me) next
+    → is_holder next ≡ true → IsHolding needs (line_of (updated row (at + 1) number)) me lazy.count lazy.line off next
+    → Stands needs places (updated row (at + 1) number) (updated standing me (record (standing me) { stage = next })) lazy
+relinked needs places row standing lazy me s next at number off rest here flag there line ranged alone apart own showing holder holding =
+    let seat = in-line places standing lazy at s.seats there in
+    record {
+      holder = s.holder;
+      cut = off;
+      uncut = rest;
+      owed = s.owed;
+      shower = s.shower;
+      worth = s.worth;
+      free = λ nobody. absurd (omega (arith, flag, same_number s.holder 0 nobody));
+      main = subst (λ (n : ℕ). IsMain needs n lazy s.holder) (sym (row-other row (at + 1) number 0 (λ is. omega (arith, is)))) s.main;
+      line = line;
+      seats = seats-next places standing lazy me (record (standing me) { stage = next }) s.seats here refl;
+      answers = record {
+        words = λ place below.
+            row-other row (at + 1) number (places + place + 1) (λ is. omega (arith, is, seat.0)) ∙ s.answers.words place below;
+        small = s.answers.small;
+      };
+      debts = record {
+        due_to = s.debts.due_to;
+        paid_by = s.debts.paid_by;
+        once = s.debts.once;
+        small = s.debts.small;
+        links = λ place.
+            behind-frame (line_of row) (line_of (updated row (at + 1) number)) 0 (s.owed place)
+            (λ other owes.
+            let same : line_of (updated row (at + 1) number) other ≡ line_of row other =
+            line-other row at number other (not-owed seat.3 place other owes) in
+            (ap (λ (w : LineWord). w.request) same, ap (λ (w : LineWord). w.older) same))
+            (s.debts.links place);
+      };
+      stages = stages-next needs (line_of row) (line_of (updated row (at + 1) number)) standing lazy.count lazy.count lazy.line lazy.line s.cut off
+          s.holder s.holder s.owed s.owed s.worth s.worth me (record (standing me) { stage = next }) s.stages
+          ranged alone apart own showing (holder ∙ sym (ap (λ (n : ℕ). n == me + 1) flag ∙ number_same (me + 1))) (λ is. holding)
+          (λ other differs out. out)
+          (owns seat.1) (λ other differs. refl) (λ other differs. refl) (λ other differs. refl) (λ other differs is. absurd (differs (omega (arith, is, flag))));
+    }
+  where
+    not-owed : is_some (lazy.due at) ≡ false → (place other : ℕ) → 0 < waits_times other (s.owed place) → other ≡ at → ⊥
+    not-owed none place other owes is =
+        let due : lazy.due other ≡ Some (s.worth place) = (s.debts.due_to place other (in-some other (s.owed place) owes)).1 in
+        let wrong : is_some (lazy.due at) ≡ true = ap (λ (n : ℕ). is_some (lazy.due n)) (sym is) ∙ ap is_some due in
+        absurd (cc)
+
+    owns : is_slot (standing at).registration ≡ true → (other : ℕ) → (other ≡ me → ⊥)
+        → IsOwn (line_of (updated row (at + 1) number) other) (standing other).stage
+    owns slot other apart =
+        elim (cases_Bool (other == at)) [
+          | inl same ↦
+              own-any needs (standing other).registration (standing other).back (standing other).stage (line_of (updated row (at + 1) number) other) (s.stages.alone other)
+              (ap (λ (n : ℕ). is_slot (standing n).registration) (same_number other at same) ∙ slot)
+          | inr differs ↦
+              subst (λ (w : LineWord). IsOwn w (standing other).stage) (sym (line-other row at number other (apart-by other at differs)))
+              (s.stages.own other)
+        ]
+
+-- The first of those behind the front: what its line word says, and who is behind it
+pub record IsLooked (words : ℕ → LineWord) (held : ℕ) (line : List (ℕ × ℕ)) (seen : Word) (work : Work held line seen) (current : ℕ) : Type 0 where
+  pub asker : ℕ × ℕ
+  pub rest : List (ℕ × ℕ)
+  pub behind : work.behind ≡ asker ∷ rest
+  pub link : current ≡ asker.0 + 1
+  pub request : (words (pred current)).request ≡ asker.1
+  pub older : (words (pred current)).older ≡ newest 0 work.front
+  pub newer : is_empty rest ≡ false → (words (pred current)).newer ≡ oldest rest
+  pub ahead : IsAhead words rest
+  pub last : is_empty rest ≡ true → seen.tail ≡ current
+
+-- a line in which somebody stands has an oldest
+record IsBegun (line : List (ℕ × ℕ)) : Type 0 where
+  asker : ℕ × ℕ
+  rest : List (ℕ × ℕ)
+  is : line ≡ asker ∷ rest
+
+begun : (line : List (ℕ × ℕ)) → is_empty line ≡ false → IsBegun line
+begun [] some = absurd (cc)
+begun (asker ∷ rest) some = record { asker = asker; rest = rest; is = refl }
+
+-- who is linked to the next one, and those behind are linked too
+ahead-rest : (words : ℕ → LineWord) (asker : ℕ × ℕ) (rest : List (ℕ × ℕ))
+    → IsAhead words (asker ∷ rest) → (is_empty rest ≡ false → (words asker.0).newer ≡ oldest rest) × IsAhead words rest
+ahead-rest words asker [] ahead = (λ some. absurd (cc), tt)
+ahead-rest words asker (next ∷ rest) ahead = (λ some. ahead.0, ahead.1)
+
+-- a holder that looks at the first of those behind the front finds it so
+pub looked : (words : ℕ → LineWord) (held : ℕ) (line : List (ℕ × ℕ)) (seen : Word) (work : Work held line seen) (current : ℕ)
+    → IsBehind words 0 line → IsAt words work.behind current → IsLooked words held line seen work current
+looked words held line seen work current linked at =
+    let first = begun work.behind at.1 in
+    let parts : line ≡ work.front ++ ((first.asker ∷ first.rest) ++ work.joined) =
+    work.parts ∙ ap (λ (l : List (ℕ × ℕ)). work.front ++ (l ++ work.joined)) first.is in
+    let link : current ≡ first.asker.0 + 1 = at.0 ∙ ap oldest first.is in
+    let place : pred current ≡ first.asker.0 = omega (arith, link) in
+    let there = behind-rest words 0 work.front ((first.asker ∷ first.rest) ++ work.joined) (subst (λ l. IsBehind words 0 l) parts linked) in
+    let ahead = ahead-rest words first.asker first.rest (subst (λ l. IsAhead words l) first.is at.2) in
+    record {
+      asker = first.asker;
+      rest = first.rest;
+      behind = first.is;
+      link = link;
+      request = ap (λ (n : ℕ). (words n).request) place ∙ there.0;
+      older = ap (λ (n : ℕ). (words n).older) place ∙ there.1;
+      newer = λ some. ap (λ (n : ℕ). (words n).newer) place ∙ ahead.0 some;
+      ahead = ahead.1;
+      last = λ none.
+          work.tail
+          ∙ ap (λ (l : List (ℕ × ℕ)). newest 0 (work.front ++ l))
+          (first.is ∙ ap (λ (l : List (ℕ × ℕ)). first.asker ∷ l) (empty-nil first.rest none))
+          ∙ newest-last 0 work.front first.asker ∙ sym link;
+    }
+
+-- the line words that link a line from which nobody is cut off
+pub linked-all : (words : ℕ → LineWord) (line cut uncut : List (ℕ × ℕ)) → IsLine words line cut uncut → cut ≡ [] → IsBehind words 0 line
+linked-all words line cut uncut is none =
+    let whole : line ≡ uncut = is.parts ∙ ap (λ (l : List (ℕ × ℕ)). l ++ uncut) none in
+    subst (λ l. IsBehind words 0 l) (sym whole) is.stays

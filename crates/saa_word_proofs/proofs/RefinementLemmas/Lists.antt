@@ -1,0 +1,187 @@
+-- Lines of places as lists: their ends, who stands in them, and what their line words say.
+use Rattle.std.proofs.Common.{◌≡◌, ℕ, ◌+◌, ◌<◌, ◌≤◌, true, false, ◌||◌, List, [], ◌∷◌, ◌++◌, length, take, drop, ◌==◌, refl, sym, ap, subst, ◌∙◌, arith, inl, inr}
+use Rattle.std.proofs.lemmas.Bool.{cases_Bool}
+use Rattle.std.proofs.lemmas.Bool.Decides.{nat_tests}
+use Rattle.saa_core_spec.specs.Object.{one_if}
+use Rattle.saa_core_spec.proofs.Counts.{number_same, same_number, one_if-same}
+use Rattle.saa_core_words.specs.declared.line_word.LineWord.{LineWord}
+use Rattle.saa_word_steps.specs.Needs.{Needs, AreNeeds}
+use Rattle.saa_word_steps.specs.Lazy.{is_empty, is_in, waits_times, IsFront, takes_of}
+use Rattle.saa_word_proofs.specs.Standing.{updated, newest, oldest, IsBehind, IsAhead}
+
+-- functions that agree everywhere are one
+pub all-same : {A : Type 0} (f g : ℕ → A) → ((n : ℕ) → f n ≡ g n) → f ≡ g
+all-same f g same = λ i n. same n i
+
+-- an update that writes what stood there changes nothing
+pub updated-same : {A : Type 0} (old : ℕ → A) (at : ℕ) (value : A) → value ≡ old at → updated old at value ≡ old
+updated-same old at value is =
+    all-same (updated old at value) old (λ other.
+    elim (cases_Bool (other == at)) [
+      | inl same ↦ rw same (is ∙ ap old (sym (same_number other at same)))
+      | inr apart ↦ rw apart refl
+    ])
+
+pub updated-at : {A : Type 0} (old : ℕ → A) (at : ℕ) (value : A) → updated old at value at ≡ value
+updated-at old at value = rw (number_same at) refl
+
+pub updated-other : {A : Type 0} (old : ℕ → A) (at : ℕ) (value : A) (other : ℕ) → other == at ≡ false → updated old at value other ≡ old other
+updated-other old at value other apart = rw apart refl
+
+-- what holds of each place holds after one of them changed, where it holds of what that became
+pub each-updated : {A : Type 0} (P : ℕ → A → Type 0) (old : ℕ → A) (at : ℕ) (value : A)
+    → P at value → ((other : ℕ) → (other ≡ at → ⊥) → P other (old other)) → (other : ℕ) → P other (updated old at value other)
+each-updated P old at value here others other =
+    elim (cases_Bool (other == at)) [
+      | inl same ↦
+          let is : at ≡ other = sym (same_number other at same) in
+          rw same (subst (λ n. P n value) is here)
+      | inr apart ↦ rw apart (others other (λ is. let wrong : other == at ≡ true = ap (λ n. n == at) is ∙ number_same at in absurd (cc)))
+    ]
+
+-- Who stands in a line
+
+pub in-none : (place : ℕ) (line : List (ℕ × ℕ)) → waits_times place line ≡ 0 → is_in place line ≡ false
+in-none place [] none = refl
+in-none place (asker ∷ rest) none =
+    elim (cases_Bool (asker.0 == place)) [
+      | inl same ↦ absurd (omega (arith, none, ap one_if same))
+      | inr apart ↦ rw apart (in-none place rest (omega (arith, none)))
+    ]
+
+pub in-append : (place : ℕ) (front behind : List (ℕ × ℕ)) → is_in place (front ++ behind) ≡ (is_in place front || is_in place behind)
+in-append place [] behind = refl
+in-append place (asker ∷ rest) behind =
+    elim (cases_Bool (asker.0 == place)) [
+      | inl same ↦ rw same refl
+      | inr apart ↦ rw apart (in-append place rest behind)
+    ]
+
+pub times-append : (place : ℕ) (front behind : List (ℕ × ℕ)) → waits_times place (front ++ behind) ≡ waits_times place front + waits_times place behind
+times-append place [] behind = omega arith
+times-append place (asker ∷ rest) behind = omega (arith, times-append place rest behind)
+
+-- whose times are counted is in
+pub in-some : (place : ℕ) (line : List (ℕ × ℕ)) → 0 < waits_times place line → is_in place line ≡ true
+in-some place [] some = absurd (omega (arith, some))
+in-some place (asker ∷ rest) some =
+    elim (cases_Bool (asker.0 == place)) [
+      | inl same ↦ rw same refl
+      | inr apart ↦ rw apart (in-some place rest (omega (arith, some, ap one_if apart)))
+    ]
+
+-- Ends of a line
+
+pub newest-append : (older : ℕ) (front behind : List (ℕ × ℕ)) → newest older (front ++ behind) ≡ newest (newest older front) behind
+newest-append older [] behind = refl
+newest-append older (asker ∷ rest) behind = newest-append (asker.0 + 1) rest behind
+
+-- the newest doesn't depend on who is before the line, where somebody stands in it
+pub newest-any : (one other : ℕ) (line : List (ℕ × ℕ)) → is_empty line ≡ false → newest one line ≡ newest other line
+newest-any one other [] some = absurd (cc)
+newest-any one other (asker ∷ rest) some = refl
+
+pub newest-some : (older : ℕ) (line : List (ℕ × ℕ)) → is_empty line ≡ false → 0 < newest older line
+newest-some older [] some = absurd (cc)
+newest-some older (asker ∷ []) some = omega arith
+newest-some older (asker ∷ (next ∷ rest)) some = newest-some (asker.0 + 1) (next ∷ rest) refl
+
+-- nobody is the newest exactly where nobody stands in the line
+pub newest-empty : (line : List (ℕ × ℕ)) → newest 0 line == 0 ≡ is_empty line
+newest-empty [] = refl
+newest-empty (asker ∷ rest) = let there = newest-some 0 (asker ∷ rest) refl in grind (arith, nat_tests)
+
+-- the newest stands in the line
+pub newest-in : (older place : ℕ) (line : List (ℕ × ℕ)) → is_empty line ≡ false → newest older line ≡ place + 1 → 0 < waits_times place line
+newest-in older place [] some is = absurd (cc)
+newest-in older place (asker ∷ []) some is =
+    let same : asker.0 ≡ place = omega (arith, is) in
+    omega (arith, ap one_if (ap (λ n. n == place) same ∙ number_same place))
+newest-in older place (asker ∷ (next ∷ rest)) some is = omega (arith, newest-in (asker.0 + 1) place (next ∷ rest) refl is)
+
+pub empty-nil : (line : List (ℕ × ℕ)) → is_empty line ≡ true → line ≡ []
+empty-nil [] none = refl
+empty-nil (asker ∷ rest) none = absurd (cc)
+
+-- a line in which somebody stands has a newest
+pub record IsSplit (line : List (ℕ × ℕ)) : Type 0 where
+  pub before : List (ℕ × ℕ)
+  pub last : ℕ × ℕ
+  pub is : line ≡ before ++ last ∷ []
+
+pub split-last : (line : List (ℕ × ℕ)) → is_empty line ≡ false → IsSplit line
+split-last [] some = absurd (cc)
+split-last (asker ∷ []) some = record { before = []; last = asker; is = refl }
+split-last (asker ∷ (next ∷ rest)) some =
+    let of_rest = split-last (next ∷ rest) refl in
+    record { before = asker ∷ of_rest.before; last = of_rest.last; is = ap (λ (l : List (ℕ × ℕ)). asker ∷ l) of_rest.is }
+
+pub newest-last : (older : ℕ) (before : List (ℕ × ℕ)) (last : ℕ × ℕ) → newest older (before ++ last ∷ []) ≡ last.0 + 1
+newest-last older before last = newest-append older before (last ∷ [])
+
+-- What line words say of a line
+
+-- line words that are the same for those who stand in a line say the same of it
+pub behind-frame : (old new : ℕ → LineWord) (older : ℕ) (line : List (ℕ × ℕ))
+    → ((place : ℕ) → 0 < waits_times place line → ((new place).request ≡ (old place).request) × ((new place).older ≡ (old place).older))
+    → IsBehind old older line → IsBehind new older line
+behind-frame old new older [] same h = tt
+behind-frame old new older (asker ∷ rest) same h =
+    let here = same asker.0 (omega (arith, one_if-same asker.0)) in
+    (here.0 ∙ h.0, here.1 ∙ h.1, behind-frame old new (asker.0 + 1) rest (λ place there. same place (omega (arith, there))) h.2)
+
+pub behind-append : (words : ℕ → LineWord) (older : ℕ) (front behind : List (ℕ × ℕ))
+    → IsBehind words older front → IsBehind words (newest older front) behind → IsBehind words older (front ++ behind)
+behind-append words older [] behind f b = b
+behind-append words older (asker ∷ rest) behind f b = (f.0, f.1, behind-append words (asker.0 + 1) rest behind f.2 b)
+
+pub behind-front : (words : ℕ → LineWord) (older : ℕ) (front behind : List (ℕ × ℕ)) → IsBehind words older (front ++ behind) → IsBehind words older front
+behind-front words older [] behind h = tt
+behind-front words older (asker ∷ rest) behind h = (h.0, h.1, behind-front words (asker.0 + 1) rest behind h.2)
+
+pub behind-rest : (words : ℕ → LineWord) (older : ℕ) (front behind : List (ℕ × ℕ))
+    → IsBehind words older (front ++ behind) → IsBehind words (newest older front) behind
+behind-rest words older [] behind h = h
+behind-rest words older (asker ∷ rest) behind h = behind-rest words (asker.0 + 1) rest behind h.2
+
+pub ahead-frame : (old new : ℕ → LineWord) (line : List (ℕ × ℕ))
+    → ((place : ℕ) → 0 < waits_times place line → (new place).newer ≡ (old place).newer) → IsAhead old line → IsAhead new line
+ahead-frame old new [] same h = tt
+ahead-frame old new (asker ∷ []) same h = tt
+ahead-frame old new (asker ∷ (next ∷ rest)) same h =
+    (same asker.0 (omega (arith, one_if-same asker.0)) ∙ h.0, ahead-frame old new (next ∷ rest) (λ place there. same place (omega (arith, there))) h.1)
+
+-- the first of a line is followed, where its newer link is that of the next
+pub ahead-cons : (words : ℕ → LineWord) (asker : ℕ × ℕ) (rest : List (ℕ × ℕ))
+    → (words asker.0).newer ≡ oldest rest → IsAhead words rest → IsAhead words (asker ∷ rest)
+ahead-cons words asker [] is h = tt
+ahead-cons words asker (next ∷ rest) is h = (is, h)
+
+-- Fronts
+
+pub front-append : (needs : Needs) (count : ℕ) (front behind : List (ℕ × ℕ))
+    → IsFront needs count front → IsFront needs (count + takes_of needs front) behind → IsFront needs count (front ++ behind)
+front-append needs count [] behind f b = subst (λ n. IsFront needs n behind) (omega arith) b
+front-append needs count (asker ∷ rest) behind f b =
+    (f.0, front-append needs (count + needs.takes asker.1) rest behind f.1 (subst (λ n. IsFront needs n behind) (omega arith) b))
+
+pub takes-append : (needs : Needs) (front behind : List (ℕ × ℕ)) → takes_of needs (front ++ behind) ≡ takes_of needs front + takes_of needs behind
+takes-append needs [] behind = omega arith
+takes-append needs (asker ∷ rest) behind = omega (arith, takes-append needs rest behind)
+
+-- what fits a count fits every lower one
+pub front-lower : (needs : Needs) → AreNeeds needs → (lower count : ℕ) (front : List (ℕ × ℕ)) → lower ≤ count → IsFront needs count front → IsFront needs lower front
+front-lower needs lawful lower count [] le h = tt
+front-lower needs lawful lower count (asker ∷ rest) le h = (
+  lawful.lower lower count asker.1 le h.0,
+  front-lower needs lawful (lower + needs.takes asker.1) (count + needs.takes asker.1) rest (omega (arith, le)) h.1,
+)
+
+-- a front is those first of the line that it begins
+pub take-front : (front behind : List (ℕ × ℕ)) → take (length front) (front ++ behind) ≡ front
+take-front [] behind = refl
+take-front (asker ∷ rest) behind = ap (λ (l : List (ℕ × ℕ)). asker ∷ l) (take-front rest behind)
+
+pub drop-front : (front behind : List (ℕ × ℕ)) → drop (length front) (front ++ behind) ≡ behind
+drop-front [] behind = refl
+drop-front (asker ∷ rest) behind = drop-front rest behind

@@ -1,0 +1,341 @@
+-- What a call has named where it goes on, by each kind of step: its events name its answer once it is done.
+use Rattle.std.proofs.Common.{◌≡◌, ◌≢◌, ℕ, Bool, true, false, not, ◌&&◌, ◌||◌, List, [], ◌∷◌, ◌++◌, ◌==◌, Option, Some, None, if◌then◌else◌, refl, sym, ap, subst, ◌∙◌, inl, inr, append-nil}
+use Rattle.std.proofs.lemmas.Bool.{cases_Bool}
+use Rattle.saa_core_spec.specs.Held.{Exclusive}
+use Rattle.saa_core_spec.specs.Values.{granted_value}
+use Rattle.saa_core_spec.specs.Lock.{try_answer}
+use Rattle.saa_core_spec.proofs.Counts.{number_same, same_number}
+use Rattle.saa_core_words.specs.declared.word.Word.{Word}
+use Rattle.saa_core_words.specs.Words.{lock_count}
+use Rattle.saa_word_steps.specs.declared.call.WordCall.{WordCall}
+use Rattle.saa_word_steps.specs.declared.call.WordCall.TheVariants.{Try, Register, Release, Available, TryLock, TryShare, RegisterMode, ReleaseLock, ReleaseShare, PoisonLock, IsFree, IsLocked, IsShared, IsPoisoned, TryPoll, Poll, Cancel}
+use Rattle.saa_word_steps.specs.declared.call.Answer.{Answer}
+use Rattle.saa_word_steps.specs.declared.call.Answer.TheVariants.{Bool as Says, Tried, Unit as Ended}
+use Rattle.saa_word_steps.specs.declared.place.Place.{Place}
+use Rattle.saa_word_steps.specs.declared.place.Back.{Back}
+use Rattle.saa_word_steps.specs.declared.place.Back.TheVariants.{Tells, Ends as EndsCall, Takes}
+use Rattle.saa_word_steps.specs.declared.place.Ask.{Ask}
+use Rattle.saa_word_steps.specs.declared.place.Reading.{Reading}
+use Rattle.saa_word_steps.specs.declared.place.Registration.{Registration}
+use Rattle.saa_word_steps.specs.declared.place.Registration.TheVariants.{Idle, Once, Slot}
+use Rattle.saa_word_steps.specs.declared.place.Taking.{Taking}
+use Rattle.saa_word_steps.specs.declared.place.Taking.TheVariants.{Tries, Awaits, Gives}
+use Rattle.saa_word_steps.specs.declared.place.Afterwards.{Afterwards}
+use Rattle.saa_word_steps.specs.declared.place.Afterwards.TheVariants.{Ends, Again}
+use Rattle.saa_word_steps.specs.declared.place.Next.{Next}
+use Rattle.saa_word_steps.specs.declared.place.Stage.{Stage}
+use Rattle.saa_word_steps.specs.declared.place.Stage.TheVariants.{Take}
+use Rattle.saa_word_steps.specs.Needs.{Needs, left_count}
+use Rattle.saa_word_steps.specs.Lazy.{Event, Got, Refused, AskedPoisoned, Left, Gave, GaveNothing, Poisoned, NotPoisoned, NotReady, Took}
+use Rattle.saa_word_steps.specs.Steps.{decided, granted, found_poisoned, finished, given, given_to, gave_nothing, dropped, taken_answer, shown_all, flagging, poisoning, tried_answer}
+use Rattle.saa_word_proofs.specs.Standing.{waits_behind}
+use Rattle.saa_word_proofs.specs.Stepped.{decided_events, given_events, left_events, taken_events, poisoning_events}
+use Rattle.saa_word_proofs.specs.Calls.{answer_named, ask_named, release_named, read_named, poll_named, asked_by, given_by, read_by, taken_by, is_taken_up, IsDropped, IsCancelled, IsAnswered, IsGivingUp, IsReleasing, IsWorking, IsLeavingLine, IsTaking, IsUnder, IsUnderNext}
+
+-- Events that name an answer
+
+-- an event of a call that isn't a cancel names its answer
+pub answered : (needs : Needs) (call : WordCall) (registered : Registration) (event : Event) (answer : Answer) → call ≢ Cancel
+    → answer_named needs call event ≡ Some answer → IsAnswered needs call registered (event ∷ []) answer
+answered needs Cancel registered event answer other names = absurd (other refl)
+answered needs call registered event answer other names = (event, refl, names)
+
+-- what an event names for who may ask
+abbrev asked_names : Needs → Option Ask → Event → Option Answer
+asked_names needs None event = None
+asked_names needs (Some ask) event = ask_named needs ask event
+
+-- an event names the answer of an ask
+pub ask-answered : (needs : Needs) (call : WordCall) (registered : Registration) (ask : Ask) (event : Event) (answer : Answer) → asked_by call ≡ Some ask
+    → ask_named needs ask event ≡ Some answer → IsAnswered needs call registered (event ∷ []) answer
+ask-answered needs (Try count) registered ask event answer is names = (event, refl, ap (λ (a : Option Ask). asked_names needs a event) is ∙ names)
+ask-answered needs (Register count) registered ask event answer is names = (event, refl, ap (λ (a : Option Ask). asked_names needs a event) is ∙ names)
+ask-answered needs TryLock registered ask event answer is names = (event, refl, ap (λ (a : Option Ask). asked_names needs a event) is ∙ names)
+ask-answered needs TryShare registered ask event answer is names = (event, refl, ap (λ (a : Option Ask). asked_names needs a event) is ∙ names)
+ask-answered needs (RegisterMode mode) registered ask event answer is names = (event, refl, ap (λ (a : Option Ask). asked_names needs a event) is ∙ names)
+ask-answered needs call registered ask event answer is names = absurd (cc)
+
+-- what an event names for who may give something back
+abbrev given_names : Option ℕ → Event → Option Answer
+given_names None event = None
+given_names (Some request) event = release_named request event
+
+-- an event names the answer of a release, which isn't a cancel
+release-named : (needs : Needs) (call : WordCall) (request : ℕ) (event : Event) → given_by call ≡ Some request
+    → (answer_named needs call event ≡ release_named request event) × (call ≢ Cancel)
+release-named needs (Release count) request event is = (ap (λ (g : Option ℕ). given_names g event) is, λ cancel. absurd (cc))
+release-named needs ReleaseLock request event is = (ap (λ (g : Option ℕ). given_names g event) is, λ cancel. absurd (cc))
+release-named needs ReleaseShare request event is = (ap (λ (g : Option ℕ). given_names g event) is, λ cancel. absurd (cc))
+release-named needs call request event is = absurd (cc)
+
+-- what an event names for who may read
+abbrev read_names : Needs → Option Reading → Event → Option Answer
+read_names needs None event = None
+read_names needs (Some reading) event = read_named needs reading event
+
+-- an event names the answer of a reading call
+pub read-answered : (needs : Needs) (call : WordCall) (registered : Registration) (reading : Reading) (event : Event) (answer : Answer) → read_by call ≡ Some reading
+    → read_named needs reading event ≡ Some answer → IsAnswered needs call registered (event ∷ []) answer
+read-answered needs Available registered reading event answer is names = (event, refl, ap (λ (r : Option Reading). read_names needs r event) is ∙ names)
+read-answered needs IsFree registered reading event answer is names = (event, refl, ap (λ (r : Option Reading). read_names needs r event) is ∙ names)
+read-answered needs IsLocked registered reading event answer is names = (event, refl, ap (λ (r : Option Reading). read_names needs r event) is ∙ names)
+read-answered needs IsShared registered reading event answer is names = (event, refl, ap (λ (r : Option Reading). read_names needs r event) is ∙ names)
+read-answered needs IsPoisoned registered reading event answer is names = (event, refl, ap (λ (r : Option Reading). read_names needs r event) is ∙ names)
+read-answered needs call registered reading event answer is names = absurd (cc)
+
+-- whether a poll may be told that it isn't its turn yet
+abbrev is_try : Taking → Bool
+is_try Tries = true
+is_try _ = false
+
+-- what an event names for who may take its answer
+abbrev taken_names : Option Taking → Event → Option Answer
+taken_names None event = None
+taken_names (Some taking) event = poll_named (is_try taking) event
+
+-- an event names the answer of a poll
+poll-answered : (needs : Needs) (call : WordCall) (registered : Registration) (taking : Taking) (event : Event) (answer : Answer) → taken_by call ≡ Some taking
+    → poll_named (is_try taking) event ≡ Some answer → IsAnswered needs call registered (event ∷ []) answer
+poll-answered needs TryPoll registered taking event answer is names = (event, refl, ap (λ (t : Option Taking). taken_names t event) is ∙ names)
+poll-answered needs Poll registered taking event answer is names = (event, refl, ap (λ (t : Option Taking). taken_names t event) is ∙ names)
+poll-answered needs call registered taking event answer is names = absurd (cc)
+
+-- a cancel is answered that it ended
+pub cancel-answered : (needs : Needs) (call : WordCall) (registered : Registration) (events : List Event) → call ≡ Cancel → IsCancelled needs registered events
+    → IsAnswered needs call registered events Ended
+cancel-answered needs call registered events is cancelled = rw is (refl, cancelled)
+
+-- a step that names nothing
+pub unnamed : (needs : Needs) (call : WordCall) (registered : Registration) (back : Back) (stage : Stage) (events : List Event) (next : Next)
+    → IsUnderNext needs call registered back stage events next → IsUnderNext needs call registered back stage (events ++ []) next
+unnamed needs call registered back stage events next under =
+    subst (λ (l : List Event). IsUnderNext needs call registered back stage l next) (sym (append-nil events)) under
+
+-- Asks
+
+-- who is granted at once has named that it got what it asked
+pub granted-under : (needs : Needs) (call : WordCall) (registered : Registration) (stage : Stage) (place : Place) (ask : Ask) → asked_by call ≡ Some ask
+    → IsUnderNext needs call registered place.back stage (Got ask.request ∷ []) (granted needs place ask)
+granted-under needs call registered stage place ask is =
+    elim (cases_Bool ask.joins) [
+      | inl joins ↦ rw joins (ask-answered needs call registered ask (Got ask.request) (Says true) is (rw (number_same ask.request, joins) refl))
+      | inr tries ↦ rw tries (ask-answered needs call registered ask (Got ask.request) (tried_answer needs true) is (rw (number_same ask.request, tries) refl))
+    ]
+
+-- who finds a poisoned lock has named that
+poisoned-under : (needs : Needs) (call : WordCall) (registered : Registration) (stage : Stage) (place : Place) (ask : Ask) → asked_by call ≡ Some ask
+    → IsUnderNext needs call registered place.back stage (AskedPoisoned ∷ []) (found_poisoned place ask)
+poisoned-under needs call registered stage place ask is =
+    elim (cases_Bool ask.joins) [
+      | inl joins ↦ rw joins (ask-answered needs call registered ask AskedPoisoned (Says true) is (rw joins refl))
+      | inr tries ↦ rw tries (ask-answered needs call registered ask AskedPoisoned (Tried (try_answer false true)) is (rw tries refl))
+    ]
+
+-- an ask for so much
+abbrev ask_of : ℕ → Bool → Ask
+ask_of request joins = record { request = request; joins = joins }
+
+-- an ask that joins is one of these
+joining : (call : WordCall) (ask : Ask) → asked_by call ≡ Some ask → ask.joins ≡ true → asked_by call ≡ Some (record { request = ask.request; joins = true })
+joining call ask is joins = is ∙ ap (λ (b : Bool). Some (ask_of ask.request b)) joins
+
+-- an ask that is decided
+pub decided-under : (needs : Needs) (call : WordCall) (registered : Registration) (stage : Stage) (place : Place) (ask : Ask) (seen : Word)
+    → asked_by call ≡ Some ask
+    → IsUnderNext needs call registered place.back stage (decided_events needs ask.request ask.joins seen) (decided needs place ask seen)
+decided-under needs call registered stage place ask seen is =
+    elim (cases_Bool seen.is_poisoned) [
+      | inl poisoned ↦ rw poisoned (poisoned-under needs call registered stage place ask is)
+      | inr sound ↦
+          elim (cases_Bool (waits_behind needs seen ask.request)) [
+            | inl waits ↦
+                elim (cases_Bool ask.joins) [
+                  | inl joins ↦ rw (sound, waits, joins) (joining call ask is joins, refl)
+                  | inr tries ↦ rw (sound, waits, tries)
+                      (ask-answered needs call registered ask (Refused ask.request) (tried_answer needs false) is (rw (number_same ask.request, tries) refl))
+                ]
+            | inr free ↦
+                elim (cases_Bool (needs.takes ask.request == 0)) [
+                  | inl nothing ↦ rw (sound, free, nothing) (granted-under needs call registered stage place ask is)
+                  | inr takes ↦ rw (sound, free, takes) (is, refl)
+                ]
+          ]
+    ]
+
+-- Whoever is done with the line
+
+-- it answers what it named, or takes its own answer next
+pub finished-under : (needs : Needs) (call : WordCall) (registered : Registration) (was : Back) (stage : Stage) (events : List Event) (place : Place) (back : Back)
+    → IsWorking needs call registered back events → IsUnderNext needs call registered was stage events (finished place back)
+finished-under needs call registered was stage events place Tells working =
+    subst (λ (l : List Event). IsAnswered needs call registered l (Says true)) (sym working.1)
+    (answered needs call registered working.0 (Says true) working.3 working.2)
+finished-under needs call registered was stage events place EndsCall working = cancel-answered needs call registered events working.0 working.1
+finished-under needs call registered was stage events place (Takes request) working = working
+
+-- behind the last answer that is shown
+pub shown-under : (needs : Needs) (call : WordCall) (registered : Registration) (stage : Stage) (events : List Event) (place : Place) (afterwards : Afterwards)
+    → IsWorking needs call registered place.back events → IsUnderNext needs call registered place.back stage events (shown_all place afterwards)
+shown-under needs call registered stage events place Ends working =
+    finished-under needs call registered place.back stage events place place.back working
+shown-under needs call registered stage events place (Again seen) working = working
+
+-- Releases
+
+-- a cancel that has given back, or found nothing to give back, is one that has named so
+gave-cancelled : (needs : Needs) (registered : Registration) (request : ℕ) (events last : List Event) → IsGivingUp needs registered request events
+    → IsDropped request last → IsCancelled needs registered (events ++ last)
+gave-cancelled needs Idle request events last giving is = absurd giving
+gave-cancelled needs (Once value asked) request events last giving is =
+    rw giving.2 (giving.1, subst (λ (n : ℕ). IsDropped n last) giving.0 is)
+gave-cancelled needs (Slot asked) request events last giving is =
+    rw giving.2 (inr (inr (giving.1, (last, refl, subst (λ (n : ℕ). IsDropped n last) giving.0 is))))
+
+-- who gives back what it holds goes on with the line, or is done
+pub gave-working : (needs : Needs) (call : WordCall) (registered : Registration) (back : Back) (request : ℕ) (events : List Event)
+    → IsReleasing needs call registered back request events → IsWorking needs call registered back (events ++ Gave request ∷ [])
+gave-working needs call registered Tells request events releasing =
+    let names = release-named needs call request (Gave request) releasing.0 in (
+      Gave request,
+      ap (λ (l : List Event). l ++ Gave request ∷ []) releasing.1,
+      names.0 ∙ rw (number_same request) refl,
+      names.1,
+    )
+gave-working needs call registered EndsCall request events releasing =
+    (releasing.0, gave-cancelled needs registered request events (Gave request ∷ []) releasing.1 (inl refl))
+gave-working needs call registered (Takes asked) request events releasing = absurd releasing
+
+-- who finds nothing to give back is done
+gave-nothing-under : (needs : Needs) (call : WordCall) (registered : Registration) (was : Back) (stage : Stage) (place : Place) (back : Back)
+    (request : ℕ) (events : List Event) → IsReleasing needs call registered back request events
+    → IsUnderNext needs call registered was stage (events ++ GaveNothing request ∷ []) (gave_nothing place back)
+gave-nothing-under needs call registered was stage place Tells request events releasing =
+    let names = release-named needs call request (GaveNothing request) releasing.0 in
+    rw releasing.1 (answered needs call registered (GaveNothing request) (Says false) names.1 (names.0 ∙ rw (number_same request) refl))
+gave-nothing-under needs call registered was stage place EndsCall request events releasing =
+    cancel-answered needs call registered (events ++ GaveNothing request ∷ []) releasing.0
+    (gave-cancelled needs registered request events (GaveNothing request ∷ []) releasing.1 (inr refl))
+gave-nothing-under needs call registered was stage place (Takes asked) request events releasing = absurd releasing
+
+-- a release that looks at what is left
+left-under : (needs : Needs) (call : WordCall) (registered : Registration) (stage : Stage) (place : Place)
+    (request : ℕ) (seen : Word) (left : Option ℕ) (events : List Event)
+    → IsReleasing needs call registered place.back request events
+    → IsUnderNext needs call registered place.back stage (events ++ left_events request left) (given_to place request seen left)
+left-under needs call registered stage place request seen None events releasing =
+    gave-nothing-under needs call registered place.back stage place place.back request events releasing
+left-under needs call registered stage place request seen (Some left) events releasing =
+    subst (λ (l : List Event). IsReleasing needs call registered place.back request l) (sym (append-nil events)) releasing
+
+-- a release that is decided, of a main word that is poisoned or not
+tested-under : (needs : Needs) (call : WordCall) (registered : Registration) (stage : Stage) (place : Place)
+    (request : ℕ) (seen : Word) (events : List Event) (poisoned : Bool)
+    → IsReleasing needs call registered place.back request events
+    → IsUnderNext needs call registered place.back stage
+    (events ++ (if poisoned then GaveNothing request ∷ [] else left_events request (left_count needs seen.count request)))
+    (if poisoned then gave_nothing place place.back else given_to place request seen (left_count needs seen.count request))
+tested-under needs call registered stage place request seen events true releasing =
+    gave-nothing-under needs call registered place.back stage place place.back request events releasing
+tested-under needs call registered stage place request seen events false releasing =
+    left-under needs call registered stage place request seen (left_count needs seen.count request) events releasing
+
+-- a release that is decided
+pub given-under : (needs : Needs) (call : WordCall) (registered : Registration) (stage : Stage) (place : Place) (request : ℕ) (seen : Word) (events : List Event)
+    → IsReleasing needs call registered place.back request events
+    → IsUnderNext needs call registered place.back stage (events ++ given_events needs request seen) (given needs place request seen)
+given-under needs call registered stage place request seen events releasing =
+    tested-under needs call registered stage place request seen events seen.is_poisoned releasing
+
+-- Answers that are taken
+
+-- what is granted and took something is given back by a cancel
+dropped-under : (needs : Needs) (call : WordCall) (registered : Registration) (was : Back) (stage : Stage) (place : Place) (request value : ℕ)
+    → call ≡ Cancel → registered ≡ Slot request
+    → IsUnderNext needs call registered was stage (Took value ∷ []) (dropped needs place request value)
+dropped-under needs call registered was stage place request value is slot =
+    elim (cases_Bool (is_taken_up needs request value)) [
+      | inl up ↦ rw up (is, taken-up needs registered request value slot up)
+      | inr free ↦ rw free (cancel-answered needs call registered (Took value ∷ []) is
+          (subst (λ (r : Registration). IsCancelled needs r (Took value ∷ [])) (sym slot) (inr (inl (value, refl, free)))))
+    ]
+  where
+    -- two tests that both are as they should be
+    both-so : (one other : Bool) → (one && not other) ≡ true → (one ≡ true) × (other ≡ false)
+    both-so true false both = (refl, refl)
+    both-so true true both = absurd (cc)
+    both-so false other both = absurd (cc)
+
+    -- such a cancel has named that it took its answer
+    taken-up : (needs : Needs) (registered : Registration) (request value : ℕ) → registered ≡ Slot request → is_taken_up needs request value ≡ true
+        → IsGivingUp needs registered request (Took value ∷ [])
+    taken-up needs registered request value slot up =
+        let both = both-so (value == granted_value) (needs.takes request == 0) up in
+        let some : needs.takes request ≢ 0 = λ none.
+        (let wrong : true ≡ false = sym (ap (λ (n : ℕ). n == 0) none) ∙ both.1 in absurd (cc)) in
+        subst (λ (r : Registration). IsGivingUp needs r request (Took value ∷ [])) (sym slot)
+        (refl, some, ap (λ (n : ℕ). Took n ∷ []) (same_number value granted_value both.0))
+
+-- an answer that is taken, and none that is there
+pub taken-under : (needs : Needs) (call : WordCall) (registered : Registration) (place : Place) (taking : Taking) (answer : Option ℕ) (events : List Event)
+    → IsTaking call registered taking events
+    → IsUnderNext needs call registered place.back (Take taking) (events ++ taken_events taking answer) (taken_answer needs place taking answer)
+taken-under needs call registered place (Gives request) (Some value) events h =
+    rw h.2 (dropped-under needs call registered place.back (Take (Gives request)) place request value h.0 h.1)
+taken-under needs call registered place (Gives request) None events h = (h.0, h.1, ap (λ (l : List Event). l ++ []) h.2)
+taken-under needs call registered place Awaits (Some value) events h = rw h.1 (poll-answered needs call registered Awaits (Took value) _ h.0 refl)
+taken-under needs call registered place Awaits None events h = (h.0, ap (λ (l : List Event). l ++ []) h.1)
+taken-under needs call registered place Tries (Some value) events h = rw h.1 (poll-answered needs call registered Tries (Took value) _ h.0 refl)
+taken-under needs call registered place Tries None events h = rw h.1 (poll-answered needs call registered Tries NotReady _ h.0 refl)
+
+-- Leaving the line
+
+-- a cancel that left the line has named so
+pub left-cancelled : (needs : Needs) (call : WordCall) (registered : Registration) (back : Back) (events : List Event) → IsLeavingLine call registered back events
+    → (call ≡ Cancel) × IsCancelled needs registered (events ++ Left ∷ [])
+left-cancelled needs call registered Tells events leaving = absurd leaving
+left-cancelled needs call registered EndsCall events leaving = absurd leaving
+left-cancelled needs call registered (Takes request) events leaving =
+    (leaving.0, rw leaving.2 (subst (λ (r : Registration). IsCancelled needs r (Left ∷ [])) (sym leaving.1) (inl refl)))
+
+-- a cancel that isn't found in the line works for the others, and then takes its own answer
+pub left-working : (needs : Needs) (call : WordCall) (registered : Registration) (back : Back) (events : List Event) → IsLeavingLine call registered back events
+    → IsWorking needs call registered back events
+left-working needs call registered Tells events leaving = absurd leaving
+left-working needs call registered EndsCall events leaving = absurd leaving
+left-working needs call registered (Takes request) events leaving = leaving
+
+-- a cancel that looks at the main word; where it waits, it stays where it was
+pub flagging-under : (needs : Needs) (call : WordCall) (registered : Registration) (stage : Stage) (place : Place) (seen : Word) (events : List Event)
+    → IsLeavingLine call registered place.back events → IsUnder needs call registered place.back stage events
+    → IsUnderNext needs call registered place.back stage events (flagging place seen)
+flagging-under needs call registered stage place seen events leaving stays =
+    elim (cases_Bool seen.is_flagged) [
+      | inl flagged ↦ rw flagged stays
+      | inr clear ↦
+          elim (cases_Bool (seen.tail == 0)) [
+            | inl nobody ↦ rw (clear, nobody)
+                (finished-under needs call registered place.back stage events place place.back (left-working needs call registered place.back events leaving))
+            | inr some ↦ rw (clear, some) leaving
+          ]
+    ]
+
+-- Poison
+
+-- poison that is decided; where it waits, it stays where it was
+pub poisoning-under : (needs : Needs) (call : WordCall) (registered : Registration) (stage : Stage) (place : Place) (seen : Word)
+    → call ≡ PoisonLock → place.back ≡ Tells → IsUnder needs call registered place.back stage []
+    → IsUnderNext needs call registered place.back stage (poisoning_events seen) (poisoning place seen)
+poisoning-under needs call registered stage place seen is tells stays =
+    elim (cases_Bool (seen.is_poisoned || not (seen.count == lock_count Exclusive))) [
+      | inl refused ↦ rw (refused, is) (NotPoisoned, refl, refl)
+      | inr sound ↦
+          elim (cases_Bool seen.is_flagged) [
+            | inl flagged ↦ rw (sound, flagged) stays
+            | inr clear ↦ rw (sound, clear) (is, tells, refl)
+          ]
+    ]
+
+-- whoever has poisoned the lock works for those who waited
+pub poison-working : (needs : Needs) (call : WordCall) (registered : Registration) (back : Back) → call ≡ PoisonLock → back ≡ Tells
+    → IsWorking needs call registered back (Poisoned ∷ [])
+poison-working needs call registered back is tells = rw (is, tells) (Poisoned, refl, refl, λ cancel. absurd (cc))

@@ -1,0 +1,260 @@
+-- A step that is answered that it waits finds no answer or the flag set, and writes what stood there.
+use Rattle.std.proofs.Common.{◌≡◌, ℕ, ◌+◌, ◌%◌, ◌<◌, Bool, true, false, not, ◌&&◌, ◌||◌, if◌then◌else◌, ◌==◌, Option, Some, None, is_some, refl, sym, ap, subst, ◌∙◌, arith, inl, inr}
+use Rattle.std.proofs.lemmas.Bool.{cases_Bool}
+use Rattle.saa_core_spec.specs.Held.{Exclusive}
+use Rattle.saa_core_spec.specs.Object.{one_if}
+use Rattle.saa_core_spec.specs.Values.{granted_value}
+use Rattle.saa_core_spec.proofs.Counts.{same_number}
+use Rattle.saa_core_words.specs.declared.word.Word.{Word}
+use Rattle.saa_core_words.specs.declared.line_word.LineWord.{LineWord}
+use Rattle.saa_core_words.specs.Words.{count_bits, word_number, word_of, line_word_of, answer_number, answer_of, lock_count}
+use Rattle.saa_core_words.proofs.Words.{answer-read}
+use Rattle.saa_word_steps.specs.declared.place.Place.{Place}
+use Rattle.saa_word_steps.specs.declared.place.Ask.{Ask}
+use Rattle.saa_word_steps.specs.declared.place.Afterwards.{Afterwards}
+use Rattle.saa_word_steps.specs.declared.place.Afterwards.TheVariants.{Ends, Again}
+use Rattle.saa_word_steps.specs.declared.place.Back.{Back}
+use Rattle.saa_word_steps.specs.declared.place.Back.TheVariants.{Tells, Ends as EndsCall, Takes}
+use Rattle.saa_word_steps.specs.declared.place.Taking.{Taking}
+use Rattle.saa_word_steps.specs.declared.place.Taking.TheVariants.{Tries, Awaits, Gives}
+use Rattle.saa_word_steps.specs.declared.place.Stage.{Stage}
+use Rattle.saa_word_steps.specs.declared.place.Stage.TheVariants.{Quiet, ReadLoad, AskLoad, AskExchange, Prepare, Join, ReleaseLoad, ReleaseExchange, BackLoad, BackStore, Forward, CutToClose, CutToGoRound, Close, Empty, GoRound, ShowLoad, ShowStore, Take, FlagLoad, FlagExchange, LookLoad, LookStore, Unlink, DropTail, PoisonLoad, PoisonExchange, Clear}
+use Rattle.saa_word_steps.specs.declared.place.Registration.TheVariants.{Slot}
+use Rattle.saa_word_steps.specs.declared.operation.Operation.TheVariants.{Exchange}
+use Rattle.saa_word_steps.specs.declared.place.Next.{Next}
+use Rattle.saa_word_steps.specs.declared.place.Next.TheVariants.{Waits}
+use Rattle.saa_word_steps.specs.Needs.{Needs, fits_count, left_count}
+use Rattle.saa_word_steps.specs.Lazy.{Lazy, is_in, held_by}
+use Rattle.saa_word_steps.specs.Steps.{word_at, operation_of, next_of, finished, granted, decided, gave_nothing, given_to, given, shown_all, dropped, looked_at, closing, taken_answer, flagging, poisoning, poisoned_word, flagged_word}
+use Rattle.saa_word_steps.proofs.LazyRuns.{waits-none}
+use Rattle.saa_word_proofs.specs.Standing.{main_of, is_slot, IsAlone, Stands}
+use Rattle.saa_word_proofs.specs.Stepped.{row_after}
+use Rattle.saa_word_proofs.specs.Stalls.{IsOwnedAndFlagged, IsStalled}
+use Rattle.saa_word_proofs.proofs.RefinementLemmas.Lists.{updated-same}
+use Rattle.saa_word_proofs.proofs.RefinementLemmas.Rows.{apart-at}
+
+-- Which steps go on or are done
+
+-- whether an answer says that its place waits
+abbrev says_wait : Next → Bool
+says_wait Waits = true
+says_wait _ = false
+
+-- it doesn't, and neither does what is one of two such
+abbrev GoesOn : Next → Type 0
+GoesOn next = says_wait next ≡ false
+
+either : (test : Bool) (one other : Next) → GoesOn one → GoesOn other → GoesOn (if test then one else other)
+either true one other o t = o
+either false one other o t = t
+
+-- who is done with the line, who is granted at once, and who asked
+on-finished : (place : Place) (back : Back) → GoesOn (finished place back)
+on-finished place Tells = refl
+on-finished place EndsCall = refl
+on-finished place (Takes request) = refl
+
+on-granted : (needs : Needs) (place : Place) (ask : Ask) → GoesOn (granted needs place ask)
+on-granted needs place ask = either ask.joins _ _ refl refl
+
+on-decided : (needs : Needs) (place : Place) (ask : Ask) (seen : Word) → GoesOn (decided needs place ask seen)
+on-decided needs place ask seen =
+    either seen.is_poisoned _ _
+    (either ask.joins _ _ refl refl)
+    (either (not (seen.tail == 0) || not (fits_count needs seen.count ask.request)) _ _
+    (either ask.joins _ _ refl refl)
+    (either (needs.takes ask.request == 0) _ _ (on-granted needs place ask) refl))
+
+-- who gives something back
+on-nothing : (place : Place) (back : Back) → GoesOn (gave_nothing place back)
+on-nothing place Tells = refl
+on-nothing place EndsCall = refl
+on-nothing place (Takes request) = refl
+
+on-left : (place : Place) (request : ℕ) (seen : Word) (left : Option ℕ) → GoesOn (given_to place request seen left)
+on-left place request seen None = on-nothing place place.back
+on-left place request seen (Some left) = refl
+
+on-given : (needs : Needs) (place : Place) (request : ℕ) (seen : Word) → GoesOn (given needs place request seen)
+on-given needs place request seen =
+    either seen.is_poisoned _ _ (on-nothing place place.back) (on-left place request seen (left_count needs seen.count request))
+
+-- behind the last answer that is shown, and with an answer that is dropped
+on-shown : (place : Place) (afterwards : Afterwards) → GoesOn (shown_all place afterwards)
+on-shown place Ends = on-finished place place.back
+on-shown place (Again seen) = refl
+
+on-dropped : (needs : Needs) (place : Place) (request value : ℕ) → GoesOn (dropped needs place request value)
+on-dropped needs place request value = either (value == granted_value && not (needs.takes request == 0)) _ _ refl refl
+
+-- an answer that is there is taken
+on-some : (needs : Needs) (place : Place) (taking : Taking) (value : ℕ) → GoesOn (taken_answer needs place taking (Some value))
+on-some needs place (Gives request) value = on-dropped needs place request value
+on-some needs place Awaits value = refl
+on-some needs place Tries value = refl
+
+-- a poll that tries goes on, whatever it finds
+on-tried : (needs : Needs) (place : Place) (answer : Option ℕ) → GoesOn (taken_answer needs place Tries answer)
+on-tried needs place None = refl
+on-tried needs place (Some value) = refl
+
+-- the walk to the tail, and who closes the line
+on-looked : (needs : Needs) (place : Place) (seen : Word) (current count : ℕ) (line : LineWord) → GoesOn (looked_at needs place seen current count line)
+on-looked needs place seen current count line =
+    either (fits_count needs count line.request) _ _
+    (either (current == seen.tail) _ _ refl refl)
+    (either (line.older == 0) _ _ refl refl)
+
+on-closing : (place : Place) (seen : Word) (count top found : ℕ) → GoesOn (closing place seen count top found)
+on-closing place seen count top found =
+    either (found == word_number count_bits seen) _ _
+    (either (top == 0) _ _ (on-finished place place.back) refl)
+    (either ((word_of count_bits found).count == seen.count) _ _ refl refl)
+
+-- whether a stage is one at which a place may wait
+abbrev may_wait : Stage → Bool
+may_wait (Take Awaits) = true
+may_wait (Take (Gives request)) = true
+may_wait FlagLoad = true
+may_wait (FlagExchange seen) = true
+may_wait PoisonLoad = true
+may_wait (PoisonExchange seen) = true
+may_wait _ = false
+
+-- every other step
+goes-on : (needs : Needs) (me : ℕ) (place : Place) (stage : Stage) (found : ℕ) → may_wait stage ≡ false → GoesOn (next_of needs me place stage found)
+goes-on needs me place Quiet found other = refl
+goes-on needs me place (ReadLoad reading) found other = refl
+goes-on needs me place (AskLoad ask) found other = on-decided needs place ask (word_of count_bits found)
+goes-on needs me place (AskExchange ask seen) found other =
+    either (found == word_number count_bits seen) _ _ (on-granted needs place ask) (on-decided needs place ask (word_of count_bits found))
+goes-on needs me place (Prepare request seen) found other = refl
+goes-on needs me place (Join request seen) found other =
+    either (found == word_number count_bits seen) _ _ refl (on-decided needs place (record { request = request; joins = true }) (word_of count_bits found))
+goes-on needs me place (ReleaseLoad request) found other = on-given needs place request (word_of count_bits found)
+goes-on needs me place (ReleaseExchange request seen) found other =
+    either (found == word_number count_bits seen) _ _
+    (either (not (seen.tail == 0) && not seen.is_flagged) _ _ refl (on-finished place place.back))
+    (on-given needs place request (word_of count_bits found))
+goes-on needs me place (BackLoad seen current newer) found other = refl
+goes-on needs me place (BackStore seen current newer line) found other = either (line.older == 0) _ _ refl refl
+goes-on needs me place (Forward seen current count) found other = on-looked needs place seen current count (line_word_of found)
+goes-on needs me place (CutToClose seen current count line) found other = refl
+goes-on needs me place (CutToGoRound seen current count line) found other = refl
+goes-on needs me place (Close seen count top) found other = on-closing place seen count top found
+goes-on needs me place (Empty seen current count line) found other =
+    either (found == word_number count_bits seen) _ _ refl (either (line.older == 0) _ _ refl refl)
+goes-on needs me place (GoRound seen count top) found other = either (top == 0) _ _ refl refl
+goes-on needs me place (ShowLoad current value afterwards) found other = refl
+goes-on needs me place (ShowStore current next value afterwards) found other = either (next == 0) _ _ (on-shown place afterwards) refl
+goes-on needs me place (Take Tries) found other = on-tried needs place (answer_of (found % 65536))
+goes-on needs me place (LookLoad seen current newer previous) found other =
+    either (current == me + 1) _ _ (either (newer == 0) _ _ refl refl) refl
+goes-on needs me place (LookStore seen current newer line) found other = either (line.older == 0) _ _ refl refl
+goes-on needs me place (Unlink seen newer line older) found other = either (older == 0) _ _ refl refl
+goes-on needs me place (DropTail seen older) found other =
+    either (found == word_number count_bits seen) _ _ (either (older == 0) _ _ refl refl) refl
+goes-on needs me place Clear found other = refl
+goes-on needs me place stage found other = absurd (cc)
+
+-- The flag that is set
+
+-- of two only the first waits
+first-waits : (test : Bool) (other : Next) → GoesOn other → (if test then Waits else other) ≡ Waits → test ≡ true
+first-waits true other goes waits = refl
+first-waits false other goes waits = let wrong : false ≡ true = sym goes ∙ ap says_wait waits in absurd (cc)
+
+-- of two only the other waits
+second-waits : (test : Bool) (one other : Next) → GoesOn one → (if test then one else other) ≡ Waits → (test ≡ false) × (other ≡ Waits)
+second-waits true one other goes waits = let wrong : false ≡ true = sym goes ∙ ap says_wait waits in absurd (cc)
+second-waits false one other goes waits = (refl, waits)
+
+-- two tests that both are as they should be
+neither-of : (one other : Bool) → (one || not other) ≡ false → (one ≡ false) × (other ≡ true)
+neither-of true other clear = absurd (cc)
+neither-of false true clear = (refl, refl)
+neither-of false false clear = absurd (cc)
+
+-- a cancel that waits finds the flag set
+flag-stalls : (place : Place) (seen : Word) → flagging place seen ≡ Waits → seen.is_flagged ≡ true
+flag-stalls place seen waits = first-waits seen.is_flagged _ (either (seen.tail == 0) _ _ (on-finished place place.back) refl) waits
+
+-- poison that waits finds one owner and the flag set
+poison-stalls : (place : Place) (seen : Word) → poisoning place seen ≡ Waits → IsOwnedAndFlagged seen
+poison-stalls place seen waits =
+    let owned = second-waits (seen.is_poisoned || not (seen.count == lock_count Exclusive)) _ _ refl waits in
+    let both = neither-of seen.is_poisoned (seen.count == lock_count Exclusive) owned.0 in
+    (same_number seen.count (lock_count Exclusive) both.1, both.0, first-waits seen.is_flagged _ refl owned.1)
+
+-- an exchange that finds another number writes what stood there
+not-exchanged : (row : ℕ → ℕ) (old new : ℕ) → (row 0 == old) ≡ false → row_after row (Exchange 0 old new) ≡ row
+not-exchanged row old new differs = rw differs (updated-same row 0 (row 0) refl)
+
+-- The answer that isn't there
+
+-- an answer that is there is read, so who waits has none
+none-shown : (needs : Needs) (place : Place) (taking : Taking) (answer : Option ℕ) → ((value : ℕ) → answer ≡ Some value → value < 256)
+    → taken_answer needs place taking (answer_of (answer_number answer % 65536)) ≡ Waits → answer ≡ None
+none-shown needs place taking None small waits = refl
+none-shown needs place taking (Some value) small waits =
+    let kept : answer_number (Some value) % 65536 ≡ answer_number (Some value) = omega (arith, small value refl) in
+    let read : answer_of (answer_number (Some value) % 65536) ≡ Some value = ap answer_of kept ∙ answer-read (Some value) small in
+    let wrong : false ≡ true =
+    sym (on-some needs place taking value) ∙ ap (λ (a : Option ℕ). says_wait (taken_answer needs place taking a)) (sym read) ∙ ap says_wait waits in
+    absurd (cc)
+
+-- who is held and has no answer to take is in the line, or its answer is to be shown
+held-else : (lazy : Lazy) (me : ℕ) → held_by me lazy ≡ 1 → lazy.shown me ≡ None → (is_in me lazy.line || is_some (lazy.due me)) ≡ true
+held-else lazy me held none =
+    let nothing : one_if (is_some (lazy.shown me)) ≡ 0 = ap (λ (a : Option ℕ). one_if (is_some a)) none in
+    elim (cases_Bool (is_in me lazy.line)) [
+      | inl some ↦ rw some refl
+      | inr out ↦
+          elim (cases_Bool (is_some (lazy.due me))) [
+            | inl due ↦ rw (out, due) refl
+            | inr undue ↦ absurd (omega (arith, held, nothing, waits-none me lazy.line out, ap one_if undue))
+          ]
+    ]
+
+-- a place that is registered in the line and finds no answer
+takes-none : (needs : Needs) (places : ℕ) (row : ℕ → ℕ) (standing : ℕ → Place) (lazy : Lazy) (me : ℕ) → me < places
+    → Stands needs places row standing lazy → (taking : Taking) → is_slot (standing me).registration ≡ true
+    → taken_answer needs (standing me) taking (answer_of (row (places + me + 1) % 65536)) ≡ Waits
+    → ((is_in me lazy.line || is_some (lazy.due me)) ≡ true) × (row_after row (operation_of needs places me (Take taking)) ≡ row)
+takes-none needs places row standing lazy me here s taking slot waits =
+    let number : row (places + me + 1) ≡ answer_number (lazy.shown me) = s.answers.words me here in
+    let none : lazy.shown me ≡ None =
+    none-shown needs (standing me) taking (lazy.shown me) (s.answers.small me)
+    (ap (λ (n : ℕ). taken_answer needs (standing me) taking (answer_of (n % 65536))) (sym number) ∙ waits) in
+    let empty : row (places + me + 1) ≡ 0 = number ∙ ap answer_number none in
+    (held-else lazy me (s.seats.held me ∙ ap one_if slot) none, updated-same row (places + me + 1) 0 (sym empty))
+
+-- A step that is answered that it waits
+pub only-stalls : (needs : Needs) (places : ℕ) (row : ℕ → ℕ) (standing : ℕ → Place) (lazy : Lazy) (me : ℕ) → me < places
+    → Stands needs places row standing lazy → (stage : Stage) → (standing me).stage ≡ stage
+    → next_of needs me (standing me) stage (row (word_at (operation_of needs places me stage))) ≡ Waits
+    → IsStalled lazy me (main_of row) stage × (row_after row (operation_of needs places me stage) ≡ row)
+only-stalls needs places row standing lazy me here s (Take Awaits) at waits =
+    let slot : is_slot (standing me).registration ≡ true =
+    subst (λ stage. IsAlone needs (standing me).registration (standing me).back stage) at (s.stages.alone me) in
+    takes-none needs places row standing lazy me here s Awaits slot waits
+only-stalls needs places row standing lazy me here s (Take (Gives request)) at waits =
+    let slot : (standing me).registration ≡ Slot request =
+    subst (λ stage. IsAlone needs (standing me).registration (standing me).back stage) at (s.stages.alone me) in
+    let both = takes-none needs places row standing lazy me here s (Gives request) (ap is_slot slot) waits in
+    let out : is_in me lazy.line ≡ false = apart-at needs places row standing lazy me s (Take (Gives request)) at refl in
+    (sym (ap (λ (b : Bool). b || is_some (lazy.due me)) out) ∙ both.0, both.1)
+only-stalls needs places row standing lazy me here s FlagLoad at waits =
+    (flag-stalls (standing me) (main_of row) waits, updated-same row 0 (row 0) refl)
+only-stalls needs places row standing lazy me here s (FlagExchange seen) at waits =
+    let both = second-waits (row 0 == word_number count_bits seen) _ _ refl waits in
+    (flag-stalls (standing me) (main_of row) both.1, not-exchanged row (word_number count_bits seen) (word_number count_bits (flagged_word seen)) both.0)
+only-stalls needs places row standing lazy me here s PoisonLoad at waits =
+    (poison-stalls (standing me) (main_of row) waits, updated-same row 0 (row 0) refl)
+only-stalls needs places row standing lazy me here s (PoisonExchange seen) at waits =
+    let both = second-waits (row 0 == word_number count_bits seen) _ _ (either (seen.tail == 0) _ _ (on-finished (standing me) (standing me).back) refl) waits in
+    (poison-stalls (standing me) (main_of row) both.1, not-exchanged row (word_number count_bits seen) (word_number count_bits poisoned_word) both.0)
+only-stalls needs places row standing lazy me here s stage at waits =
+    let goes = goes-on needs me (standing me) stage (row (word_at (operation_of needs places me stage))) refl in
+    let wrong : false ≡ true = sym goes ∙ ap says_wait waits in
+    absurd (cc)

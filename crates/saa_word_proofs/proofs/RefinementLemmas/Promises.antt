@@ -1,0 +1,92 @@
+-- What stands in the words at every moment, and how all begins.
+use Rattle.std.proofs.Common.{◌≡◌, ℕ, ◌+◌, ◌/◌, ◌%◌, ◌^◌, ◌<◌, ◌≤◌, Bool, true, false, not, List, [], ◌∷◌, ◌++◌, ◌==◌, refl, sym, ap, subst, ◌∙◌, arith, append-nil, append_assoc}
+use Rattle.std.proofs.lemmas.Bool.Decides.{nat_tests}
+use Rattle.saa_core_spec.proofs.Counts.{one_if-le}
+use Rattle.saa_core_words.specs.declared.line_word.LineWord.{LineWord}
+use Rattle.saa_core_words.specs.Words.{count_bits}
+use Rattle.saa_word_steps.specs.declared.place.Place.{Place}
+use Rattle.saa_word_steps.specs.Needs.{Needs}
+use Rattle.saa_word_steps.specs.Lazy.{Lazy, opening}
+use Rattle.saa_word_proofs.specs.Standing.{main_of, line_of, newest, IsBehind, is_slot, Stands}
+use Rattle.saa_word_proofs.specs.Promises.{idle_place, opening_row, IsMet, newest_first, SaysSo}
+
+-- along older neighbours a line is met from its newest on
+line-met : (words : ℕ → LineWord) (older : ℕ) (line : List (ℕ × ℕ)) (before : List ℕ) → IsBehind words older line → IsMet words older before
+    → IsMet words (newest older line) (newest_first line ++ before)
+line-met words older [] before behind met = met
+line-met words older (asker ∷ rest) before behind met =
+    let further : IsMet words (asker.0 + 1) (asker.0 ∷ before) = (refl, subst (λ (n : ℕ). IsMet words n before) (sym behind.1) met) in
+    subst (λ (l : List ℕ). IsMet words (newest (asker.0 + 1) rest) l) (sym (append_assoc (newest_first rest) (asker.0 ∷ []) before))
+    (line-met words (asker.0 + 1) rest (asker.0 ∷ before) behind.2 further)
+
+-- what isn't false so is true
+not-false : (mark : Bool) → not mark ≡ false → mark ≡ true
+not-false true is = refl
+not-false false is = absurd (cc)
+
+-- What stands in the words
+pub says-so : (needs : Needs) (places : ℕ) (row : ℕ → ℕ) (standing : ℕ → Place) (lazy : Lazy) → Stands needs places row standing lazy
+    → SaysSo needs places row lazy
+says-so needs places row standing lazy s =
+    let free : (main_of row).is_flagged ≡ false → s.holder == 0 ≡ true = λ clear. not-false (s.holder == 0) (sym s.main.flag ∙ clear) in
+    record {
+      count = s.main.count;
+      poisoned = s.main.poison;
+      shown = s.answers.words;
+      line = λ clear.
+          let whole : lazy.line ≡ s.uncut = s.line.parts ∙ ap (λ (l : List (ℕ × ℕ)). l ++ s.uncut) (s.free (free clear)) in
+          let behind : IsBehind (line_of row) 0 lazy.line = subst (λ (l : List (ℕ × ℕ)). IsBehind (line_of row) 0 l) (sym whole) s.line.stays in
+          let met : IsMet (line_of row) (newest 0 lazy.line) (newest_first lazy.line) =
+          subst (λ (l : List ℕ). IsMet (line_of row) (newest 0 lazy.line) l) (append-nil (newest_first lazy.line))
+          (line-met (line_of row) 0 lazy.line [] behind refl) in
+          subst (λ (n : ℕ). IsMet (line_of row) n (newest_first lazy.line)) (sym s.main.tail) met;
+      closed = λ clear. s.main.closed (free clear);
+      settled = λ clear. s.main.settled (s.main.closed (free clear));
+      bounded = s.main.bounded;
+      once = λ place. omega (arith, s.seats.held place, one_if-le (is_slot (standing place).registration));
+    }
+
+-- How it begins
+pub opens : (needs : Needs) → needs.top < 64 → (places count : ℕ) → count ≤ needs.top → Stands needs places (opening_row count) (λ place. idle_place) (opening count)
+opens needs wide places count small = record {
+  holder = 0;
+  cut = [];
+  uncut = [];
+  owed = λ place. [];
+  shower = λ place. 0;
+  worth = λ place. 0;
+  free = λ nobody. refl;
+  main = record {
+    whole = omega (arith, small, wide);
+    count = omega (arith, small, wide);
+    tail = omega (arith, small, wide);
+    flag = let none : count / 2 ^ count_bits % 2 ≡ 0 = omega (arith, small, wide) in rw none refl;
+    poison = let none : count / 2 ^ count_bits / 2 % 2 ≡ 0 = omega (arith, small, wide) in rw none refl;
+    barren = λ poisoned. absurd (cc);
+    bounded = small;
+    closed = λ nobody. refl;
+    settled = λ closed. tt;
+  };
+  line = record { parts = refl; granted = tt; stays = tt; some = λ none. refl };
+  seats = record { held = λ place. refl; within = λ place slot. absurd (cc); beyond = λ place out. refl };
+  answers = record {
+    words = λ place inside. let test : places + place + 1 == 0 ≡ false = grind (arith, nat_tests) in rw test refl;
+    small = λ place value is. absurd (cc);
+  };
+  debts = record {
+    due_to = λ place other there. absurd (cc);
+    paid_by = λ other some. absurd (cc);
+    once = λ place other. omega arith;
+    links = λ place. tt;
+    small = λ place. omega arith;
+  };
+  stages = record {
+    ranged = λ place. tt;
+    alone = λ place. tt;
+    apart = λ place gives. absurd (cc);
+    own = λ place. tt;
+    showing = λ place. refl;
+    one = λ place. let test : 0 == place + 1 ≡ false = grind (arith, nat_tests) in sym test;
+    holding = λ place is. absurd (omega (arith, is));
+  };
+}

@@ -1,0 +1,151 @@
+-- What a step writes into a row, and a step that writes nothing.
+use Rattle.std.proofs.Common.{◌≡◌, ℕ, ◌+◌, ◌<◌, ◌≤◌, Bool, true, false, ◌==◌, refl, sym, ap, subst, ◌∙◌, arith, inl, inr}
+use Rattle.std.proofs.lemmas.Bool.{cases_Bool}
+use Rattle.std.proofs.lemmas.Bool.Decides.{nat_tests}
+use Rattle.saa_core_spec.specs.Object.{one_if}
+use Rattle.saa_core_spec.proofs.Counts.{same_number}
+use Rattle.saa_core_words.specs.declared.word.Word.{Word}
+use Rattle.saa_core_words.specs.declared.line_word.LineWord.{LineWord}
+use Rattle.saa_core_words.specs.Words.{count_bits, word_number, word_of, line_word_of}
+use Rattle.saa_core_words.proofs.Words.{word-read}
+use Rattle.saa_word_steps.specs.declared.place.Place.{Place}
+use Rattle.saa_word_steps.specs.declared.place.Registration.{Registration}
+use Rattle.saa_word_steps.specs.declared.place.Back.{Back}
+use Rattle.saa_word_steps.specs.declared.place.Stage.{Stage}
+use Rattle.saa_word_steps.specs.declared.place.Stage.TheVariants.{Quiet, ReadLoad, AskLoad, AskExchange, Prepare, Join, ReleaseLoad, ReleaseExchange, BackLoad, BackStore, Forward, CutToClose, CutToGoRound, Close, Empty, GoRound, ShowLoad, ShowStore, Take, FlagLoad, FlagExchange, LookLoad, LookStore, Unlink, DropTail, PoisonLoad, PoisonExchange, Clear}
+use Rattle.saa_word_steps.specs.Needs.{Needs}
+use Rattle.saa_word_steps.specs.Lazy.{Lazy, is_in, held_by}
+use Rattle.saa_word_steps.specs.Steps.{IsRanged, IsSmall}
+use Rattle.saa_word_proofs.specs.Standing.{updated, line_of, is_slot, is_holder, gives_up, IsAlone, IsOwn, IsShowing, IsHolding, AreSeats, Stands}
+use Rattle.saa_word_proofs.proofs.RefinementLemmas.Lists.{each-updated, all-same, updated-same, updated-at, updated-other}
+use Rattle.saa_word_proofs.proofs.RefinementLemmas.Frames.{stages-next}
+
+-- A main word that is found as it was seen is what was seen
+pub main-found : (number : ℕ) (seen : Word) → IsSmall seen → seen.tail < 65536 → number == word_number count_bits seen ≡ true → word_of count_bits number ≡ seen
+main-found number seen small tail same =
+    ap (word_of count_bits) (same_number number (word_number count_bits seen) same) ∙ word-read count_bits seen small tail
+
+-- what a main word is written as is small, and is read again
+pub word-whole : (word : Word) → IsSmall word → word.tail < 65536 → word_number count_bits word < 16777216
+word-whole word small tail = omega (arith, small, tail, flag-small word.is_flagged, flag-small word.is_poisoned)
+  where
+    flag-small : (mark : Bool) → one_if mark < 2
+    flag-small true = omega arith
+    flag-small false = omega arith
+
+-- the count and the tail of a number are within their bits
+pub count-small : (number : ℕ) → (word_of count_bits number).count < 64
+count-small number = omega arith
+
+pub tail-small : (number : ℕ) → (word_of count_bits number).tail < 65536
+tail-small number = omega arith
+
+-- a write to the main word leaves the line words
+pub line-main : (row : ℕ → ℕ) (number : ℕ) → line_of (updated row 0 number) ≡ line_of row
+line-main row number = all-same (line_of (updated row 0 number)) (line_of row) (λ place.
+    let apart : place + 1 == 0 ≡ false = grind (arith, nat_tests) in
+    ap line_word_of (updated-other row 0 number (place + 1) apart))
+
+-- a write to a line word leaves the others
+pub line-at : (row : ℕ → ℕ) (at number : ℕ) → line_of (updated row (at + 1) number) at ≡ line_word_of number
+line-at row at number = ap line_word_of (updated-at row (at + 1) number)
+
+pub line-other : (row : ℕ → ℕ) (at number place : ℕ) → (place ≡ at → ⊥) → line_of (updated row (at + 1) number) place ≡ line_of row place
+line-other row at number place apart =
+    let test : place + 1 == at + 1 ≡ false =
+    elim (cases_Bool (place + 1 == at + 1)) [
+      | inl same ↦ absurd (apart (omega (arith, same_number (place + 1) (at + 1) same)))
+      | inr differs ↦ differs
+    ] in
+    ap line_word_of (updated-other row (at + 1) number (place + 1) test)
+
+-- a number at another index is as it was
+pub row-other : (row : ℕ → ℕ) (at number other : ℕ) → (other ≡ at → ⊥) → updated row at number other ≡ row other
+row-other row at number other apart =
+    let test : other == at ≡ false =
+    elim (cases_Bool (other == at)) [
+      | inl same ↦ absurd (apart (same_number other at same))
+      | inr differs ↦ differs
+    ] in
+    updated-other row at number other test
+
+-- a place that is registered in the line isn't about to join
+pub own-any : (needs : Needs) (registration : Registration) (back : Back) (stage : Stage) (word : LineWord)
+    → IsAlone needs registration back stage → is_slot registration ≡ true → IsOwn word stage
+own-any needs registration back Quiet word alone slot = tt
+own-any needs registration back (ReadLoad reading) word alone slot = tt
+own-any needs registration back (AskLoad ask) word alone slot = tt
+own-any needs registration back (AskExchange ask seen) word alone slot = tt
+own-any needs registration back (Prepare request seen) word alone slot = tt
+own-any needs registration back (Join request seen) word alone slot = let wrong : true ≡ false = sym slot ∙ alone.1 in absurd (cc)
+own-any needs registration back (ReleaseLoad given) word alone slot = tt
+own-any needs registration back (ReleaseExchange given seen) word alone slot = tt
+own-any needs registration back (BackLoad seen current newer) word alone slot = tt
+own-any needs registration back (BackStore seen current newer line) word alone slot = tt
+own-any needs registration back (Forward seen current count) word alone slot = tt
+own-any needs registration back (CutToClose seen current count line) word alone slot = tt
+own-any needs registration back (CutToGoRound seen current count line) word alone slot = tt
+own-any needs registration back (Close seen count top) word alone slot = tt
+own-any needs registration back (Empty seen current count line) word alone slot = tt
+own-any needs registration back (GoRound seen count top) word alone slot = tt
+own-any needs registration back (ShowLoad current value afterwards) word alone slot = tt
+own-any needs registration back (ShowStore current next value afterwards) word alone slot = tt
+own-any needs registration back (Take taking) word alone slot = tt
+own-any needs registration back FlagLoad word alone slot = tt
+own-any needs registration back (FlagExchange seen) word alone slot = tt
+own-any needs registration back (LookLoad seen current newer previous) word alone slot = tt
+own-any needs registration back (LookStore seen current newer line) word alone slot = tt
+own-any needs registration back (Unlink seen newer line older) word alone slot = tt
+own-any needs registration back (DropTail seen older) word alone slot = tt
+own-any needs registration back PoisonLoad word alone slot = tt
+own-any needs registration back (PoisonExchange seen) word alone slot = tt
+own-any needs registration back Clear word alone slot = tt
+
+-- a place that is registered as it was leaves the seats as they are
+pub seats-next : (places : ℕ) (standing : ℕ → Place) (lazy : Lazy) (me : ℕ) (place : Place) → AreSeats places standing lazy → me < places
+    → is_slot place.registration ≡ is_slot (standing me).registration → AreSeats places (updated standing me place) lazy
+seats-next places standing lazy me place was here same = record {
+  held = each-updated (λ (n : ℕ) (p : Place). held_by n lazy ≡ one_if (is_slot p.registration)) standing me place
+      (was.held me ∙ ap one_if (sym same)) (λ other apart. was.held other);
+  within = each-updated (λ (n : ℕ) (p : Place). is_slot p.registration ≡ true → n < places) standing me place (λ slot. here) (λ other apart. was.within other);
+  beyond = each-updated (λ (n : ℕ) (p : Place). places ≤ n → p.stage ≡ Quiet) standing me place (λ out. absurd (omega (arith, out, here))) (λ other apart. was.beyond other);
+}
+
+-- who takes its own answer next stands in no line
+pub apart-at : (needs : Needs) (places : ℕ) (row : ℕ → ℕ) (standing : ℕ → Place) (lazy : Lazy) (me : ℕ) → Stands needs places row standing lazy
+    → (stage : Stage) → (standing me).stage ≡ stage → gives_up (standing me).back stage ≡ true → is_in me lazy.line ≡ false
+apart-at needs places row standing lazy me s stage at gives = s.stages.apart me (ap (gives_up (standing me).back) at ∙ gives)
+
+-- A step that leaves words and object as they are
+pub moved : (needs : Needs) (places : ℕ) (row : ℕ → ℕ) (standing : ℕ → Place) (lazy : Lazy) (me : ℕ) (s : Stands needs places row standing lazy) (place : Place)
+    → me < places → is_slot place.registration ≡ is_slot (standing me).registration
+    → IsRanged needs place.stage → IsAlone needs place.registration place.back place.stage
+    → (gives_up place.back place.stage ≡ true → is_in me lazy.line ≡ false)
+    → IsOwn (line_of row me) place.stage → IsShowing (s.owed me) (s.worth me) place.stage
+    → is_holder place.stage ≡ is_holder (standing me).stage
+    → (s.holder ≡ me + 1 → IsHolding needs (line_of row) me lazy.count lazy.line s.cut place.stage)
+    → Stands needs places row (updated standing me place) lazy
+moved needs places row standing lazy me s place here same ranged alone apart own showing holder holding = record {
+  holder = s.holder;
+  cut = s.cut;
+  uncut = s.uncut;
+  owed = s.owed;
+  shower = s.shower;
+  worth = s.worth;
+  free = s.free;
+  main = s.main;
+  line = s.line;
+  seats = seats-next places standing lazy me place s.seats here same;
+  answers = s.answers;
+  debts = s.debts;
+  stages = stages-next needs (line_of row) (line_of row) standing lazy.count lazy.count lazy.line lazy.line s.cut s.cut s.holder s.holder s.owed s.owed
+      s.worth s.worth me place s.stages ranged alone apart own showing (holder ∙ s.stages.one me) holding
+      (λ other differs out. out)
+      (λ other differs. s.stages.own other) (λ other differs. refl) (λ other differs. refl) (λ other differs. refl) (λ other differs. s.stages.holding other);
+}
+
+-- a step that only loads leaves the row
+pub loaded : (needs : Needs) (places : ℕ) (row : ℕ → ℕ) (standing : ℕ → Place) (lazy : Lazy) (at : ℕ)
+    → Stands needs places row standing lazy → Stands needs places (updated row at (row at)) standing lazy
+loaded needs places row standing lazy at s =
+    subst (λ (r : ℕ → ℕ). Stands needs places r standing lazy) (sym (updated-same row at (row at) refl)) s

@@ -1,0 +1,332 @@
+-- Steps of a place that shows answers, and of one that takes its own.
+use Rattle.std.proofs.Common.{◌≡◌, ℕ, ◌+◌, ◌<◌, ◌≤◌, Bool, true, false, ◌||◌, List, [], ◌∷◌, ◌++◌, ◌==◌, Option, Some, None, is_some, nat_lt, refl, sym, ap, subst, ◌∙◌, arith, inl, inr, append-nil}
+use Rattle.std.proofs.lemmas.Bool.{cases_Bool}
+use Rattle.std.proofs.lemmas.Bool.Decides.{nat_tests}
+use Rattle.saa_core_spec.specs.Object.{one_if}
+use Rattle.saa_core_spec.proofs.Counts.{number_same, same_number, number_other, one_if-same, one_if-le}
+use Rattle.saa_core_words.specs.declared.line_word.LineWord.{LineWord}
+use Rattle.saa_core_words.specs.Words.{line_word_of, answer_number}
+use Rattle.saa_word_steps.specs.declared.place.Place.{Place}
+use Rattle.saa_word_steps.specs.declared.place.Afterwards.{Afterwards}
+use Rattle.saa_word_steps.specs.declared.place.Afterwards.TheVariants.{Ends, Again}
+use Rattle.saa_word_steps.specs.declared.place.Stage.{Stage}
+use Rattle.saa_word_steps.specs.declared.place.Stage.TheVariants.{Quiet, ShowLoad, ShowStore}
+use Rattle.saa_word_steps.specs.Needs.{Needs, AreNeeds}
+use Rattle.saa_word_steps.specs.Lazy.{Lazy, is_in, waits_times, held_by, with_answer}
+use Rattle.saa_word_steps.specs.Steps.{IsRanged}
+use Rattle.saa_word_steps.proofs.LazyRuns.{waits-some}
+use Rattle.saa_word_proofs.specs.Standing.{updated, line_of, newest, IsBehind, is_slot, is_holder, gives_up, IsAlone, IsOwn, IsShowing, IsHolding, IsMain, IsLine, AreSeats, AreAnswers, AreDebts, Stands}
+use Rattle.saa_word_proofs.specs.Stepped.{Stepped}
+use Rattle.saa_word_proofs.proofs.RefinementLemmas.Lists.{each-updated, updated-at, updated-other, newest-last, in-some, in-append, times-append, split-last, behind-frame, behind-front, behind-rest}
+use Rattle.saa_word_proofs.proofs.RefinementLemmas.Frames.{holding-frame, stages-next}
+use Rattle.saa_word_proofs.proofs.RefinementLemmas.Rows.{moved, loaded, row-other, apart-at}
+
+-- a mark that counts is set
+slot-of : (mark : Bool) → 0 < one_if mark → mark ≡ true
+slot-of true some = refl
+slot-of false some = absurd (omega (arith, some))
+
+-- whoever stands in a line is one of the places
+pub line-inside : (needs : Needs) (places : ℕ) (row : ℕ → ℕ) (standing : ℕ → Place) (lazy : Lazy) (s : Stands needs places row standing lazy) (other : ℕ)
+    → 0 < waits_times other lazy.line → other < places
+line-inside needs places row standing lazy s other there =
+    s.seats.within other (slot-of (is_slot (standing other).registration) (omega (arith, there, s.seats.held other)))
+
+-- so is whoever is owed an answer
+pub due-inside : (needs : Needs) (places : ℕ) (row : ℕ → ℕ) (standing : ℕ → Place) (lazy : Lazy) (s : Stands needs places row standing lazy) (place other : ℕ)
+    → is_in other (s.owed place) ≡ true → other < places
+due-inside needs places row standing lazy s place other there =
+    let due : one_if (is_some (lazy.due other)) ≡ 1 = ap (λ (a : Option ℕ). one_if (is_some a)) (s.debts.due_to place other there).1 in
+    s.seats.within other (slot-of (is_slot (standing other).registration) (omega (arith, due, s.seats.held other)))
+
+-- what the holder knows is so of the store that follows a load
+after-load : (needs : Needs) (words : ℕ → LineWord) (me held : ℕ) (line cut : List (ℕ × ℕ)) (current other next value : ℕ) (afterwards : Afterwards)
+    → IsHolding needs words me held line cut (ShowLoad current value afterwards) → IsHolding needs words me held line cut (ShowStore other next value afterwards)
+after-load needs words me held line cut current other next value Ends h = h
+after-load needs words me held line cut current other next value (Again seen) h = h
+
+-- and of the load that follows a store
+pub after-store : (needs : Needs) (words : ℕ → LineWord) (me held : ℕ) (line cut : List (ℕ × ℕ)) (current other next value : ℕ) (afterwards : Afterwards)
+    → IsHolding needs words me held line cut (ShowStore current next value afterwards) → IsHolding needs words me held line cut (ShowLoad other value afterwards)
+after-store needs words me held line cut current other next value Ends h = h
+after-store needs words me held line cut current other next value (Again seen) h = h
+
+-- a load and the store that follows it hold the flag alike
+holder-load : (current other next value : ℕ) (afterwards : Afterwards) → is_holder (ShowStore other next value afterwards) ≡ is_holder (ShowLoad current value afterwards)
+holder-load current other next value Ends = refl
+holder-load current other next value (Again seen) = refl
+
+-- and so do a store and the next load
+pub holder-store : (current other next value : ℕ) (afterwards : Afterwards) → is_holder (ShowLoad other value afterwards) ≡ is_holder (ShowStore current next value afterwards)
+holder-store current other next value Ends = refl
+holder-store current other next value (Again seen) = refl
+
+-- what the load remembers is within its bits at the store
+ranged-load : (needs : Needs) (current other next value : ℕ) (afterwards : Afterwards)
+    → IsRanged needs (ShowLoad current value afterwards) → IsRanged needs (ShowStore other next value afterwards)
+ranged-load needs current other next value Ends h = h
+ranged-load needs current other next value (Again seen) h = h
+
+-- and at the next load
+pub ranged-store : (needs : Needs) (current other next value : ℕ) (afterwards : Afterwards)
+    → IsRanged needs (ShowStore current next value afterwards) → IsRanged needs (ShowLoad other value afterwards)
+ranged-store needs current other next value Ends h = h
+ranged-store needs current other next value (Again seen) h = h
+
+-- The line word of the newest that is owed is looked at
+pub step-ShowLoad : (needs : Needs) → AreNeeds needs → needs.top < 64 → (places : ℕ) (row : ℕ → ℕ) (standing : ℕ → Place) (lazy : Lazy) (me : ℕ)
+    → places < 65536 → me < places → (s : Stands needs places row standing lazy)
+    → (current value : ℕ) (afterwards : Afterwards) → (standing me).stage ≡ ShowLoad current value afterwards
+    → Stepped needs places row standing lazy me (ShowLoad current value afterwards)
+step-ShowLoad needs lawful wide places row standing lazy me room here s current value afterwards at =
+    let stage : Stage = ShowLoad current value afterwards in
+    let alone : IsAlone needs (standing me).registration (standing me).back stage =
+    subst (λ stage. IsAlone needs (standing me).registration (standing me).back stage) at (s.stages.alone me) in
+    let ranged : IsRanged needs stage = subst (λ stage. IsRanged needs stage) at (s.stages.ranged me) in
+    let showing : IsShowing (s.owed me) (s.worth me) stage = subst (λ stage. IsShowing (s.owed me) (s.worth me) stage) at (s.stages.showing me) in
+    let split = split-last (s.owed me) showing.1 in
+    let link : current ≡ split.last.0 + 1 = sym showing.0 ∙ ap (newest 0) split.is ∙ newest-last 0 split.before split.last in
+    let there : 0 < waits_times split.last.0 (s.owed me) =
+    omega (arith, ap (λ (l : List (ℕ × ℕ)). waits_times split.last.0 l) split.is, times-append split.last.0 split.before (split.last ∷ []), one_if-same split.last.0) in
+    let links = behind-rest (line_of row) 0 split.before (split.last ∷ []) (subst (λ (l : List (ℕ × ℕ)). IsBehind (line_of row) 0 l) split.is (s.debts.links me)) in
+    let older : (line_word_of (row current)).older ≡ newest 0 split.before = ap (λ (n : ℕ). (line_word_of (row n)).older) link ∙ links.1 in
+    let next : ℕ = (line_word_of (row current)).older in
+    record {
+      events = [];
+      last = lazy;
+      run = refl;
+      names = refl;
+      calm = λ semaphore. refl;
+      inside = omega (arith, link, due-inside needs places row standing lazy s me split.last.0 (in-some split.last.0 (s.owed me) there));
+      stands = loaded needs places row (updated standing me (record (standing me) { stage = ShowStore current next value afterwards })) lazy current
+          (moved needs places row standing lazy me s (record (standing me) { stage = ShowStore current next value afterwards }) here refl
+          (ranged-load needs current current next value afterwards ranged) alone (apart-at needs places row standing lazy me s stage at) tt
+          (split.before, split.last, split.is, link, older, showing.2)
+          (holder-load current current next value afterwards ∙ ap is_holder (sym at))
+          (λ it. after-load needs (line_of row) me lazy.count lazy.line s.cut current current next value afterwards
+          (subst (λ stage. IsHolding needs (line_of row) me lazy.count lazy.line s.cut stage) at (s.stages.holding me it))));
+    }
+
+-- An answer word is written: the line words and the main word stay
+pub line-answer : (row : ℕ → ℕ) (places at number place : ℕ) → place < places → 0 < at → line_of (updated row (places + at) number) place ≡ line_of row place
+line-answer row places at number place inside some =
+    ap line_word_of (row-other row (places + at) number (place + 1) (λ is. absurd (omega (arith, is, inside, some))))
+
+-- the line words link the line once an answer word was written
+pub line-shown : (needs : Needs) (places : ℕ) (row : ℕ → ℕ) (standing : ℕ → Place) (lazy : Lazy) (s : Stands needs places row standing lazy) (at number : ℕ)
+    → 0 < at → IsLine (line_of (updated row (places + at) number)) lazy.line s.cut s.uncut
+line-shown needs places row standing lazy s at number some =
+    let new : ℕ → LineWord = line_of (updated row (places + at) number) in
+    let same : (place : ℕ) → 0 < waits_times place lazy.line → new place ≡ line_of row place =
+    λ place there. line-answer row places at number place (line-inside needs places row standing lazy s place there) some in
+    let fields : (place : ℕ) → 0 < waits_times place lazy.line → ((new place).request ≡ (line_of row place).request) × ((new place).older ≡ (line_of row place).older) =
+    λ place there. (ap (λ (w : LineWord). w.request) (same place there), ap (λ (w : LineWord). w.older) (same place there)) in
+    record {
+      parts = s.line.parts;
+      granted = behind-frame (line_of row) new 0 s.cut (λ place there. fields place
+          (omega (arith, there, ap (λ (l : List (ℕ × ℕ)). waits_times place l) s.line.parts, times-append place s.cut s.uncut))) s.line.granted;
+      stays = behind-frame (line_of row) new 0 s.uncut (λ place there. fields place
+          (omega (arith, there, ap (λ (l : List (ℕ × ℕ)). waits_times place l) s.line.parts, times-append place s.cut s.uncut))) s.line.stays;
+      some = s.line.some;
+    }
+
+-- and each place's own line word says what it did
+pub own-shown : (needs : Needs) (places : ℕ) (row : ℕ → ℕ) (standing : ℕ → Place) (lazy : Lazy) (s : Stands needs places row standing lazy) (at number : ℕ)
+    → 0 < at → (other : ℕ) → IsOwn (line_of (updated row (places + at) number) other) (standing other).stage
+own-shown needs places row standing lazy s at number some other =
+    elim (cases_Bool (nat_lt other places)) [
+      | inl inside ↦
+          let within : other < places = grind (arith, nat_tests, inside) in
+          subst (λ (w : LineWord). IsOwn w (standing other).stage) (sym (line-answer row places at number other within some)) (s.stages.own other)
+      | inr outside ↦
+          let beyond : places ≤ other = grind (arith, nat_tests, outside) in
+          subst (λ stage. IsOwn (line_of (updated row (places + at) number) other) stage) (sym (s.seats.beyond other beyond)) tt
+    ]
+
+-- and what the holder knows of the line is so
+pub holding-shown : (needs : Needs) (places : ℕ) (row : ℕ → ℕ) (standing : ℕ → Place) (lazy : Lazy) (s : Stands needs places row standing lazy) (at number : ℕ)
+    → 0 < at → (place : ℕ) (stage : Stage) → IsHolding needs (line_of row) place lazy.count lazy.line s.cut stage
+    → IsHolding needs (line_of (updated row (places + at) number)) place lazy.count lazy.line s.cut stage
+holding-shown needs places row standing lazy s at number some mine stage h =
+    holding-frame needs (line_of row) (line_of (updated row (places + at) number)) mine lazy.count lazy.count lazy.line lazy.line [] s.cut stage (omega arith)
+    (sym (append-nil lazy.line)) refl (λ place there. line-answer row places at number place (line-inside needs places row standing lazy s place there) some) h
+
+-- an object whose answers alone changed has the same main word
+pub main-shown : (needs : Needs) (places : ℕ) (row : ℕ → ℕ) (standing : ℕ → Place) (lazy : Lazy) (s : Stands needs places row standing lazy) (at number : ℕ)
+    (due shown : ℕ → Option ℕ) → 0 < at → IsMain needs (updated row (places + at) number 0) (record lazy { due = due; shown = shown }) s.holder
+main-shown needs places row standing lazy s at number due shown some =
+    subst (λ (n : ℕ). IsMain needs n (record lazy { due = due; shown = shown }) s.holder) (sym (row-other row (places + at) number 0 (λ is. absurd (omega (arith, is, some)))))
+    (record {
+      whole = s.main.whole;
+      count = s.main.count;
+      tail = s.main.tail;
+      flag = s.main.flag;
+      poison = s.main.poison;
+      barren = s.main.barren;
+      bounded = s.main.bounded;
+      closed = s.main.closed;
+      settled = s.main.settled;
+    })
+
+-- an answer that is shown holds its place as it did
+held-shown : (needs : Needs) (places : ℕ) (row : ℕ → ℕ) (standing : ℕ → Place) (lazy : Lazy) (s : Stands needs places row standing lazy) (asker value : ℕ)
+    → lazy.due asker ≡ Some value → (other : ℕ)
+    → held_by other (record lazy { due = with_answer asker None lazy.due; shown = with_answer asker (lazy.due asker) lazy.shown }) ≡ one_if (is_slot (standing other).registration)
+held-shown needs places row standing lazy s asker value due other =
+    elim (cases_Bool (other == asker)) [
+      | inl same ↦
+          let is : other ≡ asker = same_number other asker same in
+          let due_other : one_if (is_some (lazy.due other)) ≡ 1 = ap (λ (n : ℕ). one_if (is_some (lazy.due n))) is ∙ ap (λ (a : Option ℕ). one_if (is_some a)) due in
+          let due_asker : one_if (is_some (lazy.due asker)) ≡ 1 = ap (λ (a : Option ℕ). one_if (is_some a)) due in
+          rw same (omega (arith, s.seats.held other, due_other, due_asker, one_if-le (is_slot (standing other).registration)))
+      | inr apart ↦ rw apart (s.seats.held other)
+    ]
+
+-- the same seats, for other answers that hold each place as they did
+seats-shown : (needs : Needs) (places : ℕ) (row : ℕ → ℕ) (standing : ℕ → Place) (lazy last : Lazy) (s : Stands needs places row standing lazy) (me : ℕ) (place : Place)
+    → me < places → is_slot place.registration ≡ is_slot (standing me).registration
+    → ((other : ℕ) → held_by other last ≡ one_if (is_slot (standing other).registration)) → AreSeats places (updated standing me place) last
+seats-shown needs places row standing lazy last s me place here same held = record {
+  held = each-updated (λ (n : ℕ) (p : Place). held_by n last ≡ one_if (is_slot p.registration)) standing me place (held me ∙ ap one_if (sym same)) (λ other apart. held other);
+  within = each-updated (λ (n : ℕ) (p : Place). is_slot p.registration ≡ true → n < places) standing me place (λ slot. here) (λ other apart. s.seats.within other);
+  beyond = each-updated (λ (n : ℕ) (p : Place). places ≤ n → p.stage ≡ Quiet) standing me place (λ out. absurd (omega (arith, out, here))) (λ other apart. s.seats.beyond other);
+}
+
+-- the answer words once an answer is shown
+answers-shown : (needs : Needs) (places : ℕ) (row : ℕ → ℕ) (standing : ℕ → Place) (lazy : Lazy) (s : Stands needs places row standing lazy)
+    (asker value : ℕ) → lazy.due asker ≡ Some value → value < 256
+    → AreAnswers places (updated row (places + (asker + 1)) (answer_number (Some value))) (with_answer asker (lazy.due asker) lazy.shown)
+answers-shown needs places row standing lazy s asker value due fits = record {
+  words = λ place inside.
+      elim (cases_Bool (place == asker)) [
+        | inl same ↦
+            let is : place ≡ asker = same_number place asker same in
+            let index : places + place + 1 ≡ places + (asker + 1) = omega (arith, is) in
+            let here : updated row (places + (asker + 1)) (answer_number (Some value)) (places + place + 1) ≡ answer_number (Some value) =
+            ap (updated row (places + (asker + 1)) (answer_number (Some value))) index ∙ updated-at row (places + (asker + 1)) (answer_number (Some value)) in
+            rw same (here ∙ ap answer_number (sym due))
+        | inr apart ↦
+            let index : places + place + 1 ≡ places + (asker + 1) → ⊥ =
+            λ is. let wrong : place == asker ≡ true = ap (λ (n : ℕ). place == n) (omega (arith, is)) ∙ number_same place in absurd (cc) in
+            rw apart (row-other row (places + (asker + 1)) (answer_number (Some value)) (places + place + 1) index ∙ s.answers.words place inside)
+      ];
+  small = λ place shows.
+      elim (cases_Bool (place == asker)) [
+        | inl same ↦ rw same (λ is. let one : Some value ≡ Some shows = sym due ∙ is in let number : value ≡ shows = cc in omega (arith, number, fits))
+        | inr apart ↦ rw apart (s.answers.small place shows)
+      ];
+}
+
+-- what is owed once the newest of what a place owed is shown
+debts-shown : (needs : Needs) (places : ℕ) (row : ℕ → ℕ) (standing : ℕ → Place) (lazy : Lazy) (s : Stands needs places row standing lazy) (me : ℕ)
+    (before : List (ℕ × ℕ)) (asker : ℕ × ℕ) (number : ℕ) → s.owed me ≡ before ++ asker ∷ []
+    → AreDebts (line_of (updated row (places + (asker.0 + 1)) number)) (with_answer asker.0 None lazy.due) (updated s.owed me before) s.shower s.worth
+debts-shown needs places row standing lazy s me before asker number is =
+    let new : ℕ → LineWord = line_of (updated row (places + (asker.0 + 1)) number) in
+    let whole : (other : ℕ) → waits_times other (s.owed me) ≡ waits_times other before + waits_times other (asker ∷ []) =
+    λ other. ap (λ (l : List (ℕ × ℕ)). waits_times other l) is ∙ times-append other before (asker ∷ []) in
+    let still : (other : ℕ) → is_in other before ≡ true → is_in other (s.owed me) ≡ true =
+    λ other there. in-some other (s.owed me) (omega (arith, whole other, waits-some other before there)) in
+    let mine : is_in asker.0 (s.owed me) ≡ true = in-some asker.0 (s.owed me) (omega (arith, whole asker.0, one_if-same asker.0)) in
+    let gone : (other : ℕ) → is_in other before ≡ true → other == asker.0 ≡ false =
+    λ other there. number_other other asker.0 (λ same.
+    absurd (omega (
+      arith,
+      s.debts.once me asker.0,
+      whole asker.0,
+      one_if-same asker.0,
+      subst (λ (n : ℕ). 0 < waits_times n before) same (waits-some other before there),
+    ))) in
+    record {
+      due_to = each-updated
+          (λ (place : ℕ) (l : List (ℕ × ℕ)). (other : ℕ) → is_in other l ≡ true
+          → (s.shower other ≡ place) × (with_answer asker.0 None lazy.due other ≡ Some (s.worth place)))
+          s.owed me before
+          (λ other there. let was = s.debts.due_to me other (still other there) in (was.0, rw (gone other there) was.1))
+          (λ place apart other there.
+          let was = s.debts.due_to place other there in
+          let differs : other == asker.0 ≡ false = number_other other asker.0 (λ same.
+          apart (sym was.0 ∙ ap s.shower same ∙ (s.debts.due_to me asker.0 mine).0)) in
+          (was.0, rw differs was.1));
+      paid_by = λ other.
+          elim (cases_Bool (other == asker.0)) [
+            | inl same ↦ rw same (λ some. absurd (cc))
+            | inr apart ↦ rw apart (λ some.
+                let there = s.debts.paid_by other some in
+                elim (cases_Bool (s.shower other == me)) [
+                  | inl to_me ↦
+                      let of_me : is_in other (s.owed me) ≡ true = ap (λ (n : ℕ). is_in other (s.owed n)) (sym (same_number (s.shower other) me to_me)) ∙ there in
+                      let sides : is_in other (before ++ asker ∷ []) ≡ true = ap (λ (l : List (ℕ × ℕ)). is_in other l) (sym is) ∙ of_me in
+                      let last : asker.0 == other ≡ false = number_other asker.0 other (λ it.
+                      let wrong : other == asker.0 ≡ true = ap (λ (n : ℕ). other == n) it ∙ number_same other in absurd (cc)) in
+                      let ahead : is_in other before ≡ true = in-front other before asker last sides in
+                      rw to_me ahead
+                  | inr to_other ↦ rw to_other there
+                ])
+          ];
+      once = each-updated (λ (place : ℕ) (l : List (ℕ × ℕ)). (other : ℕ) → waits_times other l ≤ 1) s.owed me before
+          (λ other. omega (arith, s.debts.once me other, whole other)) (λ place apart other. s.debts.once place other);
+      small = s.debts.small;
+      links = each-updated (λ (place : ℕ) (l : List (ℕ × ℕ)). IsBehind new 0 l) s.owed me before
+          (behind-frame (line_of row) new 0 before (λ place there. fields place (due-inside needs places row standing lazy s me place (still place (in-some place before there))))
+          (behind-front (line_of row) 0 before (asker ∷ []) (subst (λ (l : List (ℕ × ℕ)). IsBehind (line_of row) 0 l) is (s.debts.links me))))
+          (λ other apart. behind-frame (line_of row) new 0 (s.owed other)
+          (λ place there. fields place (due-inside needs places row standing lazy s other place (in-some place (s.owed other) there))) (s.debts.links other));
+    }
+  where
+    fields : (place : ℕ) → place < places
+        → ((line_of (updated row (places + (asker.0 + 1)) number) place).request ≡ (line_of row place).request)
+        × ((line_of (updated row (places + (asker.0 + 1)) number) place).older ≡ (line_of row place).older)
+    fields place inside =
+        let same = line-answer row places (asker.0 + 1) number place inside (omega arith) in
+        (ap (λ (w : LineWord). w.request) same, ap (λ (w : LineWord). w.older) same)
+
+    in-front : (other : ℕ) (front : List (ℕ × ℕ)) (last : ℕ × ℕ) → last.0 == other ≡ false → is_in other (front ++ last ∷ []) ≡ true → is_in other front ≡ true
+    in-front other front last differs there =
+        let parts : (is_in other front || is_in other (last ∷ [])) ≡ true = sym (in-append other front (last ∷ [])) ∙ there in
+        elim (cases_Bool (is_in other front)) [
+          | inl ahead ↦ ahead
+          | inr none ↦ let wrong : false ≡ true = rw (none, differs) at parts in absurd (cc)
+        ]
+
+-- An answer is shown, whatever the place does next
+pub shown : (needs : Needs) (places : ℕ) (row : ℕ → ℕ) (standing : ℕ → Place) (lazy : Lazy) (me : ℕ)
+    → me < places → (s : Stands needs places row standing lazy) (before : List (ℕ × ℕ)) (asker : ℕ × ℕ) → s.owed me ≡ before ++ asker ∷ []
+    → (stage : Stage) → IsRanged needs stage → IsAlone needs (standing me).registration (standing me).back stage
+    → (gives_up (standing me).back stage ≡ true → is_in me lazy.line ≡ false) → ((word : LineWord) → IsOwn word stage) → IsShowing before (s.worth me) stage
+    → is_holder stage ≡ is_holder (standing me).stage
+    → (s.holder ≡ me + 1 → IsHolding needs (line_of row) me lazy.count lazy.line s.cut stage)
+    → Stands needs places (updated row (places + (asker.0 + 1)) (answer_number (Some (s.worth me)))) (updated standing me (record (standing me) { stage = stage }))
+    (record lazy { due = with_answer asker.0 None lazy.due; shown = with_answer asker.0 (lazy.due asker.0) lazy.shown })
+shown needs places row standing lazy me here s before asker is stage ranged alone apart own showing holder holding =
+    let number : ℕ = answer_number (Some (s.worth me)) in
+    let place : Place = record (standing me) { stage = stage } in
+    let some : 0 < asker.0 + 1 = omega arith in
+    let mine : is_in asker.0 (s.owed me) ≡ true =
+    in-some asker.0 (s.owed me) (omega (arith, ap (λ (l : List (ℕ × ℕ)). waits_times asker.0 l) is, times-append asker.0 before (asker ∷ []), one_if-same asker.0)) in
+    let due : lazy.due asker.0 ≡ Some (s.worth me) = (s.debts.due_to me asker.0 mine).1 in
+    let last : Lazy = record lazy { due = with_answer asker.0 None lazy.due; shown = with_answer asker.0 (lazy.due asker.0) lazy.shown } in
+    record {
+      holder = s.holder;
+      cut = s.cut;
+      uncut = s.uncut;
+      owed = updated s.owed me before;
+      shower = s.shower;
+      worth = s.worth;
+      free = s.free;
+      main = main-shown needs places row standing lazy s (asker.0 + 1) number (with_answer asker.0 None lazy.due) (with_answer asker.0 (lazy.due asker.0) lazy.shown) some;
+      line = line-shown needs places row standing lazy s (asker.0 + 1) number some;
+      seats = seats-shown needs places row standing lazy last s me place here refl (held-shown needs places row standing lazy s asker.0 (s.worth me) due);
+      answers = answers-shown needs places row standing lazy s asker.0 (s.worth me) due (s.debts.small me);
+      debts = debts-shown needs places row standing lazy s me before asker number is;
+      stages = stages-next needs (line_of row) (line_of (updated row (places + (asker.0 + 1)) number)) standing lazy.count lazy.count lazy.line lazy.line s.cut s.cut
+          s.holder s.holder s.owed (updated s.owed me before) s.worth s.worth me place s.stages
+          ranged alone apart (own (line_of (updated row (places + (asker.0 + 1)) number) me))
+          (subst (λ (l : List (ℕ × ℕ)). IsShowing l (s.worth me) stage) (sym (updated-at s.owed me before)) showing)
+          (holder ∙ s.stages.one me)
+          (λ it. holding-shown needs places row standing lazy s (asker.0 + 1) number some me stage (holding it))
+          (λ other differs out. out)
+          (λ other differs. own-shown needs places row standing lazy s (asker.0 + 1) number some other)
+          (λ other differs. updated-other s.owed me before other (number_other other me differs)) (λ other differs. refl) (λ other differs. refl)
+          (λ other differs it. holding-shown needs places row standing lazy s (asker.0 + 1) number some other (standing other).stage (s.stages.holding other it));
+    }

@@ -1,0 +1,244 @@
+-- A call that starts changes nothing of what stands in the words, and has named nothing.
+use Rattle.std.proofs.Common.{◌≡◌, ℕ, ◌<◌, ◌≤◌, true, false, List, [], ◌==◌, Some, nat_lt, refl, sym, ap, subst, ◌∙◌, arith, inl, inr}
+use Rattle.std.proofs.lemmas.Bool.{cases_Bool}
+use Rattle.std.proofs.lemmas.Bool.Decides.{nat_tests}
+use Rattle.saa_core_spec.specs.declared.lock.Mode.{Mode}
+use Rattle.saa_core_spec.specs.declared.lock.Mode.TheVariants.{Exclusive as ModeExclusive, Shared as ModeShared, WaitExclusive, WaitShared}
+use Rattle.saa_word_steps.specs.declared.call.WordCall.{WordCall}
+use Rattle.saa_word_steps.specs.declared.call.WordCall.TheVariants.{Try, Register, Release, Available, TryLock, TryShare, RegisterMode, ReleaseLock, ReleaseShare, PoisonLock, ClearPoison, IsFree, IsLocked, IsShared, IsPoisoned, TryPoll, Poll, Cancel}
+use Rattle.saa_word_steps.specs.declared.place.Place.{Place}
+use Rattle.saa_word_steps.specs.declared.place.Back.TheVariants.{Tells, Ends, Takes}
+use Rattle.saa_word_steps.specs.declared.place.Ask.{Ask}
+use Rattle.saa_word_steps.specs.declared.place.Reading.{Reading}
+use Rattle.saa_word_steps.specs.declared.place.Reading.TheVariants.{Available as ReadsAvailable, IsFree as ReadsFree, IsLocked as ReadsLocked, IsShared as ReadsShared, IsPoisoned as ReadsPoisoned}
+use Rattle.saa_word_steps.specs.declared.place.Registration.{Registration}
+use Rattle.saa_word_steps.specs.declared.place.Registration.TheVariants.{Idle, Once, Slot}
+use Rattle.saa_word_steps.specs.declared.place.Taking.{Taking}
+use Rattle.saa_word_steps.specs.declared.place.Taking.TheVariants.{Tries, Awaits}
+use Rattle.saa_word_steps.specs.declared.place.Stage.TheVariants.{Quiet, ReadLoad, AskLoad, ReleaseLoad, Take, FlagLoad, PoisonLoad, Clear}
+use Rattle.saa_word_steps.specs.Needs.{Needs}
+use Rattle.saa_word_steps.specs.Lazy.{Lazy}
+use Rattle.saa_word_steps.specs.Steps.{IsRanged, is_taken, is_idle, mode_number, polled_as, cancelled_as, registered_as, started}
+use Rattle.saa_word_proofs.specs.Standing.{updated, line_of, is_slot, is_holder, gives_up, IsAlone, IsOwn, IsShowing, Stands}
+use Rattle.saa_word_proofs.specs.Stepped.{place_after}
+use Rattle.saa_word_proofs.specs.Calls.{asked_by, is_taken_up, IsTaking, IsBegun}
+use Rattle.saa_word_proofs.proofs.RefinementLemmas.Lists.{updated-same}
+use Rattle.saa_word_proofs.proofs.RefinementLemmas.Rows.{moved}
+use Rattle.saa_word_proofs.proofs.RefinementLemmas.Outcomes.{not-holder}
+
+-- All stand together still
+
+-- a place that starts: no word was looked at, and no event happened
+begun : (needs : Needs) (places : ℕ) (row : ℕ → ℕ) (standing : ℕ → Place) (lazy : Lazy) (me : ℕ) (s : Stands needs places row standing lazy) (place : Place)
+    → me < places → (standing me).stage ≡ Quiet → is_slot place.registration ≡ is_slot (standing me).registration
+    → IsRanged needs place.stage → IsAlone needs place.registration place.back place.stage → gives_up place.back place.stage ≡ false
+    → IsOwn (line_of row me) place.stage → ((owed : List (ℕ × ℕ)) (worth : ℕ) → owed ≡ [] → IsShowing owed worth place.stage) → is_holder place.stage ≡ false
+    → Stands needs places row (updated standing me place) lazy
+begun needs places row standing lazy me s place here quiet same ranged alone keeps own showing none =
+    moved needs places row standing lazy me s place here same ranged alone
+    (λ gives. (let wrong : true ≡ false = sym gives ∙ keeps in absurd (cc))) own
+    (showing (s.owed me) (s.worth me) (subst (λ stage. IsShowing (s.owed me) (s.worth me) stage) quiet (s.stages.showing me))) (none ∙ ap is_holder (sym quiet))
+    (λ it. absurd (not-holder needs places row standing lazy me s (ap is_holder quiet) it))
+
+-- a call that is done at once leaves its place as it was
+same-place : (needs : Needs) (places : ℕ) (row : ℕ → ℕ) (standing : ℕ → Place) (lazy : Lazy) (me : ℕ) → Stands needs places row standing lazy
+    → Stands needs places row (updated standing me (standing me)) lazy
+same-place needs places row standing lazy me s = subst (λ (f : ℕ → Place). Stands needs places row f lazy) (sym (updated-same standing me (standing me) refl)) s
+
+-- who isn't registered holds no place
+idle-slot : (registration : Registration) → is_idle registration ≡ true → is_slot registration ≡ false
+idle-slot Idle is = refl
+idle-slot (Once value request) is = absurd (cc)
+idle-slot (Slot request) is = absurd (cc)
+
+-- the number of a mode is small
+mode-small : (mode : Mode) → mode_number mode < 65536
+mode-small ModeExclusive = omega arith
+mode-small ModeShared = omega arith
+mode-small WaitExclusive = omega arith
+mode-small WaitShared = omega arith
+
+-- a reading call that starts
+reading-starts : (needs : Needs) (places : ℕ) (row : ℕ → ℕ) (standing : ℕ → Place) (lazy : Lazy) (me : ℕ) (s : Stands needs places row standing lazy)
+    → me < places → (standing me).stage ≡ Quiet → (reading : Reading)
+    → Stands needs places row (updated standing me (record (standing me) { stage = ReadLoad reading })) lazy
+reading-starts needs places row standing lazy me s here quiet reading =
+    begun needs places row standing lazy me s (record (standing me) { stage = ReadLoad reading }) here quiet refl tt tt refl tt (λ owed worth nothing. nothing) refl
+
+-- an ask that starts
+ask-starts : (needs : Needs) (places : ℕ) (row : ℕ → ℕ) (standing : ℕ → Place) (lazy : Lazy) (me : ℕ) (s : Stands needs places row standing lazy)
+    → me < places → (standing me).stage ≡ Quiet → (ask : Ask) → ask.request < 65536 → (ask.joins ≡ true → is_slot (standing me).registration ≡ false)
+    → Stands needs places row (updated standing me (record (standing me) { stage = AskLoad ask })) lazy
+ask-starts needs places row standing lazy me s here quiet ask small idle =
+    begun needs places row standing lazy me s (record (standing me) { stage = AskLoad ask }) here quiet refl tt (small, idle) refl tt
+    (λ owed worth nothing. nothing) refl
+
+-- a try that starts
+try-starts : (needs : Needs) (places : ℕ) (row : ℕ → ℕ) (standing : ℕ → Place) (lazy : Lazy) (me : ℕ) (s : Stands needs places row standing lazy)
+    → me < places → (standing me).stage ≡ Quiet → (request : ℕ) → request < 65536
+    → Stands needs places row (updated standing me (record (standing me) { stage = AskLoad (record { request = request; joins = false }) })) lazy
+try-starts needs places row standing lazy me s here quiet request small =
+    ask-starts needs places row standing lazy me s here quiet (record { request = request; joins = false }) small (λ joins. absurd (cc))
+
+-- a registration that starts
+register-starts : (needs : Needs) (places : ℕ) (row : ℕ → ℕ) (standing : ℕ → Place) (lazy : Lazy) (me : ℕ) (s : Stands needs places row standing lazy)
+    → me < places → (standing me).stage ≡ Quiet → (request : ℕ) → request < 65536
+    → Stands needs places row (updated standing me (place_after (standing me) (registered_as (standing me) request))) lazy
+register-starts needs places row standing lazy me s here quiet request small =
+    elim (cases_Bool (is_idle (standing me).registration)) [
+      | inl idle ↦ rw idle (ask-starts needs places row standing lazy me s here quiet (record { request = request; joins = true }) small
+          (λ joins. idle-slot (standing me).registration idle))
+      | inr refused ↦ rw refused (same-place needs places row standing lazy me s)
+    ]
+
+-- a release that starts
+release-starts : (needs : Needs) (places : ℕ) (row : ℕ → ℕ) (standing : ℕ → Place) (lazy : Lazy) (me : ℕ) (s : Stands needs places row standing lazy)
+    → me < places → (standing me).stage ≡ Quiet → (request : ℕ)
+    → Stands needs places row (updated standing me (record (standing me) { stage = ReleaseLoad request; back = Tells })) lazy
+release-starts needs places row standing lazy me s here quiet request =
+    begun needs places row standing lazy me s (record (standing me) { stage = ReleaseLoad request; back = Tells }) here quiet refl tt refl refl tt
+    (λ owed worth nothing. nothing) refl
+
+-- a poll that starts; it doesn't give up what it is registered as
+poll-starts : (needs : Needs) (places : ℕ) (row : ℕ → ℕ) (standing : ℕ → Place) (lazy : Lazy) (me : ℕ) (s : Stands needs places row standing lazy) (taking : Taking)
+    → me < places → (standing me).stage ≡ Quiet → (registration : Registration) → (standing me).registration ≡ registration
+    → (is_slot registration ≡ true → IsAlone needs (standing me).registration (standing me).back (Take taking)) → gives_up (standing me).back (Take taking) ≡ false
+    → Stands needs places row (updated standing me (place_after (standing me) (polled_as (standing me) taking registration))) lazy
+poll-starts needs places row standing lazy me s taking here quiet Idle is alone keeps = same-place needs places row standing lazy me s
+poll-starts needs places row standing lazy me s taking here quiet (Once value request) is alone keeps =
+    moved needs places row standing lazy me s (record (standing me) { registration = Idle }) here (ap is_slot (sym is)) (s.stages.ranged me)
+    (subst (λ stage. IsAlone needs Idle (standing me).back stage) (sym quiet) tt) (s.stages.apart me) (s.stages.own me) (s.stages.showing me) refl
+    (s.stages.holding me)
+poll-starts needs places row standing lazy me s taking here quiet (Slot request) is alone keeps =
+    begun needs places row standing lazy me s (record (standing me) { stage = Take taking }) here quiet refl tt (alone refl) keeps tt
+    (λ owed worth nothing. nothing) refl
+
+-- a cancel that starts: it gives back what it was granted, or looks for itself in the line
+cancel-starts : (needs : Needs) (places : ℕ) (row : ℕ → ℕ) (standing : ℕ → Place) (lazy : Lazy) (me : ℕ) (s : Stands needs places row standing lazy)
+    → me < places → (standing me).stage ≡ Quiet → (registration : Registration) → (standing me).registration ≡ registration
+    → Stands needs places row (updated standing me (place_after (standing me) (cancelled_as needs (standing me) registration))) lazy
+cancel-starts needs places row standing lazy me s here quiet Idle is = same-place needs places row standing lazy me s
+cancel-starts needs places row standing lazy me s here quiet (Once value request) is =
+    elim (cases_Bool (is_taken_up needs request value)) [
+      | inl up ↦ rw up (begun needs places row standing lazy me s (record (standing me) { registration = Idle; stage = ReleaseLoad request; back = Ends }) here quiet
+          (ap is_slot (sym is)) tt refl refl tt (λ owed worth nothing. nothing) refl)
+      | inr free ↦ rw free (begun needs places row standing lazy me s (record (standing me) { registration = Idle; stage = Quiet }) here quiet
+          (ap is_slot (sym is)) tt tt refl tt (λ owed worth nothing. nothing) refl)
+    ]
+cancel-starts needs places row standing lazy me s here quiet (Slot request) is =
+    begun needs places row standing lazy me s (record (standing me) { stage = FlagLoad; back = Takes request }) here quiet refl tt is refl tt
+    (λ owed worth nothing. nothing) refl
+
+-- A call that starts leaves all standing together
+pub starts : (needs : Needs) → needs.top < 64 → (places : ℕ) (row : ℕ → ℕ) (standing : ℕ → Place) (lazy : Lazy) (me : ℕ) (call : WordCall)
+    → me < places → Stands needs places row standing lazy → (standing me).stage ≡ Quiet → is_taken needs.is_lock call ≡ true
+    → Stands needs places row (updated standing me (place_after (standing me) (started needs (standing me) call))) lazy
+starts needs wide places row standing lazy me (Try count) here s quiet taken =
+    elim (cases_Bool (nat_lt needs.top count)) [
+      | inl more ↦ rw more (same-place needs places row standing lazy me s)
+      | inr fits ↦
+          let small : count ≤ needs.top = grind (arith, nat_tests, fits) in
+          rw fits (try-starts needs places row standing lazy me s here quiet count (omega (arith, small, wide)))
+    ]
+starts needs wide places row standing lazy me (Register count) here s quiet taken =
+    elim (cases_Bool (nat_lt needs.top count)) [
+      | inl more ↦ rw more (same-place needs places row standing lazy me s)
+      | inr fits ↦
+          let small : count ≤ needs.top = grind (arith, nat_tests, fits) in
+          rw fits (register-starts needs places row standing lazy me s here quiet count (omega (arith, small, wide)))
+    ]
+starts needs wide places row standing lazy me (Release count) here s quiet taken =
+    elim (cases_Bool (nat_lt needs.top count)) [
+      | inl more ↦ rw more (same-place needs places row standing lazy me s)
+      | inr fits ↦
+          elim (cases_Bool (count == 0)) [
+            | inl nothing ↦ rw (fits, nothing) (same-place needs places row standing lazy me s)
+            | inr some ↦ rw (fits, some) (release-starts needs places row standing lazy me s here quiet count)
+          ]
+    ]
+starts needs wide places row standing lazy me Available here s quiet taken = reading-starts needs places row standing lazy me s here quiet ReadsAvailable
+starts needs wide places row standing lazy me TryLock here s quiet taken = try-starts needs places row standing lazy me s here quiet 0 (omega arith)
+starts needs wide places row standing lazy me TryShare here s quiet taken = try-starts needs places row standing lazy me s here quiet 1 (omega arith)
+starts needs wide places row standing lazy me (RegisterMode mode) here s quiet taken =
+    register-starts needs places row standing lazy me s here quiet (mode_number mode) (mode-small mode)
+starts needs wide places row standing lazy me ReleaseLock here s quiet taken = release-starts needs places row standing lazy me s here quiet 0
+starts needs wide places row standing lazy me ReleaseShare here s quiet taken = release-starts needs places row standing lazy me s here quiet 1
+starts needs wide places row standing lazy me PoisonLock here s quiet taken =
+    begun needs places row standing lazy me s (record (standing me) { stage = PoisonLoad; back = Tells }) here quiet refl tt (taken, refl) refl tt
+    (λ owed worth nothing. nothing) refl
+starts needs wide places row standing lazy me ClearPoison here s quiet taken =
+    begun needs places row standing lazy me s (record (standing me) { stage = Clear }) here quiet refl tt tt refl tt (λ owed worth nothing. nothing) refl
+starts needs wide places row standing lazy me IsFree here s quiet taken = reading-starts needs places row standing lazy me s here quiet ReadsFree
+starts needs wide places row standing lazy me IsLocked here s quiet taken = reading-starts needs places row standing lazy me s here quiet ReadsLocked
+starts needs wide places row standing lazy me IsShared here s quiet taken = reading-starts needs places row standing lazy me s here quiet ReadsShared
+starts needs wide places row standing lazy me IsPoisoned here s quiet taken = reading-starts needs places row standing lazy me s here quiet ReadsPoisoned
+starts needs wide places row standing lazy me TryPoll here s quiet taken =
+    poll-starts needs places row standing lazy me s Tries here quiet (standing me).registration refl (λ slot. slot) refl
+starts needs wide places row standing lazy me Poll here s quiet taken =
+    poll-starts needs places row standing lazy me s Awaits here quiet (standing me).registration refl (λ slot. slot) refl
+starts needs wide places row standing lazy me Cancel here s quiet taken =
+    cancel-starts needs places row standing lazy me s here quiet (standing me).registration refl
+
+-- What has been named
+
+-- a poll, a cancel and a registration that start
+poll-begun : (needs : Needs) (place : Place) (taking : Taking) (call : WordCall) (registration : Registration) → place.stage ≡ Quiet
+    → ((request : ℕ) → IsTaking call (Slot request) taking []) → IsBegun needs call registration (polled_as place taking registration)
+poll-begun needs place taking call Idle quiet is = quiet
+poll-begun needs place taking call (Once value request) quiet is = quiet
+poll-begun needs place taking call (Slot request) quiet is = is request
+
+cancel-begun : (needs : Needs) (place : Place) (registration : Registration) → place.stage ≡ Quiet
+    → IsBegun needs Cancel registration (cancelled_as needs place registration)
+cancel-begun needs place Idle quiet = quiet
+cancel-begun needs place (Once value request) quiet =
+    elim (cases_Bool (is_taken_up needs request value)) [
+      | inl up ↦ rw up (refl, (refl, up, refl))
+      | inr free ↦ rw free refl
+    ]
+cancel-begun needs place (Slot request) quiet = (refl, refl, refl)
+
+register-begun : (needs : Needs) (place : Place) (call : WordCall) (request : ℕ) → place.stage ≡ Quiet
+    → asked_by call ≡ Some (record { request = request; joins = true }) → IsBegun needs call place.registration (registered_as place request)
+register-begun needs place call request quiet is =
+    elim (cases_Bool (is_idle place.registration)) [
+      | inl idle ↦ rw idle (is, refl)
+      | inr refused ↦ rw refused quiet
+    ]
+
+-- A call that starts has named nothing
+pub call-begun : (needs : Needs) (place : Place) (call : WordCall) → place.stage ≡ Quiet → IsBegun needs call place.registration (started needs place call)
+call-begun needs place (Try count) quiet =
+    elim (cases_Bool (nat_lt needs.top count)) [
+      | inl more ↦ rw more quiet
+      | inr fits ↦ rw fits (refl, refl)
+    ]
+call-begun needs place (Register count) quiet =
+    elim (cases_Bool (nat_lt needs.top count)) [
+      | inl more ↦ rw more quiet
+      | inr fits ↦ rw fits (register-begun needs place (Register count) count quiet refl)
+    ]
+call-begun needs place (Release count) quiet =
+    elim (cases_Bool (nat_lt needs.top count)) [
+      | inl more ↦ rw more quiet
+      | inr fits ↦
+          elim (cases_Bool (count == 0)) [
+            | inl nothing ↦ rw (fits, nothing) quiet
+            | inr some ↦ rw (fits, some) (refl, refl)
+          ]
+    ]
+call-begun needs place Available quiet = (refl, refl)
+call-begun needs place TryLock quiet = (refl, refl)
+call-begun needs place TryShare quiet = (refl, refl)
+call-begun needs place (RegisterMode mode) quiet = register-begun needs place (RegisterMode mode) (mode_number mode) quiet refl
+call-begun needs place ReleaseLock quiet = (refl, refl)
+call-begun needs place ReleaseShare quiet = (refl, refl)
+call-begun needs place PoisonLock quiet = (refl, refl, refl)
+call-begun needs place ClearPoison quiet = (refl, refl)
+call-begun needs place IsFree quiet = (refl, refl)
+call-begun needs place IsLocked quiet = (refl, refl)
+call-begun needs place IsShared quiet = (refl, refl)
+call-begun needs place IsPoisoned quiet = (refl, refl)
+call-begun needs place TryPoll quiet = poll-begun needs place Tries TryPoll place.registration quiet (λ request. (refl, refl))
+call-begun needs place Poll quiet = poll-begun needs place Awaits Poll place.registration quiet (λ request. (refl, refl))
+call-begun needs place Cancel quiet = cancel-begun needs place place.registration quiet

@@ -1,0 +1,341 @@
+-- The step that writes an answer, and the one that takes an answer.
+use Rattle.std.proofs.Common.{◌≡◌, ℕ, ◌+◌, ◌%◌, ◌<◌, ◌≤◌, Bool, true, false, not, ◌&&◌, ◌||◌, List, [], ◌∷◌, ◌++◌, ◌==◌, Option, Some, None, is_some, if◌then◌else◌, refl, sym, ap, subst, ◌∙◌, arith, inl, inr, append-nil}
+use Rattle.std.proofs.lemmas.Bool.{cases_Bool}
+use Rattle.saa_core_spec.specs.Object.{one_if}
+use Rattle.saa_core_spec.specs.Values.{granted_value}
+use Rattle.saa_core_spec.proofs.Counts.{number_same, same_number, number_other, one_if-same}
+use Rattle.saa_core_words.specs.declared.word.Word.{Word}
+use Rattle.saa_core_words.specs.declared.line_word.LineWord.{LineWord}
+use Rattle.saa_core_words.specs.Words.{answer_number, answer_of}
+use Rattle.saa_core_words.proofs.Words.{answer-read}
+use Rattle.saa_word_steps.specs.declared.place.Place.{Place}
+use Rattle.saa_word_steps.specs.declared.place.Registration.{Registration}
+use Rattle.saa_word_steps.specs.declared.place.Registration.TheVariants.{Idle}
+use Rattle.saa_word_steps.specs.declared.place.Afterwards.{Afterwards}
+use Rattle.saa_word_steps.specs.declared.place.Afterwards.TheVariants.{Ends, Again}
+use Rattle.saa_word_steps.specs.declared.place.Back.{Back}
+use Rattle.saa_word_steps.specs.declared.place.Back.TheVariants.{Ends as EndsCall}
+use Rattle.saa_word_steps.specs.declared.place.Taking.{Taking}
+use Rattle.saa_word_steps.specs.declared.place.Taking.TheVariants.{Tries, Awaits, Gives}
+use Rattle.saa_word_steps.specs.declared.place.Stage.{Stage}
+use Rattle.saa_word_steps.specs.declared.place.Stage.TheVariants.{Quiet, ReleaseLoad, BackLoad, ShowLoad, ShowStore, Take}
+use Rattle.saa_word_steps.specs.declared.call.Answer.TheVariants.{Unit as Ended}
+use Rattle.saa_word_steps.specs.declared.place.Next.{Next}
+use Rattle.saa_word_steps.specs.declared.place.Next.TheVariants.{Going, Done}
+use Rattle.saa_word_steps.specs.Needs.{Needs, AreNeeds}
+use Rattle.saa_word_steps.specs.Lazy.{Lazy, Showed, Took, NotReady, is_empty, is_in, waits_times, held_by, with_answer}
+use Rattle.saa_word_steps.specs.Steps.{IsRanged, shown_all, going, taken_answer}
+use Rattle.saa_word_proofs.specs.Standing.{updated, line_of, newest, is_slot, is_holder, takes_back, gives_up, IsReturning, IsAlone, IsOwn, IsShowing, IsHolding, AreAnswers, Stands}
+use Rattle.saa_word_proofs.specs.Stepped.{Stepped, place_after, taken_events}
+use Rattle.saa_word_proofs.proofs.RefinementLemmas.Lists.{each-updated, updated-same, updated-at, newest-empty, empty-nil, in-some, times-append, behind-frame}
+use Rattle.saa_word_proofs.proofs.RefinementLemmas.Frames.{stages-next}
+use Rattle.saa_word_proofs.proofs.RefinementLemmas.Rows.{moved, row-other, apart-at}
+use Rattle.saa_word_proofs.proofs.RefinementLemmas.Outcomes.{Outcome, not-holder}
+use Rattle.saa_word_proofs.proofs.RefinementLemmas.Ending.{end_stage, ended, ended-ranged, ended-alone, ended-apart, ended-own, ended-showing, ended-holder}
+use Rattle.saa_word_proofs.proofs.RefinementLemmas.Showing.{shown, due-inside, line-answer, line-shown, own-shown, holding-shown, main-shown, after-store, holder-store, ranged-store}
+
+-- what the place of the last answer does that goes on with the line
+walk-holding : (needs : Needs) (words : ℕ → LineWord) (me held : ℕ) (line cut : List (ℕ × ℕ)) (current next value : ℕ) (seen : Word)
+    → IsHolding needs words me held line cut (ShowStore current next value (Again seen)) → IsHolding needs words me held line cut (BackLoad seen seen.tail 0)
+walk-holding needs words me held line cut current next value seen h =
+    let work = h.0 in (
+      record {
+        front = work.behind;
+        behind = [];
+        joined = work.joined;
+        parts = work.parts ∙ ap (λ (l : List (ℕ × ℕ)). l ++ (work.behind ++ work.joined)) h.2;
+        tail = work.tail ∙ ap (λ (l : List (ℕ × ℕ)). newest 0 (l ++ work.behind)) h.2 ∙ ap (newest 0) (sym (append-nil work.behind));
+        count = work.count;
+      },
+      h.1,
+      (work.tail ∙ ap (λ (l : List (ℕ × ℕ)). newest 0 (l ++ work.behind)) h.2, h.3, refl, tt),
+    )
+
+-- The newest answer that is owed is shown
+pub step-ShowStore : (needs : Needs) → AreNeeds needs → needs.top < 64 → (places : ℕ) (row : ℕ → ℕ) (standing : ℕ → Place) (lazy : Lazy) (me : ℕ)
+    → places < 65536 → me < places → (s : Stands needs places row standing lazy)
+    → (current next value : ℕ) (afterwards : Afterwards) → (standing me).stage ≡ ShowStore current next value afterwards
+    → Stepped needs places row standing lazy me (ShowStore current next value afterwards)
+step-ShowStore needs lawful wide places row standing lazy me room here s current next value afterwards at =
+    let stage : Stage = ShowStore current next value afterwards in
+    let alone : IsReturning (standing me).registration (standing me).back =
+    subst (λ stage. IsAlone needs (standing me).registration (standing me).back stage) at (s.stages.alone me) in
+    let apart : takes_back (standing me).back ≡ true → is_in me lazy.line ≡ false = apart-at needs places row standing lazy me s stage at in
+    let ranged : IsRanged needs stage = subst (λ stage. IsRanged needs stage) at (s.stages.ranged me) in
+    let showing : IsShowing (s.owed me) (s.worth me) stage = subst (λ stage. IsShowing (s.owed me) (s.worth me) stage) at (s.stages.showing me) in
+    let holding : s.holder ≡ me + 1 → IsHolding needs (line_of row) me lazy.count lazy.line s.cut stage =
+    λ it. subst (λ stage. IsHolding needs (line_of row) me lazy.count lazy.line s.cut stage) at (s.stages.holding me it) in
+    let before : List (ℕ × ℕ) = showing.0 in
+    let asker : ℕ × ℕ = showing.1 in
+    let mine : is_in asker.0 (s.owed me) ≡ true =
+    in-some asker.0 (s.owed me) (omega (arith, ap (λ (l : List (ℕ × ℕ)). waits_times asker.0 l) showing.2, times-append asker.0 before (asker ∷ []), one_if-same asker.0)) in
+    let due : lazy.due asker.0 ≡ Some (s.worth me) = (s.debts.due_to me asker.0 mine).1 in
+    let last : Lazy = record lazy { due = with_answer asker.0 None lazy.due; shown = with_answer asker.0 (lazy.due asker.0) lazy.shown } in
+    let row_is : updated row (places + current) (answer_number (Some value)) ≡ updated row (places + (asker.0 + 1)) (answer_number (Some (s.worth me))) =
+    ap (λ (n : ℕ). updated row (places + n) (answer_number (Some value))) showing.3
+    ∙ ap (λ (n : ℕ). updated row (places + (asker.0 + 1)) (answer_number (Some n))) showing.5 in
+    let empty : next == 0 ≡ is_empty before = ap (λ (n : ℕ). n == 0) showing.4 ∙ newest-empty before in
+    let nothing : next == 0 ≡ true → before ≡ [] = λ done. empty-nil before (sym empty ∙ done) in
+    let place : Place = place_after (standing me) (if next == 0 then shown_all (standing me) afterwards else going (standing me) (ShowLoad next value afterwards)) in
+    let then_stands : (goes : Stage) → place ≡ record (standing me) { stage = goes } → IsRanged needs goes
+    → IsAlone needs (standing me).registration (standing me).back goes → (gives_up (standing me).back goes ≡ true → is_in me lazy.line ≡ false)
+    → ((word : LineWord) → IsOwn word goes) → IsShowing before (s.worth me) goes → is_holder goes ≡ is_holder stage
+    → (s.holder ≡ me + 1 → IsHolding needs (line_of row) me lazy.count lazy.line s.cut goes)
+    → Stands needs places (updated row (places + current) (answer_number (Some value))) (updated standing me place) last =
+    λ goes is goes_ranged goes_alone goes_apart goes_own goes_showing goes_holder goes_holding.
+    subst (λ (r : ℕ → ℕ). Stands needs places r (updated standing me place) last) (sym row_is)
+    (subst (λ (p : Place). Stands needs places (updated row (places + (asker.0 + 1)) (answer_number (Some (s.worth me)))) (updated standing me p) last) (sym is)
+    (shown needs places row standing lazy me here s before asker showing.2 goes goes_ranged goes_alone goes_apart goes_own goes_showing
+    (goes_holder ∙ ap is_holder (sym at)) goes_holding)) in
+    record {
+      events = Showed asker.0 ∷ [];
+      last = last;
+      run = (ap is_some due, refl);
+      names = refl;
+      calm = λ semaphore. refl;
+      inside = omega (arith, showing.3, due-inside needs places row standing lazy s me asker.0 mine);
+      stands =
+          elim (cases_Bool (next == 0)) [
+            | inl done ↦ at-end needs places row standing lazy me s current next value afterwards before last done (nothing done) ranged alone apart holding then_stands
+            | inr more ↦ then_stands (ShowLoad next value afterwards) (rw more refl)
+                (ranged-store needs current next next value afterwards ranged) alone apart (λ word. tt)
+                (sym showing.4, sym empty ∙ more, showing.5) (holder-store current next next value afterwards)
+                (λ it. after-store needs (line_of row) me lazy.count lazy.line s.cut current next next value afterwards (holding it))
+          ];
+    }
+  where
+    at-end : (needs : Needs) (places : ℕ) (row : ℕ → ℕ) (standing : ℕ → Place) (lazy : Lazy) (me : ℕ) (s : Stands needs places row standing lazy)
+        (current next value : ℕ) (afterwards : Afterwards) (before : List (ℕ × ℕ)) (last : Lazy) → next == 0 ≡ true → before ≡ []
+        → IsRanged needs (ShowStore current next value afterwards) → IsReturning (standing me).registration (standing me).back
+        → (takes_back (standing me).back ≡ true → is_in me lazy.line ≡ false)
+        → (s.holder ≡ me + 1 → IsHolding needs (line_of row) me lazy.count lazy.line s.cut (ShowStore current next value afterwards))
+        → ((goes : Stage) → place_after (standing me) (if next == 0 then shown_all (standing me) afterwards else going (standing me) (ShowLoad next value afterwards))
+        ≡ record (standing me) { stage = goes } → IsRanged needs goes
+        → IsAlone needs (standing me).registration (standing me).back goes → (gives_up (standing me).back goes ≡ true → is_in me lazy.line ≡ false)
+        → ((word : LineWord) → IsOwn word goes) → IsShowing before (s.worth me) goes → is_holder goes ≡ is_holder (ShowStore current next value afterwards)
+        → (s.holder ≡ me + 1 → IsHolding needs (line_of row) me lazy.count lazy.line s.cut goes)
+        → Stands needs places (updated row (places + current) (answer_number (Some value)))
+        (updated standing me (place_after (standing me) (if next == 0 then shown_all (standing me) afterwards else going (standing me) (ShowLoad next value afterwards)))) last)
+        → Stands needs places (updated row (places + current) (answer_number (Some value)))
+        (updated standing me (place_after (standing me) (if next == 0 then shown_all (standing me) afterwards else going (standing me) (ShowLoad next value afterwards)))) last
+    at-end needs places row standing lazy me s current next value Ends before last done nothing ranged alone apart holding goes =
+        let back : Back = (standing me).back in
+        goes (end_stage back) (rw done (ended (standing me) back)) (ended-ranged needs back) (ended-alone needs (standing me).registration back alone)
+        (λ gives. apart (sym (ended-apart back) ∙ gives)) (λ word. ended-own word back) (ended-showing before (s.worth me) back nothing) (ended-holder back)
+        (λ it. absurd (holding it))
+    at-end needs places row standing lazy me s current next value (Again seen) before last done nothing ranged alone apart holding goes =
+        goes (BackLoad seen seen.tail 0) (rw done refl) ranged alone apart (λ word. tt) nothing refl
+        (λ it. walk-holding needs (line_of row) me lazy.count lazy.line s.cut current next value seen (holding it))
+
+-- an answer word is read as the answer that it shows
+pub answer-again : (answer : Option ℕ) → ((value : ℕ) → answer ≡ Some value → value < 256) → answer_of (answer_number answer % 65536) ≡ answer
+answer-again None small = refl
+answer-again (Some value) small =
+    let kept : answer_number (Some value) % 65536 ≡ answer_number (Some value) = omega (arith, small value refl) in
+    ap answer_of kept ∙ answer-read (Some value) small
+
+-- a place that takes its answer is held no more
+held-taken : (needs : Needs) (places : ℕ) (row : ℕ → ℕ) (standing : ℕ → Place) (lazy : Lazy) (s : Stands needs places row standing lazy)
+    (me value : ℕ) (place : Place) → is_slot (standing me).registration ≡ true → lazy.shown me ≡ Some value → is_slot place.registration ≡ false → (other : ℕ)
+    → held_by other (record lazy { shown = with_answer me None lazy.shown }) ≡ one_if (is_slot (updated standing me place other).registration)
+held-taken needs places row standing lazy s me value place slot is idle =
+    each-updated (λ (n : ℕ) (p : Place). held_by n (record lazy { shown = with_answer me None lazy.shown }) ≡ one_if (is_slot p.registration))
+    standing me place
+    (rw (number_same me) (omega (arith, s.seats.held me, ap one_if slot, ap one_if idle, ap (λ (a : Option ℕ). one_if (is_some a)) is)))
+    (λ other apart. rw (number_other other me apart) (s.seats.held other))
+
+-- the answer words once an answer is taken
+answers-taken : (needs : Needs) (places : ℕ) (row : ℕ → ℕ) (standing : ℕ → Place) (lazy : Lazy) (s : Stands needs places row standing lazy) (me : ℕ)
+    → AreAnswers places (updated row (places + (me + 1)) 0) (with_answer me None lazy.shown)
+answers-taken needs places row standing lazy s me = record {
+  words = λ place inside.
+      elim (cases_Bool (place == me)) [
+        | inl same ↦
+            let index : places + place + 1 ≡ places + (me + 1) = omega (arith, same_number place me same) in
+            rw same (ap (updated row (places + (me + 1)) 0) index ∙ updated-at row (places + (me + 1)) 0)
+        | inr apart ↦
+            let index : places + place + 1 ≡ places + (me + 1) → ⊥ =
+            λ is. let wrong : place == me ≡ true = ap (λ (n : ℕ). place == n) (omega (arith, is)) ∙ number_same place in absurd (cc) in
+            rw apart (row-other row (places + (me + 1)) 0 (places + place + 1) index ∙ s.answers.words place inside)
+      ];
+  small = λ place value.
+      elim (cases_Bool (place == me)) [
+        | inl same ↦ rw same (λ is. absurd (cc))
+        | inr apart ↦ rw apart (s.answers.small place value)
+      ];
+}
+
+-- An answer is taken, whatever the place does next
+taken : (needs : Needs) (places : ℕ) (row : ℕ → ℕ) (standing : ℕ → Place) (lazy : Lazy) (me value : ℕ)
+    → me < places → (s : Stands needs places row standing lazy) → is_slot (standing me).registration ≡ true → is_holder (standing me).stage ≡ false
+    → lazy.shown me ≡ Some value
+    → (place : Place) → is_slot place.registration ≡ false → IsRanged needs place.stage → IsAlone needs place.registration place.back place.stage
+    → gives_up place.back place.stage ≡ false → ((word : LineWord) → IsOwn word place.stage) → IsShowing (s.owed me) (s.worth me) place.stage
+    → is_holder place.stage ≡ false
+    → Stands needs places (updated row (places + me + 1) 0) (updated standing me place) (record lazy { shown = with_answer me None lazy.shown })
+taken needs places row standing lazy me value here s slot none is place idle ranged alone apart own showing free =
+    let some : 0 < me + 1 = omega arith in
+    let index : places + (me + 1) ≡ places + me + 1 = omega arith in
+    let new : ℕ → LineWord = line_of (updated row (places + (me + 1)) 0) in
+    let fields : (other : ℕ) → other < places → ((new other).request ≡ (line_of row other).request) × ((new other).older ≡ (line_of row other).older) =
+    λ other inside.
+    let same = line-answer row places (me + 1) 0 other inside some in
+    (ap (λ (w : LineWord). w.request) same, ap (λ (w : LineWord). w.older) same) in
+    subst (λ (n : ℕ). Stands needs places (updated row n 0) (updated standing me place) (record lazy { shown = with_answer me None lazy.shown })) index (record {
+      holder = s.holder;
+      cut = s.cut;
+      uncut = s.uncut;
+      owed = s.owed;
+      shower = s.shower;
+      worth = s.worth;
+      free = s.free;
+      main = main-shown needs places row standing lazy s (me + 1) 0 lazy.due (with_answer me None lazy.shown) some;
+      line = line-shown needs places row standing lazy s (me + 1) 0 some;
+      seats = record {
+        held = held-taken needs places row standing lazy s me value place slot is idle;
+        within = each-updated (λ (n : ℕ) (p : Place). is_slot p.registration ≡ true → n < places) standing me place (λ slot. here)
+            (λ other differs. s.seats.within other);
+        beyond = each-updated (λ (n : ℕ) (p : Place). places ≤ n → p.stage ≡ Quiet) standing me place (λ out. absurd (omega (arith, out, here)))
+            (λ other differs. s.seats.beyond other);
+      };
+      answers = answers-taken needs places row standing lazy s me;
+      debts = record {
+        due_to = s.debts.due_to;
+        paid_by = s.debts.paid_by;
+        once = s.debts.once;
+        small = s.debts.small;
+        links = λ other. behind-frame (line_of row) new 0 (s.owed other)
+            (λ one there. fields one (due-inside needs places row standing lazy s other one (in-some one (s.owed other) there))) (s.debts.links other);
+      };
+      stages = stages-next needs (line_of row) new standing lazy.count lazy.count lazy.line lazy.line s.cut s.cut s.holder s.holder s.owed s.owed
+          s.worth s.worth me place s.stages
+          ranged alone (λ gives. let wrong : true ≡ false = sym gives ∙ apart in absurd (cc)) (own (new me)) showing (free ∙ sym none ∙ s.stages.one me)
+          (λ it. absurd (not-holder needs places row standing lazy me s none it))
+          (λ other differs out. out)
+          (λ other differs. own-shown needs places row standing lazy s (me + 1) 0 some other)
+          (λ other differs. refl) (λ other differs. refl) (λ other differs. refl)
+          (λ other differs it. holding-shown needs places row standing lazy s (me + 1) 0 some other (standing other).stage (s.stages.holding other it));
+    })
+
+-- whoever has joined and has no answer waits, or its answer is due
+not-yet : (waits : Bool) (due : Bool) (times : ℕ) → (0 < times → waits ≡ true) → times + one_if due ≡ 1 → (waits || due) ≡ true
+not-yet true due times there one = refl
+not-yet false true times there one = refl
+not-yet false false times there one = absurd (let wrong : false ≡ true = there (omega (arith, one)) in absurd (cc))
+
+-- what is so of both ways that a place goes on is so of the one that it takes
+either : (P : Place → Type 0) (place : Place) (test : Bool) (one other : Next) → P (place_after place one) → P (place_after place other)
+    → P (place_after place (if test then one else other))
+either P place true one other p q = p
+either P place false one other p q = q
+
+-- who takes its answer is registered in the line
+take-slot : (needs : Needs) (registration : Registration) (back : Back) (taking : Taking) → IsAlone needs registration back (Take taking)
+    → is_slot registration ≡ true
+take-slot needs registration back Tries alone = alone
+take-slot needs registration back Awaits alone = alone
+take-slot needs registration back (Gives request) alone = ap is_slot alone
+
+-- an answer that isn't there yet leaves the row, and a place that stays as it is leaves the whole
+stays : (needs : Needs) (places : ℕ) (row : ℕ → ℕ) (standing : ℕ → Place) (lazy : Lazy) (me at : ℕ) → Stands needs places row standing lazy → row at ≡ 0
+    → Stands needs places (updated row at 0) (updated standing me (standing me)) lazy
+stays needs places row standing lazy me at s number =
+    subst (λ (r : ℕ → ℕ). Stands needs places r (updated standing me (standing me)) lazy) (sym (updated-same row at 0 (sym number)))
+    (subst (λ (f : ℕ → Place). Stands needs places row f lazy) (sym (updated-same standing me (standing me) refl)) s)
+
+-- the step of a place that takes its answer, by the answer that it is shown
+takes : (needs : Needs) (places : ℕ) (row : ℕ → ℕ) (standing : ℕ → Place) (lazy : Lazy) (me : ℕ)
+    → me < places → (s : Stands needs places row standing lazy) → is_slot (standing me).registration ≡ true → is_holder (standing me).stage ≡ false
+    → s.owed me ≡ [] → (taking : Taking) (answer : Option ℕ) → lazy.shown me ≡ answer → row (places + me + 1) ≡ answer_number answer
+    → Outcome needs places (updated row (places + me + 1) 0) standing lazy me (taken_answer needs (standing me) taking answer) (taken_events taking answer)
+takes needs places row standing lazy me here s slot none nothing Tries (Some value) is number = record {
+  events = Took value ∷ [];
+  last = record lazy { shown = with_answer me None lazy.shown };
+  run = (is, refl);
+  names = refl;
+  calm = λ semaphore. refl;
+  stands = taken needs places row standing lazy me value here s slot none is (record (standing me) { registration = Idle; stage = Quiet })
+      refl tt tt refl (λ word. tt) nothing refl;
+}
+takes needs places row standing lazy me here s slot none nothing Awaits (Some value) is number = record {
+  events = Took value ∷ [];
+  last = record lazy { shown = with_answer me None lazy.shown };
+  run = (is, refl);
+  names = refl;
+  calm = λ semaphore. refl;
+  stands = taken needs places row standing lazy me value here s slot none is (record (standing me) { registration = Idle; stage = Quiet })
+      refl tt tt refl (λ word. tt) nothing refl;
+}
+takes needs places row standing lazy me here s slot none nothing (Gives request) (Some value) is number = record {
+  events = Took value ∷ [];
+  last = record lazy { shown = with_answer me None lazy.shown };
+  run = (is, refl);
+  names = refl;
+  calm = λ semaphore. refl;
+  stands =
+      let drops : Place = record (standing me) { registration = Idle; stage = ReleaseLoad request; back = EndsCall } in
+      let quiet : Place = record (standing me) { registration = Idle; stage = Quiet } in
+      either (λ (p : Place). Stands needs places (updated row (places + me + 1) 0) (updated standing me p) (record lazy { shown = with_answer me None lazy.shown }))
+      (standing me) (value == granted_value && not (needs.takes request == 0)) (Going drops) (Done quiet Ended)
+      (taken needs places row standing lazy me value here s slot none is drops refl tt refl refl (λ word. tt) nothing refl)
+      (taken needs places row standing lazy me value here s slot none is quiet refl tt tt refl (λ word. tt) nothing refl);
+}
+takes needs places row standing lazy me here s slot none nothing Tries None is number = record {
+  events = NotReady ∷ [];
+  last = lazy;
+  run = (
+    not-yet (is_in me lazy.line) (is_some (lazy.due me)) (waits_times me lazy.line) (in-some me lazy.line)
+        (omega (arith, s.seats.held me, ap one_if slot, ap (λ (a : Option ℕ). one_if (is_some a)) is)),
+    refl,
+  );
+  names = refl;
+  calm = λ semaphore. refl;
+  stands =
+      let quiet : Place = record (standing me) { stage = Quiet } in
+      subst (λ (r : ℕ → ℕ). Stands needs places r (updated standing me quiet) lazy) (sym (updated-same row (places + me + 1) 0 (sym number)))
+      (moved needs places row standing lazy me s quiet here refl tt tt (λ gives. absurd (cc)) tt nothing (sym none)
+      (λ it. absurd (not-holder needs places row standing lazy me s none it)));
+}
+takes needs places row standing lazy me here s slot none nothing Awaits None is number = record {
+  events = [];
+  last = lazy;
+  run = refl;
+  names = refl;
+  calm = λ semaphore. refl;
+  stands = stays needs places row standing lazy me (places + me + 1) s number;
+}
+takes needs places row standing lazy me here s slot none nothing (Gives request) None is number = record {
+  events = [];
+  last = lazy;
+  run = refl;
+  names = refl;
+  calm = λ semaphore. refl;
+  stands = stays needs places row standing lazy me (places + me + 1) s number;
+}
+
+-- A place takes its answer, or finds none
+pub step-Take : (needs : Needs) → AreNeeds needs → needs.top < 64 → (places : ℕ) (row : ℕ → ℕ) (standing : ℕ → Place) (lazy : Lazy) (me : ℕ)
+    → places < 65536 → me < places → (s : Stands needs places row standing lazy)
+    → (taking : Taking) → (standing me).stage ≡ Take taking → Stepped needs places row standing lazy me (Take taking)
+step-Take needs lawful wide places row standing lazy me room here s taking at =
+    let alone : IsAlone needs (standing me).registration (standing me).back (Take taking) =
+    subst (λ stage. IsAlone needs (standing me).registration (standing me).back stage) at (s.stages.alone me) in
+    let slot : is_slot (standing me).registration ≡ true = take-slot needs (standing me).registration (standing me).back taking alone in
+    let nothing : s.owed me ≡ [] = subst (λ stage. IsShowing (s.owed me) (s.worth me) stage) at (s.stages.showing me) in
+    let number : row (places + me + 1) ≡ answer_number (lazy.shown me) = s.answers.words me here in
+    let answer_is : answer_of (row (places + me + 1) % 65536) ≡ lazy.shown me =
+    ap (λ (n : ℕ). answer_of (n % 65536)) number ∙ answer-again (lazy.shown me) (s.answers.small me) in
+    let out = takes needs places row standing lazy me here s slot (ap is_holder at) nothing taking (lazy.shown me) refl number in
+    record {
+      events = out.events;
+      last = out.last;
+      run = out.run;
+      names = out.names ∙ ap (taken_events taking) (sym answer_is);
+      calm = out.calm;
+      inside = omega (arith, here);
+      stands = subst
+          (λ (a : Option ℕ).
+          Stands needs places (updated row (places + me + 1) 0)
+          (updated standing me (place_after (standing me) (taken_answer needs (standing me) taking a))) out.last)
+          (sym answer_is) out.stands;
+    }

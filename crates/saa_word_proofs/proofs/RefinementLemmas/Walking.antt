@@ -1,0 +1,224 @@
+-- The holder of the flag walks the line, from the tail that it saw to the oldest and from there on: each step keeps how words, places
+-- and the lazy object stand together.
+use Rattle.std.proofs.Common.{◌≡◌, ℕ, ◌+◌, ◌<◌, pred, true, false, List, [], ◌∷◌, ◌++◌, ◌==◌, refl, sym, ap, subst, ◌∙◌, arith, inl, inr, append_assoc}
+use Rattle.std.proofs.lemmas.Bool.{cases_Bool}
+use Rattle.saa_core_spec.proofs.Counts.{same_number}
+use Rattle.saa_core_words.specs.declared.word.Word.{Word}
+use Rattle.saa_core_words.specs.declared.line_word.LineWord.{LineWord}
+use Rattle.saa_core_words.specs.Words.{line_number, line_word_of}
+use Rattle.saa_word_steps.specs.declared.place.Place.{Place}
+use Rattle.saa_word_steps.specs.declared.place.Stage.TheVariants.{BackLoad, BackStore, Forward, CutToClose, Close, Empty}
+use Rattle.saa_word_steps.specs.Needs.{Needs, AreNeeds, fits_count}
+use Rattle.saa_word_steps.specs.Lazy.{Lazy, IsSettledAt, takes_of, is_empty}
+use Rattle.saa_word_steps.specs.Steps.{IsRanged, IsRangedNext, next_of}
+use Rattle.saa_word_steps.proofs.Ranges.{next-ranged}
+use Rattle.saa_word_proofs.specs.Standing.{updated, line_of, newest, is_holder, IsAlone, IsShowing, Work, IsAdded, IsAt, Stands}
+use Rattle.saa_word_proofs.specs.Stepped.{place_after, Stepped}
+use Rattle.saa_word_proofs.proofs.RefinementLemmas.Lists.{newest-empty, empty-nil, front-append, takes-append}
+use Rattle.saa_word_proofs.proofs.RefinementLemmas.Frames.{newest-stands, oldest-stands, work-front, work-behind}
+use Rattle.saa_word_proofs.proofs.RefinementLemmas.Rows.{apart-at, moved, loaded}
+use Rattle.saa_word_proofs.proofs.RefinementLemmas.Storing.{IsStored, stored}
+use Rattle.saa_word_proofs.proofs.RefinementLemmas.Linking.{flag-held, flag-knows, apart-by, in-line, relinked, IsLooked, looked, linked-all, tail-room}
+
+-- The line word of the last of the front is loaded, before it is linked to those behind it
+pub step-BackLoad : (needs : Needs) → AreNeeds needs → needs.top < 64 → (places : ℕ) (row : ℕ → ℕ) (standing : ℕ → Place) (lazy : Lazy) (me : ℕ)
+    → places < 65536 → me < places → (s : Stands needs places row standing lazy)
+    → (seen : Word) (current newer : ℕ) → (standing me).stage ≡ BackLoad seen current newer
+    → Stepped needs places row standing lazy me (BackLoad seen current newer)
+step-BackLoad needs lawful wide places row standing lazy me room here s seen current newer at =
+    let knows = flag-knows needs places row standing lazy me s (BackLoad seen current newer) at refl in
+    let there = newest-stands knows.0.front current knows.2.1 knows.2.0 in
+    let seat = in-line places standing lazy (pred current) s.seats (work-front lazy.count lazy.line seen knows.0 (pred current) there.0) in
+    let next : Place = record (standing me) { stage = BackStore seen current newer (line_word_of (row current)) } in
+    record {
+      events = [];
+      last = lazy;
+      run = refl;
+      names = refl;
+      calm = λ semaphore. refl;
+      inside = omega (arith, there.1, seat.0);
+      stands = loaded needs places row (updated standing me next) lazy current
+          (moved needs places row standing lazy me s next here refl
+          (subst (λ stage. IsRanged needs stage) at (s.stages.ranged me))
+          (subst (λ stage. IsAlone needs (standing me).registration (standing me).back stage) at (s.stages.alone me))
+          (apart-at needs places row standing lazy me s (BackLoad seen current newer) at) tt
+          (subst (λ stage. IsShowing (s.owed me) (s.worth me) stage) at (s.stages.showing me)) (ap is_holder (sym at))
+          (λ is. (knows.0, knows.1, knows.2, ap (λ (n : ℕ). line_word_of (row n)) there.1)));
+    }
+
+-- It is written with the link to the one behind it; the walk goes on to the one before, or turns at the oldest
+pub step-BackStore : (needs : Needs) → AreNeeds needs → needs.top < 64 → (places : ℕ) (row : ℕ → ℕ) (standing : ℕ → Place) (lazy : Lazy) (me : ℕ)
+    → places < 65536 → me < places → (s : Stands needs places row standing lazy)
+    → (seen : Word) (current newer : ℕ) (line : LineWord) → (standing me).stage ≡ BackStore seen current newer line
+    → Stepped needs places row standing lazy me (BackStore seen current newer line)
+step-BackStore needs lawful wide places row standing lazy me room here s seen current newer line at =
+    let knows = flag-knows needs places row standing lazy me s (BackStore seen current newer line) at refl in
+    let flag = flag-held needs places row standing lazy me s (ap is_holder at) in
+    let store : IsStored places row lazy s.cut s.uncut seen current newer line knows.0 =
+    stored needs places row standing lazy s seen current newer line knows.0 room knows.1 knows.2 knows.3 in
+    let work : Work lazy.count lazy.line seen = store.walk.work in
+    let number : ℕ = line_number (record line { newer = newer }) in
+    let ranged = subst (λ stage. IsRanged needs stage) at (s.stages.ranged me) in
+    let alone = subst (λ stage. IsAlone needs (standing me).registration (standing me).back stage) at (s.stages.alone me) in
+    let apart = apart-at needs places row standing lazy me s (BackStore seen current newer line) at in
+    let showing = subst (λ stage. IsShowing (s.owed me) (s.worth me) stage) at (s.stages.showing me) in
+    record {
+      events = [];
+      last = lazy;
+      run = refl;
+      names = refl;
+      calm = λ semaphore. refl;
+      inside = omega (arith, store.link, store.inside);
+      stands =
+          elim (cases_Bool (line.older == 0)) [
+            | inl none ↦
+                let nobody : work.front ≡ [] =
+                empty-nil work.front (sym (newest-empty work.front) ∙ ap (λ (n : ℕ). n == 0) (sym store.walk.before) ∙ none) in
+                rw none
+                (subst (λ (link : ℕ).
+                Stands needs places (updated row link number) (updated standing me (record (standing me) { stage = Forward seen current seen.count })) lazy)
+                (sym store.link)
+                (relinked needs places row standing lazy me s (Forward seen current seen.count) (pred current) number s.cut s.uncut here flag store.waits
+                store.linked
+                (ranged, ranged) alone apart tt showing refl
+                (work, knows.1, subst (λ l. IsAdded needs seen l seen.count) (sym nobody) (tt, omega arith), store.walk.behind)))
+            | inr some ↦
+                let somebody : is_empty work.front ≡ false =
+                sym (newest-empty work.front) ∙ ap (λ (n : ℕ). n == 0) (sym store.walk.before) ∙ some in
+                rw some
+                (subst (λ (link : ℕ).
+                Stands needs places (updated row link number) (updated standing me (record (standing me) { stage = BackLoad seen line.older current })) lazy)
+                (sym store.link)
+                (relinked needs places row standing lazy me s (BackLoad seen line.older current) (pred current) number s.cut s.uncut here flag store.waits
+                store.linked
+                ranged alone apart tt showing refl
+                (work, knows.1, (store.walk.before, somebody, store.walk.behind.0, store.walk.behind.2))))
+          ];
+    }
+
+-- The holder passes the first of those behind the front: it fits behind them
+passed : (needs : Needs) (words : ℕ → LineWord) (held : ℕ) (line : List (ℕ × ℕ)) (seen : Word) (current count : ℕ) (work : Work held line seen)
+    → IsAdded needs seen work.front count → IsLooked words held line seen work current
+    → fits_count needs count (words (pred current)).request ≡ true → (current == seen.tail) ≡ false
+    → (after : Work held line seen) × IsAdded needs seen after.front (count + needs.takes (words (pred current)).request)
+    × IsAt words after.behind (words (pred current)).newer
+passed needs words held line seen current count work added look fits differs =
+    let parts : line ≡ (work.front ++ look.asker ∷ []) ++ (look.rest ++ work.joined) =
+    work.parts ∙ ap (λ (l : List (ℕ × ℕ)). work.front ++ (l ++ work.joined)) look.behind
+    ∙ sym (append_assoc work.front (look.asker ∷ []) (look.rest ++ work.joined)) in
+    let whole : work.front ++ work.behind ≡ (work.front ++ look.asker ∷ []) ++ look.rest =
+    ap (λ (l : List (ℕ × ℕ)). work.front ++ l) look.behind ∙ sym (append_assoc work.front (look.asker ∷ []) look.rest) in
+    let here : fits_count needs (seen.count + takes_of needs work.front) look.asker.1 ≡ true =
+    ap (λ (n : ℕ). fits_count needs n look.asker.1) (sym added.1) ∙ ap (λ (n : ℕ). fits_count needs count n) (sym look.request) ∙ fits in
+    let some : is_empty look.rest ≡ false =
+    elim (cases_Bool (is_empty look.rest)) [
+      | inl none ↦ absurd (apart-by current seen.tail differs (sym (look.last none)))
+      | inr there ↦ there
+    ] in (
+      record {
+        front = work.front ++ look.asker ∷ [];
+        behind = look.rest;
+        joined = work.joined;
+        parts = parts;
+        tail = work.tail ∙ ap (newest 0) whole;
+        count = work.count;
+      },
+      (
+        front-append needs seen.count work.front (look.asker ∷ []) added.0 (here, tt),
+        omega (arith, added.1, ap needs.takes look.request, takes-append needs work.front (look.asker ∷ [])),
+      ),
+      (look.newer some, some, look.ahead),
+    )
+
+-- Whoever fits is passed; the line is emptied where all fit, and cut and closed at the first who does not
+pub step-Forward : (needs : Needs) → AreNeeds needs → needs.top < 64 → (places : ℕ) (row : ℕ → ℕ) (standing : ℕ → Place) (lazy : Lazy) (me : ℕ)
+    → places < 65536 → me < places → (s : Stands needs places row standing lazy)
+    → (seen : Word) (current count : ℕ) → (standing me).stage ≡ Forward seen current count
+    → Stepped needs places row standing lazy me (Forward seen current count)
+step-Forward needs lawful wide places row standing lazy me room here s seen current count at =
+    let knows = flag-knows needs places row standing lazy me s (Forward seen current count) at refl in
+    let work : Work lazy.count lazy.line seen = knows.0 in
+    let there = oldest-stands work.behind current knows.3.1 knows.3.0 in
+    let seat = in-line places standing lazy (pred current) s.seats (work-behind lazy.count lazy.line seen work (pred current) there.0) in
+    let found : LineWord = line_word_of (row current) in
+    let is : found ≡ line_of row (pred current) = ap (λ (n : ℕ). line_word_of (row n)) there.1 in
+    let look : IsLooked (line_of row) lazy.count lazy.line seen work current =
+    looked (line_of row) lazy.count lazy.line seen work current (linked-all (line_of row) lazy.line s.cut s.uncut s.line knows.1) knows.3 in
+    let older : found.older ≡ newest 0 work.front = ap (λ (w : LineWord). w.older) is ∙ look.older in
+    let request : found.request ≡ look.asker.1 = ap (λ (w : LineWord). w.request) is ∙ look.request in
+    let tail : seen.tail < 65536 = tail-room places standing lazy seen work s.seats room knows.3.1 in
+    let ranged : IsRangedNext needs (next_of needs me (standing me) (Forward seen current count) (row current)) =
+    next-ranged needs lawful wide me (standing me) (Forward seen current count) (row current) (s.stages.ranged me)
+    (subst (λ stage. IsRanged needs stage) at (s.stages.ranged me)) in
+    let alone = subst (λ stage. IsAlone needs (standing me).registration (standing me).back stage) at (s.stages.alone me) in
+    let apart = apart-at needs places row standing lazy me s (Forward seen current count) at in
+    let showing : s.owed me ≡ [] = subst (λ stage. IsShowing (s.owed me) (s.worth me) stage) at (s.stages.showing me) in
+    record {
+      events = [];
+      last = lazy;
+      run = refl;
+      names = refl;
+      calm = λ semaphore. refl;
+      inside = omega (arith, there.1, seat.0);
+      stands =
+          loaded needs places row
+          (updated standing me (place_after (standing me) (next_of needs me (standing me) (Forward seen current count) (row current)))) lazy current
+          (elim (cases_Bool (fits_count needs count found.request)) [
+            | inl fits ↦
+                let fits_there : fits_count needs count (line_of row (pred current)).request ≡ true =
+                ap (λ (w : LineWord). fits_count needs count w.request) (sym is) ∙ fits in
+                elim (cases_Bool (current == seen.tail)) [
+                  | inl last ↦
+                      let range : IsRanged needs (Empty seen current (count + needs.takes found.request) found) = rw (fits, last) at ranged in
+                      rw (fits, last)
+                      (moved needs places row standing lazy me s (record (standing me) { stage = Empty seen current (count + needs.takes found.request) found })
+                      here refl range (tail, alone) apart tt showing (ap is_holder (sym at))
+                      (λ holder. (
+                        work,
+                        knows.1,
+                        knows.2.0,
+                        knows.3,
+                        is,
+                        sym (same_number current seen.tail last),
+                        ap (λ (n : ℕ). fits_count needs n found.request) (sym knows.2.1) ∙ fits,
+                        ap (λ (n : ℕ). n + needs.takes found.request) knows.2.1,
+                      )))
+                  | inr differs ↦
+                      let range : IsRanged needs (Forward seen found.newer (count + needs.takes found.request)) = rw (fits, differs) at ranged in
+                      let after = passed needs (line_of row) lazy.count lazy.line seen current count work knows.2 look fits_there differs in
+                      rw (fits, differs)
+                      (moved needs places row standing lazy me s (record (standing me) { stage = Forward seen found.newer (count + needs.takes found.request) })
+                      here refl range alone apart tt showing (ap is_holder (sym at))
+                      (λ holder. (
+                        after.0,
+                        knows.1,
+                        subst (λ (w : LineWord). IsAdded needs seen after.0.front (count + needs.takes w.request)) (sym is) after.1,
+                        subst (λ (w : LineWord). IsAt (line_of row) after.0.behind w.newer) (sym is) after.2,
+                      )))
+                ]
+            | inr unfit ↦
+                elim (cases_Bool (found.older == 0)) [
+                  | inl none ↦
+                      let range : IsRanged needs (Close seen count 0) = rw (unfit, none) at ranged in
+                      let nobody : work.front ≡ [] =
+                      empty-nil work.front (sym (newest-empty work.front) ∙ ap (λ (n : ℕ). n == 0) (sym older) ∙ none) in
+                      rw (unfit, none)
+                      (moved needs places row standing lazy me s (record (standing me) { stage = Close seen count 0 })
+                      here refl range (tail, alone) apart tt showing (ap is_holder (sym at))
+                      (λ holder. (
+                        work,
+                        knows.1 ∙ sym nobody,
+                        knows.2,
+                        sym (ap (newest 0) nobody),
+                        knows.3.1,
+                        subst (λ l. IsSettledAt needs count l) (sym look.behind) (ap (λ (n : ℕ). fits_count needs count n) (sym request) ∙ unfit),
+                      )))
+                  | inr some ↦
+                      let range : IsRanged needs (CutToClose seen current count found) = rw (unfit, some) at ranged in
+                      rw (unfit, some)
+                      (moved needs places row standing lazy me s (record (standing me) { stage = CutToClose seen current count found })
+                      here refl range alone apart tt showing (ap is_holder (sym at))
+                      (λ holder. (work, knows.1, knows.2, knows.3, is, unfit)))
+                ]
+          ]);
+    }

@@ -1,0 +1,197 @@
+-- The sequential object beside a release: what is given back, and the front that is granted behind it.
+use Rattle.std.proofs.Common.{◌≡◌, ℕ, ◌+◌, ◌≤◌, Bool, true, false, ◌||◌, List, ◌++◌, ◌==◌, nat_lt, nat_le, if◌then◌else◌, Option, Some, None, refl, sym, ap, subst, ◌∙◌, arith, inl, inr}
+use Rattle.std.proofs.lemmas.Bool.{cases_Bool}
+use Rattle.std.proofs.lemmas.Bool.Decides.{nat_tests}
+use Rattle.saa_core_spec.specs.Held.{Held, less}
+use Rattle.saa_core_spec.specs.Object.{Object, entry_at, Waiter}
+use Rattle.saa_core_spec.specs.Settling.{answered_entry, answered_in, settled}
+use Rattle.saa_core_spec.specs.Polling.{given_back, given_back_of}
+use Rattle.saa_core_spec.proofs.Counts.{same_number}
+use Rattle.saa_word_steps.specs.declared.rules.Rules.{Rules}
+use Rattle.saa_word_steps.specs.declared.rules.Rules.TheVariants.{Permits, Modes}
+use Rattle.saa_word_steps.specs.declared.place.Place.{Place}
+use Rattle.saa_word_steps.specs.declared.place.Registration.{Registration}
+use Rattle.saa_word_steps.specs.declared.call.Answer.TheVariants.{Bool as Says}
+use Rattle.saa_word_steps.specs.declared.call.WordCall.{WordCall}
+use Rattle.saa_word_steps.specs.declared.call.WordCall.TheVariants.{Release, ReleaseLock, ReleaseShare}
+use Rattle.saa_word_steps.specs.Needs.{Needs, lock_needs, left_count}
+use Rattle.saa_word_steps.specs.Lazy.{Lazy, GaveNothing, IsAllowed, IsSettledAt, is_in, takes_of, answered_with}
+use Rattle.saa_word_steps.specs.Steps.{needs_of, is_taken}
+use Rattle.saa_word_proofs.specs.Standing.{updated, is_slot, AreSeats}
+use Rattle.saa_word_proofs.specs.Calls.{given_by}
+use Rattle.saa_word_proofs.proofs.RefinementLemmas.Lists.{in-append}
+use Rattle.saa_word_proofs.specs.Mirrors.{waiters, entry_of, held_at, Mirrors}
+use Rattle.saa_word_proofs.proofs.SoloLemmas.HeldAt.{held_of, less-at, for-something, held-calm, held-poisoned}
+use Rattle.saa_word_proofs.proofs.SoloLemmas.Fronts.{entry-answered, length-answered, settled-front}
+use Rattle.saa_word_proofs.proofs.SoloLemmas.Commands.{given_back_by, release-call}
+use Rattle.saa_word_proofs.proofs.SoloLemmas.Mirroring.{Starts, Settles, Answers, answers-by, AreEntries, mirrors-held, mirrors-same, slot-is, waits-slot}
+
+-- Settling
+
+-- who waits joined the line, and is shown nothing
+abbrev pub AreWaiting : (ℕ → Place) → Lazy → Type 0
+AreWaiting standing lazy = (place : ℕ) → is_in place lazy.line ≡ true → (is_slot (standing place).registration ≡ true) × (lazy.shown place ≡ None)
+
+-- the entries of a front are answered and shown, and no others
+pub answered-entries : (value : ℕ) (needs : Needs) (places : ℕ) (standing : ℕ → Place) (lazy : Lazy) (s : Object) (front rest : List (ℕ × ℕ)) (shown : ℕ → Option ℕ)
+    → Mirrors needs places standing lazy s → AreWaiting standing lazy → lazy.line ≡ front ++ rest
+    → ((place : ℕ) → shown place ≡ answered_with value front lazy.shown place)
+    → AreEntries needs places standing shown (answered_in value (waiters needs front) s.book)
+answered-entries value needs places standing lazy s front rest shown m waiting parts says other within =
+    let h = m.entries other within in
+    let entry = entry-answered value needs front s.book other (rw m.names within) in
+    elim (cases_Bool (is_in other front)) [
+      | inl there ↦
+          let waits = waiting other (ap (is_in other) parts ∙ in-append other front rest ∙ ap (λ (b : Bool). b || is_in other rest) there) in
+          let slot = slot-is (standing other).registration waits.0 in
+          let was : entry_at s.book other ≡ entry_of needs (standing other).registration None h.0 =
+          h.1 ∙ ap (λ (a : Option ℕ). entry_of needs (standing other).registration a h.0) waits.1 in
+          let answer : shown other ≡ Some value = says other ∙ rw there refl in
+          let answers : (if is_in other front then answered_entry value (entry_at s.book other) else entry_at s.book other) ≡ answered_entry value (entry_at s.book other) =
+          rw there refl in (
+            h.0,
+            entry ∙ answers ∙ ap (answered_entry value) was
+                ∙ ap (λ (r : Registration). answered_entry value (entry_of needs r None h.0)) slot.1
+                ∙ (λ i. entry_of needs (sym slot.1 i) (sym answer i) h.0),
+          )
+      | inr apart ↦
+          let answer : shown other ≡ lazy.shown other = says other ∙ rw apart refl in
+          (h.0, entry ∙ rw apart h.1 ∙ ap (λ (a : Option ℕ). entry_of needs (standing other).registration a h.0) (sym answer))
+    ]
+
+-- settling is granting a front and showing it
+pub settling : (rules : Rules) (places : ℕ) (standing : ℕ → Place) (lazy now : Lazy) (s : Object) → Mirrors (needs_of rules) places standing lazy s
+    → lazy.poisoned ≡ false → AreWaiting standing lazy → Settles (needs_of rules) lazy.count lazy.line lazy.shown now
+    → Mirrors (needs_of rules) places standing now (settled s)
+settling rules places standing lazy now s m calm waiting g =
+    let needs : Needs = needs_of rules in
+    let all : List Waiter = waiters needs g.front in
+    let behind : Object = record s {
+      held = needs.held (lazy.count + takes_of needs g.front);
+      line = waiters needs now.line;
+      book = answered_in 0 all s.book;
+    } in
+    let settles : settled s ≡ behind =
+    settled-front rules lazy.count g.front now.line s (m.held ∙ held-calm needs lazy calm) (m.line ∙ ap (waiters needs) g.parts) g.fits
+    (subst (λ (n : ℕ). IsSettledAt needs n now.line) g.count g.settled) in
+    let after : Mirrors needs places standing now behind = record {
+      held = ap needs.held (sym g.count) ∙ sym (held-calm needs now g.calm);
+      line = refl;
+      names = length-answered 0 all s.book ∙ m.names;
+      entries = answered-entries 0 needs places standing lazy s g.front now.line now.shown m waiting g.parts g.shown;
+      room = m.room;
+      alone = m.alone;
+    } in
+    subst (λ (o : Object). Mirrors needs places standing now o) (sym settles) after
+
+-- Giving back
+
+-- what is held is given back, and the line is settled
+pub giving-back : (rules : Rules) (lazy : Lazy) (s : Object) (request left : ℕ) → s.held ≡ held_at (needs_of rules) lazy → lazy.poisoned ≡ false
+    → lazy.count ≤ (needs_of rules).top → (needs_of rules).takes request == 0 ≡ false → left_count (needs_of rules) lazy.count request ≡ Some left
+    → given_back s ((needs_of rules).read request) ≡ record { state = settled (record s { held = (needs_of rules).held left }); reply = true }
+giving-back rules lazy s request left held calm bounded some gives =
+    let needs : Needs = needs_of rules in
+    let gave : less s.held (needs.read request) ≡ Some (needs.held left) =
+    ap (λ (h : Held). less h (needs.read request)) (held ∙ held-calm needs lazy calm) ∙ less-at rules lazy.count request bounded
+    ∙ ap (held_of needs) gives in
+    λ i. given_back_of s (for-something rules request some i) (gave i)
+
+-- what isn't held isn't given back
+pub giving-nothing : (rules : Rules) (lazy : Lazy) (s : Object) (me request : ℕ) → s.held ≡ held_at (needs_of rules) lazy
+    → lazy.count ≤ (needs_of rules).top → (needs_of rules).takes request == 0 ≡ false → IsAllowed (needs_of rules) lazy me (GaveNothing request)
+    → given_back s ((needs_of rules).read request) ≡ record { state = s; reply = false }
+giving-nothing rules lazy s me request held bounded some allowed =
+    let needs : Needs = needs_of rules in
+    let nothing : less s.held (needs.read request) ≡ None =
+    elim (cases_Bool lazy.poisoned) [
+      | inl poisoned ↦ ap (λ (h : Held). less h (needs.read request)) (held ∙ held-poisoned needs lazy poisoned)
+      | inr calm ↦
+          ap (λ (h : Held). less h (needs.read request)) (held ∙ held-calm needs lazy calm) ∙ less-at rules lazy.count request bounded
+          ∙ ap (held_of needs) (allowed calm)
+    ] in
+    λ i. given_back_of s (for-something rules request some i) (nothing i)
+
+-- Releases
+
+-- what a release gives back takes something
+release-takes : (rules : Rules) (call : WordCall) (given : ℕ) → given_by call ≡ Some given → is_taken (needs_of rules).is_lock call ≡ true
+    → ((needs_of rules).is_lock ≡ false → given == 0 ≡ false) → (needs_of rules).takes given == 0 ≡ false
+release-takes (Permits bound) call given gives taken some = some refl
+release-takes Modes ReleaseLock given gives taken some =
+    let same : 0 ≡ given = cc in subst (λ (n : ℕ). lock_needs.takes n == 0 ≡ false) same refl
+release-takes Modes ReleaseShare given gives taken some =
+    let same : 1 ≡ given = cc in subst (λ (n : ℕ). lock_needs.takes n == 0 ≡ false) same refl
+release-takes Modes (Release count) given gives taken some = absurd (cc)
+release-takes Modes _ given gives taken some = absurd (cc)
+
+-- a place that is registered as it was waits as it did
+pub waiting-same : (places me : ℕ) (standing : ℕ → Place) (lazy : Lazy) (place : Place) → AreSeats places standing lazy
+    → place.registration ≡ (standing me).registration → AreWaiting (updated standing me place) lazy
+waiting-same places me standing lazy place seats same other there =
+    let waits = waits-slot places other standing lazy seats there in (
+      elim (cases_Bool (other == me)) [
+        | inl here ↦
+            let is : other ≡ me = same_number other me here in
+            rw here (ap is_slot same ∙ ap (λ (n : ℕ). is_slot (standing n).registration) (sym is) ∙ waits.0)
+        | inr apart ↦ rw apart waits.0
+      ],
+      waits.1,
+    )
+
+pub release-gave : (rules : Rules) (places me : ℕ) (is_sync : Bool) (call : WordCall) (standing : ℕ → Place) (lazy : Lazy) (s : Object) (given left : ℕ) (now : Lazy) (place : Place)
+    → Starts (needs_of rules) places me standing lazy s → given_by call ≡ Some given → is_taken (needs_of rules).is_lock call ≡ true
+    → ((needs_of rules).is_lock ≡ false → given == 0 ≡ false)
+    → lazy.poisoned ≡ false → left_count (needs_of rules) lazy.count given ≡ Some left
+    → Settles (needs_of rules) left lazy.line lazy.shown now → place.registration ≡ (standing me).registration
+    → Answers (needs_of rules) places me is_sync call (updated standing me place) s now (Says true)
+release-gave rules places me is_sync call standing lazy s given left now place h gives taken some calm lefts g same =
+    let needs : Needs = needs_of rules in
+    let m = h.mirrors in
+    let middle : Lazy = record lazy { count = left } in
+    let given_up : Object = record s { held = needs.held left } in
+    let between : Mirrors needs places (updated standing me place) middle given_up =
+    mirrors-held needs places standing lazy middle s (needs.held left) s.line me place m (sym (held-calm needs middle calm)) m.line refl same in
+    answers-by needs places me is_sync call (updated standing me place) s now (Says true) (given_back_by (record { state = settled given_up; reply = true }))
+    (release-call rules me is_sync call s given gives taken
+    ∙ ap given_back_by (giving-back rules lazy s given left m.held calm h.bounded (release-takes rules call given gives taken some) lefts))
+    (settling rules places (updated standing me place) middle now given_up between calm (waiting-same places me standing lazy place h.seats same) g)
+    refl
+
+pub release-nothing : (rules : Rules) (places me : ℕ) (is_sync : Bool) (call : WordCall) (standing : ℕ → Place) (lazy : Lazy) (s : Object) (given : ℕ) (place : Place)
+    → Starts (needs_of rules) places me standing lazy s → given_by call ≡ Some given → is_taken (needs_of rules).is_lock call ≡ true
+    → ((needs_of rules).is_lock ≡ false → given == 0 ≡ false)
+    → IsAllowed (needs_of rules) lazy me (GaveNothing given) → place.registration ≡ (standing me).registration
+    → Answers (needs_of rules) places me is_sync call (updated standing me place) s lazy (Says false)
+release-nothing rules places me is_sync call standing lazy s given place h gives taken some allowed same =
+    let needs : Needs = needs_of rules in
+    let m = h.mirrors in
+    answers-by needs places me is_sync call (updated standing me place) s lazy (Says false) (given_back_by (record { state = s; reply = false }))
+    (release-call rules me is_sync call s given gives taken
+    ∙ ap given_back_by (giving-nothing rules lazy s me given m.held h.bounded (release-takes rules call given gives taken some) allowed))
+    (mirrors-same needs places standing lazy s me place m same)
+    refl
+
+-- a release of more than there is
+pub release-large : (rules : Rules) (places me : ℕ) (is_sync : Bool) (count : ℕ) (standing : ℕ → Place) (lazy : Lazy) (s : Object) (place : Place)
+    → Starts (needs_of rules) places me standing lazy s → is_taken (needs_of rules).is_lock (Release count) ≡ true
+    → nat_lt (needs_of rules).top count ≡ true → place.registration ≡ (standing me).registration
+    → Answers (needs_of rules) places me is_sync (Release count) (updated standing me place) s lazy (Says false)
+release-large (Permits bound) places me is_sync count standing lazy s place h taken large same =
+    let bounded : lazy.count ≤ bound = h.bounded in
+    let more : nat_le count lazy.count ≡ false = grind (arith, nat_tests) in
+    let some : count == 0 ≡ false = grind (arith, nat_tests) in
+    release-nothing (Permits bound) places me is_sync (Release count) standing lazy s count place h refl refl (λ semaphore. some) (λ calm. rw more refl) same
+release-large Modes places me is_sync count standing lazy s place h taken large same = absurd (cc)
+
+-- a release of nothing
+pub release-none : (rules : Rules) (places me : ℕ) (is_sync : Bool) (count : ℕ) (standing : ℕ → Place) (lazy : Lazy) (s : Object) (place : Place)
+    → Starts (needs_of rules) places me standing lazy s → is_taken (needs_of rules).is_lock (Release count) ≡ true
+    → count == 0 ≡ true → place.registration ≡ (standing me).registration
+    → Answers (needs_of rules) places me is_sync (Release count) (updated standing me place) s lazy (Says true)
+release-none (Permits bound) places me is_sync count standing lazy s place h taken none same =
+    let needs : Needs = needs_of (Permits bound) in
+    let nothing : given_back s (needs.read count) ≡ record { state = s; reply = true } = rw none refl in
+    answers-by needs places me is_sync (Release count) (updated standing me place) s lazy (Says true) (given_back_by (record { state = s; reply = true }))
+    (ap given_back_by nothing) (mirrors-same needs places standing lazy s me place h.mirrors same) refl
+release-none Modes places me is_sync count standing lazy s place h taken none same = absurd (cc)

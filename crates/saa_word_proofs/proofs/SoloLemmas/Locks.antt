@@ -1,0 +1,209 @@
+-- The sequential object beside a reading call, and beside poison and the clearing of it.
+use Rattle.std.proofs.Common.{◌≡◌, ℕ, Bool, true, false, not, ◌&&◌, List, [], ◌++◌, ◌==◌, if◌then◌else◌, Some, refl, sym, ap, ◌∙◌, arith, inl, inr, append-nil}
+use Rattle.std.proofs.lemmas.Bool.{cases_Bool}
+use Rattle.std.proofs.lemmas.Bool.Decides.{nat_tests}
+use Rattle.saa_core_spec.specs.Held.{Held, OfLock, LockState, Free, Exclusive, Shared, Poisoned}
+use Rattle.saa_core_spec.specs.Lock.{is_free, is_locked, is_shared, is_poisoned, poisoned_of, cleared_of}
+use Rattle.saa_core_spec.specs.Object.{Object, After, Waiter}
+use Rattle.saa_core_spec.specs.Semaphore.{available}
+use Rattle.saa_core_spec.specs.Settling.{answered_in}
+use Rattle.saa_core_spec.proofs.Counts.{same_number}
+use Rattle.saa_word_steps.specs.declared.rules.Rules.{Rules}
+use Rattle.saa_word_steps.specs.declared.rules.Rules.TheVariants.{Permits, Modes}
+use Rattle.saa_word_steps.specs.declared.place.Place.{Place}
+use Rattle.saa_word_steps.specs.declared.place.Reading.{Reading}
+use Rattle.saa_word_steps.specs.declared.place.Reading.TheVariants.{Available as ReadsAvailable, IsFree as ReadsFree, IsLocked as ReadsLocked, IsShared as ReadsShared, IsPoisoned as ReadsPoisoned}
+use Rattle.saa_word_steps.specs.declared.call.Answer.{Answer}
+use Rattle.saa_word_steps.specs.declared.call.Answer.TheVariants.{Bool as Says, Number}
+use Rattle.saa_word_steps.specs.declared.call.WordCall.{WordCall}
+use Rattle.saa_word_steps.specs.declared.call.WordCall.TheVariants.{Available, IsFree, IsLocked, IsShared, IsPoisoned, PoisonLock, ClearPoison}
+use Rattle.saa_word_steps.specs.Needs.{Needs, lock_needs, lock_at}
+use Rattle.saa_word_steps.specs.Lazy.{Lazy, Read, Poisoned as IsPoisonedNow, NotPoisoned, Cleared, NotCleared, IsAllowed, after_event, answered_with}
+use Rattle.saa_word_steps.specs.Steps.{needs_of, is_taken, read_as}
+use Rattle.saa_word_proofs.specs.Standing.{updated}
+use Rattle.saa_word_proofs.specs.Calls.{read_by}
+use Rattle.saa_word_proofs.specs.Mirrors.{waiters, held_at, Mirrors, called}
+use Rattle.saa_word_proofs.proofs.SoloLemmas.HeldAt.{held-calm, held-poisoned, lock-free, lock-alone, lock-shared}
+use Rattle.saa_word_proofs.proofs.SoloLemmas.Fronts.{length-answered}
+use Rattle.saa_word_proofs.proofs.SoloLemmas.Givings.{answered-entries, waiting-same}
+use Rattle.saa_word_proofs.proofs.SoloLemmas.Mirroring.{Starts, Answers, answers-by, calm-semaphore, mirrors-held, mirrors-same}
+
+-- What a lock says of itself
+
+-- what is held of a lock, by its tests
+abbrev lock_held : Bool → ℕ → Held
+lock_held poisoned count = if poisoned then OfLock Poisoned else OfLock (lock_at count)
+
+-- a test of a lock by its count, where a poisoned one counts nothing
+by-count : (test : Held → Bool) (said : ℕ → Bool → Bool) (poisoned : Bool) (count : ℕ)
+    → test (OfLock Poisoned) ≡ said 0 true
+    → (count == 0 ≡ true → test (OfLock Free) ≡ said count false)
+    → (count == 0 ≡ false → count == 63 ≡ true → test (OfLock Exclusive) ≡ said count false)
+    → (count == 0 ≡ false → count == 63 ≡ false → test (OfLock (Shared count)) ≡ said count false)
+    → (poisoned ≡ true → count ≡ 0) → test (lock_held poisoned count) ≡ said count poisoned
+by-count test said true count poison free alone shared barren = poison ∙ ap (λ (n : ℕ). said n true) (sym (barren refl))
+by-count test said false count poison free alone shared barren =
+    elim (cases_Bool (count == 0)) [
+      | inl none ↦ ap (λ (l : LockState). test (OfLock l)) (lock-free count none) ∙ free none
+      | inr some ↦
+          elim (cases_Bool (count == 63)) [
+            | inl one ↦ ap (λ (l : LockState). test (OfLock l)) (lock-alone count some one) ∙ alone some one
+            | inr several ↦ ap (λ (l : LockState). test (OfLock l)) (lock-shared count some several) ∙ shared some several
+          ]
+    ]
+
+reads-free : (poisoned : Bool) (count : ℕ) → (poisoned ≡ true → count ≡ 0) → is_free (lock_held poisoned count) ≡ ((count == 0) && not poisoned)
+reads-free poisoned count barren =
+    by-count is_free (λ n p. (n == 0) && not p) poisoned count refl (λ none. rw none refl) (λ some one. rw some refl) (λ some several. rw some refl) barren
+
+reads-locked : (poisoned : Bool) (count : ℕ) → (poisoned ≡ true → count ≡ 0) → is_locked (lock_held poisoned count) ≡ (count == 63)
+reads-locked poisoned count barren =
+    by-count is_locked (λ n p. n == 63) poisoned count refl
+    (λ none. let other : count == 63 ≡ false = grind (arith, nat_tests) in sym other)
+    (λ some one. sym one) (λ some several. sym several) barren
+
+reads-shared : (poisoned : Bool) (count : ℕ) → (poisoned ≡ true → count ≡ 0)
+    → is_shared (lock_held poisoned count) ≡ (not (count == 0) && not (count == 63))
+reads-shared poisoned count barren =
+    by-count is_shared (λ n p. not (n == 0) && not (n == 63)) poisoned count refl
+    (λ none. rw none refl) (λ some one. rw (some, one) refl) (λ some several. rw (some, several) refl) barren
+
+reads-poisoned : (poisoned : Bool) (count : ℕ) → (poisoned ≡ true → count ≡ 0) → is_poisoned (lock_held poisoned count) ≡ poisoned
+reads-poisoned poisoned count barren =
+    by-count is_poisoned (λ n p. p) poisoned count refl (λ none. refl) (λ some one. refl) (λ some several. refl) barren
+
+-- Reading
+
+-- what a call leaves that changes nothing, and says
+abbrev said : Object → Answer → After Answer
+said s answer = record { state = s; reply = answer }
+
+-- what a reading call says of what is held
+read-call : (rules : Rules) (me : ℕ) (is_sync : Bool) (call : WordCall) (s : Object) (lazy : Lazy) (reading : Reading)
+    → read_by call ≡ Some reading → is_taken (needs_of rules).is_lock call ≡ true → s.held ≡ held_at (needs_of rules) lazy
+    → ((needs_of rules).is_lock ≡ false → lazy.poisoned ≡ false) → (lazy.poisoned ≡ true → lazy.count ≡ 0)
+    → called (needs_of rules).is_lock me is_sync call s ≡ said s (read_as (needs_of rules) reading lazy.count lazy.poisoned)
+read-call (Permits bound) me is_sync Available s lazy reading known taken held calm barren =
+    let same : ReadsAvailable ≡ reading = cc in
+    let is : s.held ≡ (needs_of (Permits bound)).held lazy.count = held ∙ held-calm (needs_of (Permits bound)) lazy (calm refl) in
+    ap (λ (h : Held). said s (Number (available h))) is
+    ∙ ap (λ (r : Reading). said s (read_as (needs_of (Permits bound)) r lazy.count lazy.poisoned)) same
+read-call (Permits bound) me is_sync IsFree s lazy reading known taken held calm barren = absurd (cc)
+read-call (Permits bound) me is_sync IsLocked s lazy reading known taken held calm barren = absurd (cc)
+read-call (Permits bound) me is_sync IsShared s lazy reading known taken held calm barren = absurd (cc)
+read-call (Permits bound) me is_sync IsPoisoned s lazy reading known taken held calm barren = absurd (cc)
+read-call (Permits bound) me is_sync _ s lazy reading known taken held calm barren = absurd (cc)
+read-call Modes me is_sync IsFree s lazy reading known taken held calm barren =
+    let same : ReadsFree ≡ reading = cc in
+    ap (λ (h : Held). said s (Says (is_free h))) held ∙ ap (λ (b : Bool). said s (Says b)) (reads-free lazy.poisoned lazy.count barren)
+    ∙ ap (λ (r : Reading). said s (read_as lock_needs r lazy.count lazy.poisoned)) same
+read-call Modes me is_sync IsLocked s lazy reading known taken held calm barren =
+    let same : ReadsLocked ≡ reading = cc in
+    ap (λ (h : Held). said s (Says (is_locked h))) held ∙ ap (λ (b : Bool). said s (Says b)) (reads-locked lazy.poisoned lazy.count barren)
+    ∙ ap (λ (r : Reading). said s (read_as lock_needs r lazy.count lazy.poisoned)) same
+read-call Modes me is_sync IsShared s lazy reading known taken held calm barren =
+    let same : ReadsShared ≡ reading = cc in
+    ap (λ (h : Held). said s (Says (is_shared h))) held ∙ ap (λ (b : Bool). said s (Says b)) (reads-shared lazy.poisoned lazy.count barren)
+    ∙ ap (λ (r : Reading). said s (read_as lock_needs r lazy.count lazy.poisoned)) same
+read-call Modes me is_sync IsPoisoned s lazy reading known taken held calm barren =
+    let same : ReadsPoisoned ≡ reading = cc in
+    ap (λ (h : Held). said s (Says (is_poisoned h))) held ∙ ap (λ (b : Bool). said s (Says b)) (reads-poisoned lazy.poisoned lazy.count barren)
+    ∙ ap (λ (r : Reading). said s (read_as lock_needs r lazy.count lazy.poisoned)) same
+read-call Modes me is_sync Available s lazy reading known taken held calm barren = absurd (cc)
+read-call Modes me is_sync _ s lazy reading known taken held calm barren = absurd (cc)
+
+pub reads : (rules : Rules) (places me : ℕ) (is_sync : Bool) (call : WordCall) (standing : ℕ → Place) (lazy : Lazy) (s : Object) (reading : Reading) (count : ℕ) (poisoned : Bool) (place : Place)
+    → Starts (needs_of rules) places me standing lazy s → read_by call ≡ Some reading → is_taken (needs_of rules).is_lock call ≡ true
+    → IsAllowed (needs_of rules) lazy me (Read count poisoned) → place.registration ≡ (standing me).registration
+    → Answers (needs_of rules) places me is_sync call (updated standing me place) s lazy (read_as (needs_of rules) reading count poisoned)
+reads rules places me is_sync call standing lazy s reading count poisoned place h known taken allowed same =
+    let needs : Needs = needs_of rules in
+    answers-by needs places me is_sync call (updated standing me place) s lazy (read_as needs reading count poisoned)
+    (said s (read_as needs reading lazy.count lazy.poisoned))
+    (read-call rules me is_sync call s lazy reading known taken h.mirrors.held
+    (λ semaphore. calm-semaphore needs places me standing lazy s h semaphore) (λ poison. (h.barren poison).0))
+    (mirrors-same needs places standing lazy s me place h.mirrors same)
+    (λ i. read_as needs reading (allowed.0 i) (allowed.1 i))
+
+-- Poison
+
+-- a lock that one owner has is poisoned, and all who wait are answered so
+pub poison-done : (rules : Rules) (places me : ℕ) (is_sync : Bool) (standing : ℕ → Place) (lazy : Lazy) (s : Object) (now : Lazy) (place : Place)
+    → Starts (needs_of rules) places me standing lazy s → is_taken (needs_of rules).is_lock PoisonLock ≡ true
+    → IsAllowed (needs_of rules) lazy me IsPoisonedNow
+    → now.poisoned ≡ true → now.line ≡ [] → ((other : ℕ) → now.shown other ≡ answered_with 2 lazy.line lazy.shown other)
+    → place.registration ≡ (standing me).registration
+    → Answers (needs_of rules) places me is_sync PoisonLock (updated standing me place) s now (Says true)
+poison-done (Permits bound) places me is_sync standing lazy s now place h taken allowed poisoned line shown same = absurd (cc)
+poison-done Modes places me is_sync standing lazy s now place h taken allowed poisoned line shown same =
+    let m = h.mirrors in
+    let test : is_locked s.held ≡ true =
+    ap is_locked m.held ∙ reads-locked lazy.poisoned lazy.count (λ poison. (h.barren poison).0) ∙ ap (λ (n : ℕ). n == 63) allowed.2 in
+    let all : List Waiter = waiters lock_needs lazy.line in
+    let left : Object = record s { held = OfLock Poisoned; line = []; book = answered_in 2 all s.book } in
+    let whole : lazy.line ≡ lazy.line ++ [] = sym (append-nil lazy.line) in
+    let after : Mirrors lock_needs places (updated standing me place) now left = record {
+      held = sym (held-poisoned lock_needs now poisoned);
+      line = sym (ap (waiters lock_needs) line);
+      names = length-answered 2 all s.book ∙ m.names;
+      entries = answered-entries 2 lock_needs places (updated standing me place) lazy s lazy.line [] now.shown
+          (mirrors-same lock_needs places standing lazy s me place m same) (waiting-same places me standing lazy place h.seats same) whole shown;
+      room = m.room;
+      alone = m.alone;
+    } in
+    answers-by lock_needs places me is_sync PoisonLock (updated standing me place) s now (Says true) (said left (Says true))
+    (ap (λ (b : Bool). said (poisoned_of s b).state (Says (poisoned_of s b).reply)) test
+    ∙ ap (λ (l : List Waiter). said (record s { held = OfLock Poisoned; line = []; book = answered_in 2 l s.book }) (Says true)) m.line)
+    after refl
+
+-- any other isn't
+pub poison-refused : (rules : Rules) (places me : ℕ) (is_sync : Bool) (standing : ℕ → Place) (lazy : Lazy) (s : Object) (place : Place)
+    → Starts (needs_of rules) places me standing lazy s → is_taken (needs_of rules).is_lock PoisonLock ≡ true
+    → IsAllowed (needs_of rules) lazy me NotPoisoned → place.registration ≡ (standing me).registration
+    → Answers (needs_of rules) places me is_sync PoisonLock (updated standing me place) s lazy (Says false)
+poison-refused (Permits bound) places me is_sync standing lazy s place h taken allowed same = absurd (cc)
+poison-refused Modes places me is_sync standing lazy s place h taken allowed same =
+    let m = h.mirrors in
+    let other : lazy.count == 63 ≡ false =
+    elim (cases_Bool lazy.poisoned) [
+      | inl poison ↦ ap (λ (n : ℕ). n == 63) (h.barren poison).0
+      | inr calm ↦
+          elim (cases_Bool (lazy.count == 63)) [
+            | inl one ↦ absurd (allowed calm (same_number lazy.count 63 one))
+            | inr several ↦ several
+          ]
+    ] in
+    let test : is_locked s.held ≡ false =
+    ap is_locked m.held ∙ reads-locked lazy.poisoned lazy.count (λ poison. (h.barren poison).0) ∙ other in
+    answers-by lock_needs places me is_sync PoisonLock (updated standing me place) s lazy (Says false) (said s (Says false))
+    (ap (λ (b : Bool). said (poisoned_of s b).state (Says (poisoned_of s b).reply)) test)
+    (mirrors-same lock_needs places standing lazy s me place m same) refl
+
+-- a poisoned lock is cleared, and is free then
+pub clear-done : (rules : Rules) (places me : ℕ) (is_sync : Bool) (standing : ℕ → Place) (lazy : Lazy) (s : Object) (place : Place)
+    → Starts (needs_of rules) places me standing lazy s → is_taken (needs_of rules).is_lock ClearPoison ≡ true
+    → IsAllowed (needs_of rules) lazy me Cleared → place.registration ≡ (standing me).registration
+    → Answers (needs_of rules) places me is_sync ClearPoison (updated standing me place) s (after_event (needs_of rules) lazy me Cleared) (Says true)
+clear-done (Permits bound) places me is_sync standing lazy s place h taken allowed same = absurd (cc)
+clear-done Modes places me is_sync standing lazy s place h taken allowed same =
+    let m = h.mirrors in
+    let test : is_poisoned s.held ≡ true =
+    ap is_poisoned m.held ∙ reads-poisoned lazy.poisoned lazy.count (λ poison. (h.barren poison).0) ∙ allowed in
+    answers-by lock_needs places me is_sync ClearPoison (updated standing me place) s (after_event lock_needs lazy me Cleared) (Says true)
+    (said (record s { held = OfLock Free }) (Says true))
+    (ap (λ (b : Bool). said (cleared_of s b).state (Says (cleared_of s b).reply)) test)
+    (mirrors-held lock_needs places standing lazy (after_event lock_needs lazy me Cleared) s (OfLock Free) s.line me place m
+    (ap (λ (n : ℕ). OfLock (lock_at n)) (sym (h.barren allowed).0)) m.line refl same) refl
+
+pub clear-refused : (rules : Rules) (places me : ℕ) (is_sync : Bool) (standing : ℕ → Place) (lazy : Lazy) (s : Object) (place : Place)
+    → Starts (needs_of rules) places me standing lazy s → is_taken (needs_of rules).is_lock ClearPoison ≡ true
+    → IsAllowed (needs_of rules) lazy me NotCleared → place.registration ≡ (standing me).registration
+    → Answers (needs_of rules) places me is_sync ClearPoison (updated standing me place) s lazy (Says false)
+clear-refused (Permits bound) places me is_sync standing lazy s place h taken allowed same = absurd (cc)
+clear-refused Modes places me is_sync standing lazy s place h taken allowed same =
+    let m = h.mirrors in
+    let test : is_poisoned s.held ≡ false =
+    ap is_poisoned m.held ∙ reads-poisoned lazy.poisoned lazy.count (λ poison. (h.barren poison).0) ∙ allowed in
+    answers-by lock_needs places me is_sync ClearPoison (updated standing me place) s lazy (Says false) (said s (Says false))
+    (ap (λ (b : Bool). said (cleared_of s b).state (Says (cleared_of s b).reply)) test)
+    (mirrors-same lock_needs places standing lazy s me place m same) refl

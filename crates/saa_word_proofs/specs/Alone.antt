@@ -1,0 +1,82 @@
+-- A call that moves alone, from a moment when no place is in a call.
+use Rattle.std.specs.Prelude.{◌≡◌, ℕ, zero, suc, false, None}
+use Rattle.saa_word_steps.specs.declared.place.Place.{Place}
+use Rattle.saa_word_steps.specs.declared.place.Next.{Next}
+use Rattle.saa_word_steps.specs.declared.place.Next.TheVariants.{Going, Waits, Done}
+use Rattle.saa_word_steps.specs.declared.place.Stage.TheVariants.{Quiet}
+use Rattle.saa_word_steps.specs.declared.call.Answer.{Answer}
+use Rattle.saa_word_steps.specs.declared.call.WordCall.{WordCall}
+use Rattle.saa_word_steps.specs.Needs.{Needs}
+use Rattle.saa_word_steps.specs.Lazy.{Lazy, IsSettledAt}
+use Rattle.saa_word_steps.specs.Steps.{word_at, operation_of, next_of, started}
+use Rattle.saa_word_proofs.specs.Standing.{main_of, line_of, IsBehind, updated}
+use Rattle.saa_word_proofs.specs.Stepped.{place_after, row_after}
+
+-- no place is in a call
+abbrev pub IsQuiet : (ℕ → Place) → Type 0
+IsQuiet standing = (place : ℕ) → (standing place).stage ≡ Quiet
+
+-- The flag is clear, no answer is due, the object isn't open, its line is settled, and the line words link all who wait
+pub record IsAtRest (needs : Needs) (row : ℕ → ℕ) (lazy : Lazy) : Type 0 where
+  pub clear : (main_of row).is_flagged ≡ false
+  pub paid : (place : ℕ) → lazy.due place ≡ None
+  pub closed : lazy.unclosed ≡ false
+  pub settled : IsSettledAt needs lazy.count lazy.line
+  pub linked : IsBehind (line_of row) 0 lazy.line
+
+-- the row of words and the places at a moment
+pub record Moment : Type 0 where
+  pub row : ℕ → ℕ
+  pub standing : ℕ → Place
+
+-- a moment, with one place as it goes on
+abbrev pub put : ℕ → Next → Moment → Moment
+put me next now = record now { standing = updated now.standing me (place_after (now.standing me) next) }
+
+-- how a place, out of so many, goes on with what it finds at a moment, and the moment once its step is made
+abbrev pub next_at : Needs → ℕ → ℕ → Moment → Next
+next_at needs places me now =
+    next_of needs me (now.standing me) (now.standing me).stage (now.row (word_at (operation_of needs places me (now.standing me).stage)))
+
+abbrev pub stepped : Needs → ℕ → ℕ → Moment → Moment
+stepped needs places me now =
+    put me (next_at needs places me now) (record now { row = row_after now.row (operation_of needs places me (now.standing me).stage) })
+
+-- one of two things, by how a place goes on: it is in the middle of its call, or done with an answer. Neither where it waits for another
+abbrev pub IsEither : Next → (going : Type 0) → (done : Answer → Type 0) → Type 0
+IsEither (Going place) going done = going
+IsEither Waits going done = ⊥
+IsEither (Done place answer) going done = done answer
+
+-- a place makes so many steps while no other makes any, and is done behind the last of them, with this answer and at this moment
+abbrev pub IsDoneIn : Needs → ℕ → ℕ → (steps : ℕ) → Moment → Answer → Moment → Type 0
+IsDoneIn needs places me zero now answer last = ⊥
+IsDoneIn needs places me (suc more) now answer last =
+    IsEither (next_at needs places me now)
+    (IsDoneIn needs places me more (stepped needs places me now) answer last)
+    (λ said. (more ≡ 0) × (said ≡ answer) × (stepped needs places me now ≡ last))
+
+-- a call starts at a place and is done in so many steps, while no other place makes any. Some need none
+abbrev pub IsCalledAlone : Needs → ℕ → ℕ → WordCall → (steps : ℕ) → Moment → Answer → Moment → Type 0
+IsCalledAlone needs places me call steps now answer last =
+    let start : Next = started needs (now.standing me) call in
+    IsEither start
+    (IsDoneIn needs places me steps (put me start now) answer last)
+    (λ said. (steps ≡ 0) × (said ≡ answer) × (put me start now ≡ last))
+
+-- a call starts at a place, and has to wait for another place before its first step: nothing but its start is to be seen
+abbrev pub IsLeftWaiting : Needs → ℕ → ℕ → WordCall → Moment → Type 0
+IsLeftWaiting needs places me call now =
+    let begun : Moment = put me (started needs (now.standing me) call) now in
+    (next_at needs places me begun ≡ Waits) × (stepped needs places me begun ≡ begun)
+
+-- a place makes so many steps while no other makes any, and then has to wait
+abbrev pub WaitsBehind : Needs → ℕ → ℕ → (steps : ℕ) → Moment → Type 0
+WaitsBehind needs places me zero now = next_at needs places me now ≡ Waits
+WaitsBehind needs places me (suc more) now = IsEither (next_at needs places me now) (WaitsBehind needs places me more (stepped needs places me now)) (λ said. ⊥)
+
+-- a call starts at a place, and has to wait behind so many steps, while no other place makes any
+abbrev pub IsKeptWaiting : Needs → ℕ → ℕ → WordCall → (steps : ℕ) → Moment → Type 0
+IsKeptWaiting needs places me call steps now =
+    let start : Next = started needs (now.standing me) call in
+    IsEither start (WaitsBehind needs places me steps (put me start now)) (λ said. ⊥)

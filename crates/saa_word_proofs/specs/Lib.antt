@@ -1,0 +1,11 @@
+pub mod Alone
+pub mod Mirrors
+pub mod Agrees
+pub mod Ends
+pub mod Balance
+pub mod Budget
+pub mod Standing
+pub mod Stepped
+pub mod Calls
+pub mod Promises
+pub mod Stalls

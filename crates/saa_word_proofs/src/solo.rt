@@ -1,0 +1,65 @@
+//! What a call is that moves alone, as contracts of functions that do nothing.
+
+ghost use Rattle.std.specs.Prelude.{◌≡◌, ℕ, ◌<◌, Bool, true, Err, ◌+◌, ◌*◌, false, length};
+ghost use Rattle.saa_core_spec.specs.Object.{Object, newly_made};
+ghost use Rattle.saa_core_spec.specs.declared.polling.Error.TheVariants.{NotReady};
+ghost use Rattle.saa_word_steps.specs.declared.call.Answer.{Answer};
+ghost use Rattle.saa_word_steps.specs.declared.call.Answer.TheVariants.{Taken};
+ghost use Rattle.saa_word_steps.specs.declared.call.WordCall.{WordCall};
+ghost use Rattle.saa_word_steps.specs.declared.call.WordCall.TheVariants.{Poll};
+ghost use Rattle.saa_word_steps.specs.declared.place.Place.{Place};
+ghost use Rattle.saa_word_steps.specs.declared.rules.Rules.{Rules};
+ghost use Rattle.saa_word_steps.specs.declared.place.Registration.TheVariants.{Idle};
+ghost use Rattle.saa_word_steps.specs.Needs.{Needs, AreNeeds};
+ghost use Rattle.saa_word_steps.specs.Lazy.{Lazy, opening, is_in};
+ghost use Rattle.saa_word_steps.specs.Steps.{is_taken, needs_of};
+ghost use Rattle.saa_word_proofs.specs.Standing.{Stands};
+ghost use Rattle.saa_word_proofs.specs.Alone.{Moment, IsQuiet, IsAtRest, IsCalledAlone, IsLeftWaiting, IsKeptWaiting};
+ghost use Rattle.saa_word_proofs.specs.Ends.{Ends};
+ghost use Rattle.saa_word_proofs.specs.Mirrors.{Mirrors, called};
+ghost use Rattle.saa_word_proofs.specs.Agrees.{Begins, Agrees};
+
+/// While no place is in a call the flag is clear, no answer is due, the object isn't open, its line is settled, and the line words
+/// link all who wait.
+pub fn quiet()
+    ensures { (needs : Needs) (places : ℕ) (row : ℕ → ℕ) (standing : ℕ → Place) (lazy : Lazy)
+        → Stands needs places row standing lazy → IsQuiet standing → IsAtRest needs row lazy }
+{}
+
+/// A call that moves alone, from a moment when no place is in a call, is the call of the sequential semaphore or lock.
+///
+/// Once it is done it has the answer of the sequential object, and leaves what that leaves: no place is in a call again, and the
+/// object that the sequential call has left stands for the words. A registration may be taken for a sync or an async one, a poll has no
+/// wrong mode, there is room for every place, and a cancel drops what its place is registered for.
+///
+/// The one exception is a poll of a place that stands in the line, which the sequential object answers that it isn't ready: it has to
+/// wait. Neither changes anything, and no other call ever waits.
+///
+/// Every moment has such an object, and at the opening it is a newly made one.
+pub fn alone()
+    ensures calls { (rules : Rules) (places me : ℕ) (is_sync : Bool) (call : WordCall) (now : Moment) (s : Object) (steps : ℕ) (answer : Answer) (last : Moment)
+        → Begins rules places me now s → is_taken (needs_of rules).is_lock call ≡ true → IsCalledAlone (needs_of rules) places me call steps now answer last
+        → Agrees (needs_of rules) places me is_sync call s answer last }
+    ensures waits { (needs : Needs) (places me : ℕ) (now : Moment) (lazy : Lazy)
+        → Stands needs places now.row now.standing lazy → me < places → is_in me lazy.line ≡ true → IsLeftWaiting needs places me Poll now }
+    ensures only { (rules : Rules) (places me : ℕ) (call : WordCall) (steps : ℕ) (now : Moment) (lazy : Lazy)
+        → (needs_of rules).top < 64 → places < 65536
+        → Stands (needs_of rules) places now.row now.standing lazy → IsQuiet now.standing → me < places → is_taken (needs_of rules).is_lock call ≡ true
+        → IsKeptWaiting (needs_of rules) places me call steps now → (call ≡ Poll) × (is_in me lazy.line ≡ true) }
+    ensures unready { (needs : Needs) (places me : ℕ) (is_sync : Bool) (now : Moment) (lazy : Lazy) (s : Object)
+        → Stands needs places now.row now.standing lazy → Mirrors needs places now.standing lazy s → me < places → is_in me lazy.line ≡ true
+        → ((called needs.is_lock me is_sync Poll s).reply ≡ Taken (Err NotReady)) × ((called needs.is_lock me is_sync Poll s).state ≡ s) }
+    ensures exists { (needs : Needs) (places : ℕ) (standing : ℕ → Place) (lazy : Lazy)
+        → (s : Object) × Mirrors needs places standing lazy s }
+    ensures opening { (needs : Needs) (withheld places : ℕ) (standing : ℕ → Place) → ((place : ℕ) → (standing place).registration ≡ Idle)
+        → Mirrors needs places standing (opening withheld) (newly_made (needs.held withheld) places places) }
+{}
+
+/// A call that starts while no place is in one, and that moves alone, is done within 8 steps for each who waits and 24 more; but for a
+/// poll of a place that waits.
+pub fn ends()
+    ensures { (needs : Needs) → AreNeeds needs → needs.top < 64
+        → (places : ℕ) (row : ℕ → ℕ) (standing : ℕ → Place) (lazy : Lazy) (me : ℕ) (call : WordCall) → places < 65536 → me < places
+        → Stands needs places row standing lazy → IsQuiet standing → is_taken needs.is_lock call ≡ true → (call ≡ Poll → is_in me lazy.line ≡ false)
+        → Ends needs places me call (record { row = row; standing = standing }) (8 * length lazy.line + 24) }
+{}

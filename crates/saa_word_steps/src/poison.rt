@@ -1,0 +1,48 @@
+//! How a place goes on that poisons a lock, or makes a poisoned one free.
+
+ghost use Rattle.std.specs.Prelude.{◌≡◌};
+ghost use Rattle.saa_word_steps.specs.Steps.{needs_of, next_of, IsRanged, IsPoison, poisoning};
+
+use crate::call::Answer;
+use crate::operation::poisoned;
+use crate::place::{Afterwards, Next, Place, Stage};
+use crate::resume::POISONED;
+use crate::rules::{ALONE, Rules};
+use saa_core_words::word::Word;
+
+impl Place {
+    /// How a place goes on that poisons a lock, or makes a poisoned one free.
+    pub(crate) fn resume_poison(self, rules: Rules, me: u16, found: u64) -> Next
+        requires ranged { IsRanged (needs_of rules) self.stage }
+        requires poisons { IsPoison self.stage }
+        ensures next { result ≡ next_of (needs_of rules) me self self.stage found }
+    {
+        match self.stage {
+            Stage::PoisonLoad => self.poison(Word::unpack(found)),
+            Stage::PoisonExchange { seen } => {
+                if found != seen.pack() {
+                    return self.poison(Word::unpack(found));
+                }
+                if seen.tail == 0 {
+                    return self.finish();
+                }
+                self.show(seen.tail, POISONED, Afterwards::Ends)
+            }
+            Stage::Clear => self.done(Answer::Bool(found == poisoned().pack())),
+            _ => Next::Going(self),
+        }
+    }
+
+    // How poison goes on with the main word that it saw.
+    fn poison(self, seen: Word) -> Next
+        ensures { result ≡ poisoning self seen }
+    {
+        if seen.is_poisoned || seen.count != ALONE {
+            return self.done(Answer::Bool(false));
+        }
+        if seen.is_flagged {
+            return Next::Waits;
+        }
+        self.going(Stage::PoisonExchange { seen })
+    }
+}

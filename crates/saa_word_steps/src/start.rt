@@ -1,0 +1,136 @@
+//! A call as it starts: it looks at no word.
+
+ghost use Rattle.std.specs.Prelude.{◌≡◌};
+ghost use Rattle.saa_word_steps.specs.Steps.{needs_of, cancelled_as, going, mode_number, polled_as, registered_as, released_as, started, tried_as};
+ghost use Rattle.saa_word_steps.specs.declared.place.Stage.TheVariants.{ReadLoad};
+
+use crate::call::{Answer, Error, Mode, WordCall};
+use crate::place::{Ask, Back, Next, Place, Reading, Registration, Stage, Taking};
+use crate::rules::Rules;
+use saa_core_spec::request::Request;
+use saa_core_words::requests;
+
+// The numbers of what the tries and releases of a lock ask and give back.
+const EXCLUSIVE: u16 = 0;
+
+const SHARED: u16 = 1;
+
+impl Place {
+    /// Starts a call at a place that is in none. It is done at once where no word has to be looked at.
+    pub fn start(self, rules: Rules, call: WordCall) -> Next
+        ensures { result ≡ started (needs_of rules) self call }
+    {
+        let top = usize::from(rules.top());
+        match call {
+            WordCall::Try(count) | WordCall::Register(count) | WordCall::Release(count)
+                if count > top => { Next::Done(self, Answer::Bool(false)) }
+            WordCall::Try(count) => self.start_try(count as u16),
+            WordCall::Register(count) => self.start_registration(count as u16),
+            WordCall::Release(0) => Next::Done(self, Answer::Bool(true)),
+            WordCall::Release(count) => self.start_release(count as u16),
+            WordCall::TryLock => self.start_try(EXCLUSIVE),
+            WordCall::TryShare => self.start_try(SHARED),
+            WordCall::RegisterMode(mode) => self.start_registration(number(mode)),
+            WordCall::ReleaseLock => self.start_release(EXCLUSIVE),
+            WordCall::ReleaseShare => self.start_release(SHARED),
+            WordCall::PoisonLock => Next::Going(Place {
+                stage: Stage::PoisonLoad,
+                back: Back::Tells,
+                ..self
+            }),
+            WordCall::ClearPoison => self.going(Stage::Clear),
+            WordCall::Available => self.start_read(Reading::Available),
+            WordCall::IsFree => self.start_read(Reading::IsFree),
+            WordCall::IsLocked => self.start_read(Reading::IsLocked),
+            WordCall::IsShared => self.start_read(Reading::IsShared),
+            WordCall::IsPoisoned => self.start_read(Reading::IsPoisoned),
+            WordCall::TryPoll => self.start_poll(Taking::Tries),
+            WordCall::Poll => self.start_poll(Taking::Awaits),
+            WordCall::Cancel => self.start_cancel(rules),
+        }
+    }
+
+    // It reads the main word.
+    fn start_read(self, reading: Reading) -> Next
+        ensures { result ≡ going self (ReadLoad reading) }
+    {
+        self.going(Stage::ReadLoad { reading })
+    }
+
+    // It asks, and doesn't wait.
+    fn start_try(self, request: u16) -> Next
+        ensures { result ≡ tried_as self request }
+    {
+        let joins = false;
+        let ask = Ask { request, joins };
+        self.going(Stage::AskLoad { ask })
+    }
+
+    // It asks, where it is registered as nothing.
+    fn start_registration(self, request: u16) -> Next
+        ensures { result ≡ registered_as self request }
+    {
+        if !matches!(self.registration, Registration::Idle) {
+            return Next::Done(self, Answer::Bool(false));
+        }
+        let joins = true;
+        let ask = Ask { request, joins };
+        self.going(Stage::AskLoad { ask })
+    }
+
+    // It gives something back.
+    fn start_release(self, given: u16) -> Next
+        ensures { result ≡ released_as self given }
+    {
+        Next::Going(Place {
+            stage: Stage::ReleaseLoad { given },
+            back: Back::Tells,
+            ..self
+        })
+    }
+
+    // A poll: only who joined the line has a word to look at.
+    fn start_poll(self, taking: Taking) -> Next
+        ensures { result ≡ polled_as self taking self.registration }
+    {
+        match self.registration {
+            Registration::Idle => Next::Done(self, Answer::Taken(Err(Error::NotRegistered))),
+            Registration::Once(value, _request) => {
+                let registration = Registration::Idle;
+                let place = Place {
+                    registration,
+                    ..self
+                };
+                Next::Done(place, Answer::Taken(Ok(value == 0)))
+            }
+            Registration::Slot(_request) => self.going(Stage::Take { taking }),
+        }
+    }
+
+    // A cancel: only who joined the line has a word to look at.
+    fn start_cancel(self, rules: Rules) -> Next
+        ensures { result ≡ cancelled_as (needs_of rules) self self.registration }
+    {
+        match self.registration {
+            Registration::Idle => Next::Done(self, Answer::Unit),
+            Registration::Once(value, request) => self.drop_answer(rules, request, value),
+            Registration::Slot(request) => Next::Going(Place {
+                stage: Stage::FlagLoad,
+                back: Back::Takes(request),
+                ..self
+            }),
+        }
+    }
+}
+
+// The number of a mode.
+fn number(mode: Mode) -> u16
+    ensures { result ≡ mode_number mode }
+{
+    requests::request_number(match mode {
+        Mode::Exclusive => Request::Exclusive,
+        Mode::Shared => Request::Shared,
+        Mode::WaitExclusive => Request::WaitExclusive,
+        Mode::WaitShared => Request::WaitShared,
+    })
+}

@@ -1,0 +1,21 @@
+//! Worked rows of each core, of the line under them, and of words, beside what the contracts say of every run.
+#![tactic(auto)]
+
+#[cfg(test)]
+mod barrier;
+#[cfg(test)]
+mod bench;
+#[cfg(test)]
+mod gate;
+#[cfg(test)]
+mod line;
+#[cfg(test)]
+mod lock;
+#[cfg(test)]
+mod numbers;
+#[cfg(test)]
+mod played;
+#[cfg(test)]
+mod semaphore;
+#[cfg(test)]
+mod words;

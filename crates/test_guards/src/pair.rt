@@ -1,0 +1,85 @@
+//! A type whose invariant matters: two numbers that agree, behind each of the two locks.
+//!
+//! Whoever writes has to leave the numbers equal, and whoever reads may use that they are.
+
+ghost use Rattle.std.specs.Prelude.{◌≡◌, IfOk};
+
+use saa_core::ticket::Full;
+use saa_sync::lock_api::{Mutex, RwLock};
+use std::sync::Wait;
+
+/// Two numbers that agree.
+#[derive(Drop)]
+pub struct Pair {
+    first: u64,
+    second: u64,
+    ghost agree: { first ≡ second },
+}
+
+impl Pair {
+    /// This number, twice.
+    pub fn new(number: u64) -> Self
+        ensures { (result.first ≡ number) × (result.second ≡ number) }
+    {
+        Pair {
+            first: number,
+            second: number,
+        }
+    }
+
+    /// Makes both this number.
+    pub fn set(&mut self, number: u64)
+        ensures { (self.new.first ≡ number) × (self.new.second ≡ number) }
+    {
+        self.first = number;
+        self.second = number;
+    }
+}
+
+/// Makes both numbers of a mutex this one.
+pub fn store<R: Wait + Drop>(mutex: &Mutex<R, Pair>, number: u64) -> Result<(), Full> {
+    mutex.lock()?.set(number);
+    Ok(())
+}
+
+/// Both numbers of a mutex, which agree.
+pub fn load<R: Wait + Drop>(mutex: &Mutex<R, Pair>) -> Result<(u64, u64), Full>
+    ensures { IfOk result (λ numbers. numbers.0 ≡ numbers.1) }
+{
+    let guard = mutex.lock()?;
+    Ok((guard.first, guard.second))
+}
+
+/// Makes both numbers of a reader-writer lock this one.
+pub fn write<R: Wait + Drop>(rwlock: &RwLock<R, Pair>, number: u64) -> Result<(), Full> {
+    rwlock.write()?.set(number);
+    Ok(())
+}
+
+/// Both numbers of a reader-writer lock, which agree.
+pub fn read<R: Wait + Drop>(rwlock: &RwLock<R, Pair>) -> Result<(u64, u64), Full>
+    ensures { IfOk result (λ numbers. numbers.0 ≡ numbers.1) }
+{
+    let guard = rwlock.read()?;
+    Ok((guard.first, guard.second))
+}
+
+#[cfg(test)]
+mod tests {
+    use super::{Pair, load, read, store, write};
+    use saa_sync::lock_api::{Mutex, RwLock};
+    use std::io;
+
+    #[test]
+    fn a_pair_behind_each_lock(rt: HostRuntime) -> io::Result<()> {
+        let mutex = Mutex::new(&rt, rt.alloc(), Pair::new(3), 1)?;
+        assert_eq!(rt; load(&mutex), Ok((3, 3)));
+        assert_eq!(rt; store(&mutex, 7), Ok(()));
+        assert_eq!(rt; load(&mutex), Ok((7, 7)));
+        let rwlock = RwLock::new(&rt, rt.alloc(), Pair::new(4), 1)?;
+        assert_eq!(rt; read(&rwlock), Ok((4, 4)));
+        assert_eq!(rt; write(&rwlock, 8), Ok(()));
+        assert_eq!(rt; read(&rwlock), Ok((8, 8)));
+        Ok(())
+    }
+}

@@ -1,0 +1,112 @@
+//! Random commands by sixteen pagers on the core of a semaphore, whose line is held by links, and on a semaphore whose line
+//! is a list: both reply the same, and owe the same wakes.
+
+use rand_core::utils::NextWord;
+use rand_pcg::Pcg32;
+use saa::semaphore::SemaphoreCore;
+use saa::ticket::{How, Ticket};
+use std::alloc::{AllocError, Global};
+use std::io;
+use std::process::Abort;
+use test_support::listed::ListedSemaphore;
+
+// How many pagers there are, and for how many of them there is room.
+const PAGERS: u16 = 16;
+
+const ROOM: u16 = 12;
+
+// How many commands each run has.
+const COMMANDS: u32 = 4_000;
+
+// Both semaphores, each with its own tickets; a pager is a place.
+#[derive(Drop)]
+struct Both {
+    linked: SemaphoreCore,
+    listed: ListedSemaphore,
+    linked_tickets: Vec<Ticket>,
+    listed_tickets: Vec<Ticket>,
+}
+
+impl Both {
+    fn new(alloc: Global) -> Result<Both, AllocError> {
+        let mut linked_tickets = Vec::new(alloc);
+        let mut listed_tickets = Vec::new(alloc);
+        for _pager in 0..PAGERS {
+            linked_tickets.push(Ticket::new())?;
+            listed_tickets.push(Ticket::new())?;
+        }
+        Ok(Both {
+            linked: SemaphoreCore::new(alloc, ROOM)?,
+            listed: ListedSemaphore::new(alloc, ROOM)?,
+            linked_tickets,
+            listed_tickets,
+        })
+    }
+
+    // Does what a random word says at both: a kind of call, a pager, and a count or a way to poll. Whether they reply the
+    // same, and the same is available after it.
+    fn agree(&mut self, word: u32) -> bool {
+        let count = (word >> 8) as usize % 12;
+        let pager = (word >> 16) as usize % usize::from(PAGERS);
+        let is_sync = (word >> 24).is_multiple_of(2);
+        let is_same = match word % 16 {
+            0 => self.linked.try_acquire_many(count * 6) == self.listed.try_acquire_many(count * 6),
+            1..=4 => self.linked.release_many(count) == self.listed.release_many(count),
+            5 => self.linked.next_answered() == self.listed.next_answered(),
+            kind => self.agree_at(kind, pager, count, is_sync),
+        };
+        is_same && self.linked.available_permits() == self.listed.available_permits()
+    }
+
+    // Registers, polls or drops a pager at both.
+    fn agree_at(&mut self, kind: u32, pager: usize, count: usize, is_sync: bool) -> bool {
+        let Some(linked) = self.linked_tickets.get_mut(pager) else {
+            return false;
+        };
+        let Some(listed) = self.listed_tickets.get_mut(pager) else {
+            return false;
+        };
+        match kind {
+            6..=10 => {
+                self.linked.register(linked, count, is_sync)
+                    == self.listed.register(listed, count, is_sync)
+            }
+            11..=13 => {
+                let how = if is_sync { How::Try } else { How::Sync };
+                self.linked.poll(linked, how) == self.listed.poll(listed, how)
+            }
+            _ => {
+                self.linked.cancel(linked);
+                self.listed.cancel(listed);
+                linked.is_registered() == listed.is_registered()
+            }
+        }
+    }
+
+    // How many of the pagers are registered.
+    fn registered(&self) -> usize {
+        self.linked_tickets
+            .iter()
+            .filter(|ticket| ticket.is_registered())
+            .count()
+    }
+}
+
+#[test]
+fn a_line_of_links_replies_as_a_list_does(rt: HostRuntime) -> io::Result<()> {
+    let (mut different, mut fullest) = (0u32, 0);
+    for seed in 0..64u64 {
+        let mut random = Pcg32::new(seed, 54);
+        let mut both = Both::new(rt.alloc())?;
+        for _command in 0..COMMANDS {
+            if !both.agree(random.next_word()) {
+                different = different.saturating_add(1);
+            }
+            fullest = both.registered().max(fullest);
+        }
+    }
+    assert!(rt; different == 0);
+    // The room was full at times, and pagers without a slot were answered at once.
+    assert!(rt; fullest > usize::from(ROOM));
+    Ok(())
+}
