@@ -1,3 +1,4 @@
 pub mod Rounds
 pub mod Entering
+pub mod GateNumbers
 pub mod Gathering

@@ -2,7 +2,7 @@
 use Rattle.std.specs.Prelude.{◌≡◌, [], Result}
 use Rattle.saa_core_spec.specs.declared.request.Request.{Request}
 use Rattle.saa_core_spec.specs.declared.lock.TryLockError.{TryLockError}
-use Rattle.saa_core_spec.specs.Held.{OfLock, Poisoned}
+use Rattle.saa_core_spec.specs.Held.{OfLock, Poisoned, LockState, IsLockState}
 use Rattle.saa_core_spec.specs.Object.{Object, After}
 use Rattle.saa_core_spec.specs.Settling.{IsSettled}
 use Rattle.saa_core_spec.specs.Asking.{tried}
@@ -12,7 +12,8 @@ use Rattle.saa_core_spec.specs.Lock.{is_poisoned, try_answer}
 abbrev pub lock_tried : Object → Request → After (Result (Unit {0}) TryLockError)
 lock_tried s request = record { state = (tried s request).state; reply = try_answer (tried s request).reply (is_poisoned s.held) }
 
--- what always holds of a lock: it stands settled, and nobody waits where it is poisoned
+-- what always holds of a lock: it stands settled, nobody waits where it is poisoned, and 1 to 62 share it if it is shared
 pub record LockStands (s : Object) : Type 0 where
   pub settled : IsSettled s
   pub unpoisoned : s.held ≡ OfLock Poisoned → s.line ≡ []
+  pub bounded : (lock : LockState) × (s.held ≡ OfLock lock) × IsLockState lock

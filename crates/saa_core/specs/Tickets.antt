@@ -185,6 +185,14 @@ pub record Polled (old new : Registration) (how : How) (fault : Option Error) : 
   pub known : is_at_once old ≡ true → says_not_registered fault ≡ false
   pub there : is_at_once old ≡ true → is_not_ready fault ≡ false
 
+-- the answer of a poll is one that the ticket can have: an idle one has none, one that was answered at once has its answer
+-- with it, and what the slot of another has is the core's to say
+abbrev pub HasAnswer : Registration → Result ℕ Error → Type 0
+HasAnswer ticket (Err error) = Unit {0}
+HasAnswer Unregistered (Ok value) = ⊥
+HasAnswer (AtOnce kept request is_sync) (Ok value) = value ≡ kept
+HasAnswer (InSlot slot request is_sync) (Ok value) = Unit {0}
+
 -- dropping a name as a step of the object
 abbrev pub dropping : Object → ℕ → After (Unit {0})
 dropping s name = record { state = dropped s name; reply = tt }

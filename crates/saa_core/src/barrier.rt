@@ -14,7 +14,7 @@ ghost use Rattle.saa_core_spec.specs.Polling.{polled, read_as};
 ghost use Rattle.saa_core_spec.specs.Values.{barrier_value, leader_value, passed_value};
 ghost use Rattle.saa_core_spec.specs.Barrier.{size_of, barrier_step, new_barrier};
 ghost use Rattle.saa_core.specs.Slots.{OwesAnswered, empty_slots, held_slots, room_of, wake_told, all_slots_answered};
-ghost use Rattle.saa_core.specs.Tickets.{Acts, Calls, Belong, Polled, IsForeign, dropping, fault_of, is_busy, is_yes, object_of};
+ghost use Rattle.saa_core.specs.Tickets.{Acts, Calls, Belong, HasAnswer, Polled, IsForeign, dropping, fault_of, is_busy, is_yes, object_of};
 ghost use Rattle.saa_core.specs.BarrierStanding.{IsBarrierStanding};
 ghost use Rattle.saa_core.specs.Waiters.{IsWaiting, left_by};
 ghost use Rattle.saa_core.specs.GatheringParts.{vacated};
@@ -157,6 +157,7 @@ impl BarrierCore {
     pub fn poll_number(&mut self, ticket: &mut Ticket, how: How) -> Result<u8, Error>
         ensures acts { Acts self.old self.new ticket.old ticket.new (λ s name. polled s name how) result }
         ensures ticket { Polled ticket.old ticket.new how (fault_of result) }
+        ensures kept { HasAnswer ticket.old result }
         ensures foreign { IsForeign self.old.slots ticket.old
             → (result ≡ Err NotRegistered) × (self.new ≡ self.old) × (ticket.new ≡ ticket.old) }
         ensures unchanged { OnErr result (self.new ≡ self.old) }

@@ -12,7 +12,7 @@ ghost use Rattle.saa_core_spec.specs.Object.{Object, After, entry_at};
 ghost use Rattle.saa_core_spec.specs.Asking.{registered, is_idle};
 ghost use Rattle.saa_core_spec.specs.Polling.{polled, read_as, dropped};
 ghost use Rattle.saa_core.specs.Slots.{OwesAnswered, room_of, wake_told};
-ghost use Rattle.saa_core.specs.Tickets.{Core, Acts, Calls, Polled, dropping, fault_of, is_busy, is_yes, object_of};
+ghost use Rattle.saa_core.specs.Tickets.{Core, Acts, Calls, HasAnswer, Polled, dropping, fault_of, is_busy, is_yes, object_of};
 ghost use Rattle.saa_core_spec.specs.Run.{IsWithin, done, replies, state_after};
 
 use crate::ticket::{Error, Full, How, Ticket};
@@ -62,6 +62,7 @@ pub trait Primitive: Drop {
     fn poll_number(&mut self, ticket: &mut Ticket, how: How) -> Result<u8, Error>
         ensures acts { Acts (core self.old) (core self.new) ticket.old ticket.new (λ s name. polled s name how) result }
         ensures ticket { Polled ticket.old ticket.new how (fault_of result) }
+        ensures kept { HasAnswer ticket.old result }
         ensures owed { (core self.new).slots.owed ≡ (core self.old).slots.owed };
 
     /// What the number of an answer means to this primitive.

@@ -15,9 +15,9 @@ ghost use Rattle.saa_core_spec.specs.Polling.{polled, read_as};
 ghost use Rattle.saa_core_spec.specs.Values.{gate_value, gate_error, permitted_value, rejected_value, opened_value, sealed_value, spurious_value};
 ghost use Rattle.saa_core_spec.specs.Gate.{gate_state, gate_step, let_through, moved, new_gate};
 ghost use Rattle.saa_core.specs.Slots.{OwesAnswered, empty_slots, held_slots, room_of, wake_told, all_slots_answered};
-ghost use Rattle.saa_core.specs.Tickets.{Acts, Calls, Belong, Polled, IsForeign, dropping, fault_of, is_busy, is_yes, object_of};
+ghost use Rattle.saa_core.specs.Tickets.{Acts, Calls, Belong, HasAnswer, Polled, IsForeign, dropping, fault_of, is_busy, is_yes, object_of};
 ghost use Rattle.saa_core.specs.GateStanding.{IsGateStanding};
-ghost use Rattle.saa_core.specs.GatePolls.{GatePolled, is_answer};
+ghost use Rattle.saa_core.specs.GatePolls.{GatePolled, IsGateTicket, is_answer, is_gate_number, is_gate_result};
 ghost use Rattle.saa_core.specs.Waiters.{IsWaiting, left_by};
 ghost use Rattle.saa_core.specs.GatheringParts.{vacated};
 ghost use Rattle.saa_core.specs.GateParts.{answer_by_state};
@@ -62,6 +62,7 @@ impl Model for GateCore {
     ghost use Rattle.saa_core_spec.specs.Held.{OfGate};
     ghost use Rattle.saa_core.specs.Slots.{IsSound};
     ghost use Rattle.saa_core.specs.Tickets.{Core};
+    ghost use Rattle.saa_core.specs.GatePolls.{AreGateAnswers};
     ghost use Rattle.saa_core.specs.GateStanding.{IsGateOf};
 
     ghost Value = { Core };
@@ -70,6 +71,7 @@ impl Model for GateCore {
 
     ghost invariant = { λ gate. record {
       sound : IsSound gate.line;
+      answers : AreGateAnswers gate.line.answers;
       standing : IsGateOf (OfGate gate.state) gate.line.line;
     } };
 }
@@ -223,6 +225,9 @@ impl GateCore {
         ensures acts { Acts self.old self.new ticket.old ticket.new (λ s name. read_as gate_value (polled s name how)) result }
         ensures ticket { GatePolled self.old self.new ticket.old ticket.new how result }
         ensures answered { is_answer result ≡ true → (is_busy ticket.old ≡ true) × (ticket.new ≡ Unregistered) }
+        ensures value { IsGateTicket ticket.old → is_gate_result result ≡ true }
+        ensures unchanged { IsGateTicket ticket.old → is_answer result ≡ false
+            → (self.new ≡ self.old) × (ticket.new ≡ ticket.old) }
         ensures foreign { IsForeign self.old.slots ticket.old
             → (result ≡ Err Error.NotRegistered) × (self.new ≡ self.old) × (ticket.new ≡ ticket.old) }
         ensures state { self.new.held ≡ self.old.held }
@@ -238,8 +243,10 @@ impl GateCore {
     pub fn poll_number(&mut self, ticket: &mut Ticket, how: How) -> Result<u8, polling::Error>
         ensures acts { Acts self.old self.new ticket.old ticket.new (λ s name. polled s name how) result }
         ensures ticket { Polled ticket.old ticket.new how (fault_of result) }
+        ensures kept { HasAnswer ticket.old result }
         ensures foreign { IsForeign self.old.slots ticket.old
             → (result ≡ Err NotRegistered) × (self.new ≡ self.old) × (ticket.new ≡ ticket.old) }
+        ensures number { IsGateTicket ticket.old → IfOk result (λ number. is_gate_number number ≡ true) }
         ensures unchanged { OnErr result (self.new ≡ self.old) }
         ensures state { self.new.held ≡ self.old.held }
         ensures owed { self.new.slots.owed ≡ self.old.slots.owed }
@@ -289,6 +296,7 @@ impl GateCore {
 
     // Answers all who wait at a controlled gate with a value; at another gate only its state is told.
     fn let_through(&mut self, value: u8) -> Result<usize, State>
+        requires { is_gate_number value ≡ true }
         ensures calls { Calls self.old self.new (λ s. let_through s value (gate_state s.held)) (GateAnswer.Answered result) }
         ensures answer { IsOk result ↔ (gate_state self.old.held ≡ Controlled) }
         ensures answered { IfOk result (λ count. (count ≡ length self.old.slots.line)
@@ -305,6 +313,7 @@ impl GateCore {
 
     // The gate is in this state from now on, and all who waited are answered with a value.
     fn move_to(&mut self, state: State, value: u8) -> (State, usize)
+        requires { is_gate_number value ≡ true }
         ensures calls { Calls self.old self.new (λ s. moved s state value) (GateAnswer.Moved result.0 result.1) }
         ensures before { result.0 ≡ gate_state self.old.held }
         ensures count { result.1 ≡ length self.old.slots.line }
@@ -320,6 +329,7 @@ impl GateCore {
 
     // Answers all who wait with a value, and says how many those were.
     fn answer_all(&mut self, value: u8) -> usize
+        requires { is_gate_number value ≡ true }
         ensures count { result ≡ length self.old.slots.line }
         ensures answered { self.new ≡ record self.old { slots = all_slots_answered value self.old.slots } }
         ensures wakes { OwesAnswered self.old.slots self.new.slots }

@@ -12,7 +12,7 @@ ghost use Rattle.saa_core_spec.specs.Asking.{tried, registered};
 ghost use Rattle.saa_core_spec.specs.Polling.{polled, given_back, is_for_nothing};
 ghost use Rattle.saa_core.specs.Slots.{OwesAnswered, IsSound, held_slots, room_of, wake_told, all_slots_answered};
 ghost use Rattle.saa_core.specs.declared.ticket.Registration.TheVariants.{Unregistered};
-ghost use Rattle.saa_core.specs.Tickets.{Core, Acts, Calls, IsCoreSettled, Polled, IsForeign, dropping, fault_of, is_busy, is_yes};
+ghost use Rattle.saa_core.specs.Tickets.{Core, Acts, Calls, IsCoreSettled, HasAnswer, Polled, IsForeign, dropping, fault_of, is_busy, is_yes};
 ghost use Rattle.saa_core.specs.CoreParts.{core_settled, core_given, core_undone, core_vacated, takes_now, oldest_fitting, IsGranting, answer_to_all};
 
 use crate::line::LineOf;
@@ -196,6 +196,7 @@ impl<N: Needs> Granting<N> {
     pub fn poll_number(&mut self, ticket: &mut Ticket, how: How) -> Result<u8, Error>
         ensures acts { Acts self.old self.new ticket.old ticket.new (λ s name. polled s name how) result }
         ensures ticket { Polled ticket.old ticket.new how (fault_of result) }
+        ensures kept { HasAnswer ticket.old result }
         ensures foreign { IsForeign self.old.slots ticket.old
             → (result ≡ Err NotRegistered) × (self.new ≡ self.old) × (ticket.new ≡ ticket.old) }
         ensures unchanged { OnErr result (self.new ≡ self.old) }

@@ -17,7 +17,7 @@ ghost use Rattle.saa_core.specs.Slots.{OwesAnswered, empty_slots, held_slots, ro
 ghost use Rattle.saa_core.specs.declared.ticket.Registration.TheVariants.{Unregistered};
 ghost use Rattle.saa_core_words.specs.Words.{count_bits, lock_count, word_number, word_of};
 ghost use Rattle.saa_core.specs.MainWord.{core_word};
-ghost use Rattle.saa_core.specs.Tickets.{Acts, Calls, Belong, IsCoreSettled, Polled, IsForeign, dropping, fault_of, is_busy, is_yes, object_of};
+ghost use Rattle.saa_core.specs.Tickets.{Acts, Calls, Belong, IsCoreSettled, HasAnswer, Polled, IsForeign, dropping, fault_of, is_busy, is_yes, object_of};
 ghost use Rattle.saa_core.specs.CoreParts.{takes_now};
 ghost use Rattle.saa_core.specs.LockCalls.{lock_tried};
 
@@ -268,6 +268,7 @@ impl LockCore {
     pub fn poll_number(&mut self, ticket: &mut Ticket, how: How) -> Result<u8, Error>
         ensures acts { Acts self.old self.new ticket.old ticket.new (λ s name. polled s name how) result }
         ensures ticket { Polled ticket.old ticket.new how (fault_of result) }
+        ensures kept { HasAnswer ticket.old result }
         ensures foreign { IsForeign self.old.slots ticket.old
             → (result ≡ Err NotRegistered) × (self.new ≡ self.old) × (ticket.new ≡ ticket.old) }
         ensures unchanged { OnErr result (self.new ≡ self.old) }
@@ -300,6 +301,7 @@ impl LockCore {
         ensures oldest { result ≡ slice_get self.old.slots.owed 0 }
         ensures told { self.new ≡ record self.old { slots = wake_told self.old.slots } }
         ensures within { IfSome result (λ slot. slot < room_of self.old.slots) }
+        ensures settled { IsCoreSettled self.new }
     {
         self.core.next_answered()
     }
@@ -538,6 +540,7 @@ impl Primitive for LockCore {
 
     fn stands(&self) {
         let _waiting = self.core.waiting();
+        let _owner = self.core.needs().owner();
     }
 
     fn call(&mut self, call: LockCall) -> LockAnswer {

@@ -16,7 +16,7 @@ ghost use Rattle.saa_core_spec.specs.Semaphore.{bound_of, out_of, available, new
 ghost use Rattle.saa_core.specs.Slots.{OwesAnswered, empty_slots, held_slots, room_of, wake_told};
 ghost use Rattle.saa_core_words.specs.Words.{count_bits, word_number, word_of};
 ghost use Rattle.saa_core.specs.MainWord.{core_word};
-ghost use Rattle.saa_core.specs.Tickets.{Acts, Calls, Belong, IsCoreSettled, Polled, IsForeign, dropping, fault_of, is_busy, is_yes, object_of};
+ghost use Rattle.saa_core.specs.Tickets.{Acts, Calls, Belong, IsCoreSettled, HasAnswer, Polled, IsForeign, dropping, fault_of, is_busy, is_yes, object_of};
 
 use crate::bench::Primitive;
 use crate::granting::{Granting, Needs};
@@ -248,6 +248,7 @@ impl<const MAX: usize> SemaphoreCoreOf<MAX> {
     pub fn poll_number(&mut self, ticket: &mut Ticket, how: How) -> Result<u8, Error>
         ensures acts { Acts self.old self.new ticket.old ticket.new (λ s name. polled s name how) result }
         ensures ticket { Polled ticket.old ticket.new how (fault_of result) }
+        ensures kept { HasAnswer ticket.old result }
         ensures foreign { IsForeign self.old.slots ticket.old
             → (result ≡ Err NotRegistered) × (self.new ≡ self.old) × (ticket.new ≡ ticket.old) }
         ensures unchanged { OnErr result (self.new ≡ self.old) }
@@ -279,6 +280,7 @@ impl<const MAX: usize> SemaphoreCoreOf<MAX> {
         ensures oldest { result ≡ slice_get self.old.slots.owed 0 }
         ensures told { self.new ≡ record self.old { slots = wake_told self.old.slots } }
         ensures within { IfSome result (λ slot. slot < room_of self.old.slots) }
+        ensures settled { IsCoreSettled self.new }
     {
         self.core.next_answered()
     }
@@ -372,7 +374,7 @@ impl<const MAX: usize> Primitive for SemaphoreCoreOf<MAX> {
     ghost stands = { SemaphoreStands MAX };
 
     fn stands(&self) {
-        let _permits = self.core.needs();
+        let _request = self.request_of(0);
     }
 
     fn call(&mut self, call: SemaphoreCall) -> SemaphoreAnswer {

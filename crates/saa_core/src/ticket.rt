@@ -9,8 +9,8 @@ ghost use Rattle.saa_core.specs.declared.ticket.Registration.TheVariants.{Unregi
 ghost use Rattle.saa_core_spec.specs.Held.{Held};
 ghost use Rattle.saa_core_spec.specs.Polling.{is_right_mode, polled};
 ghost use Rattle.saa_core.specs.Slots.{IsSound};
-ghost use Rattle.saa_core.specs.SlotStates.{IsSlotState};
-ghost use Rattle.saa_core.specs.Tickets.{Acts, IsForeign, Polled, fault_of, is_busy, slot_of};
+ghost use Rattle.saa_core.specs.SlotStates.{IsSlotState, IsTakenFrom};
+ghost use Rattle.saa_core.specs.Tickets.{Acts, HasAnswer, IsForeign, Polled, fault_of, is_busy, slot_of};
 
 use crate::line::LineOf;
 use crate::line::order::Order;
@@ -32,8 +32,8 @@ pub enum Registration {
 /// What a task keeps of its registration in a core.
 ///
 /// It is idle until a core registers it, and again once its answer was consumed or it was cancelled there.
-/// It can't be copied: an answer is consumed once. A ticket that goes out of scope while it is registered
-/// leaves its slot held, so cancel it first.
+/// It isn't `Copy`, so a ticket that is only used with its core's calls has its answer consumed once. A ticket that goes out
+/// of scope while it is registered leaves its slot held, so cancel it first.
 #[derive(Drop)]
 pub struct Ticket {
     registration: Registration,
@@ -94,8 +94,10 @@ impl Ticket {
         ensures acts { (held : Held) → Acts (record { held = held; slots = line.old }) (record { held = held; slots = line.new })
             self.old self.new (λ s name. polled s name how) result }
         ensures ticket { Polled self.old self.new how (fault_of result) }
+        ensures kept { HasAnswer self.old result }
         ensures foreign { IsForeign line.old self.old
             → (result ≡ Err NotRegistered) × (line.new ≡ line.old) × (self.new ≡ self.old) }
+        ensures taken { IfOk result (λ value. IsTakenFrom self.old line.old line.new value) }
         ensures unchanged { OnErr result (line.new ≡ line.old) }
         ensures line { line.new.line ≡ line.old.line }
         ensures owed { line.new.owed ≡ line.old.owed }
@@ -130,8 +132,10 @@ impl Ticket {
         ensures acts { (held : Held) → Acts (record { held = held; slots = line.old }) (record { held = held; slots = line.new })
             self.old self.new (λ s name. polled s name how) result }
         ensures ticket { Polled self.old self.new how (fault_of result) }
+        ensures kept { HasAnswer self.old result }
         ensures foreign { IsForeign line.old self.old
             → (result ≡ Err NotRegistered) × (line.new ≡ line.old) × (self.new ≡ self.old) }
+        ensures taken { IfOk result (λ value. IsTakenFrom self.old line.old line.new value) }
         ensures unchanged { OnErr result (line.new ≡ line.old) }
         ensures line { line.new.line ≡ line.old.line }
         ensures owed { line.new.owed ≡ line.old.owed }

@@ -4,6 +4,7 @@ pub mod Registrations
 pub mod Steps
 pub mod Leaders
 pub mod Conservation
+pub mod WholeRuns
 pub use Rattle.saa_core_spec.specs.Held
 pub use Rattle.saa_core_spec.specs.Object
 pub use Rattle.saa_core_spec.specs.Values

@@ -1,7 +1,7 @@
 //! Laws of the sequential object, each the contract of a function that does nothing.
 //!
 //! They show that the definitions of `specs/` mean what they should. No program needs to call these functions;
-//! what they ensure is proved all the same. [`all`] names each.
+//! what they ensure is proved all the same. [`all`] names each, and `runs::laws` has those of whole runs together.
 
 ghost use Rattle.std.specs.Prelude.{◌≡◌, ℕ, ◌+◌, ◌-◌, ◌/◌, ◌<◌, ◌≤◌, ◌↔◌, Bool, not, ◌||◌, false, List, Result, Ok, All, IsTrue, min, sum};
 ghost use Rattle.std.specs.List.{count_by, sum_by};
@@ -38,6 +38,9 @@ ghost use Rattle.saa_core_laws.specs.Registrations.{AnswersOnce, is_answered};
 ghost use Rattle.saa_core_laws.specs.Leaders.{is_arrival, is_given_up, names_leader, barrier_run, barrier_next, CompletesRound};
 ghost use Rattle.saa_core_laws.specs.Conservation.{granted_by, given_back_by, released_by, taken_in_hand_by, semaphore_run};
 ghost use Rattle.saa_core_laws.specs.Steps.{step_of};
+ghost use Rattle.saa_core_laws.specs.WholeRuns.{WholeRuns};
+
+use crate::runs;
 
 /// The fitting front is the greatest number of the oldest waiters that all fit, one after another.
 ///
@@ -223,8 +226,11 @@ pub fn false_registrations()
         → s.held ≡ OfBarrier size → entry_at s.book name ≡ Idle → ¬ ((registered s name request is_sync).reply ≡ Ok false) }
 {}
 
-/// Every law, by its name.
-pub fn all() {
+/// Every law, by its name; together those of the runs from newly made primitives are one, which is the contract here too.
+pub fn all()
+    ensures whole_runs { WholeRuns }
+{
+    runs::laws();
     settling();
     semaphore_runs();
     lock_runs();
