@@ -42,8 +42,14 @@ pub use Rattle.saa_sync.specs.SemaphoreAnswers
 pub use Rattle.saa_word_steps.specs.Needs
 pub use Rattle.saa_word_steps.specs.Lazy
 pub use Rattle.saa_word_steps.specs.Steps
+pub use Rattle.saa_word_proofs.specs.Blocking
+pub use Rattle.saa_word_proofs.specs.Calls
+pub use Rattle.saa_word_proofs.specs.History
+pub use Rattle.saa_word_proofs.specs.Promises
+pub use Rattle.saa_word_proofs.specs.Registering
 pub use Rattle.saa_word.specs.Kinds
 pub use Rattle.saa_word.specs.Machine
 pub use Rattle.saa_word.specs.Moves
-pub use Rattle.saa_word.specs.Story
+pub use Rattle.saa_word.specs.Trace
+pub use Rattle.saa_word.specs.Simulation
 pub use Rattle.saa_word.specs.Alone

@@ -7,6 +7,18 @@ ghost use Rattle.saa_core_words.specs.Words.{count_bits, word_number, word_of};
 const COUNTS: u64 = 64;
 
 /// The parts of a main word.
+///
+/// What its parts mean together, where it is the word of a semaphore or a lock:
+///
+/// | Count | Flag | Poison | Tail | |
+/// |---|---|---|---|---|
+/// | 0 | clear | clear | 0 | Nothing is held, and nobody waits. |
+/// | n | clear | clear | 0 | n permits are out, or a lock is held: 63 by one owner, else by n. Nobody waits. |
+/// | n | clear | clear | t | The same, and t is the newest waiter. The line is settled: its oldest doesn't fit. |
+/// | n | set | clear | t | A place works on the line: something was given back or left since it was settled. |
+/// | 0 | clear | set | 0 | A poisoned lock: nothing is held, and nobody waits. |
+///
+/// No other combination occurs: the flag is set only while somebody waits, and a poisoned lock's word is one number.
 #[derive(Clone, Copy, Debug, Eq, PartialEq)]
 pub struct Word {
     /// What is held, below 64: the permits that are out; of a lock 63 for one owner alone, and else how many share it.

@@ -6,6 +6,7 @@ use Rattle.std.proofs.lemmas.Bool.{cases_Bool}
 use Rattle.std.proofs.lemmas.Bool.Decides.{nat_tests}
 use Rattle.std.specs.Prelude.{◌==◌, slice_index, slice_set}
 use Rattle.saa_core_spec.proofs.Counts.{number_same, same_number}
+use Rattle.saa_core_words.specs.Words.{count_bits}
 use Rattle.saa_word_steps.specs.declared.rules.Rules.{Rules}
 use Rattle.saa_word_steps.specs.declared.operation.Operation.{Operation}
 use Rattle.saa_word_steps.specs.declared.call.WordCall.{WordCall}
@@ -16,8 +17,8 @@ use Rattle.saa_word_steps.specs.declared.place.Stage.TheVariants.{Quiet, ReadLoa
 use Rattle.saa_word_steps.specs.Needs.{Needs}
 use Rattle.saa_word_steps.specs.Lazy.{Lazy, opening}
 use Rattle.saa_word_steps.specs.Steps.{is_taken, needs_of, next_of, operation_of, started, word_at, written_by}
-use Rattle.saa_word_proofs.specs.Standing.{Stands, updated}
-use Rattle.saa_word_proofs.specs.Stepped.{Stepped, place_after}
+use Rattle.saa_word_proofs.specs.Refinement.{Refines, updated}
+use Rattle.saa_word_proofs.specs.StepRefinement.{StepRefines, place_after}
 use Rattle.saa_word_proofs.specs.Promises.{idle_place, opening_row}
 use Rattle.saa_word_proofs.proofs.RefinementLemmas.Lists.{all-same}
 use Rattle.saa_word_proofs.proofs.RefinementLemmas.Steps.{step}
@@ -27,8 +28,9 @@ use Rattle.saa_word_proofs.proofs.SoloLemmas.Alone.{rules-lawful}
 use Rattle.saa_word.specs.declared.moves.Move.{Move}
 use Rattle.saa_word.specs.declared.moves.Move.TheVariants.{Start, Go}
 use Rattle.saa_word.specs.declared.moves.Step.{Step}
-use Rattle.saa_word.specs.Machine.{IsMachine, IsSized, StandsAs, State, is_lock, opened, place_in, place_of, row_of}
-use Rattle.saa_word.specs.Moves.{Moved, found_by, gone, is_quiet, operation_at, step_of, stepped_at, worked_at}
+use Rattle.saa_word.specs.Trace.{IsMachine}
+use Rattle.saa_word.specs.Machine.{IsSized, RefinesAs, State, is_lock, opened, place_in, place_of, row_of}
+use Rattle.saa_word.specs.Moves.{Moved, found_by, gone, is_quiet, made_by, next_by, operation_at, started_by, step_of, stepped_at, worked_at}
 
 -- what a move did, by its parts
 abbrev pub made_of : Rules → Step → List ℕ → List Place → ℕ → Moved
@@ -79,48 +81,52 @@ set-updated list at value unknown inside =
           rw apart (get_or-set_other list at other value unknown differs)
     ])
 
+-- the others keep theirs
+pub other-place : (standing : ℕ → Place) (me other : ℕ) (place : Place) → other == me ≡ false → updated standing me place other ≡ standing other
+other-place standing me other place differs = rw differs refl
+
 -- the words and places of a machine, where one of each was written
 pub stands-set : (needs : Needs) (row : List ℕ) (places : List Place) (at number me : ℕ) (place : Place) (lazy : Lazy) → at < length row → me < length places
-    → Stands needs (length places) (updated (λ (n : ℕ). get_or row n 0) at number) (updated (place_in places) me place) lazy
-    → Stands needs (length (set places me place)) (λ (n : ℕ). get_or (set row at number) n 0) (place_in (set places me place)) lazy
+    → Refines needs (length places) (updated (λ (n : ℕ). get_or row n 0) at number) (updated (place_in places) me place) lazy
+    → Refines needs (length (set places me place)) (λ (n : ℕ). get_or (set row at number) n 0) (place_in (set places me place)) lazy
 stands-set needs row places at number me place lazy inside here s =
-    subst (λ (n : ℕ). Stands needs n (λ (n : ℕ). get_or (set row at number) n 0) (place_in (set places me place)) lazy) (sym (length-set places me place))
-    (subst (λ (r : ℕ → ℕ). Stands needs (length places) r (place_in (set places me place)) lazy) (sym (set-updated row at number 0 inside))
-    (subst (λ (f : ℕ → Place). Stands needs (length places) (updated (λ (n : ℕ). get_or row n 0) at number) f lazy) (sym (set-updated places me place idle_place here)) s))
+    subst (λ (n : ℕ). Refines needs n (λ (n : ℕ). get_or (set row at number) n 0) (place_in (set places me place)) lazy) (sym (length-set places me place))
+    (subst (λ (r : ℕ → ℕ). Refines needs (length places) r (place_in (set places me place)) lazy) (sym (set-updated row at number 0 inside))
+    (subst (λ (f : ℕ → Place). Refines needs (length places) (updated (λ (n : ℕ). get_or row n 0) at number) f lazy) (sym (set-updated places me place idle_place here)) s))
 
 -- the same where a place alone was
 pub stands-placed : (needs : Needs) (row : List ℕ) (places : List Place) (me : ℕ) (place : Place) (lazy : Lazy) → me < length places
-    → Stands needs (length places) (λ (n : ℕ). get_or row n 0) (updated (place_in places) me place) lazy
-    → Stands needs (length (set places me place)) (λ (n : ℕ). get_or row n 0) (place_in (set places me place)) lazy
+    → Refines needs (length places) (λ (n : ℕ). get_or row n 0) (updated (place_in places) me place) lazy
+    → Refines needs (length (set places me place)) (λ (n : ℕ). get_or row n 0) (place_in (set places me place)) lazy
 stands-placed needs row places me place lazy here s =
-    subst (λ (n : ℕ). Stands needs n (λ (n : ℕ). get_or row n 0) (place_in (set places me place)) lazy) (sym (length-set places me place))
-    (subst (λ (f : ℕ → Place). Stands needs (length places) (λ (n : ℕ). get_or row n 0) f lazy) (sym (set-updated places me place idle_place here)) s)
+    subst (λ (n : ℕ). Refines needs n (λ (n : ℕ). get_or row n 0) (place_in (set places me place)) lazy) (sym (length-set places me place))
+    (subst (λ (f : ℕ → Place). Refines needs (length places) (λ (n : ℕ). get_or row n 0) f lazy) (sym (set-updated places me place idle_place here)) s)
 
 -- what a place in a call does next
-pub stepped-by : (state : State) (lazy : Lazy) (me : ℕ) → (needs_of state.rules).top < 64 → length state.places < 2 ^ 16 → me < length state.places → StandsAs state lazy
-    → Stepped (needs_of state.rules) (length state.places) (row_of state) (place_of state) lazy me (place_of state me).stage
+pub stepped-by : (state : State) (lazy : Lazy) (me : ℕ) → (needs_of state.rules).top < 2 ^ count_bits → length state.places < 2 ^ 16 → me < length state.places → RefinesAs state lazy
+    → StepRefines (needs_of state.rules) (length state.places) (row_of state) (place_of state) lazy me (place_of state me).stage
 stepped-by state lazy me wide few here s =
     step (needs_of state.rules) (rules-lawful state.rules) wide (length state.places) (row_of state) (place_of state) lazy me few here s (place_of state me).stage refl
 
 -- its word is one of the row
 pub inside-by : (state : State) (me : ℕ) → IsMachine state → me < length state.places → word_at (operation_at state me) < length state.row
 inside-by state me is here =
-    let stepped = stepped-by state is.lazy me is.sized.wide is.sized.few here is.stands in
-    omega (arith, stepped.inside, is.sized.words)
+    let stepped = stepped-by state is.trace.lazy me is.tracks.sized.wide is.tracks.sized.few here is.tracks.refines in
+    omega (arith, stepped.inside, is.tracks.sized.words)
 
 -- so a machine at which a place made its step stands together with the object behind the events of that step
-pub work-stands : (state : State) (lazy : Lazy) (me : ℕ) → (needs_of state.rules).top < 64 → length state.places < 2 ^ 16 → length state.row ≡ 1 + 2 * length state.places
-    → (here : me < length state.places) → (s : StandsAs state lazy) → (stepped : Stepped (needs_of state.rules) (length state.places) (row_of state) (place_of state) lazy me (place_of state me).stage)
-    → StandsAs (worked_at state me).machine stepped.last
+pub work-stands : (state : State) (lazy : Lazy) (me : ℕ) → (needs_of state.rules).top < 2 ^ count_bits → length state.places < 2 ^ 16 → length state.row ≡ 1 + 2 * length state.places
+    → (here : me < length state.places) → (s : RefinesAs state lazy) → (stepped : StepRefines (needs_of state.rules) (length state.places) (row_of state) (place_of state) lazy me (place_of state me).stage)
+    → RefinesAs (worked_at state me).machine stepped.last
 work-stands state lazy me wide few words here s stepped =
     stands-set (needs_of state.rules) state.row state.places (word_at (operation_at state me)) (written_by (operation_at state me) (found_by state (operation_at state me))) me
     (place_after (place_of state me) (next_of (needs_of state.rules) me (place_of state me) (place_of state me).stage (found_by state (operation_at state me)))) stepped.last
     (omega (arith, stepped.inside, words)) here stepped.stands
 
 -- a machine at which one place begins a call, or is done with one at once
-pub start-stands : (state : State) (lazy : Lazy) (me : ℕ) (call : WordCall) → (needs_of state.rules).top < 64 → me < length state.places → StandsAs state lazy
+pub start-stands : (state : State) (lazy : Lazy) (me : ℕ) (call : WordCall) → (needs_of state.rules).top < 2 ^ count_bits → me < length state.places → RefinesAs state lazy
     → is_quiet (place_of state me).stage ≡ true → is_taken (is_lock state) call ≡ true
-    → StandsAs (record state { places = slice_set state.places me (place_after (place_of state me) (started (needs_of state.rules) (place_of state me) call)) }) lazy
+    → RefinesAs (record state { places = slice_set state.places me (place_after (place_of state me) (started (needs_of state.rules) (place_of state me) call)) }) lazy
 start-stands state lazy me call wide here s quiet taken =
     stands-placed (needs_of state.rules) state.row state.places me (place_after (place_of state me) (started (needs_of state.rules) (place_of state me) call)) lazy here
     (starts (needs_of state.rules) wide (length state.places) (row_of state) (place_of state) lazy me call here s (quiet-stage (place_of state me).stage quiet) taken)
@@ -136,7 +142,7 @@ start-sized state me place sized = record {
 pub work-sized : (state : State) (me : ℕ) → IsSized state → IsSized (worked_at state me).machine
 work-sized state me sized =
     let operation : Operation = operation_at state me in
-    let place : Place = place_after (place_of state me) (next_of (needs_of state.rules) me (place_of state me) (place_of state me).stage (found_by state operation)) in
+    let place : Place = place_after (place_of state me) (next_by (needs_of state.rules) me (place_of state me) (found_by state operation)) in
     record {
       wide = sized.wide;
       few = subst (λ n. n < 2 ^ 16) (sym (length-set state.places me place)) sized.few;
@@ -144,7 +150,7 @@ work-sized state me sized =
           ∙ ap (λ n. 1 + 2 * n) (sym (length-set state.places me place));
     }
 
-pub opened-sized : (rules : Rules) (count places : ℕ) → (needs_of rules).top < 64 → places < 2 ^ 16 → IsSized (opened rules count places)
+pub opened-sized : (rules : Rules) (count places : ℕ) → (needs_of rules).top < 2 ^ count_bits → places < 2 ^ 16 → IsSized (opened rules count places)
 opened-sized rules count places wide few = record {
   wide = wide;
   few = subst (λ n. n < 2 ^ 16) (sym (length-replicate places idle_place)) few;
@@ -154,24 +160,6 @@ opened-sized rules count places wide few = record {
       omega (arith, row, all);
 }
 
-pub started-machine : (state : State) (me : ℕ) (call : WordCall) → IsMachine state → me < length state.places
-    → is_quiet (place_of state me).stage ≡ true → is_taken (is_lock state) call ≡ true
-    → IsMachine (record state { places = slice_set state.places me (place_after (place_of state me) (started (needs_of state.rules) (place_of state me) call)) })
-started-machine state me call is here quiet taken = record {
-  sized = start-sized state me (place_after (place_of state me) (started (needs_of state.rules) (place_of state me) call)) is.sized;
-  lazy = is.lazy;
-  stands = start-stands state is.lazy me call is.sized.wide here is.stands quiet taken;
-}
-
-pub worked-machine : (state : State) (me : ℕ) → IsMachine state → me < length state.places → IsMachine (worked_at state me).machine
-worked-machine state me is here =
-    let stepped = stepped-by state is.lazy me is.sized.wide is.sized.few here is.stands in
-    record {
-      sized = work-sized state me is.sized;
-      lazy = stepped.last;
-      stands = work-stands state is.lazy me is.sized.wide is.sized.few is.sized.words here is.stands stepped;
-    }
-
 -- A machine as it is made
 
 pub replicated : {A : Type 0} (count : ℕ) (value : A) (index : ℕ) → get_or (replicate count value) index value ≡ value
@@ -179,14 +167,14 @@ replicated zero value index = refl
 replicated (suc count) value zero = refl
 replicated (suc count) value (suc index) = replicated count value index
 
-pub opened-stands : (rules : Rules) (count places : ℕ) → (needs_of rules).top < 64 → count ≤ (needs_of rules).top
-    → StandsAs (opened rules count places) (opening count)
+pub opened-stands : (rules : Rules) (count places : ℕ) → (needs_of rules).top < 2 ^ count_bits → count ≤ (needs_of rules).top
+    → RefinesAs (opened rules count places) (opening count)
 opened-stands rules count places wide small =
-    subst (λ (n : ℕ). Stands (needs_of rules) n (row_of (opened rules count places)) (place_of (opened rules count places)) (opening count))
+    subst (λ (n : ℕ). Refines (needs_of rules) n (row_of (opened rules count places)) (place_of (opened rules count places)) (opening count))
     (sym (length-replicate places idle_place))
-    (subst (λ (r : ℕ → ℕ). Stands (needs_of rules) places r (place_of (opened rules count places)) (opening count))
+    (subst (λ (r : ℕ → ℕ). Refines (needs_of rules) places r (place_of (opened rules count places)) (opening count))
     (all-same (opening_row count) (row_of (opened rules count places)) (opened-row count (2 * places)))
-    (subst (λ (f : ℕ → Place). Stands (needs_of rules) places (opening_row count) f (opening count))
+    (subst (λ (f : ℕ → Place). Refines (needs_of rules) places (opening_row count) f (opening count))
     (all-same (λ place. idle_place) (place_of (opened rules count places)) (λ place. sym (replicated places idle_place place)))
     (opens (needs_of rules) wide places count small)))
   where
@@ -194,22 +182,14 @@ opened-stands rules count places wide small =
     opened-row count others zero = refl
     opened-row count others (suc index) = let test : suc index == 0 ≡ false = grind (arith, nat_tests) in rw test (sym (replicated others 0 index))
 
-pub opened-machine : (rules : Rules) (count places : ℕ) → (needs_of rules).top < 64 → count ≤ (needs_of rules).top → places < 2 ^ 16
-    → IsMachine (opened rules count places)
-opened-machine rules count places wide small few = record {
-  sized = opened-sized rules count places wide few;
-  lazy = opening count;
-  stands = opened-stands rules count places wide small;
-}
-
 -- a step is what a place in a call does
 pub stepped-worked : (state : State) (me : ℕ) → is_quiet (place_of state me).stage ≡ false → worked_at state me ≡ stepped_at state me
 stepped-worked state me busy = rw busy refl
 
 -- what a place in a call does, by its parts
 pub worked-is : (state : State) (me at count : ℕ) (place : Place) (operation : Operation) (found : ℕ) (next : Next) (behind : Place) (step : Step) (row : List ℕ) (operations : ℕ)
-    → place ≡ place_of state me → count ≡ length state.places → operation ≡ operation_of (needs_of state.rules) count me place.stage
-    → found ≡ slice_index state.row (word_at operation) → next ≡ next_of (needs_of state.rules) me place place.stage found
+    → place ≡ place_of state me → count ≡ length state.places → operation ≡ made_by (needs_of state.rules) count me place
+    → found ≡ slice_index state.row (word_at operation) → next ≡ next_by (needs_of state.rules) me place found
     → behind ≡ place_after place next → step ≡ step_of next → at ≡ me
     → row ≡ slice_set state.row (word_at operation) (written_by operation found) → operations ≡ state.operations + 1
     → made_of state.rules step row (set state.places at behind) operations ≡ worked_at state me
@@ -217,50 +197,32 @@ worked-is state me at count place operation found next behind step row operation
     let needs : Needs = needs_of state.rules in
     let own : Place = place_of state me in
     let op : Operation = operation_at state me in
-    let makes2 : operation ≡ op = makes ∙ ap (λ n. operation_of needs n me place.stage) counts ∙ ap (λ (p : Place). operation_of needs (length state.places) me p.stage) reads in
+    let makes2 : operation ≡ op = makes ∙ ap (λ n. made_by needs n me place) counts ∙ ap (λ (p : Place). made_by needs (length state.places) me p) reads in
     let finds2 : found ≡ found_by state op = finds ∙ ap (λ o. found_by state o) makes2 in
-    let nexts2 : next ≡ next_of needs me own own.stage (found_by state op) = nexts ∙ ap (λ (p : Place). next_of needs me p p.stage found) reads ∙ ap (λ n. next_of needs me own own.stage n) finds2 in
-    let goes2 : behind ≡ place_after own (next_of needs me own own.stage (found_by state op)) = goes ∙ ap (λ p. place_after p next) reads ∙ ap (λ n. place_after own n) nexts2 in
-    let steps2 : step ≡ step_of (next_of needs me own own.stage (found_by state op)) = steps ∙ ap step_of nexts2 in
+    let nexts2 : next ≡ next_by needs me own (found_by state op) = nexts ∙ ap (λ (p : Place). next_by needs me p found) reads ∙ ap (λ n. next_by needs me own n) finds2 in
+    let goes2 : behind ≡ place_after own (next_by needs me own (found_by state op)) = goes ∙ ap (λ p. place_after p next) reads ∙ ap (λ n. place_after own n) nexts2 in
+    let steps2 : step ≡ step_of (next_by needs me own (found_by state op)) = steps ∙ ap step_of nexts2 in
     let writes2 : row ≡ set state.row (word_at op) (written_by op (found_by state op)) =
     writes ∙ ap (λ o. set state.row (word_at o) (written_by o found)) makes2 ∙ ap (λ n. set state.row (word_at op) (written_by op n)) finds2 in
-    let places2 : set state.places at behind ≡ set state.places me (place_after own (next_of needs me own own.stage (found_by state op))) =
+    let places2 : set state.places at behind ≡ set state.places me (place_after own (next_by needs me own (found_by state op))) =
     ap (λ n. set state.places n behind) same ∙ ap (λ p. set state.places me p) goes2 in
     ap (λ s. made_of state.rules s row (set state.places at behind) operations) steps2
-    ∙ ap (λ r. made_of state.rules (step_of (next_of needs me own own.stage (found_by state op))) r (set state.places at behind) operations) writes2
-    ∙ ap (λ ps. made_of state.rules (step_of (next_of needs me own own.stage (found_by state op))) (set state.row (word_at op) (written_by op (found_by state op))) ps operations) places2
-    ∙ ap (λ n. made_of state.rules (step_of (next_of needs me own own.stage (found_by state op))) (set state.row (word_at op) (written_by op (found_by state op))) (set state.places me (place_after own (next_of needs me own own.stage (found_by state op)))) n) counted
-
--- the words of a machine whose main word alone was loaded
-pub loaded-machine : (state : State) (row : List ℕ) (operations : ℕ) → row ≡ state.row → IsMachine state → IsMachine (record state { row = row; operations = operations })
-loaded-machine state row operations same is = record {
-  sized = record { wide = is.sized.wide; few = is.sized.few; words = ap length same ∙ is.sized.words };
-  lazy = is.lazy;
-  stands = subst (λ (r : List ℕ). Stands (needs_of state.rules) (length state.places) (λ (n : ℕ). slice_index r n) (place_of state) is.lazy) (sym same) is.stands;
-}
-
--- a machine as it is written down by its parts
-pub opened-parts : (rules : Rules) (row : List ℕ) (places : List Place) (operations count many : ℕ) → (needs_of rules).top < 64
-    → count ≤ (needs_of rules).top → many < 2 ^ 16 → row ≡ count ∷ replicate (2 * many) 0 → places ≡ replicate many idle_place → operations ≡ 0
-    → IsMachine (record { rules = rules; row = row; places = places; operations = operations })
-opened-parts rules row places operations count many wide small few row_is places_is operations_is =
-    subst (λ (r : List ℕ). IsMachine (record { rules = rules; row = r; places = places; operations = operations })) (sym row_is)
-    (subst (λ (p : List Place). IsMachine (record { rules = rules; row = count ∷ replicate (2 * many) 0; places = p; operations = operations })) (sym places_is)
-    (subst (λ (n : ℕ). IsMachine (record { rules = rules; row = count ∷ replicate (2 * many) 0; places = replicate many idle_place; operations = n }))
-    (sym operations_is) (opened-machine rules count many wide small few)))
+    ∙ ap (λ r. made_of state.rules (step_of (next_by needs me own (found_by state op))) r (set state.places at behind) operations) writes2
+    ∙ ap (λ ps. made_of state.rules (step_of (next_by needs me own (found_by state op))) (set state.row (word_at op) (written_by op (found_by state op))) ps operations) places2
+    ∙ ap (λ n. made_of state.rules (step_of (next_by needs me own (found_by state op))) (set state.row (word_at op) (written_by op (found_by state op))) (set state.places me (place_after own (next_by needs me own (found_by state op)))) n) counted
 
 -- a move makes no place and takes none away
 pub gone-places : (state : State) (move : Move) → length (gone state move).machine.places ≡ length state.places
 gone-places state (Start me call) =
     elim (cases_Bool (is_quiet (place_of state me).stage)) [
-      | inl quiet ↦ rw quiet (length-set state.places me (place_after (place_of state me) (started (needs_of state.rules) (place_of state me) call)))
+      | inl quiet ↦ rw quiet (length-set state.places me (place_after (place_of state me) (started_by (needs_of state.rules) (place_of state me) call)))
       | inr busy ↦ rw busy refl
     ]
 gone-places state (Go me) =
     elim (cases_Bool (is_quiet (place_of state me).stage)) [
       | inl quiet ↦ rw quiet refl
       | inr busy ↦ rw busy (length-set state.places me
-          (place_after (place_of state me) (next_of (needs_of state.rules) me (place_of state me) (place_of state me).stage (found_by state (operation_at state me)))))
+          (place_after (place_of state me) (next_by (needs_of state.rules) me (place_of state me) (found_by state (operation_at state me)))))
     ]
 
 -- and leaves the rules

@@ -1,5 +1,8 @@
 pub mod Keeping
+pub mod Holding
 mod Waits
-pub mod Telling
+pub mod Tracking
+pub mod Machines
 pub mod Histories
 pub mod Solo
+pub mod SoloRuns

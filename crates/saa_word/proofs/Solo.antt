@@ -9,8 +9,8 @@ use Rattle.saa_word_steps.specs.declared.place.Next.{Next}
 use Rattle.saa_word_steps.specs.declared.operation.Operation.{Operation}
 use Rattle.saa_word_steps.specs.Lazy.{is_in}
 use Rattle.saa_word_steps.specs.Steps.{is_taken, needs_of, next_of, started, word_at, written_by}
-use Rattle.saa_word_proofs.specs.Standing.{updated}
-use Rattle.saa_word_proofs.specs.Stepped.{place_after, row_after}
+use Rattle.saa_word_proofs.specs.Refinement.{updated}
+use Rattle.saa_word_proofs.specs.StepRefinement.{place_after, row_after}
 use Rattle.saa_word_proofs.specs.Promises.{idle_place}
 use Rattle.saa_word_proofs.specs.Alone.{Moment, IsCalledAlone, next_at, put, stepped}
 use Rattle.saa_word_proofs.specs.Agrees.{Agrees}
@@ -21,7 +21,7 @@ use Rattle.saa_word_proofs.proofs.SoloLemmas.Ends.{ends}
 use Rattle.saa_word.specs.declared.moves.Move.TheVariants.{Start, Go}
 use Rattle.saa_word.specs.Machine.{State, is_lock, place_of, row_of}
 use Rattle.saa_word.specs.Moves.{gone, is_quiet, step_of, found_by, operation_at, worked_at}
-use Rattle.saa_word.specs.Story.{Story, Tells}
+use Rattle.saa_word.specs.Trace.{Trace, Tracks}
 use Rattle.saa_word.specs.Alone.{IsResting, moment_of}
 use Rattle.saa_word.proofs.Keeping.{set-updated, stepped-by}
 
@@ -43,42 +43,42 @@ begins-alone state me call here quiet =
       refl,
     )
 
-pub goes-alone : (state : State) (story : Story) (me : ℕ) → Tells state story → me < length state.places → is_quiet (place_of state me).stage ≡ false
+pub goes-alone : (state : State) (trace : Trace) (me : ℕ) → Tracks state trace → me < length state.places → is_quiet (place_of state me).stage ≡ false
     → (moment_of (gone state (Go me)).machine ≡ stepped (needs_of state.rules) (length state.places) me (moment_of state))
     × ((gone state (Go me)).step ≡ step_of (next_at (needs_of state.rules) (length state.places) me (moment_of state)))
-goes-alone state story me tells here busy =
+goes-alone state trace me tracks here busy =
     let operation : Operation = operation_at state me in
     let found : ℕ = found_by state operation in
     let next : Next = next_of (needs_of state.rules) me (place_of state me) (place_of state me).stage found in
-    let inside = stepped-by state story.lazy me tells.sized.wide tells.sized.few here tells.stands in
+    let inside = stepped-by state trace.lazy me tracks.sized.wide tracks.sized.few here tracks.refines in
     rw busy (
       moment-same (row_of (worked_at state me).machine) (row_after (row_of state) operation) (place_of (worked_at state me).machine)
           (updated (place_of state) me (place_after (place_of state me) next))
-          (set-updated state.row (word_at operation) (written_by operation found) 0 (omega (arith, inside.inside, tells.sized.words)))
+          (set-updated state.row (word_at operation) (written_by operation found) 0 (omega (arith, inside.inside, tracks.sized.words)))
           (set-updated state.places me (place_after (place_of state me) next) idle_place here),
       refl,
     )
 
-pub ends-alone : (state : State) (story : Story) (me : ℕ) (call : WordCall) → Tells state story → IsResting state → me < length state.places
-    → is_taken (is_lock state) call ≡ true → (call ≡ Poll → is_in me story.lazy.line ≡ false)
-    → Ends (needs_of state.rules) (length state.places) me call (moment_of state) (8 * length story.lazy.line + 24)
-ends-alone state story me call tells rests here taken absent =
-    ends (needs_of state.rules) (rules-lawful state.rules) tells.sized.wide (length state.places) (row_of state) (place_of state) story.lazy me call
-    (omega (arith, tells.sized.few)) here tells.stands rests taken absent
+pub ends-alone : (state : State) (trace : Trace) (me : ℕ) (call : WordCall) → Tracks state trace → IsResting state → me < length state.places
+    → is_taken (is_lock state) call ≡ true → (call ≡ Poll → is_in me trace.lazy.line ≡ false)
+    → Ends (needs_of state.rules) (length state.places) me call (moment_of state) (8 * length trace.lazy.line + 24)
+ends-alone state trace me call tracks rests here taken absent =
+    ends (needs_of state.rules) (rules-lawful state.rules) tracks.sized.wide (length state.places) (row_of state) (place_of state) trace.lazy me call
+    (omega (arith, tracks.sized.few)) here tracks.refines rests taken absent
 
-pub agrees-alone : (state : State) (story : Story) (me : ℕ) (is_sync : Bool) (call : WordCall) (s : Object) (steps : ℕ) (answer : Answer) (last : Moment)
-    → Tells state story → IsResting state → me < length state.places → is_taken (is_lock state) call ≡ true
-    → Mirrors (needs_of state.rules) (length state.places) (place_of state) story.lazy s
+pub agrees-alone : (state : State) (trace : Trace) (me : ℕ) (is_sync : Bool) (call : WordCall) (s : Object) (steps : ℕ) (answer : Answer) (last : Moment)
+    → Tracks state trace → IsResting state → me < length state.places → is_taken (is_lock state) call ≡ true
+    → Mirrors (needs_of state.rules) (length state.places) (place_of state) trace.lazy s
     → IsCalledAlone (needs_of state.rules) (length state.places) me call steps (moment_of state) answer last
     → Agrees (needs_of state.rules) (length state.places) me is_sync call s answer last
-agrees-alone state story me is_sync call s steps answer last tells rests here taken mirrors called =
+agrees-alone state trace me is_sync call s steps answer last tracks rests here taken mirrors called =
     alone state.rules (length state.places) me is_sync call (moment_of state) s
     (record {
-      small = tells.sized.wide;
-      room = omega (arith, tells.sized.few);
+      small = tracks.sized.wide;
+      room = omega (arith, tracks.sized.few);
       here = here;
-      lazy = story.lazy;
-      stands = tells.stands;
+      lazy = trace.lazy;
+      stands = tracks.refines;
       quiet = rests;
       mirrors = mirrors;
     })

@@ -1,5 +1,5 @@
--- A place that has to wait is in a call that is held up, and leaves words and places as they are.
-use Rattle.std.proofs.Common.{get_or, ◌≡◌, ◌≢◌, ℕ, ◌<◌, true, false, List, length, Option, Some, None, refl, sym, subst, ◌∙◌, ap, inl, inr}
+-- A place that has to wait is in a call that is blocked, and leaves words and places as they are.
+use Rattle.std.proofs.Common.{get_or, ◌≡◌, ◌≢◌, ℕ, ◌+◌, ◌<◌, ◌==◌, true, false, List, length, Option, Some, None, refl, sym, subst, ◌∙◌, ap, inl, inr}
 use Rattle.std.proofs.Math.ListN.{set}
 use Rattle.saa_word_steps.specs.declared.operation.Operation.{Operation}
 use Rattle.saa_word_steps.specs.declared.call.WordCall.{WordCall}
@@ -14,12 +14,14 @@ use Rattle.saa_word_steps.specs.declared.place.Back.TheVariants.{Tells as TellsL
 use Rattle.saa_word_steps.specs.declared.place.Registration.{Registration}
 use Rattle.saa_core_words.specs.declared.word.Word.{Word}
 use Rattle.saa_word_steps.specs.Needs.{Needs}
-use Rattle.saa_word_steps.specs.Lazy.{Event, Lazy}
-use Rattle.saa_word_steps.specs.Steps.{needs_of, next_of, word_at, written_by}
-use Rattle.saa_word_proofs.specs.Standing.{main_of}
-use Rattle.saa_word_proofs.specs.Stepped.{place_after}
+use Rattle.saa_word_steps.specs.declared.event.Event.{Event}
+use Rattle.saa_word_steps.specs.Lazy.{Lazy}
+use Rattle.saa_core_spec.proofs.Counts.{number_same}
+use Rattle.saa_word_steps.specs.Steps.{needs_of, next_of, operation_of, word_at, written_by}
+use Rattle.saa_word_proofs.specs.Refinement.{IsAlone, IsLeaving, is_holder, is_slot, main_of}
+use Rattle.saa_word_proofs.specs.StepRefinement.{place_after}
 use Rattle.saa_word_proofs.specs.Calls.{IsLeavingLine, IsUnder, taken_by}
-use Rattle.saa_word_proofs.specs.Stalls.{IsStalled}
+use Rattle.saa_word_proofs.specs.Blocking.{IsBlockedAt}
 use Rattle.saa_word_proofs.specs.Promises.{idle_place}
 use Rattle.saa_word_proofs.proofs.RefinementLemmas.Lists.{updated-at}
 use Rattle.saa_word_steps.specs.declared.call.WordCall.TheVariants.{Try, Register, Release, Available, TryLock, TryShare, RegisterMode, ReleaseLock, ReleaseShare, PoisonLock, ClearPoison, IsFree, IsLocked, IsShared, IsPoisoned, TryPoll, Poll, Cancel}
@@ -27,7 +29,9 @@ use Rattle.saa_word_proofs.proofs.RefinementLemmas.Polls.{only-stalls}
 use Rattle.std.proofs.lemmas.List.{set-get_or}
 use Rattle.saa_word.specs.Machine.{State, place_of, row_of}
 use Rattle.saa_word.specs.Moves.{found_by, is_quiet, operation_at, worked_at}
-use Rattle.saa_word.specs.Story.{Underway, Story, IsIn, Tells, IsHeldUp, IsWaiting}
+use Rattle.saa_word.specs.Trace.{IsIn, Trace, Tracks, Underway}
+use Rattle.saa_word.specs.Simulation.{IsBlocked, IsHeldByAnother, IsWaiting}
+use Rattle.saa_word.proofs.Holding.{not-true}
 
 -- a test that finds a place in a call
 pub not-quiet : (stage : Stage) → is_quiet stage ≡ false → stage ≢ Quiet
@@ -60,64 +64,108 @@ leaves-cancels call registered TellsLine events leaves = absurd leaves
 leaves-cancels call registered Ends events leaves = absurd leaves
 leaves-cancels call registered (Takes request) events leaves = leaves.0
 
--- the call of a place that waits at its stage is held up
-held-up : (needs : Needs) (lazy : Lazy) (me : ℕ) (seen : Word) (call : WordCall) (registered : Registration) (back : Back) (stage : Stage) (events : List Event)
-    → IsUnder needs call registered back stage events → IsStalled lazy me seen stage → IsHeldUp lazy me seen call
-held-up needs lazy me seen call registered back Quiet events under stalled = absurd stalled
-held-up needs lazy me seen call registered back (ReadLoad reading) events under stalled = absurd stalled
-held-up needs lazy me seen call registered back (AskLoad ask) events under stalled = absurd stalled
-held-up needs lazy me seen call registered back (AskExchange ask old) events under stalled = absurd stalled
-held-up needs lazy me seen call registered back (Prepare request old) events under stalled = absurd stalled
-held-up needs lazy me seen call registered back (Join request old) events under stalled = absurd stalled
-held-up needs lazy me seen call registered back (ReleaseLoad given) events under stalled = absurd stalled
-held-up needs lazy me seen call registered back (ReleaseExchange given old) events under stalled = absurd stalled
-held-up needs lazy me seen call registered back (BackLoad old current newer) events under stalled = absurd stalled
-held-up needs lazy me seen call registered back (BackStore old current newer line) events under stalled = absurd stalled
-held-up needs lazy me seen call registered back (Forward old current count) events under stalled = absurd stalled
-held-up needs lazy me seen call registered back (CutToClose old current count line) events under stalled = absurd stalled
-held-up needs lazy me seen call registered back (CutToGoRound old current count line) events under stalled = absurd stalled
-held-up needs lazy me seen call registered back (Close old count top) events under stalled = absurd stalled
-held-up needs lazy me seen call registered back (Empty old current count line) events under stalled = absurd stalled
-held-up needs lazy me seen call registered back (GoRound old count top) events under stalled = absurd stalled
-held-up needs lazy me seen call registered back (ShowLoad current value afterwards) events under stalled = absurd stalled
-held-up needs lazy me seen call registered back (ShowStore current next value afterwards) events under stalled = absurd stalled
-held-up needs lazy me seen call registered back (Take Tries) events under stalled = absurd stalled
-held-up needs lazy me seen call registered back (Take Awaits) events under stalled =
-    subst (λ (c : WordCall). IsHeldUp lazy me seen c) (sym (awaits-polls call under.0)) stalled
-held-up needs lazy me seen call registered back (Take (Gives request)) events under stalled =
-    subst (λ (c : WordCall). IsHeldUp lazy me seen c) (sym under.0) (inl stalled)
-held-up needs lazy me seen call registered back FlagLoad events under stalled =
-    subst (λ (c : WordCall). IsHeldUp lazy me seen c) (sym (leaves-cancels call registered back events under)) (inr stalled)
-held-up needs lazy me seen call registered back (FlagExchange old) events under stalled =
-    subst (λ (c : WordCall). IsHeldUp lazy me seen c) (sym (leaves-cancels call registered back events under)) (inr stalled)
-held-up needs lazy me seen call registered back (LookLoad old current newer previous) events under stalled = absurd stalled
-held-up needs lazy me seen call registered back (LookStore old current newer line) events under stalled = absurd stalled
-held-up needs lazy me seen call registered back (Unlink old newer line older) events under stalled = absurd stalled
-held-up needs lazy me seen call registered back (DropTail old older) events under stalled = absurd stalled
-held-up needs lazy me seen call registered back PoisonLoad events under stalled =
-    subst (λ (c : WordCall). IsHeldUp lazy me seen c) (sym under.0) stalled
-held-up needs lazy me seen call registered back (PoisonExchange old) events under stalled =
-    subst (λ (c : WordCall). IsHeldUp lazy me seen c) (sym under.0) stalled
-held-up needs lazy me seen call registered back Clear events under stalled = absurd stalled
+-- whoever is to leave the line is registered in it
+leaving-slot : (registration : Registration) (back : Back) → IsLeaving registration back → is_slot registration ≡ true
+leaving-slot registration TellsLine leaves = absurd leaves
+leaving-slot registration Ends leaves = absurd leaves
+leaving-slot registration (Takes request) leaves = ap is_slot leaves
+
+-- What is known where a place waits: another one holds the flag where it is set, and what the place is registered as is the trace's
+record Moment (trace : Trace) (me : ℕ) (seen : Word) (registration : Registration) : Type 0 where
+  held : seen.is_flagged ≡ true → IsHeldByAnother trace me
+  registered : registration ≡ trace.registered me
+
+-- the call of a place that waits at its stage is blocked
+held-up : (needs : Needs) (trace : Trace) (places me : ℕ) (seen : Word) (registration : Registration) (m : Moment trace me seen registration) (call : WordCall) (registered : Registration) (back : Back) (stage : Stage) (events : List Event)
+    → IsUnder needs call registered back stage events → IsAlone needs registration back stage → IsBlockedAt trace.lazy me seen stage
+    → IsBlocked trace places me seen (word_at (operation_of needs places me stage)) call
+held-up needs trace places me seen registration m call registered back Quiet events under alone stalled = absurd stalled
+held-up needs trace places me seen registration m call registered back (ReadLoad reading) events under alone stalled = absurd stalled
+held-up needs trace places me seen registration m call registered back (AskLoad ask) events under alone stalled = absurd stalled
+held-up needs trace places me seen registration m call registered back (AskExchange ask old) events under alone stalled = absurd stalled
+held-up needs trace places me seen registration m call registered back (Prepare request old) events under alone stalled = absurd stalled
+held-up needs trace places me seen registration m call registered back (Join request old) events under alone stalled = absurd stalled
+held-up needs trace places me seen registration m call registered back (ReleaseLoad given) events under alone stalled = absurd stalled
+held-up needs trace places me seen registration m call registered back (ReleaseExchange given old) events under alone stalled = absurd stalled
+held-up needs trace places me seen registration m call registered back (BackLoad old current newer) events under alone stalled = absurd stalled
+held-up needs trace places me seen registration m call registered back (BackStore old current newer line) events under alone stalled = absurd stalled
+held-up needs trace places me seen registration m call registered back (Forward old current count) events under alone stalled = absurd stalled
+held-up needs trace places me seen registration m call registered back (CutToClose old current count line) events under alone stalled = absurd stalled
+held-up needs trace places me seen registration m call registered back (CutToGoRound old current count line) events under alone stalled = absurd stalled
+held-up needs trace places me seen registration m call registered back (Close old count top) events under alone stalled = absurd stalled
+held-up needs trace places me seen registration m call registered back (Empty old current count line) events under alone stalled = absurd stalled
+held-up needs trace places me seen registration m call registered back (GoRound old count top) events under alone stalled = absurd stalled
+held-up needs trace places me seen registration m call registered back (ShowLoad current value afterwards) events under alone stalled = absurd stalled
+held-up needs trace places me seen registration m call registered back (ShowStore current next value afterwards) events under alone stalled = absurd stalled
+held-up needs trace places me seen registration m call registered back (Take Tries) events under alone stalled = absurd stalled
+held-up needs trace places me seen registration m call registered back (LookLoad old current newer previous) events under alone stalled = absurd stalled
+held-up needs trace places me seen registration m call registered back (LookStore old current newer line) events under alone stalled = absurd stalled
+held-up needs trace places me seen registration m call registered back (Unlink old newer line older) events under alone stalled = absurd stalled
+held-up needs trace places me seen registration m call registered back (DropTail old older) events under alone stalled = absurd stalled
+held-up needs trace places me seen registration m call registered back Clear events under alone stalled = absurd stalled
+held-up needs trace places me seen registration m call registered back (Take Awaits) events under alone stalled =
+    subst (λ (c : WordCall). IsBlocked trace places me seen (places + me + 1) c) (sym (awaits-polls call under.0)) (refl, stalled)
+held-up needs trace places me seen registration m call registered back (Take (Gives request)) events under alone stalled =
+    subst (λ (c : WordCall). IsBlocked trace places me seen (places + me + 1) c) (sym under.0) (inl (refl, stalled))
+held-up needs trace places me seen registration m call registered back FlagLoad events under alone stalled =
+    subst (λ (c : WordCall). IsBlocked trace places me seen 0 c) (sym (leaves-cancels call registered back events under))
+    (inr (refl, stalled, m.held stalled, ap is_slot (sym m.registered) ∙ leaving-slot registration back alone))
+held-up needs trace places me seen registration m call registered back (FlagExchange old) events under alone stalled =
+    subst (λ (c : WordCall). IsBlocked trace places me seen 0 c) (sym (leaves-cancels call registered back events under))
+    (inr (refl, stalled, m.held stalled, ap is_slot (sym m.registered) ∙ leaving-slot registration back alone.0))
+held-up needs trace places me seen registration m call registered back PoisonLoad events under alone stalled =
+    subst (λ (c : WordCall). IsBlocked trace places me seen 0 c) (sym under.0) (refl, stalled, m.held stalled.2)
+held-up needs trace places me seen registration m call registered back (PoisonExchange old) events under alone stalled =
+    subst (λ (c : WordCall). IsBlocked trace places me seen 0 c) (sym under.0) (refl, stalled, m.held stalled.2)
 
 -- and it is in a call
-held-in : (needs : Needs) (lazy : Lazy) (me : ℕ) (seen : Word) (underway : Option Underway) (place : Place) → IsIn needs underway place
-    → is_quiet place.stage ≡ false → IsStalled lazy me seen place.stage → (u : Underway) × (underway ≡ Some u) × IsHeldUp lazy me seen u.call
-held-in needs lazy me seen None place is busy stalled = absurd (not-quiet place.stage busy is)
-held-in needs lazy me seen (Some underway) place is busy stalled =
-    (underway, refl, held-up needs lazy me seen underway.call underway.registered place.back place.stage underway.events is stalled)
+held-in : (needs : Needs) (trace : Trace) (places me : ℕ) (seen : Word) (underway : Option Underway) (place : Place) → Moment trace me seen place.registration
+    → IsIn needs underway place → is_quiet place.stage ≡ false → IsAlone needs place.registration place.back place.stage → IsBlockedAt trace.lazy me seen place.stage
+    → (u : Underway) × (underway ≡ Some u) × IsBlocked trace places me seen (word_at (operation_of needs places me place.stage)) u.call
+held-in needs trace places me seen None place m is busy alone stalled = absurd (not-quiet place.stage busy is)
+held-in needs trace places me seen (Some underway) place m is busy alone stalled = (
+  underway,
+  refl,
+  held-up needs trace places me seen place.registration m underway.call underway.registered place.back place.stage underway.events is alone stalled,
+)
 
-pub waiting : (state : State) (story : Story) (me : ℕ) → me < length state.places → Tells state story → is_quiet (place_of state me).stage ≡ false
+-- nobody holds the flag where it waits
+waits-free : (lazy : Lazy) (me : ℕ) (seen : Word) (stage : Stage) → IsBlockedAt lazy me seen stage → is_holder stage ≡ false
+waits-free lazy me seen Quiet stalled = refl
+waits-free lazy me seen (ReadLoad reading) stalled = refl
+waits-free lazy me seen (AskLoad ask) stalled = refl
+waits-free lazy me seen (AskExchange ask old) stalled = refl
+waits-free lazy me seen (Prepare request old) stalled = refl
+waits-free lazy me seen (Join request old) stalled = refl
+waits-free lazy me seen (ReleaseLoad given) stalled = refl
+waits-free lazy me seen (ReleaseExchange given old) stalled = refl
+waits-free lazy me seen (Take taking) stalled = refl
+waits-free lazy me seen FlagLoad stalled = refl
+waits-free lazy me seen (FlagExchange old) stalled = refl
+waits-free lazy me seen PoisonLoad stalled = refl
+waits-free lazy me seen (PoisonExchange old) stalled = refl
+waits-free lazy me seen Clear stalled = refl
+waits-free lazy me seen stage stalled = absurd stalled
+
+pub waiting : (state : State) (trace : Trace) (me : ℕ) → me < length state.places → Tracks state trace → is_quiet (place_of state me).stage ≡ false
     → next_of (needs_of state.rules) me (place_of state me) (place_of state me).stage (found_by state (operation_at state me)) ≡ HasToWait
-    → IsWaiting state (worked_at state me).machine story me
-waiting state story me here tells busy waits =
+    → IsWaiting state (worked_at state me).machine trace me
+waiting state trace me here tracks busy waits =
     let operation : Operation = operation_at state me in
+    let s = tracks.refines in
     let only =
-    only-stalls (needs_of state.rules) (length state.places) (row_of state) (place_of state) story.lazy me here tells.stands (place_of state me).stage refl waits in
+    only-stalls (needs_of state.rules) (length state.places) (row_of state) (place_of state) trace.lazy me here s (place_of state me).stage refl waits in
     let written : written_by operation (found_by state operation) ≡ get_or state.row (word_at operation) 0 =
     sym (updated-at (row_of state) (word_at operation) (written_by operation (found_by state operation))) ∙ ap (λ (r : ℕ → ℕ). r (word_at operation)) only.1 in
+    let apart : s.holder == me + 1 ≡ false = sym (s.stages.one me) ∙ waits-free trace.lazy me (main_of (row_of state)) (place_of state me).stage only.0 in
+    let free : trace.holder ≢ me + 1 = λ mine.
+    let wrong : true ≡ false = sym (number_same (me + 1)) ∙ ap (λ (n : ℕ). n == me + 1) (sym (tracks.holder ∙ mine)) ∙ apart in absurd (cc) in
+    let some : (main_of (row_of state)).is_flagged ≡ true → trace.holder ≢ 0 = λ set none.
+    let wrong : true ≡ false = ap (λ (n : ℕ). n == 0) (sym (tracks.holder ∙ none)) ∙ not-true (s.holder == 0) (sym s.main.flag ∙ set) in absurd (cc) in
     record {
-      held_up = held-in (needs_of state.rules) story.lazy me (main_of (row_of state)) (story.calls me) (place_of state me) (tells.calls me) busy only.0;
+      blocked = held-in (needs_of state.rules) trace (length state.places) me (main_of (row_of state)) (trace.calls me) (place_of state me)
+          (record { held = λ set. (some set, free); registered = tracks.registered me }) (tracks.calls me) busy (s.stages.alone me) only.0;
+      free = free;
       row = ap (set state.row (word_at operation)) written ∙ set-get_or state.row (word_at operation) 0;
       places = ap (λ (n : Next). set state.places me (place_after (place_of state me) n)) waits ∙ set-get_or state.places me idle_place;
     }

@@ -1,5 +1,6 @@
 pub mod Kinds
 pub mod Machine
 pub mod Moves
-pub mod Story
+pub mod Trace
+pub mod Simulation
 pub mod Alone

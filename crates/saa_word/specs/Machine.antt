@@ -1,11 +1,12 @@
 -- A form in words as contracts see it: its rules, the row of words, the places, and how many operations were made on the words.
 -- The row is the main word, then the line word of each place, then the answer word of each.
 use Rattle.std.specs.Prelude.{◌≡◌, ℕ, ◌+◌, ◌*◌, ◌<◌, ◌^◌, Bool, List, ◌∷◌, length, replicate, slice_index, slice_index_or}
+use Rattle.saa_core_words.specs.Words.{count_bits}
 use Rattle.saa_word_steps.specs.declared.rules.Rules.{Rules}
 use Rattle.saa_word_steps.specs.declared.place.Place.{Place}
 use Rattle.saa_word_steps.specs.Lazy.{Lazy}
 use Rattle.saa_word_steps.specs.Steps.{needs_of}
-use Rattle.saa_word_proofs.specs.Standing.{Stands}
+use Rattle.saa_word_proofs.specs.Refinement.{Refines}
 use Rattle.saa_word_proofs.specs.Promises.{idle_place}
 
 pub record State : Type 0 where
@@ -34,21 +35,15 @@ opened rules count places = record {
 abbrev pub is_lock : State → Bool
 is_lock state = (needs_of state.rules).is_lock
 
--- the row as a function of the index, and a machine that stands together with a lazy object
+-- the row as a function of the index, and a machine that stands together with a abstract state
 abbrev pub row_of : State → ℕ → ℕ
 row_of state index = slice_index state.row index
 
-abbrev pub StandsAs : State → Lazy → Type 0
-StandsAs state lazy = Stands (needs_of state.rules) (length state.places) (row_of state) (place_of state) lazy
+abbrev pub RefinesAs : State → Lazy → Type 0
+RefinesAs state lazy = Refines (needs_of state.rules) (length state.places) (row_of state) (place_of state) lazy
 
 -- a machine is of few places, each with its words
 pub record IsSized (state : State) : Type 0 where
-  pub wide : (needs_of state.rules).top < 64
+  pub wide : (needs_of state.rules).top < 2 ^ count_bits
   pub few : length state.places < 2 ^ 16
   pub words : length state.row ≡ 1 + 2 * length state.places
-
--- What a machine always is: words and places stand together with a lazy object
-pub record IsMachine (state : State) : Type 0 where
-  pub sized : IsSized state
-  pub lazy : Lazy
-  pub stands : StandsAs state lazy

@@ -1,13 +1,17 @@
 -- What a move of a machine does, and a list of moves.
+-- Internal: nobody has to believe this; contracts say what moves simulate.
+-- (An edit that turns a step puts its imports in the place of these lines.)
 use Rattle.std.specs.Prelude.{◌≡◌, ℕ, ◌+◌, ◌<◌, ◌≤◌, Bool, true, false, List, [], ◌∷◌, length, slice_index, slice_set, if◌then◌else◌}
 use Rattle.saa_word_steps.specs.declared.call.WordCall.{WordCall}
+use Rattle.saa_word_steps.specs.declared.place.Place.{Place}
 use Rattle.saa_word_steps.specs.declared.place.Stage.{Stage}
 use Rattle.saa_word_steps.specs.declared.place.Stage.TheVariants.{Quiet}
 use Rattle.saa_word_steps.specs.declared.place.Next.{Next}
 use Rattle.saa_word_steps.specs.declared.place.Next.TheVariants.{Going as GoesOn, Waits as HasToWait, Done as IsDone}
 use Rattle.saa_word_steps.specs.declared.operation.Operation.{Operation}
+use Rattle.saa_word_steps.specs.Needs.{Needs}
 use Rattle.saa_word_steps.specs.Steps.{is_taken, needs_of, next_of, operation_of, started, word_at, written_by}
-use Rattle.saa_word_proofs.specs.Stepped.{place_after}
+use Rattle.saa_word_proofs.specs.StepRefinement.{place_after}
 use Rattle.saa_word.specs.declared.moves.Move.{Move}
 use Rattle.saa_word.specs.declared.moves.Move.TheVariants.{Start, Go}
 use Rattle.saa_word.specs.declared.moves.Step.{Step}
@@ -50,15 +54,36 @@ performed state operation = record state {
   operations = state.operations + 1;
 }
 
+-- The steps of a place are stated here once for the machine,
+-- and `src/machine.rt` has a function for each.
+-- So a body and its line here can be changed together,
+-- as if the code of a step and its line in the table were.
+-- What refuses such a pair is what moves simulate,
+-- and not the table: the contracts of those functions hold of it.
+-- The edits that do so are named both_*;
+-- each puts what it needs in the place of these lines.
+
+-- the operation that a place makes next, out of so many places
+abbrev pub made_by : Needs → ℕ → ℕ → Place → Operation
+made_by needs places me place = operation_of needs places me place.stage
+
+-- how a place goes on with the number that it found
+abbrev pub next_by : Needs → ℕ → Place → ℕ → Next
+next_by needs me place found = next_of needs me place place.stage found
+
+-- how a call starts at a place
+abbrev pub started_by : Needs → Place → WordCall → Next
+started_by needs place call = started needs place call
+
 -- the operation that a place makes next
 abbrev pub operation_at : State → ℕ → Operation
-operation_at state me = operation_of (needs_of state.rules) (length state.places) me (place_of state me).stage
+operation_at state me = made_by (needs_of state.rules) (length state.places) me (place_of state me)
 
 -- a place in the middle of a call makes one operation, and goes on with the number that it found
 abbrev pub worked_at : State → ℕ → Moved
 worked_at state me =
     followed (performed state (operation_at state me)) me
-    (next_of (needs_of state.rules) me (place_of state me) (place_of state me).stage (found_by state (operation_at state me)))
+    (next_by (needs_of state.rules) me (place_of state me) (found_by state (operation_at state me)))
 
 -- a Go: nothing at a place in no call
 abbrev pub stepped_at : State → ℕ → Moved
@@ -68,7 +93,7 @@ stepped_at state me = if is_quiet (place_of state me).stage then record { step =
 abbrev pub started_at : State → ℕ → WordCall → Moved
 started_at state me call =
     if is_quiet (place_of state me).stage
-    then followed state me (started (needs_of state.rules) (place_of state me) call)
+    then followed state me (started_by (needs_of state.rules) (place_of state me) call)
     else record { step = Busy; machine = state }
 
 -- a move

@@ -1,21 +1,22 @@
 //! What a call is that moves alone at a machine, as the contract of a function that does nothing.
 
-ghost use Rattle.std.specs.Prelude.{◌≡◌, ℕ, ◌+◌, ◌*◌, ◌<◌, Bool, true, false, length};
+ghost use Rattle.std.specs.Prelude.{◌≡◌, ℕ, ◌+◌, ◌*◌, ◌<◌, Bool, true, false, length, [], ◌∷◌};
 ghost use Rattle.saa_core_spec.specs.Object.{Object};
 ghost use Rattle.saa_word_steps.specs.declared.call.Answer.{Answer};
 ghost use Rattle.saa_word_steps.specs.declared.call.WordCall.{WordCall};
 ghost use Rattle.saa_word_steps.specs.declared.call.WordCall.TheVariants.{Poll};
 ghost use Rattle.saa_word_steps.specs.Lazy.{is_in};
 ghost use Rattle.saa_word_steps.specs.Steps.{is_taken, needs_of, started};
-ghost use Rattle.saa_word_proofs.specs.Alone.{Moment, IsCalledAlone, next_at, put, stepped};
+ghost use Rattle.saa_word_proofs.specs.Alone.{Moment, IsAtRest, IsCalledAlone, next_at, put, stepped};
 ghost use Rattle.saa_word_proofs.specs.Agrees.{Agrees};
 ghost use Rattle.saa_word_proofs.specs.Mirrors.{Mirrors};
 ghost use Rattle.saa_word_proofs.specs.Ends.{Ends};
 ghost use Rattle.saa_word.specs.declared.moves.Move.TheVariants.{Start, Go};
-ghost use Rattle.saa_word.specs.Machine.{State, is_lock, place_of};
-ghost use Rattle.saa_word.specs.Moves.{gone, is_quiet, step_of};
-ghost use Rattle.saa_word.specs.Story.{Story, Tells};
-ghost use Rattle.saa_word.specs.Alone.{IsResting, moment_of};
+ghost use Rattle.saa_word.specs.declared.moves.Step.TheVariants.{Going, Waits};
+ghost use Rattle.saa_word.specs.Machine.{State, is_lock, place_of, row_of};
+ghost use Rattle.saa_word.specs.Moves.{gone, is_quiet, ran, step_of};
+ghost use Rattle.saa_word.specs.Trace.{Trace, Tracks};
+ghost use Rattle.saa_word.specs.Alone.{IsResting, IsSolo, moment_of};
 
 /// What a call is that moves alone at a machine, from a moment when no place is in a call.
 ///
@@ -23,20 +24,33 @@ ghost use Rattle.saa_word.specs.Alone.{IsResting, moment_of};
 /// each who waits and 24 more (`ends`), but for a poll of a place in the line; and its answer and what it leaves are those of the
 /// sequential semaphore or lock (`agrees`).
 pub fn alone()
-    ensures begins { (state : State) (story : Story) (me : ℕ) (call : WordCall) → Tells state story → me < length state.places
+    ensures begins { (state : State) (trace : Trace) (me : ℕ) (call : WordCall) → Tracks state trace → me < length state.places
         → is_quiet (place_of state me).stage ≡ true
         → (moment_of (gone state (Start me call)).machine ≡ put me (started (needs_of state.rules) (place_of state me) call) (moment_of state))
         × ((gone state (Start me call)).step ≡ step_of (started (needs_of state.rules) (place_of state me) call)) }
-    ensures goes { (state : State) (story : Story) (me : ℕ) → Tells state story → me < length state.places
+    ensures goes { (state : State) (trace : Trace) (me : ℕ) → Tracks state trace → me < length state.places
         → is_quiet (place_of state me).stage ≡ false
         → (moment_of (gone state (Go me)).machine ≡ stepped (needs_of state.rules) (length state.places) me (moment_of state))
         × ((gone state (Go me)).step ≡ step_of (next_at (needs_of state.rules) (length state.places) me (moment_of state))) }
-    ensures ends { (state : State) (story : Story) (me : ℕ) (call : WordCall) → Tells state story → IsResting state → me < length state.places
-        → is_taken (is_lock state) call ≡ true → (call ≡ Poll → is_in me story.lazy.line ≡ false)
-        → Ends (needs_of state.rules) (length state.places) me call (moment_of state) (8 * length story.lazy.line + 24) }
-    ensures agrees { (state : State) (story : Story) (me : ℕ) (is_sync : Bool) (call : WordCall) (s : Object) (steps : ℕ) (answer : Answer) (last : Moment)
-        → Tells state story → IsResting state → me < length state.places → is_taken (is_lock state) call ≡ true
-        → Mirrors (needs_of state.rules) (length state.places) (place_of state) story.lazy s
+    ensures ends { (state : State) (trace : Trace) (me : ℕ) (call : WordCall) → Tracks state trace → IsResting state → me < length state.places
+        → is_taken (is_lock state) call ≡ true → (call ≡ Poll → is_in me trace.lazy.line ≡ false)
+        → Ends (needs_of state.rules) (length state.places) me call (moment_of state) (8 * length trace.lazy.line + 24) }
+    ensures agrees { (state : State) (trace : Trace) (me : ℕ) (is_sync : Bool) (call : WordCall) (s : Object) (steps : ℕ) (answer : Answer) (last : Moment)
+        → Tracks state trace → IsResting state → me < length state.places → is_taken (is_lock state) call ≡ true
+        → Mirrors (needs_of state.rules) (length state.places) (place_of state) trace.lazy s
         → IsCalledAlone (needs_of state.rules) (length state.places) me call steps (moment_of state) answer last
         → Agrees (needs_of state.rules) (length state.places) me is_sync call s answer last }
+{}
+
+/// What `run` does while no place is in a call, and what it does to a call that moves alone.
+///
+/// A machine at which no place is in a call has the flag clear and no answer due; the abstract state isn't open, and its line is settled. From
+/// there on a call that moves alone is done within 8 steps for each who waits and 24 more, but for a poll of a place in the line; its answer,
+/// and what it leaves, are those of the sequential semaphore or lock.
+pub fn solo()
+    ensures quiet { (state : State) (trace : Trace) → Tracks state trace → IsResting state → IsAtRest (needs_of state.rules) (row_of state) trace.lazy }
+    ensures ends { (state : State) (trace : Trace) (me : ℕ) (call : WordCall) → Tracks state trace → IsResting state → me < length state.places
+        → is_taken (is_lock state) call ≡ true → (call ≡ Poll → is_in me trace.lazy.line ≡ false) → IsSolo state trace me call }
+    ensures waits { (state : State) (trace : Trace) (me : ℕ) → Tracks state trace → IsResting state → me < length state.places → is_in me trace.lazy.line ≡ true
+        → (ran state (Start me Poll ∷ (Go me ∷ []))).steps ≡ Going ∷ (Waits ∷ []) }
 {}

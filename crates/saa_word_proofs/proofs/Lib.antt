@@ -1,4 +1,4 @@
 pub mod SoloLemmas
-pub mod Balance
+pub mod Conservation
 pub mod StepBoundLemmas
 pub mod RefinementLemmas

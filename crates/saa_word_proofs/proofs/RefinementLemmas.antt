@@ -28,3 +28,5 @@ pub mod Calls
 pub mod Promises
 pub mod Starting
 pub mod Polls
+pub mod Silence
+pub mod Seen

@@ -9,6 +9,7 @@ pub mod PollsAlone
 pub mod Locks
 pub mod Events
 pub mod Paths
+pub mod Registered
 pub mod Along
 pub mod Endings
 pub mod Quiet
@@ -16,3 +17,5 @@ pub mod Alone
 pub mod Waiting
 pub mod Ends
 pub mod Books
+pub mod Ready
+pub mod Slots

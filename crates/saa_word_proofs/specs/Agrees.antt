@@ -1,24 +1,25 @@
 -- What a call is that moves alone, from its start to its end.
-use Rattle.std.specs.Prelude.{◌≡◌, ℕ, ◌<◌, Bool}
+use Rattle.std.specs.Prelude.{◌^◌, ◌≡◌, ℕ, ◌<◌, Bool}
 use Rattle.saa_core_spec.specs.Object.{Object}
+use Rattle.saa_core_words.specs.Words.{count_bits}
 use Rattle.saa_word_steps.specs.declared.call.Answer.{Answer}
 use Rattle.saa_word_steps.specs.declared.call.WordCall.{WordCall}
 use Rattle.saa_word_steps.specs.declared.rules.Rules.{Rules}
 use Rattle.saa_word_steps.specs.Needs.{Needs}
 use Rattle.saa_word_steps.specs.Lazy.{Lazy}
 use Rattle.saa_word_steps.specs.Steps.{needs_of}
-use Rattle.saa_word_proofs.specs.Standing.{Stands}
+use Rattle.saa_word_proofs.specs.Refinement.{Refines}
 use Rattle.saa_word_proofs.specs.Alone.{Moment, IsQuiet}
 use Rattle.saa_word_proofs.specs.Mirrors.{Mirrors, called}
 
 -- At the start no place is in a call, and a sequential object stands for the moment. There are no more permits than a word counts, no
 -- more places than it links, and `me` is one of them
 pub record Begins (rules : Rules) (places me : ℕ) (now : Moment) (s : Object) : Type 0 where
-  pub small : (needs_of rules).top < 64
+  pub small : (needs_of rules).top < 2 ^ count_bits
   pub room : places < 65536
   pub here : me < places
   pub lazy : Lazy
-  pub stands : Stands (needs_of rules) places now.row now.standing lazy
+  pub stands : Refines (needs_of rules) places now.row now.standing lazy
   pub quiet : IsQuiet now.standing
   pub mirrors : Mirrors (needs_of rules) places now.standing lazy s
 
@@ -26,7 +27,7 @@ pub record Begins (rules : Rules) (places me : ℕ) (now : Moment) (s : Object) 
 -- the call has left
 pub record Agrees (needs : Needs) (places me : ℕ) (is_sync : Bool) (call : WordCall) (s : Object) (answer : Answer) (last : Moment) : Type 0 where
   pub lazy : Lazy
-  pub stands : Stands needs places last.row last.standing lazy
+  pub stands : Refines needs places last.row last.standing lazy
   pub quiet : IsQuiet last.standing
   pub mirrors : Mirrors needs places last.standing lazy (called needs.is_lock me is_sync call s).state
   pub same : answer ≡ (called needs.is_lock me is_sync call s).reply

@@ -9,8 +9,8 @@ use Rattle.saa_word_steps.specs.declared.call.WordCall.{WordCall}
 use Rattle.saa_word_steps.specs.Needs.{Needs}
 use Rattle.saa_word_steps.specs.Lazy.{Lazy, IsSettledAt}
 use Rattle.saa_word_steps.specs.Steps.{word_at, operation_of, next_of, started}
-use Rattle.saa_word_proofs.specs.Standing.{main_of, line_of, IsBehind, updated}
-use Rattle.saa_word_proofs.specs.Stepped.{place_after, row_after}
+use Rattle.saa_word_proofs.specs.Refinement.{main_of, line_of, IsBehind, updated}
+use Rattle.saa_word_proofs.specs.StepRefinement.{place_after, row_after}
 
 -- no place is in a call
 abbrev pub IsQuiet : (ℕ → Place) → Type 0

@@ -22,7 +22,8 @@ use Rattle.saa_word_steps.specs.declared.place.Next.{Next}
 use Rattle.saa_word_steps.specs.declared.place.Next.TheVariants.{Going, Waits, Done}
 use Rattle.saa_word_steps.specs.Needs.{Needs}
 use Rattle.saa_word_steps.specs.Steps.{mode_number, read_as, tried_answer}
-use Rattle.saa_word_steps.specs.Lazy.{Event, Got, Refused, AskedPoisoned, Joined, Left, Gave, GaveNothing, Poisoned, NotPoisoned, Cleared, NotCleared, NotReady, Took, Read}
+use Rattle.saa_word_steps.specs.declared.event.Event.{Event}
+use Rattle.saa_word_steps.specs.declared.event.Event.TheVariants.{Got, Refused, AskedPoisoned, Joined, Left, Gave, GaveNothing, Poisoned, NotPoisoned, Cleared, NotCleared, NotReady, Took, Read}
 
 -- what a call asks for, gives back and reads
 abbrev pub asked_by : WordCall → Option Ask

@@ -2,10 +2,12 @@ pub mod Alone
 pub mod Mirrors
 pub mod Agrees
 pub mod Ends
-pub mod Balance
-pub mod Budget
-pub mod Standing
-pub mod Stepped
+pub mod Registering
+pub mod Conservation
+pub mod StepBound
+pub mod Refinement
+pub mod StepRefinement
 pub mod Calls
 pub mod Promises
-pub mod Stalls
+pub mod Blocking
+pub mod History

@@ -44,7 +44,7 @@ entry_of needs (Once value request) shown is_sync = Answered value (needs.read r
 entry_of needs (Slot request) None is_sync = Waiting (needs.read request) is_sync
 entry_of needs (Slot request) (Some value) is_sync = Answered value (needs.read request) is_sync true
 
--- what the lazy object holds: what it counts, where it isn't poisoned
+-- what the abstract state holds: what it counts, where it isn't poisoned
 abbrev pub held_at : Needs → Lazy → Held
 held_at needs lazy = if lazy.poisoned then OfLock Poisoned else needs.held lazy.count
 

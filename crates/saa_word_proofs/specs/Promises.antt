@@ -1,14 +1,15 @@
 -- What stands in the words at every moment, said of the numbers alone.
-use Rattle.std.specs.Prelude.{◌≡◌, ℕ, ◌+◌, ◌<◌, ◌≤◌, ◌==◌, false, if◌then◌else◌, List, [], ◌∷◌, ◌++◌}
+use Rattle.std.specs.Prelude.{◌≡◌, ℕ, ◌+◌, ◌<◌, ◌≤◌, ◌==◌, ◌^◌, true, false, if◌then◌else◌, List, [], ◌∷◌, ◌++◌}
 use Rattle.saa_core_words.specs.declared.line_word.LineWord.{LineWord}
-use Rattle.saa_core_words.specs.Words.{answer_number}
+use Rattle.saa_core_words.specs.Words.{answer_number, count_bits, word_number}
 use Rattle.saa_word_steps.specs.declared.place.Place.{Place}
 use Rattle.saa_word_steps.specs.declared.place.Registration.TheVariants.{Idle}
 use Rattle.saa_word_steps.specs.declared.place.Stage.TheVariants.{Quiet}
 use Rattle.saa_word_steps.specs.declared.place.Back.TheVariants.{Tells}
 use Rattle.saa_word_steps.specs.Needs.{Needs}
+use Rattle.saa_word_steps.specs.Steps.{poisoned_word}
 use Rattle.saa_word_steps.specs.Lazy.{Lazy, IsSettledAt, held_by}
-use Rattle.saa_word_proofs.specs.Standing.{main_of, line_of}
+use Rattle.saa_word_proofs.specs.Refinement.{main_of, line_of}
 
 -- a place in no call, that is registered as nothing
 abbrev pub idle_place : Place
@@ -28,12 +29,21 @@ abbrev pub newest_first : List (ℕ × ℕ) → List ℕ
 newest_first [] = []
 newest_first (asker ∷ rest) = newest_first rest ++ asker.0 ∷ []
 
--- The words say what the lazy object is: the count and poison at every moment, and of each place the answer that it is shown. While
--- the flag is clear the places met along older neighbours from the tail are the line, newest first, the object isn't open, and its
--- line is settled. No more is held than there ever is, and no place waits twice, or waits and has an answer
-pub record SaysSo (needs : Needs) (places : ℕ) (row : ℕ → ℕ) (lazy : Lazy) : Type 0 where
+-- each of a line asks what its line word says
+abbrev pub AreAsking : (ℕ → LineWord) → List (ℕ × ℕ) → Type 0
+AreAsking words [] = Unit {0}
+AreAsking words (asker ∷ rest) = ((words asker.0).request ≡ asker.1) × AreAsking words rest
+
+-- The words show what the abstract state is: the count and poison at every moment, of each place the answer that it is shown, and of each
+-- who waits what it asks. The main word has no bits beyond those of the tail, and that of a poisoned lock is one number. While the flag is
+-- clear the places met along older neighbours from the tail are the line, newest first, the state isn't open, and its line is settled. No
+-- more is held than there ever is, and no place waits twice, or waits and has an answer
+pub record Observes (needs : Needs) (places : ℕ) (row : ℕ → ℕ) (lazy : Lazy) : Type 0 where
   pub count : (main_of row).count ≡ lazy.count
   pub poisoned : (main_of row).is_poisoned ≡ lazy.poisoned
+  pub whole : row 0 < 2 ^ 24
+  pub exact : lazy.poisoned ≡ true → row 0 ≡ word_number count_bits poisoned_word
+  pub requests : AreAsking (line_of row) lazy.line
   pub shown : (place : ℕ) → place < places → row (places + place + 1) ≡ answer_number (lazy.shown place)
   pub line : (main_of row).is_flagged ≡ false → IsMet (line_of row) (main_of row).tail (newest_first lazy.line)
   pub closed : (main_of row).is_flagged ≡ false → lazy.unclosed ≡ false

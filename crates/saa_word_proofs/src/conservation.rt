@@ -1,30 +1,31 @@
 //! What is proved of the tally, as contracts of functions that do nothing.
 
-ghost use Rattle.std.specs.Prelude.{◌≡◌, ℕ, ◌+◌, ◌<◌, ◌≤◌, List, Some, is_some};
+ghost use Rattle.std.specs.Prelude.{◌≡◌, ℕ, ◌+◌, List, Some, is_some};
 ghost use Rattle.saa_core_spec.specs.Object.{one_if};
 ghost use Rattle.saa_word_steps.specs.Needs.{permit_needs};
-ghost use Rattle.saa_word_steps.specs.Lazy.{Lazy, Event, IsRun, opening, waits_times};
-ghost use Rattle.saa_word_proofs.specs.Balance.{NonePoisons, IsBalanced, tally_of};
+ghost use Rattle.saa_word_steps.specs.declared.event.Event.{Event};
+ghost use Rattle.saa_word_steps.specs.Lazy.{Lazy, IsRun, opening, waits_times};
+ghost use Rattle.saa_word_proofs.specs.Conservation.{AreOfPermits, ConservesPermits, tally_of};
 
-/// After every list of events that are allowed where they come, from the moment when so many permits of a semaphore are withheld
-/// and nobody waits, and of which none poisons.
+/// After every list of events that are enabled where they come, from the moment when so many permits of a semaphore are withheld
+/// and nobody waits.
 ///
 /// The permits that are out and those that were given back are, together, those that were withheld, those that were got, and those
 /// that are granted and not taken yet. Each place whose answer is to be shown or taken has one grant that isn't taken yet, and no
 /// other place has any. Each of these answers says that the place is granted.
 ///
-/// Where the semaphore has fewer than 63 permits and no more than those are withheld, none of its events poisons.
+/// No event of a semaphore poisons it, finds it poisoned or clears it, and each answer that is taken says that the place is granted.
 pub fn conservation()
     ensures balanced { (bound withheld : ℕ) (events : List (ℕ × Event)) (last : Lazy)
-        → NonePoisons events → IsRun (permit_needs bound) (opening withheld) events last
-        → IsBalanced (permit_needs bound) withheld last (tally_of (permit_needs bound) withheld events) }
+        → IsRun (permit_needs bound) (opening withheld) events last
+        → ConservesPermits (permit_needs bound) withheld last (tally_of (permit_needs bound) withheld events) }
     ensures each_once { (bound withheld : ℕ) (events : List (ℕ × Event)) (last : Lazy)
-        → NonePoisons events → IsRun (permit_needs bound) (opening withheld) events last → (place : ℕ)
+        → IsRun (permit_needs bound) (opening withheld) events last → (place : ℕ)
         → waits_times place (tally_of (permit_needs bound) withheld events).pending
         ≡ one_if (is_some (last.due place)) + one_if (is_some (last.shown place)) }
     ensures granted { (bound withheld : ℕ) (events : List (ℕ × Event)) (last : Lazy)
-        → NonePoisons events → IsRun (permit_needs bound) (opening withheld) events last → (place value : ℕ)
+        → IsRun (permit_needs bound) (opening withheld) events last → (place value : ℕ)
         → (last.due place ≡ Some value → value ≡ 0) × (last.shown place ≡ Some value → value ≡ 0) }
-    ensures never_poisoned { (bound withheld : ℕ) (events : List (ℕ × Event)) (last : Lazy)
-        → bound < 63 → withheld ≤ bound → IsRun (permit_needs bound) (opening withheld) events last → NonePoisons events }
+    ensures of_permits { (bound withheld : ℕ) (events : List (ℕ × Event)) (last : Lazy)
+        → IsRun (permit_needs bound) (opening withheld) events last → AreOfPermits events }
 {}

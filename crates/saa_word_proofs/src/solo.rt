@@ -1,8 +1,9 @@
 //! What a call is that moves alone, as contracts of functions that do nothing.
 
-ghost use Rattle.std.specs.Prelude.{◌≡◌, ℕ, ◌<◌, Bool, true, Err, ◌+◌, ◌*◌, false, length};
+ghost use Rattle.std.specs.Prelude.{◌^◌, ◌≡◌, ℕ, ◌<◌, Bool, true, Err, ◌+◌, ◌*◌, false, length, List, [], ◌≤◌, Option};
 ghost use Rattle.saa_core_spec.specs.Object.{Object, newly_made};
 ghost use Rattle.saa_core_spec.specs.declared.polling.Error.TheVariants.{NotReady};
+ghost use Rattle.saa_core_words.specs.Words.{count_bits};
 ghost use Rattle.saa_word_steps.specs.declared.call.Answer.{Answer};
 ghost use Rattle.saa_word_steps.specs.declared.call.Answer.TheVariants.{Taken};
 ghost use Rattle.saa_word_steps.specs.declared.call.WordCall.{WordCall};
@@ -11,9 +12,17 @@ ghost use Rattle.saa_word_steps.specs.declared.place.Place.{Place};
 ghost use Rattle.saa_word_steps.specs.declared.rules.Rules.{Rules};
 ghost use Rattle.saa_word_steps.specs.declared.place.Registration.TheVariants.{Idle};
 ghost use Rattle.saa_word_steps.specs.Needs.{Needs, AreNeeds};
-ghost use Rattle.saa_word_steps.specs.Lazy.{Lazy, opening, is_in};
-ghost use Rattle.saa_word_steps.specs.Steps.{is_taken, needs_of};
-ghost use Rattle.saa_word_proofs.specs.Standing.{Stands};
+ghost use Rattle.saa_word_steps.specs.Lazy.{IsRun, Lazy, held_by, opening, is_in};
+ghost use Rattle.saa_word_steps.specs.declared.place.Ask.{Ask};
+ghost use Rattle.saa_word_steps.specs.Steps.{is_taken, needs_of, next_of, started};
+ghost use Rattle.saa_word_steps.specs.declared.event.Event.{Event};
+ghost use Rattle.saa_word_steps.specs.declared.place.Registration.{Registration};
+ghost use Rattle.saa_word_steps.specs.declared.place.Stage.TheVariants.{Quiet};
+ghost use Rattle.saa_word_steps.specs.declared.place.Next.TheVariants.{Going};
+ghost use Rattle.saa_word_proofs.specs.StepRefinement.{named, named_at, of_place};
+ghost use Rattle.saa_word_proofs.specs.Calls.{IsUnder, asked_by};
+ghost use Rattle.saa_word_proofs.specs.Registering.{AreRegistered, IsLeft, IsReadyNext, IsStartedAs, begun_as, left_behind, starting_answer};
+ghost use Rattle.saa_word_proofs.specs.Refinement.{Refines, updated};
 ghost use Rattle.saa_word_proofs.specs.Alone.{Moment, IsQuiet, IsAtRest, IsCalledAlone, IsLeftWaiting, IsKeptWaiting};
 ghost use Rattle.saa_word_proofs.specs.Ends.{Ends};
 ghost use Rattle.saa_word_proofs.specs.Mirrors.{Mirrors, called};
@@ -23,7 +32,7 @@ ghost use Rattle.saa_word_proofs.specs.Agrees.{Begins, Agrees};
 /// link all who wait.
 pub fn quiet()
     ensures { (needs : Needs) (places : ℕ) (row : ℕ → ℕ) (standing : ℕ → Place) (lazy : Lazy)
-        → Stands needs places row standing lazy → IsQuiet standing → IsAtRest needs row lazy }
+        → Refines needs places row standing lazy → IsQuiet standing → IsAtRest needs row lazy }
 {}
 
 /// A call that moves alone, from a moment when no place is in a call, is the call of the sequential semaphore or lock.
@@ -41,13 +50,13 @@ pub fn alone()
         → Begins rules places me now s → is_taken (needs_of rules).is_lock call ≡ true → IsCalledAlone (needs_of rules) places me call steps now answer last
         → Agrees (needs_of rules) places me is_sync call s answer last }
     ensures waits { (needs : Needs) (places me : ℕ) (now : Moment) (lazy : Lazy)
-        → Stands needs places now.row now.standing lazy → me < places → is_in me lazy.line ≡ true → IsLeftWaiting needs places me Poll now }
+        → Refines needs places now.row now.standing lazy → me < places → is_in me lazy.line ≡ true → IsLeftWaiting needs places me Poll now }
     ensures only { (rules : Rules) (places me : ℕ) (call : WordCall) (steps : ℕ) (now : Moment) (lazy : Lazy)
-        → (needs_of rules).top < 64 → places < 65536
-        → Stands (needs_of rules) places now.row now.standing lazy → IsQuiet now.standing → me < places → is_taken (needs_of rules).is_lock call ≡ true
+        → (needs_of rules).top < 2 ^ count_bits → places < 65536
+        → Refines (needs_of rules) places now.row now.standing lazy → IsQuiet now.standing → me < places → is_taken (needs_of rules).is_lock call ≡ true
         → IsKeptWaiting (needs_of rules) places me call steps now → (call ≡ Poll) × (is_in me lazy.line ≡ true) }
     ensures unready { (needs : Needs) (places me : ℕ) (is_sync : Bool) (now : Moment) (lazy : Lazy) (s : Object)
-        → Stands needs places now.row now.standing lazy → Mirrors needs places now.standing lazy s → me < places → is_in me lazy.line ≡ true
+        → Refines needs places now.row now.standing lazy → Mirrors needs places now.standing lazy s → me < places → is_in me lazy.line ≡ true
         → ((called needs.is_lock me is_sync Poll s).reply ≡ Taken (Err NotReady)) × ((called needs.is_lock me is_sync Poll s).state ≡ s) }
     ensures exists { (needs : Needs) (places : ℕ) (standing : ℕ → Place) (lazy : Lazy)
         → (s : Object) × Mirrors needs places standing lazy s }
@@ -58,8 +67,32 @@ pub fn alone()
 /// A call that starts while no place is in one, and that moves alone, is done within 8 steps for each who waits and 24 more; but for a
 /// poll of a place that waits.
 pub fn ends()
-    ensures { (needs : Needs) → AreNeeds needs → needs.top < 64
+    ensures { (needs : Needs) → AreNeeds needs → needs.top < 2 ^ count_bits
         → (places : ℕ) (row : ℕ → ℕ) (standing : ℕ → Place) (lazy : Lazy) (me : ℕ) (call : WordCall) → places < 65536 → me < places
-        → Stands needs places row standing lazy → IsQuiet standing → is_taken needs.is_lock call ≡ true → (call ≡ Poll → is_in me lazy.line ≡ false)
+        → Refines needs places row standing lazy → IsQuiet standing → is_taken needs.is_lock call ≡ true → (call ≡ Poll → is_in me lazy.line ≡ false)
         → Ends needs places me call (record { row = row; standing = standing }) (8 * length lazy.line + 24) }
+{}
+
+/// What a place is registered as behind the start of a call and behind each of its steps: it is read off the call, the events that the
+/// step names and what the place was registered as. Whoever is done is in no call; whoever waits is registered as before. Who is in the line
+/// stays registered there with what it asks.
+pub fn registrations()
+    ensures started { (needs : Needs) (place : Place) (call : WordCall) → place.stage ≡ Quiet
+        → IsStartedAs (starting_answer needs call place.registration) (begun_as call place.registration) (started needs place call) }
+    ensures left { (needs : Needs) (call : WordCall) (registered : Registration) (me : ℕ) (place : Place) (found : ℕ) (events : List Event)
+        → IsUnder needs call registered place.back place.stage events
+        → IsLeft place.registration (left_behind (named_at needs place.stage found) (asked_by call) place.registration)
+        (next_of needs me place place.stage found) }
+    ensures line { (needs : Needs) (lazy last : Lazy) (me : ℕ) (events : List Event) (asks : Option Ask) (registered : ℕ → Registration) (was : Registration)
+        → IsRun needs lazy (of_place me events) last → ((other : ℕ) → held_by other lazy ≤ 1) → (lazy.poisoned ≡ true → lazy.line ≡ [])
+        → AreRegistered (updated registered me was) lazy.line → AreRegistered (updated registered me (left_behind (named events) asks was)) last.line }
+{}
+
+/// The next operation of a place is on a word of the row, and what it remembers is within the bits of a count: behind the start of each call,
+/// whatever stands in the words, and at every moment.
+pub fn ready()
+    ensures first { (needs : Needs) (places me : ℕ) (place : Place) (call : WordCall) → me < places → IsReadyNext needs places me (started needs place call) }
+    ensures next { (needs : Needs) → AreNeeds needs → needs.top < 2 ^ count_bits
+        → (places : ℕ) (row : ℕ → ℕ) (standing : ℕ → Place) (lazy : Lazy) (me : ℕ) → places < 65536 → me < places
+        → Refines needs places row standing lazy → IsReadyNext needs places me (Going (standing me)) }
 {}

@@ -6,17 +6,17 @@ ghost use Rattle.saa_word_steps.specs.declared.place.Next.TheVariants.{Waits};
 ghost use Rattle.saa_word_steps.specs.Needs.{Needs};
 ghost use Rattle.saa_word_steps.specs.Lazy.{Lazy};
 ghost use Rattle.saa_word_steps.specs.Steps.{word_at, operation_of, next_of};
-ghost use Rattle.saa_word_proofs.specs.Standing.{Stands, main_of};
-ghost use Rattle.saa_word_proofs.specs.Stepped.{row_after};
-ghost use Rattle.saa_word_proofs.specs.Stalls.{IsStalled};
+ghost use Rattle.saa_word_proofs.specs.Refinement.{Refines, main_of};
+ghost use Rattle.saa_word_proofs.specs.StepRefinement.{row_after};
+ghost use Rattle.saa_word_proofs.specs.Blocking.{IsBlockedAt};
 
 /// A step is answered that it waits only where a place polls that is in the line, or whose answer is to be shown; where a cancel is to take
 /// an answer that is to be shown, or finds the flag set; and where poison finds one owner and the flag set. The row of words is left as it
 /// is.
 pub fn waits()
     ensures { (needs : Needs) (places : ℕ) (row : ℕ → ℕ) (standing : ℕ → Place) (lazy : Lazy) (me : ℕ) → me < places
-        → Stands needs places row standing lazy
+        → Refines needs places row standing lazy
         → next_of needs me (standing me) (standing me).stage (row (word_at (operation_of needs places me (standing me).stage))) ≡ Waits
-        → IsStalled lazy me (main_of row) (standing me).stage
+        → IsBlockedAt lazy me (main_of row) (standing me).stage
         × (row_after row (operation_of needs places me (standing me).stage) ≡ row) }
 {}

@@ -1,4 +1,4 @@
--- What every run of the lazy object keeps: a line that isn't open is settled, no more is held than there ever is, and each place is
+-- What every run of the abstract state keeps: a line that isn't open is settled, no more is held than there ever is, and each place is
 -- held once at most.
 use Rattle.std.proofs.Common.{◌≡◌, ℕ, suc, zero, ◌+◌, ◌≤◌, ◌<◌, Bool, true, false, not, ◌||◌, List, [], ◌∷◌, ◌++◌, take, drop, Option, Some, None, is_some, ◌==◌, ◌-◌, nat_le, refl, sym, ap, subst, ◌∙◌, arith, inl, inr}
 use Rattle.std.proofs.lemmas.Bool.{cases_Bool}
@@ -6,11 +6,13 @@ use Rattle.std.proofs.lemmas.Bool.Decides.{nat_tests}
 use Rattle.saa_core_spec.specs.Object.{one_if}
 use Rattle.saa_core_spec.proofs.Counts.{one_if-le, number_same, same_number}
 use Rattle.saa_word_steps.specs.Needs.{Needs, AreNeeds, fits_count, left_count, permit_needs}
-use Rattle.saa_word_steps.specs.Lazy.{Lazy, Event, Got, Refused, Joined, Gave, GaveNothing, AskedPoisoned, Left, Closed, Poisoned, NotPoisoned, Cleared, NotCleared, NotReady, Granted, Showed, Took, Read, IsAllowed, after_event, IsRun, IsFront, IsSettledAt, is_empty, is_in, waits_times, line_without, takes_of, answered_with, with_answer, count_or, held_by}
+use Rattle.saa_word_steps.specs.declared.event.Event.{Event}
+use Rattle.saa_word_steps.specs.declared.event.Event.TheVariants.{Got, Refused, Joined, Gave, GaveNothing, AskedPoisoned, Left, Closed, Poisoned, NotPoisoned, Cleared, NotCleared, NotReady, Granted, Showed, Took, Read}
+use Rattle.saa_word_steps.specs.Lazy.{Lazy, IsEnabled, after_event, IsRun, IsFront, IsSettledAt, is_empty, is_in, waits_times, line_without, takes_of, answered_with, with_answer, count_or, held_by}
 
 -- what each event keeps every run keeps
 pub run-keeps : (needs : Needs) (P : Lazy → Type 0)
-    → ((lazy : Lazy) (place : ℕ) (event : Event) → IsAllowed needs lazy place event → P lazy → P (after_event needs lazy place event))
+    → ((lazy : Lazy) (place : ℕ) (event : Event) → IsEnabled needs lazy place event → P lazy → P (after_event needs lazy place event))
     → (lazy : Lazy) (events : List (ℕ × Event)) (last : Lazy) → IsRun needs lazy events last → P lazy → P last
 run-keeps needs P step lazy [] last h p = subst P h p
 run-keeps needs P step lazy (event ∷ events) last h p =
@@ -37,7 +39,7 @@ joined-settled needs count place request [] waits settled =
     ]
 joined-settled needs count place request (asker ∷ rest) waits settled = settled
 
-settled-step : (needs : Needs) (lazy : Lazy) (place : ℕ) (event : Event) → IsAllowed needs lazy place event
+settled-step : (needs : Needs) (lazy : Lazy) (place : ℕ) (event : Event) → IsEnabled needs lazy place event
     → (lazy.unclosed ≡ false → IsSettledAt needs lazy.count lazy.line)
     → (after_event needs lazy place event).unclosed ≡ false → IsSettledAt needs (after_event needs lazy place event).count (after_event needs lazy place event).line
 settled-step needs lazy place (Got request) allowed was closed = subst (λ line. IsSettledAt needs (lazy.count + needs.takes request) line) (sym allowed.1) tt
@@ -73,7 +75,7 @@ front-bounded needs lawful count [] fits small = omega (arith, small)
 front-bounded needs lawful count (asker ∷ rest) fits small =
     omega (arith, front-bounded needs lawful (count + needs.takes asker.1) rest fits.1 (lawful.bounded count asker.1 fits.0))
 
-bounded-step : (needs : Needs) → AreNeeds needs → (lazy : Lazy) (place : ℕ) (event : Event) → IsAllowed needs lazy place event
+bounded-step : (needs : Needs) → AreNeeds needs → (lazy : Lazy) (place : ℕ) (event : Event) → IsEnabled needs lazy place event
     → lazy.count ≤ needs.top → (after_event needs lazy place event).count ≤ needs.top
 bounded-step needs lawful lazy place (Got request) allowed was = lawful.bounded lazy.count request allowed.2
 bounded-step needs lawful lazy place (Refused request) allowed was = was
@@ -154,7 +156,7 @@ with_answer-same place answer answers other same =
 with_answer-other : (place : ℕ) (answer : Option ℕ) (answers : ℕ → Option ℕ) (other : ℕ) → other == place ≡ false → with_answer place answer answers other ≡ answers other
 with_answer-other place answer answers other apart = rw apart refl
 
-once-step : (needs : Needs) (lazy : Lazy) (place : ℕ) (event : Event) → IsAllowed needs lazy place event
+once-step : (needs : Needs) (lazy : Lazy) (place : ℕ) (event : Event) → IsEnabled needs lazy place event
     → ((other : ℕ) → held_by other lazy ≤ 1) → (other : ℕ) → held_by other (after_event needs lazy place event) ≤ 1
 once-step needs lazy place (Got request) allowed was other = was other
 once-step needs lazy place (Refused request) allowed was other = was other

@@ -1,5 +1,5 @@
 -- What a place remembers stays within the bits of a count, whatever number it finds.
-use Rattle.std.proofs.Common.{◌≡◌, ℕ, ◌+◌, ◌-◌, ◌≤◌, ◌<◌, ◌%◌, Bool, true, false, not, ◌&&◌, ◌||◌, ◌==◌, if◌then◌else◌, Option, Some, None, refl, arith, inl, inr}
+use Rattle.std.proofs.Common.{◌^◌, ◌≡◌, ℕ, ◌+◌, ◌-◌, ◌≤◌, ◌<◌, ◌%◌, Bool, true, false, not, ◌&&◌, ◌||◌, ◌==◌, if◌then◌else◌, Option, Some, None, refl, arith, inl, inr}
 use Rattle.std.proofs.lemmas.Bool.{cases_Bool}
 use Rattle.saa_core_words.specs.declared.word.Word.{Word}
 use Rattle.saa_core_words.specs.declared.line_word.LineWord.{LineWord}
@@ -150,7 +150,7 @@ poisoning-ranged needs place seen small =
           ]
     ]
 
-looked-ranged : (needs : Needs) → AreNeeds needs → needs.top < 64 → (place : Place) (seen : Word) (current count : ℕ) (line : LineWord)
+looked-ranged : (needs : Needs) → AreNeeds needs → needs.top < 2 ^ count_bits → (place : Place) (seen : Word) (current count : ℕ) (line : LineWord)
     → IsSmall seen → count < 64 → IsRangedNext needs (looked_at needs place seen current count line)
 looked-ranged needs lawful wide place seen current count line small below =
     elim (cases_Bool (fits_count needs count line.request)) [
@@ -183,7 +183,7 @@ closing-ranged needs place seen count top found small below =
     ]
 
 -- what a place remembers that goes on is in range, whatever it found
-pub next-ranged : (needs : Needs) → AreNeeds needs → needs.top < 64 → (me : ℕ) (place : Place) (stage : Stage) (found : ℕ)
+pub next-ranged : (needs : Needs) → AreNeeds needs → needs.top < 2 ^ count_bits → (me : ℕ) (place : Place) (stage : Stage) (found : ℕ)
     → IsRanged needs place.stage → IsRanged needs stage → IsRangedNext needs (next_of needs me place stage found)
 next-ranged needs lawful wide me place Quiet found was ranged = was
 next-ranged needs lawful wide me place (ReadLoad reading) found was ranged = tt

@@ -1,9 +1,11 @@
--- The lazy object: what a form that is kept in words is at each moment. Between an ask that waits and its answer several steps
+-- The abstract state: what a form that is kept in words is at each moment. Between an ask that waits and its answer several steps
 -- of several places lie, so answers are granted, shown and taken at steps of their own.
 use Rattle.std.specs.Prelude.{◌≡◌, ◌≢◌, ℕ, ◌+◌, ◌<◌, ◌≤◌, Bool, true, false, not, ◌||◌, if◌then◌else◌, ◌==◌, List, [], ◌∷◌, ◌++◌, length, take, drop, Option, Some, None, is_some}
 use Rattle.saa_core_spec.specs.Held.{Exclusive}
 use Rattle.saa_core_spec.specs.Object.{one_if}
 use Rattle.saa_core_words.specs.Words.{lock_count}
+use Rattle.saa_word_steps.specs.declared.event.Event.{Event}
+use Rattle.saa_word_steps.specs.declared.event.Event.TheVariants.{Got, Refused, Joined, Gave, GaveNothing, AskedPoisoned, Left, Closed, Poisoned, NotPoisoned, Cleared, NotCleared, NotReady, Granted, Showed, Took, Read}
 use Rattle.saa_word_steps.specs.Needs.{Needs, fits_count, left_count}
 
 -- What is held, as a count, and whether it is poisoned; who waits, oldest first, each with the number of what it asks; whether
@@ -64,41 +66,36 @@ answered_with value askers answers place = if is_in place askers then Some value
 abbrev pub with_answer : ℕ → Option ℕ → (ℕ → Option ℕ) → ℕ → Option ℕ
 with_answer place answer answers other = if other == place then answer else answers other
 
--- what happens to the object; each event belongs to the place whose step it is
-pub data Event : Type 0 where
-  Got Refused Joined Gave GaveNothing : (request : ℕ) → Event
-  AskedPoisoned Left Closed Poisoned NotPoisoned Cleared NotCleared NotReady : Event
-  Granted : (askers : ℕ) → Event
-  Showed : (shown_place : ℕ) → Event
-  Took : (value : ℕ) → Event
-  Read : (count : ℕ) (poisoned : Bool) → Event
-
 -- an ask has to wait, or is refused: somebody waits, or it doesn't fit
 abbrev pub must_wait : Needs → Lazy → ℕ → Bool
 must_wait needs lazy request = not (is_empty lazy.line) || not (fits_count needs lazy.count request)
 
--- where an event of a place is allowed
-abbrev pub IsAllowed : Needs → Lazy → ℕ → Event → Type 0
-IsAllowed needs lazy place (Got request) = (lazy.poisoned ≡ false) × (lazy.line ≡ []) × (fits_count needs lazy.count request ≡ true)
-IsAllowed needs lazy place (Refused request) = (lazy.poisoned ≡ false) × (must_wait needs lazy request ≡ true)
-IsAllowed needs lazy place (Joined request) =
+-- one owner has the lock
+abbrev pub IsOwned : Needs → Lazy → Type 0
+IsOwned needs lazy = (lazy.poisoned ≡ false) × (lazy.count ≡ lock_count Exclusive) × (needs.is_lock ≡ true)
+
+-- where an event of a place is enabled
+abbrev pub IsEnabled : Needs → Lazy → ℕ → Event → Type 0
+IsEnabled needs lazy place (Got request) = (lazy.poisoned ≡ false) × (lazy.line ≡ []) × (fits_count needs lazy.count request ≡ true)
+IsEnabled needs lazy place (Refused request) = (lazy.poisoned ≡ false) × (must_wait needs lazy request ≡ true)
+IsEnabled needs lazy place (Joined request) =
     (lazy.poisoned ≡ false) × (must_wait needs lazy request ≡ true)
     × (is_in place lazy.line ≡ false) × (lazy.due place ≡ None) × (lazy.shown place ≡ None)
-IsAllowed needs lazy place (Gave request) = (lazy.poisoned ≡ false) × ((left : ℕ) × (left_count needs lazy.count request ≡ Some left))
-IsAllowed needs lazy place (GaveNothing request) = (lazy.poisoned ≡ false) → left_count needs lazy.count request ≡ None
-IsAllowed needs lazy place AskedPoisoned = lazy.poisoned ≡ true
-IsAllowed needs lazy place Left = is_in place lazy.line ≡ true
-IsAllowed needs lazy place (Granted askers) =
+IsEnabled needs lazy place (Gave request) = (lazy.poisoned ≡ false) × ((left : ℕ) × (left_count needs lazy.count request ≡ Some left))
+IsEnabled needs lazy place (GaveNothing request) = (lazy.poisoned ≡ false) → left_count needs lazy.count request ≡ None
+IsEnabled needs lazy place AskedPoisoned = lazy.poisoned ≡ true
+IsEnabled needs lazy place Left = is_in place lazy.line ≡ true
+IsEnabled needs lazy place (Granted askers) =
     (lazy.unclosed ≡ true) × (0 < askers) × (askers ≤ length lazy.line) × IsFront needs lazy.count (take askers lazy.line)
-IsAllowed needs lazy place Closed = (lazy.unclosed ≡ true) × IsSettledAt needs lazy.count lazy.line
-IsAllowed needs lazy place Poisoned = (lazy.unclosed ≡ false) × (lazy.poisoned ≡ false) × (lazy.count ≡ lock_count Exclusive)
-IsAllowed needs lazy place NotPoisoned = (lazy.poisoned ≡ false) → lazy.count ≢ lock_count Exclusive
-IsAllowed needs lazy place Cleared = lazy.poisoned ≡ true
-IsAllowed needs lazy place NotCleared = lazy.poisoned ≡ false
-IsAllowed needs lazy place (Showed shown_place) = is_some (lazy.due shown_place) ≡ true
-IsAllowed needs lazy place (Took value) = lazy.shown place ≡ Some value
-IsAllowed needs lazy place NotReady = (is_in place lazy.line || is_some (lazy.due place)) ≡ true
-IsAllowed needs lazy place (Read count poisoned) = (lazy.count ≡ count) × (lazy.poisoned ≡ poisoned)
+IsEnabled needs lazy place Closed = (lazy.unclosed ≡ true) × IsSettledAt needs lazy.count lazy.line
+IsEnabled needs lazy place Poisoned = (lazy.unclosed ≡ false) × IsOwned needs lazy
+IsEnabled needs lazy place NotPoisoned = IsOwned needs lazy → ⊥
+IsEnabled needs lazy place Cleared = lazy.poisoned ≡ true
+IsEnabled needs lazy place NotCleared = lazy.poisoned ≡ false
+IsEnabled needs lazy place (Showed shown_place) = is_some (lazy.due shown_place) ≡ true
+IsEnabled needs lazy place (Took value) = lazy.shown place ≡ Some value
+IsEnabled needs lazy place NotReady = (is_in place lazy.line || is_some (lazy.due place)) ≡ true
+IsEnabled needs lazy place (Read count poisoned) = (lazy.count ≡ count) × (lazy.poisoned ≡ poisoned)
 
 -- the count that is left once a request is given back; unchanged where it isn't held
 abbrev pub count_or : ℕ → Option ℕ → ℕ
@@ -137,7 +134,7 @@ after_event needs lazy place (Read count poisoned) = lazy
 -- a list of events, each of a place, runs from one state to another: each is allowed where it comes, and changes what it says
 abbrev pub IsRun : Needs → Lazy → List (ℕ × Event) → Lazy → Type 0
 IsRun needs lazy [] last = lazy ≡ last
-IsRun needs lazy (event ∷ events) last = IsAllowed needs lazy event.0 event.1 × IsRun needs (after_event needs lazy event.0 event.1) events last
+IsRun needs lazy (event ∷ events) last = IsEnabled needs lazy event.0 event.1 × IsRun needs (after_event needs lazy event.0 event.1) events last
 
 -- how often a place is held: it waits, or its answer is to be shown, or is shown and not taken yet
 abbrev pub held_by : ℕ → Lazy → ℕ

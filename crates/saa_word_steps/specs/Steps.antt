@@ -1,4 +1,6 @@
--- What a place is about to do, and how it goes on with the number that it finds: a clause for each stage.
+-- What a place is about to do, and how it goes on with the number that it finds: a clause for each stage. Internal: nobody has to believe
+-- this table, which says what the code does, branch for branch. What a reader has to believe is the abstract state with its events
+-- (`specs/Lazy.antt`), and what a move simulates; a line that is changed together with its code is refused there.
 use Rattle.std.specs.Prelude.{◌≡◌, ℕ, ◌+◌, ◌-◌, ◌%◌, ◌^◌, ◌<◌, Bool, true, false, not, ◌&&◌, ◌||◌, ◌==◌, if◌then◌else◌, nat_lt, Option, Some, None, Ok, Err}
 use Rattle.saa_core_spec.specs.declared.lock.Mode.{Mode}
 use Rattle.saa_core_spec.specs.Held.{Free, Exclusive, request_number}

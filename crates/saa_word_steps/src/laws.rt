@@ -1,11 +1,13 @@
 //! What follows from the definitions alone, as contracts of functions that do nothing.
 
-ghost use Rattle.std.specs.Prelude.{◌≡◌, ℕ, ◌<◌, ◌≤◌, false, List};
+ghost use Rattle.std.specs.Prelude.{◌^◌, ◌≡◌, ℕ, ◌<◌, ◌≤◌, false, List};
+ghost use Rattle.saa_core_words.specs.Words.{count_bits};
 ghost use Rattle.saa_word_steps.specs.declared.place.Place.{Place};
 ghost use Rattle.saa_word_steps.specs.Steps.{IsRanged, IsRangedNext, next_of};
 ghost use Rattle.saa_core_spec.specs.Held.{IsLockState};
 ghost use Rattle.saa_word_steps.specs.Needs.{Needs, AreNeeds, lock_at, lock_needs, permit_needs};
-ghost use Rattle.saa_word_steps.specs.Lazy.{Lazy, Event, IsRun, IsSettledAt, held_by, opening};
+ghost use Rattle.saa_word_steps.specs.declared.event.Event.{Event};
+ghost use Rattle.saa_word_steps.specs.Lazy.{Lazy, IsRun, IsSettledAt, held_by, opening};
 
 /// After every list of events that are allowed where they come, from the moment when so much is held and nobody waits.
 ///
@@ -26,6 +28,6 @@ pub fn lazy_runs()
 
 /// What a place remembers stays within the bits of a count, whatever number it finds.
 pub fn ranges()
-    ensures { (needs : Needs) (me : ℕ) (place : Place) (found : ℕ) → AreNeeds needs → needs.top < 64 → IsRanged needs place.stage
+    ensures { (needs : Needs) (me : ℕ) (place : Place) (found : ℕ) → AreNeeds needs → needs.top < 2 ^ count_bits → IsRanged needs place.stage
         → IsRangedNext needs (next_of needs me place place.stage found) }
 {}

@@ -52,6 +52,9 @@ impl Place {
     }
 
     // How it goes on with the main word that it saw, to set the flag.
+    //
+    // Why this order: the flag comes before the look; only its holder writes the line words of waiters, and without it the line could change
+    // under the look.
     fn flag(self, seen: Word) -> Next
         ensures { result ≡ flagging self seen }
     {
@@ -113,6 +116,9 @@ impl Place {
     }
 
     // It goes on to the place right before; or it didn't find itself, and works on the line as any holder.
+    //
+    // Why this order: whoever isn't in the line was granted, and it publishes before it takes its answer; it holds the flag, and would
+    // wait with it for an answer that comes in its own time.
     fn looked_past(self, seen: Word, current: u16, newer: u16, line: LineWord) -> Next
         ensures { result ≡ if line.older == 0 then going self (Forward seen current seen.count) else going self (LookLoad seen line.older current (record line { newer = newer })) }
     {

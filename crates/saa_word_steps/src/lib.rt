@@ -5,6 +5,7 @@
 #![tactic(auto)]
 
 pub mod call;
+pub mod event;
 pub mod laws;
 mod leave;
 pub mod operation;

@@ -1,9 +1,9 @@
 //! Which one operation on which word a place is about to make.
 
-ghost use Rattle.std.specs.Prelude.{◌≡◌, ◌<◌};
+ghost use Rattle.std.specs.Prelude.{◌^◌, ◌≡◌, ◌<◌};
 ghost use Rattle.saa_word_steps.specs.declared.operation.Operation.TheVariants.{Store};
 ghost use Rattle.saa_word_steps.specs.Steps.{needs_of, operation_of, exchanged, flagged_word, dropped_word, poisoned_word, released, settled_word, IsRanged, IsSmall};
-ghost use Rattle.saa_core_words.specs.Words.{line_number};
+ghost use Rattle.saa_core_words.specs.Words.{count_bits, line_number};
 
 use crate::place::Stage;
 use crate::rules::Rules;
@@ -33,7 +33,7 @@ impl Stage {
     /// The operation that the place of this number makes at the stage, out of so many places.
     pub fn operation(self, rules: Rules, places: u16, me: u16) -> Operation
         requires within { me < places }
-        requires wide { (needs_of rules).top < 64 }
+        requires wide { (needs_of rules).top < 2 ^ count_bits }
         requires ranged { IsRanged (needs_of rules) self }
         ensures { result ≡ operation_of (needs_of rules) places me self }
     {
@@ -88,6 +88,8 @@ impl Stage {
             }
             Stage::Close { seen, count, .. } => exchange(seen, settled(count, seen.tail)),
             Stage::Empty { seen, count, .. } => exchange(seen, settled(count, 0)),
+            // Why this order: what was granted is added, and the count isn't written back; written back, it would undo each release in place
+            // since the walk.
             Stage::GoRound { seen, count, .. } => Operation::Add {
                 index: 0,
                 number: u64::from(count.saturating_sub(seen.count)),

@@ -34,6 +34,9 @@ impl Place {
     }
 
     // How poison goes on with the main word that it saw.
+    //
+    // Why this order: it waits until the flag is clear; the flag's holder grants by the line that poison empties. Poison and the empty line
+    // come by one exchange, so that nobody joins between them and is never told.
     fn poison(self, seen: Word) -> Next
         ensures { result ≡ poisoning self seen }
     {

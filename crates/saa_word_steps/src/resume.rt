@@ -1,7 +1,7 @@
 //! How a place goes on with the number that it found at its operation.
 
-ghost use Rattle.std.specs.Prelude.{◌≡◌, ◌<◌, ◌==◌, ◌%◌, if◌then◌else◌};
-ghost use Rattle.saa_core_words.specs.Words.{answer_of};
+ghost use Rattle.std.specs.Prelude.{◌^◌, ◌≡◌, ◌<◌, ◌==◌, ◌%◌, if◌then◌else◌};
+ghost use Rattle.saa_core_words.specs.Words.{count_bits, answer_of};
 ghost use Rattle.saa_core_spec.specs.Values.{granted_value};
 ghost use Rattle.saa_word_steps.specs.declared.place.Stage.TheVariants.{Join, ReleaseExchange, BackLoad, Forward, Empty, ShowLoad};
 ghost use Rattle.saa_word_steps.specs.declared.place.Afterwards.TheVariants.{Again};
@@ -23,7 +23,7 @@ pub(crate) const POISONED: u8 = 2;
 impl Place {
     /// How the place of this number goes on with the number that it found where its stage's operation was made.
     pub fn resume(self, rules: Rules, me: u16, found: u64) -> Next
-        requires wide { (needs_of rules).top < 64 }
+        requires wide { (needs_of rules).top < 2 ^ count_bits }
         requires ranged { IsRanged (needs_of rules) self.stage }
         ensures next { result ≡ next_of (needs_of rules) me self self.stage found }
     {
@@ -37,6 +37,8 @@ impl Place {
                 }
                 self.decide(rules, ask, Word::unpack(found))
             }
+            // Why this order: once it is the tail, the flag's holder reads its line word; joined before that is written, it would hide all who
+            // joined before it.
             Stage::Prepare { request, seen } => self.going(Stage::Join { request, seen }),
             Stage::Join { request, seen } => self.joined(rules, me, request, seen, found),
             Stage::ReleaseLoad { given } => self.give(rules, given, Word::unpack(found)),
@@ -57,7 +59,7 @@ impl Place {
 
     // The same of a place that works on the line or shows answers.
     fn resume_work(self, rules: Rules, me: u16, found: u64) -> Next
-        requires wide { (needs_of rules).top < 64 }
+        requires wide { (needs_of rules).top < 2 ^ count_bits }
         requires ranged { IsRanged (needs_of rules) self.stage }
         requires works { IsWork self.stage }
         ensures next { result ≡ next_of (needs_of rules) me self self.stage found }
@@ -87,6 +89,8 @@ impl Place {
                 current,
                 count,
             } => self.look_at(rules, seen, current, count, LineWord::unpack(found)),
+            // Why this order: the cut comes before the grants are published; else those who stay would still be linked to those who are
+            // granted, and the next walk would grant these twice.
             Stage::CutToClose {
                 seen,
                 count,
@@ -116,6 +120,8 @@ impl Place {
                 let added = u64::from(count.saturating_sub(seen.count));
                 self.went_round(top, Word::unpack(found.wrapping_add(added)))
             }
+            // Why this order: the link is read before the answer is written; an answered owner may use its line word anew, and those behind
+            // the link would never be answered.
             Stage::ShowLoad {
                 current,
                 value,
@@ -219,6 +225,9 @@ impl Place {
     }
 
     // It joined the line, or the word that was found decides anew.
+    //
+    // Why this order: the exchange succeeds only on the word whose tail the line word names; written over another tail, it would pass all who
+    // joined since.
     fn joined(self, rules: Rules, me: u16, request: u16, seen: Word, found: u64) -> Next
         requires { IsSmall seen }
         ensures { result ≡ next_of (needs_of rules) me self (Join request seen) found }
@@ -338,6 +347,9 @@ impl Place {
     }
 
     // It closed the line; or tries again where only the tail differs, and else goes round.
+    //
+    // Why this order: the count is compared before the flag is cleared; cleared over a lower one, what a release gave back in place would
+    // be granted to nobody.
     fn closed(self, seen: Word, count: u16, top: u16, found: u64) -> Next
         requires { IsSmall seen }
         ensures { result ≡ closing self seen count top found }
@@ -357,6 +369,9 @@ impl Place {
     }
 
     // It granted all who waited; or the last one isn't granted, and it goes round.
+    //
+    // Why this order: the line is emptied by the exchange that clears the flag; a place that joined meanwhile makes it fail, and has the
+    // last one as its older neighbour, so that one is granted by a later walk.
     fn emptied(
         self,
         rules: Rules,

@@ -1,9 +1,10 @@
--- Steps that ask and join: each keeps how words, places and the lazy object stand together.
-use Rattle.std.proofs.Common.{◌≡◌, ℕ, ◌+◌, ◌<◌, Bool, true, false, not, ◌||◌, List, [], ◌∷◌, ◌==◌, if◌then◌else◌, refl, sym, ap, subst, ◌∙◌, arith, inl, inr}
+-- Steps that ask and join: each keeps that words and places refine the abstract state.
+use Rattle.std.proofs.Common.{◌^◌, ◌≡◌, ℕ, ◌+◌, ◌<◌, Bool, true, false, not, ◌||◌, List, [], ◌∷◌, ◌==◌, if◌then◌else◌, refl, sym, ap, subst, ◌∙◌, arith, inl, inr}
 use Rattle.std.proofs.lemmas.Bool.{cases_Bool}
 use Rattle.saa_core_spec.specs.Values.{poisoned_value}
 use Rattle.saa_core_spec.proofs.Counts.{same_number}
 use Rattle.saa_core_words.specs.declared.word.Word.{Word}
+use Rattle.saa_core_words.specs.Words.{count_bits}
 use Rattle.saa_word_steps.specs.declared.place.Place.{Place}
 use Rattle.saa_word_steps.specs.declared.place.Ask.{Ask}
 use Rattle.saa_word_steps.specs.declared.place.Reading.{Reading}
@@ -11,18 +12,20 @@ use Rattle.saa_word_steps.specs.declared.place.Registration.TheVariants.{Once}
 use Rattle.saa_word_steps.specs.declared.place.Next.{Next}
 use Rattle.saa_word_steps.specs.declared.place.Stage.TheVariants.{Quiet, ReadLoad, AskLoad, AskExchange, Prepare}
 use Rattle.saa_word_steps.specs.Needs.{Needs, AreNeeds, fits_count}
-use Rattle.saa_word_steps.specs.Lazy.{Lazy, Event, must_wait, AskedPoisoned, Got, Refused, Read, is_empty, is_in}
+use Rattle.saa_word_steps.specs.declared.event.Event.{Event}
+use Rattle.saa_word_steps.specs.declared.event.Event.TheVariants.{AskedPoisoned, Got, Refused, Read}
+use Rattle.saa_word_steps.specs.Lazy.{Lazy, must_wait, is_empty, is_in}
 use Rattle.saa_word_steps.specs.Steps.{decided, found_poisoned, granted, tried_answer, going, done}
-use Rattle.saa_word_proofs.specs.Standing.{updated, main_of, is_slot, is_holder, IsAlone, IsShowing, waits_behind, Stands}
-use Rattle.saa_word_proofs.specs.Stepped.{Stepped, decided_events, place_after}
+use Rattle.saa_word_proofs.specs.Refinement.{updated, main_of, is_slot, is_holder, IsAlone, IsShowing, waits_behind, Refines}
+use Rattle.saa_word_proofs.specs.StepRefinement.{StepRefines, decided_events, place_after}
 use Rattle.saa_word_proofs.proofs.RefinementLemmas.Lists.{newest-empty, empty-nil}
 use Rattle.saa_word_proofs.proofs.RefinementLemmas.Rows.{moved, loaded, count-small, tail-small}
 use Rattle.saa_word_proofs.proofs.RefinementLemmas.Outcomes.{not-holder, Outcome}
 
 -- a place that only reads answers by the main word as it stands
-pub step-ReadLoad : (needs : Needs) → AreNeeds needs → needs.top < 64 → (places : ℕ) (row : ℕ → ℕ) (standing : ℕ → Place) (lazy : Lazy) (me : ℕ)
-    → places < 65536 → me < places → (s : Stands needs places row standing lazy)
-    → (reading : Reading) → (standing me).stage ≡ ReadLoad reading → Stepped needs places row standing lazy me (ReadLoad reading)
+pub step-ReadLoad : (needs : Needs) → AreNeeds needs → needs.top < 2 ^ count_bits → (places : ℕ) (row : ℕ → ℕ) (standing : ℕ → Place) (lazy : Lazy) (me : ℕ)
+    → places < 65536 → me < places → (s : Refines needs places row standing lazy)
+    → (reading : Reading) → (standing me).stage ≡ ReadLoad reading → StepRefines needs places row standing lazy me (ReadLoad reading)
 step-ReadLoad needs lawful wide places row standing lazy me room here s reading at = record {
   events = Read (main_of row).count (main_of row).is_poisoned ∷ [];
   last = lazy;
@@ -37,7 +40,7 @@ step-ReadLoad needs lawful wide places row standing lazy me room here s reading 
 }
 
 -- an ask has to wait exactly where it has to wait behind the main word
-pub waits-same : (needs : Needs) (places : ℕ) (row : ℕ → ℕ) (standing : ℕ → Place) (lazy : Lazy) (s : Stands needs places row standing lazy) (request : ℕ)
+pub waits-same : (needs : Needs) (places : ℕ) (row : ℕ → ℕ) (standing : ℕ → Place) (lazy : Lazy) (s : Refines needs places row standing lazy) (request : ℕ)
     → waits_behind needs (main_of row) request ≡ must_wait needs lazy request
 waits-same needs places row standing lazy s request =
     let empty : (main_of row).tail == 0 ≡ is_empty lazy.line = ap (λ (n : ℕ). n == 0) s.main.tail ∙ newest-empty lazy.line in
@@ -69,8 +72,8 @@ names_by needs ask seen is_poisoned =
     else (if needs.takes ask.request == 0 then Got ask.request ∷ [] else []))
 
 -- An ask that is decided by the main word as it stands
-pub decided-outcome : (needs : Needs) → needs.top < 64 → (places : ℕ) (row : ℕ → ℕ) (standing : ℕ → Place) (lazy : Lazy) (me : ℕ)
-    → me < places → (s : Stands needs places row standing lazy) → is_holder (standing me).stage ≡ false → s.owed me ≡ []
+pub decided-outcome : (needs : Needs) → needs.top < 2 ^ count_bits → (places : ℕ) (row : ℕ → ℕ) (standing : ℕ → Place) (lazy : Lazy) (me : ℕ)
+    → me < places → (s : Refines needs places row standing lazy) → is_holder (standing me).stage ≡ false → s.owed me ≡ []
     → (ask : Ask) → ask.request < 65536 → (ask.joins ≡ true → is_slot (standing me).registration ≡ false)
     → Outcome needs places row standing lazy me (decided needs (standing me) ask (main_of row)) (decided_events needs ask.request ask.joins (main_of row))
 decided-outcome needs wide places row standing lazy me here s none nothing ask small idle = by (main_of row).is_poisoned refl
@@ -171,9 +174,9 @@ decided-outcome needs wide places row standing lazy me here s none nothing ask s
         ]
 
 -- a place that asks loads the main word and is decided by it
-pub step-AskLoad : (needs : Needs) → AreNeeds needs → needs.top < 64 → (places : ℕ) (row : ℕ → ℕ) (standing : ℕ → Place) (lazy : Lazy) (me : ℕ)
-    → places < 65536 → me < places → (s : Stands needs places row standing lazy)
-    → (ask : Ask) → (standing me).stage ≡ AskLoad ask → Stepped needs places row standing lazy me (AskLoad ask)
+pub step-AskLoad : (needs : Needs) → AreNeeds needs → needs.top < 2 ^ count_bits → (places : ℕ) (row : ℕ → ℕ) (standing : ℕ → Place) (lazy : Lazy) (me : ℕ)
+    → places < 65536 → me < places → (s : Refines needs places row standing lazy)
+    → (ask : Ask) → (standing me).stage ≡ AskLoad ask → StepRefines needs places row standing lazy me (AskLoad ask)
 step-AskLoad needs lawful wide places row standing lazy me room here s ask at =
     let alone : IsAlone needs (standing me).registration (standing me).back (AskLoad ask) =
     subst (λ stage. IsAlone needs (standing me).registration (standing me).back stage) at (s.stages.alone me) in

@@ -10,9 +10,10 @@ use Rattle.saa_word_steps.specs.declared.place.Registration.{Registration}
 use Rattle.saa_word_steps.specs.declared.place.Stage.{Stage}
 use Rattle.saa_word_steps.specs.declared.place.Stage.TheVariants.{Quiet, ReadLoad, AskLoad, AskExchange, Prepare, Join, ReleaseLoad, ReleaseExchange, BackLoad, BackStore, Forward, CutToClose, CutToGoRound, Close, Empty, GoRound, ShowLoad, ShowStore, Take, FlagLoad, FlagExchange, LookLoad, LookStore, Unlink, DropTail, PoisonLoad, PoisonExchange, Clear}
 use Rattle.saa_word_steps.specs.Needs.{Needs, fits_count}
-use Rattle.saa_word_steps.specs.Lazy.{Event, Joined, Left, Gave, Poisoned, Cleared, NotCleared, Read}
+use Rattle.saa_word_steps.specs.declared.event.Event.{Event}
+use Rattle.saa_word_steps.specs.declared.event.Event.TheVariants.{Joined, Left, Gave, Poisoned, Cleared, NotCleared, Read}
 use Rattle.saa_word_steps.specs.Steps.{next_of, read_as, poisoned_word}
-use Rattle.saa_word_proofs.specs.Stepped.{named_at}
+use Rattle.saa_word_proofs.specs.StepRefinement.{named_at}
 use Rattle.saa_word_proofs.specs.Calls.{IsUnder, IsUnderNext}
 use Rattle.saa_word_proofs.proofs.RefinementLemmas.Naming.{ask-answered, read-answered, cancel-answered, unnamed, granted-under, decided-under, finished-under, shown-under, gave-working, given-under, taken-under, left-cancelled, left-working, flagging-under, poisoning-under, poison-working}
 

@@ -1,5 +1,5 @@
--- The step that closes a line: it keeps how words, places and the lazy object stand together.
-use Rattle.std.proofs.Common.{◌≡◌, ℕ, ◌+◌, ◌<◌, ◌≤◌, true, false, List, [], ◌++◌, ◌==◌, refl, sym, ap, subst, ◌∙◌, arith, inl, inr, append-nil}
+-- The step that closes a line: it keeps that words and places refine the abstract state.
+use Rattle.std.proofs.Common.{◌^◌, ◌≡◌, ℕ, ◌+◌, ◌<◌, ◌≤◌, true, false, List, [], ◌++◌, ◌==◌, refl, sym, ap, subst, ◌∙◌, arith, inl, inr, append-nil}
 use Rattle.std.proofs.lemmas.Bool.{cases_Bool}
 use Rattle.saa_core_spec.proofs.Counts.{same_number}
 use Rattle.saa_core_words.specs.declared.word.Word.{Word}
@@ -12,8 +12,8 @@ use Rattle.saa_word_steps.specs.declared.place.Stage.TheVariants.{Close, GoRound
 use Rattle.saa_word_steps.specs.Needs.{Needs, AreNeeds}
 use Rattle.saa_word_steps.specs.Lazy.{Lazy, IsFront, IsSettledAt, is_empty, is_in, takes_of}
 use Rattle.saa_word_steps.specs.Steps.{IsRanged, settled_word}
-use Rattle.saa_word_proofs.specs.Standing.{updated, main_of, line_of, newest, is_holder, takes_back, IsAlone, IsShowing, Work, IsHolding, Stands}
-use Rattle.saa_word_proofs.specs.Stepped.{Stepped}
+use Rattle.saa_word_proofs.specs.Refinement.{updated, main_of, line_of, newest, is_holder, takes_back, IsAlone, IsShowing, Work, IsHolding, Refines}
+use Rattle.saa_word_proofs.specs.StepRefinement.{StepRefines}
 use Rattle.saa_word_proofs.proofs.RefinementLemmas.Rows.{main-found, count-small, tail-small, apart-at, moved, loaded}
 use Rattle.saa_word_proofs.proofs.RefinementLemmas.Granting.{granted, close-run, some-append, newest-rest, settled-append, settled-main, front-bounded, front-none, front-some, parts-linked, holder-none, nobody, granting}
 use Rattle.saa_word_proofs.proofs.RefinementLemmas.Linking.{flag-held, flag-knows}
@@ -22,13 +22,13 @@ use Rattle.saa_word_proofs.proofs.RefinementLemmas.Ending.{end_stage, ended, end
 
 -- the exchange succeeds
 closed-step : (needs : Needs) → AreNeeds needs → (places : ℕ) (row : ℕ → ℕ) (standing : ℕ → Place) (lazy : Lazy) (me : ℕ)
-    → me < places → (s : Stands needs places row standing lazy)
+    → me < places → (s : Refines needs places row standing lazy)
     → (seen : Word) (count top : ℕ) → row 0 == word_number count_bits seen ≡ true
     → s.holder ≡ me + 1 → IsRanged needs (Close seen count top) → IsAlone needs (standing me).registration (standing me).back (Close seen count top)
     → s.owed me ≡ []
     → (takes_back (standing me).back ≡ true → is_in me lazy.line ≡ false)
     → IsHolding needs (line_of row) me lazy.count lazy.line s.cut (Close seen count top)
-    → Stepped needs places row standing lazy me (Close seen count top)
+    → StepRefines needs places row standing lazy me (Close seen count top)
 closed-step needs lawful places row standing lazy me here s seen count top same mine ranged alone none apart holding =
     let back : Back = (standing me).back in
     let work : Work lazy.count lazy.line seen = holding.0 in
@@ -75,13 +75,13 @@ closed-step needs lawful places row standing lazy me here s seen count top same 
 
 -- the exchange fails: another word stands there
 missed-step : (needs : Needs) (places : ℕ) (row : ℕ → ℕ) (standing : ℕ → Place) (lazy : Lazy) (me : ℕ)
-    → me < places → (s : Stands needs places row standing lazy)
+    → me < places → (s : Refines needs places row standing lazy)
     → (seen : Word) (count top : ℕ) → (standing me).stage ≡ Close seen count top → row 0 == word_number count_bits seen ≡ false
     → s.holder ≡ me + 1 → IsRanged needs (Close seen count top) → IsAlone needs (standing me).registration (standing me).back (Close seen count top)
     → s.owed me ≡ []
     → (takes_back (standing me).back ≡ true → is_in me lazy.line ≡ false)
     → IsHolding needs (line_of row) me lazy.count lazy.line s.cut (Close seen count top)
-    → Stepped needs places row standing lazy me (Close seen count top)
+    → StepRefines needs places row standing lazy me (Close seen count top)
 missed-step needs places row standing lazy me here s seen count top at differs mine ranged alone none apart holding =
     let work : Work lazy.count lazy.line seen = holding.0 in
     record {
@@ -129,9 +129,9 @@ missed-step needs places row standing lazy me here s seen count top at differs m
     }
 
 -- Whoever closes the line publishes what it granted, or goes on with the word that it found
-pub step-Close : (needs : Needs) → AreNeeds needs → needs.top < 64 → (places : ℕ) (row : ℕ → ℕ) (standing : ℕ → Place) (lazy : Lazy) (me : ℕ)
-    → places < 65536 → me < places → (s : Stands needs places row standing lazy)
-    → (seen : Word) (count top : ℕ) → (standing me).stage ≡ Close seen count top → Stepped needs places row standing lazy me (Close seen count top)
+pub step-Close : (needs : Needs) → AreNeeds needs → needs.top < 2 ^ count_bits → (places : ℕ) (row : ℕ → ℕ) (standing : ℕ → Place) (lazy : Lazy) (me : ℕ)
+    → places < 65536 → me < places → (s : Refines needs places row standing lazy)
+    → (seen : Word) (count top : ℕ) → (standing me).stage ≡ Close seen count top → StepRefines needs places row standing lazy me (Close seen count top)
 step-Close needs lawful wide places row standing lazy me room here s seen count top at =
     let mine : s.holder ≡ me + 1 = flag-held needs places row standing lazy me s (ap is_holder at) in
     let ranged = subst (λ (stage : Stage). IsRanged needs stage) at (s.stages.ranged me) in

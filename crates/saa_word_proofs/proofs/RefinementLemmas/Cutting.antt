@@ -1,11 +1,11 @@
--- The holder of the flag cuts those who are granted off from those who stay: each step keeps how words, places and the lazy object
+-- The holder of the flag cuts those who are granted off from those who stay: each step keeps how words, places and the abstract state
 -- stand together.
-use Rattle.std.proofs.Common.{◌≡◌, ℕ, ◌+◌, ◌<◌, ◌≤◌, pred, true, false, List, [], ◌∷◌, ◌++◌, refl, sym, ap, subst, ◌∙◌, arith}
+use Rattle.std.proofs.Common.{◌^◌, ◌≡◌, ℕ, ◌+◌, ◌<◌, ◌≤◌, pred, true, false, List, [], ◌∷◌, ◌++◌, refl, sym, ap, subst, ◌∙◌, arith}
 use Rattle.saa_core_spec.specs.Object.{one_if}
 use Rattle.saa_core_spec.proofs.Counts.{number_same}
 use Rattle.saa_core_words.specs.declared.word.Word.{Word}
 use Rattle.saa_core_words.specs.declared.line_word.LineWord.{LineWord}
-use Rattle.saa_core_words.specs.Words.{line_number}
+use Rattle.saa_core_words.specs.Words.{count_bits, line_number}
 use Rattle.saa_core_words.proofs.Words.{line_word-read}
 use Rattle.saa_word_steps.specs.declared.place.Place.{Place}
 use Rattle.saa_word_steps.specs.declared.place.Stage.{Stage}
@@ -13,8 +13,8 @@ use Rattle.saa_word_steps.specs.declared.place.Stage.TheVariants.{CutToClose, Cu
 use Rattle.saa_word_steps.specs.Needs.{Needs, AreNeeds, fits_count}
 use Rattle.saa_word_steps.specs.Lazy.{Lazy, IsSettledAt, is_in, waits_times}
 use Rattle.saa_word_steps.specs.Steps.{IsRanged}
-use Rattle.saa_word_proofs.specs.Standing.{updated, line_of, IsBehind, is_holder, gives_up, IsAlone, IsOwn, IsShowing, Work, IsAt, IsHolding, IsLine, AreSeats, Stands}
-use Rattle.saa_word_proofs.specs.Stepped.{Stepped}
+use Rattle.saa_word_proofs.specs.Refinement.{updated, line_of, IsBehind, is_holder, gives_up, IsAlone, IsOwn, IsShowing, Work, IsAt, IsHolding, IsLine, AreSeats, Refines}
+use Rattle.saa_word_proofs.specs.StepRefinement.{StepRefines}
 use Rattle.saa_word_proofs.proofs.RefinementLemmas.Lists.{times-append, behind-frame, behind-front, behind-rest}
 use Rattle.saa_word_proofs.proofs.RefinementLemmas.Frames.{oldest-stands, work-behind}
 use Rattle.saa_word_proofs.proofs.RefinementLemmas.Rows.{apart-at, line-at, line-other}
@@ -58,14 +58,14 @@ cut-line words new line front rest asker parts linked once request older others 
     kept place apart = (ap (λ (w : LineWord). w.request) (others place apart), ap (λ (w : LineWord). w.older) (others place apart))
 
 -- What both cuts leave, for any stage that the holder goes on at: the front is cut off
-cut : (needs : Needs) (places : ℕ) (row : ℕ → ℕ) (standing : ℕ → Place) (lazy : Lazy) (me : ℕ) (s : Stands needs places row standing lazy)
+cut : (needs : Needs) (places : ℕ) (row : ℕ → ℕ) (standing : ℕ → Place) (lazy : Lazy) (me : ℕ) (s : Refines needs places row standing lazy)
     (seen : Word) (work : Work lazy.count lazy.line seen) (current : ℕ) (line : LineWord) (next : Stage)
     → me < places → is_holder (standing me).stage ≡ true → s.cut ≡ [] → IsAt (line_of row) work.behind current → line ≡ line_of row (pred current)
     → IsRanged needs next → IsAlone needs (standing me).registration (standing me).back next
     → (gives_up (standing me).back next ≡ true → is_in me lazy.line ≡ false) → ((word : LineWord) → IsOwn word next) → IsShowing (s.owed me) (s.worth me) next
     → is_holder next ≡ true
     → (IsLooked (line_of row) lazy.count lazy.line seen work current → (new : ℕ → LineWord) → IsHolding needs new me lazy.count lazy.line work.front next)
-    → Stands needs places (updated row current (line_number (record line { older = 0 }))) (updated standing me (record (standing me) { stage = next })) lazy
+    → Refines needs places (updated row current (line_number (record line { older = 0 }))) (updated standing me (record (standing me) { stage = next })) lazy
 cut needs places row standing lazy me s seen work current line next here holds none at word ranged alone apart own showing holder holding =
     let flag = flag-held needs places row standing lazy me s holds in
     let there = oldest-stands work.behind current at.1 at.0 in
@@ -89,7 +89,7 @@ cut needs places row standing lazy me s seen work current line next here holds n
     ∙ ap (λ (w : LineWord). w.request) word ∙ ap (λ (n : ℕ). (line_of row n).request) place)
     (ap (λ (w : LineWord). w.older) written_there)
     (λ other apart. line-other row (pred current) number other (λ is. apart (is ∙ place))) in
-    subst (λ (link : ℕ). Stands needs places (updated row link number) (updated standing me (record (standing me) { stage = next })) lazy) (sym there.1)
+    subst (λ (link : ℕ). Refines needs places (updated row link number) (updated standing me (record (standing me) { stage = next })) lazy) (sym there.1)
     (relinked needs places row standing lazy me s next (pred current) number work.front (look.asker ∷ (look.rest ++ work.joined)) here flag waits line_is
     ranged alone apart (own (new me)) showing holder (holding look new))
 
@@ -101,10 +101,10 @@ cut-inside places row standing lazy seen work current seats at =
     omega (arith, there.1, (in-line places standing lazy (pred current) seats (work-behind lazy.count lazy.line seen work (pred current) there.0)).0)
 
 -- The cut before the line is closed: the oldest of those who stay does not fit
-pub step-CutToClose : (needs : Needs) → AreNeeds needs → needs.top < 64 → (places : ℕ) (row : ℕ → ℕ) (standing : ℕ → Place) (lazy : Lazy) (me : ℕ)
-    → places < 65536 → me < places → (s : Stands needs places row standing lazy)
+pub step-CutToClose : (needs : Needs) → AreNeeds needs → needs.top < 2 ^ count_bits → (places : ℕ) (row : ℕ → ℕ) (standing : ℕ → Place) (lazy : Lazy) (me : ℕ)
+    → places < 65536 → me < places → (s : Refines needs places row standing lazy)
     → (seen : Word) (current count : ℕ) (line : LineWord) → (standing me).stage ≡ CutToClose seen current count line
-    → Stepped needs places row standing lazy me (CutToClose seen current count line)
+    → StepRefines needs places row standing lazy me (CutToClose seen current count line)
 step-CutToClose needs lawful wide places row standing lazy me room here s seen current count line at =
     let knows = flag-knows needs places row standing lazy me s (CutToClose seen current count line) at refl in
     record {
@@ -134,10 +134,10 @@ step-CutToClose needs lawful wide places row standing lazy me room here s seen c
     }
 
 -- The cut before the holder goes round: the line could not be emptied, and its last waits on
-pub step-CutToGoRound : (needs : Needs) → AreNeeds needs → needs.top < 64 → (places : ℕ) (row : ℕ → ℕ) (standing : ℕ → Place) (lazy : Lazy) (me : ℕ)
-    → places < 65536 → me < places → (s : Stands needs places row standing lazy)
+pub step-CutToGoRound : (needs : Needs) → AreNeeds needs → needs.top < 2 ^ count_bits → (places : ℕ) (row : ℕ → ℕ) (standing : ℕ → Place) (lazy : Lazy) (me : ℕ)
+    → places < 65536 → me < places → (s : Refines needs places row standing lazy)
     → (seen : Word) (current count : ℕ) (line : LineWord) → (standing me).stage ≡ CutToGoRound seen current count line
-    → Stepped needs places row standing lazy me (CutToGoRound seen current count line)
+    → StepRefines needs places row standing lazy me (CutToGoRound seen current count line)
 step-CutToGoRound needs lawful wide places row standing lazy me room here s seen current count line at =
     let knows = flag-knows needs places row standing lazy me s (CutToGoRound seen current count line) at refl in
     record {

@@ -1,5 +1,5 @@
--- The step that empties a line: it keeps how words, places and the lazy object stand together.
-use Rattle.std.proofs.Common.{◌≡◌, ℕ, ◌+◌, ◌-◌, ◌<◌, ◌≤◌, pred, true, false, List, [], ◌∷◌, ◌++◌, ◌==◌, refl, sym, ap, subst, ◌∙◌, arith, inl, inr, append-nil}
+-- The step that empties a line: it keeps that words and places refine the abstract state.
+use Rattle.std.proofs.Common.{◌^◌, ◌≡◌, ℕ, ◌+◌, ◌-◌, ◌<◌, ◌≤◌, pred, true, false, List, [], ◌∷◌, ◌++◌, ◌==◌, refl, sym, ap, subst, ◌∙◌, arith, inl, inr, append-nil}
 use Rattle.std.proofs.lemmas.Bool.{cases_Bool}
 use Rattle.saa_core_spec.proofs.Counts.{one_if-same}
 use Rattle.saa_core_words.specs.declared.word.Word.{Word}
@@ -12,8 +12,8 @@ use Rattle.saa_word_steps.specs.declared.place.Stage.TheVariants.{CutToGoRound, 
 use Rattle.saa_word_steps.specs.Needs.{Needs, AreNeeds, fits_count}
 use Rattle.saa_word_steps.specs.Lazy.{Lazy, IsFront, is_empty, is_in, waits_times, takes_of}
 use Rattle.saa_word_steps.specs.Steps.{IsRanged, settled_word}
-use Rattle.saa_word_proofs.specs.Standing.{updated, main_of, line_of, newest, oldest, IsBehind, is_holder, gives_up, IsAlone, IsShowing, Work, IsHolding, Stands}
-use Rattle.saa_word_proofs.specs.Stepped.{Stepped}
+use Rattle.saa_word_proofs.specs.Refinement.{updated, main_of, line_of, newest, oldest, IsBehind, is_holder, gives_up, IsAlone, IsShowing, Work, IsHolding, Refines}
+use Rattle.saa_word_proofs.specs.StepRefinement.{StepRefines}
 use Rattle.saa_word_proofs.proofs.RefinementLemmas.Lists.{newest-in, newest-last, empty-nil, behind-rest, front-append, takes-append}
 use Rattle.saa_word_proofs.proofs.RefinementLemmas.Rows.{apart-at, main-found, moved, loaded}
 use Rattle.saa_word_proofs.proofs.RefinementLemmas.Holders.{calm-held}
@@ -56,13 +56,13 @@ older-first words older (asker ∷ rest) link some first linked =
 
 -- the exchange succeeds
 emptied-step : (needs : Needs) → AreNeeds needs → (places : ℕ) (row : ℕ → ℕ) (standing : ℕ → Place) (lazy : Lazy) (me : ℕ)
-    → me < places → (s : Stands needs places row standing lazy)
+    → me < places → (s : Refines needs places row standing lazy)
     → (seen : Word) (current count : ℕ) (word : LineWord) → row 0 == word_number count_bits seen ≡ true
     → s.holder ≡ me + 1 → IsRanged needs (Empty seen current count word)
     → IsAlone needs (standing me).registration (standing me).back (Empty seen current count word)
     → (gives_up (standing me).back (Empty seen current count word) ≡ true → is_in me lazy.line ≡ false) → s.owed me ≡ []
     → IsHolding needs (line_of row) me lazy.count lazy.line s.cut (Empty seen current count word)
-    → Stepped needs places row standing lazy me (Empty seen current count word)
+    → StepRefines needs places row standing lazy me (Empty seen current count word)
 emptied-step needs lawful places row standing lazy me here s seen current count word same mine ranged alone apart none holding =
     let work : Work lazy.count lazy.line seen = holding.0 in
     let rest : List (ℕ × ℕ) = work.behind ++ work.joined in
@@ -114,14 +114,14 @@ emptied-step needs lawful places row standing lazy me here s seen current count 
 
 -- the exchange fails: another word stands there, and all but the last go round
 missed-step : (needs : Needs) (places : ℕ) (row : ℕ → ℕ) (standing : ℕ → Place) (lazy : Lazy) (me : ℕ)
-    → me < places → (s : Stands needs places row standing lazy)
+    → me < places → (s : Refines needs places row standing lazy)
     → (seen : Word) (current count : ℕ) (word : LineWord) → (standing me).stage ≡ Empty seen current count word
     → row 0 == word_number count_bits seen ≡ false
     → s.holder ≡ me + 1 → IsRanged needs (Empty seen current count word)
     → IsAlone needs (standing me).registration (standing me).back (Empty seen current count word)
     → (gives_up (standing me).back (Empty seen current count word) ≡ true → is_in me lazy.line ≡ false) → s.owed me ≡ []
     → IsHolding needs (line_of row) me lazy.count lazy.line s.cut (Empty seen current count word)
-    → Stepped needs places row standing lazy me (Empty seen current count word)
+    → StepRefines needs places row standing lazy me (Empty seen current count word)
 missed-step needs places row standing lazy me here s seen current count word at differs mine ranged alone apart none holding =
     let work : Work lazy.count lazy.line seen = holding.0 in
     let rest : List (ℕ × ℕ) = work.behind ++ work.joined in
@@ -162,10 +162,10 @@ missed-step needs places row standing lazy me here s seen current count word at 
     }
 
 -- Where all fit, the line is emptied; else all but the last of them go round
-pub step-Empty : (needs : Needs) → AreNeeds needs → needs.top < 64 → (places : ℕ) (row : ℕ → ℕ) (standing : ℕ → Place) (lazy : Lazy) (me : ℕ)
-    → places < 65536 → me < places → (s : Stands needs places row standing lazy)
+pub step-Empty : (needs : Needs) → AreNeeds needs → needs.top < 2 ^ count_bits → (places : ℕ) (row : ℕ → ℕ) (standing : ℕ → Place) (lazy : Lazy) (me : ℕ)
+    → places < 65536 → me < places → (s : Refines needs places row standing lazy)
     → (seen : Word) (current count : ℕ) (word : LineWord) → (standing me).stage ≡ Empty seen current count word
-    → Stepped needs places row standing lazy me (Empty seen current count word)
+    → StepRefines needs places row standing lazy me (Empty seen current count word)
 step-Empty needs lawful wide places row standing lazy me room here s seen current count word at =
     let mine : s.holder ≡ me + 1 = flag-held needs places row standing lazy me s (ap is_holder at) in
     let ranged = subst (λ (stage : Stage). IsRanged needs stage) at (s.stages.ranged me) in

@@ -10,8 +10,8 @@ use Rattle.saa_word_steps.specs.declared.place.Stage.{Stage}
 use Rattle.saa_word_steps.specs.declared.place.Stage.TheVariants.{Quiet, Take}
 use Rattle.saa_word_steps.specs.Needs.{Needs}
 use Rattle.saa_word_steps.specs.Steps.{IsRanged, finished}
-use Rattle.saa_word_proofs.specs.Standing.{is_holder, takes_back, gives_up, IsReturning, IsAlone, IsOwn, IsShowing}
-use Rattle.saa_word_proofs.specs.Stepped.{place_after}
+use Rattle.saa_word_proofs.specs.Refinement.{is_holder, takes_back, gives_up, IsReturning, IsAlone, IsOwn, IsShowing}
+use Rattle.saa_word_proofs.specs.StepRefinement.{place_after}
 
 -- where a place stands that is done with the line
 abbrev pub end_stage : Back → Stage

@@ -1,5 +1,5 @@
--- A cancel sets the flag: each step keeps how words, places and the lazy object stand together.
-use Rattle.std.proofs.Common.{◌≡◌, ℕ, ◌+◌, ◌<◌, Bool, true, false, not, [], ◌==◌, if◌then◌else◌, refl, sym, ap, subst, ◌∙◌, arith, inl, inr, append-nil}
+-- A cancel sets the flag: each step keeps that words and places refine the abstract state.
+use Rattle.std.proofs.Common.{◌^◌, ◌≡◌, ℕ, ◌+◌, ◌<◌, Bool, true, false, not, [], ◌==◌, if◌then◌else◌, refl, sym, ap, subst, ◌∙◌, arith, inl, inr, append-nil}
 use Rattle.std.proofs.lemmas.Bool.{cases_Bool}
 use Rattle.saa_core_spec.proofs.Counts.{number_same, same_number, number_other}
 use Rattle.saa_core_words.specs.declared.word.Word.{Word}
@@ -15,8 +15,8 @@ use Rattle.saa_word_steps.specs.declared.place.Next.TheVariants.{Waits}
 use Rattle.saa_word_steps.specs.Needs.{Needs, AreNeeds}
 use Rattle.saa_word_steps.specs.Lazy.{Lazy, is_empty, is_in}
 use Rattle.saa_word_steps.specs.Steps.{IsRanged, flagged_word, going, finished, flagging, no_line}
-use Rattle.saa_word_proofs.specs.Standing.{updated, line_of, main_of, newest, is_holder, IsReturning, IsLeaving, IsAlone, IsShowing, IsLine, AreDebts, AreStages, Stands}
-use Rattle.saa_word_proofs.specs.Stepped.{Stepped, place_after}
+use Rattle.saa_word_proofs.specs.Refinement.{updated, line_of, main_of, newest, is_holder, IsReturning, IsLeaving, IsAlone, IsShowing, IsLine, AreDebts, AreStages, Refines}
+use Rattle.saa_word_proofs.specs.StepRefinement.{StepRefines, place_after}
 use Rattle.saa_word_proofs.proofs.RefinementLemmas.Lists.{updated-same, newest-empty, empty-nil}
 use Rattle.saa_word_proofs.proofs.RefinementLemmas.Frames.{stages-next}
 use Rattle.saa_word_proofs.proofs.RefinementLemmas.Rows.{moved, loaded, main-found, line-main, seats-next, count-small, tail-small}
@@ -32,7 +32,7 @@ returning-leaving registration (Takes request) leaving = leaving
 
 -- A cancel that is decided by the main word as it stands: by its flag, and by whether nobody waits
 flag-outcome : (needs : Needs) (places : ℕ) (row : ℕ → ℕ) (standing : ℕ → Place) (lazy : Lazy) (me : ℕ)
-    → me < places → (s : Stands needs places row standing lazy) → is_holder (standing me).stage ≡ false → s.owed me ≡ []
+    → me < places → (s : Refines needs places row standing lazy) → is_holder (standing me).stage ≡ false → s.owed me ≡ []
     → IsLeaving (standing me).registration (standing me).back
     → (flagged empty : Bool) → (main_of row).is_flagged ≡ flagged → ((main_of row).tail == 0) ≡ empty
     → Outcome needs places row standing lazy me
@@ -43,7 +43,7 @@ flag-outcome needs places row standing lazy me here s none nothing leaving true 
   run = refl;
   names = refl;
   calm = λ semaphore. refl;
-  stands = subst (λ (p : ℕ → Place). Stands needs places row p lazy) (sym (updated-same standing me (standing me) refl)) s;
+  stands = subst (λ (p : ℕ → Place). Refines needs places row p lazy) (sym (updated-same standing me (standing me) refl)) s;
 }
 flag-outcome needs places row standing lazy me here s none nothing leaving false true clear nobody =
     let back : Back = (standing me).back in
@@ -55,7 +55,7 @@ flag-outcome needs places row standing lazy me here s none nothing leaving false
       run = refl;
       names = refl;
       calm = λ semaphore. refl;
-      stands = subst (λ (p : Place). Stands needs places row (updated standing me p) lazy) (sym (ended (standing me) back))
+      stands = subst (λ (p : Place). Refines needs places row (updated standing me p) lazy) (sym (ended (standing me) back))
           (moved needs places row standing lazy me s (record (standing me) { stage = end_stage back }) here refl
           (ended-ranged needs back) (ended-alone needs registration back (returning-leaving registration back leaving))
           (λ gives. ap (is_in me) empty) (ended-own (line_of row me) back) (ended-showing (s.owed me) (s.worth me) back nothing)
@@ -74,16 +74,16 @@ flag-outcome needs places row standing lazy me here s none nothing leaving false
 
 -- the two tests are those of the main word
 flagging-outcome : (needs : Needs) (places : ℕ) (row : ℕ → ℕ) (standing : ℕ → Place) (lazy : Lazy) (me : ℕ)
-    → me < places → (s : Stands needs places row standing lazy) → is_holder (standing me).stage ≡ false → s.owed me ≡ []
+    → me < places → (s : Refines needs places row standing lazy) → is_holder (standing me).stage ≡ false → s.owed me ≡ []
     → IsLeaving (standing me).registration (standing me).back
     → Outcome needs places row standing lazy me (flagging (standing me) (main_of row)) []
 flagging-outcome needs places row standing lazy me here s none nothing leaving =
     flag-outcome needs places row standing lazy me here s none nothing leaving (main_of row).is_flagged ((main_of row).tail == 0) refl refl
 
 -- The main word is loaded: the cancel waits, is done with the line, or is to set the flag
-pub step-FlagLoad : (needs : Needs) → AreNeeds needs → needs.top < 64 → (places : ℕ) (row : ℕ → ℕ) (standing : ℕ → Place) (lazy : Lazy) (me : ℕ)
-    → places < 65536 → me < places → (s : Stands needs places row standing lazy)
-    → (standing me).stage ≡ FlagLoad → Stepped needs places row standing lazy me FlagLoad
+pub step-FlagLoad : (needs : Needs) → AreNeeds needs → needs.top < 2 ^ count_bits → (places : ℕ) (row : ℕ → ℕ) (standing : ℕ → Place) (lazy : Lazy) (me : ℕ)
+    → places < 65536 → me < places → (s : Refines needs places row standing lazy)
+    → (standing me).stage ≡ FlagLoad → StepRefines needs places row standing lazy me FlagLoad
 step-FlagLoad needs lawful wide places row standing lazy me room here s at =
     let leaving : IsLeaving (standing me).registration (standing me).back =
     subst (λ stage. IsAlone needs (standing me).registration (standing me).back stage) at (s.stages.alone me) in
@@ -116,9 +116,9 @@ apart-holders holder me other nobody apart =
 
 -- The flag is set where somebody waits and nobody holds it: this place holds it, and looks for itself from the tail
 flag-set : (needs : Needs) (places : ℕ) (row : ℕ → ℕ) (standing : ℕ → Place) (lazy : Lazy) (me : ℕ)
-    → me < places → (s : Stands needs places row standing lazy) → s.owed me ≡ [] → IsLeaving (standing me).registration (standing me).back
+    → me < places → (s : Refines needs places row standing lazy) → s.owed me ≡ [] → IsLeaving (standing me).registration (standing me).back
     → (seen : Word) → seen.count < 64 → seen.tail < 65536 → (seen.tail == 0) ≡ false → seen.is_flagged ≡ false → main_of row ≡ seen
-    → Stands needs places (updated row 0 (word_number count_bits (flagged_word seen)))
+    → Refines needs places (updated row 0 (word_number count_bits (flagged_word seen)))
     (updated standing me (record (standing me) { stage = LookLoad (flagged_word seen) seen.tail 0 no_line })) lazy
 flag-set needs places row standing lazy me here s nothing leaving seen small tail_small somebody clear is =
     let tail : seen.tail ≡ newest 0 lazy.line = ap (λ (w : Word). w.tail) (sym is) ∙ s.main.tail in
@@ -168,9 +168,9 @@ flag-set needs places row standing lazy me here s nothing leaving seen small tai
     }
 
 -- The flag is set, or the main word is another one by now, and decides as where it is loaded
-pub step-FlagExchange : (needs : Needs) → AreNeeds needs → needs.top < 64 → (places : ℕ) (row : ℕ → ℕ) (standing : ℕ → Place) (lazy : Lazy) (me : ℕ)
-    → places < 65536 → me < places → (s : Stands needs places row standing lazy)
-    → (seen : Word) → (standing me).stage ≡ FlagExchange seen → Stepped needs places row standing lazy me (FlagExchange seen)
+pub step-FlagExchange : (needs : Needs) → AreNeeds needs → needs.top < 2 ^ count_bits → (places : ℕ) (row : ℕ → ℕ) (standing : ℕ → Place) (lazy : Lazy) (me : ℕ)
+    → places < 65536 → me < places → (s : Refines needs places row standing lazy)
+    → (seen : Word) → (standing me).stage ≡ FlagExchange seen → StepRefines needs places row standing lazy me (FlagExchange seen)
 step-FlagExchange needs lawful wide places row standing lazy me room here s seen at =
     let alone : IsAlone needs (standing me).registration (standing me).back (FlagExchange seen) =
     subst (λ stage. IsAlone needs (standing me).registration (standing me).back stage) at (s.stages.alone me) in

@@ -1,4 +1,4 @@
--- The step that adds what was granted to the count: it keeps how words, places and the lazy object stand together.
+-- The step that adds what was granted to the count: it keeps that words and places refine the abstract state.
 use Rattle.std.proofs.Common.{◌≡◌, ℕ, ◌+◌, ◌-◌, ◌/◌, ◌%◌, ◌^◌, ◌<◌, ◌≤◌, true, false, List, [], ◌∷◌, ◌++◌, ◌==◌, refl, sym, ap, subst, ◌∙◌, arith, inl, inr, append-nil}
 use Rattle.std.proofs.lemmas.Bool.{cases_Bool}
 use Rattle.saa_core_words.specs.declared.word.Word.{Word}
@@ -9,8 +9,8 @@ use Rattle.saa_word_steps.specs.declared.place.Stage.{Stage}
 use Rattle.saa_word_steps.specs.declared.place.Stage.TheVariants.{BackLoad, GoRound, ShowLoad}
 use Rattle.saa_word_steps.specs.Needs.{Needs, AreNeeds}
 use Rattle.saa_word_steps.specs.Lazy.{Lazy, IsFront, IsSettledAt, is_empty, takes_of}
-use Rattle.saa_word_proofs.specs.Standing.{line_of, newest, is_holder, IsAlone, IsShowing, Work, IsHolding, IsMain, Stands}
-use Rattle.saa_word_proofs.specs.Stepped.{Stepped}
+use Rattle.saa_word_proofs.specs.Refinement.{line_of, newest, is_holder, IsAlone, IsShowing, Work, IsHolding, IsMain, Refines}
+use Rattle.saa_word_proofs.specs.StepRefinement.{StepRefines}
 use Rattle.saa_word_proofs.proofs.RefinementLemmas.Lists.{front-lower}
 use Rattle.saa_word_proofs.proofs.RefinementLemmas.Rows.{apart-at, count-small}
 use Rattle.saa_word_proofs.proofs.RefinementLemmas.Holders.{calm-held, never-barren}
@@ -41,7 +41,7 @@ round-settled needs count line (asker ∷ more) rest parts fits settled =
     absurd (cc)
 
 -- The main word once what a front takes is added to it says what the object is
-raised-main : (needs : Needs) → AreNeeds needs → needs.top < 64 → (lazy : Lazy) (number holder more : ℕ) (front rest : List (ℕ × ℕ))
+raised-main : (needs : Needs) → AreNeeds needs → needs.top < 2 ^ count_bits → (lazy : Lazy) (number holder more : ℕ) (front rest : List (ℕ × ℕ))
     → lazy.poisoned ≡ false → IsMain needs number lazy holder → IsFront needs lazy.count front → lazy.line ≡ front ++ rest → is_empty rest ≡ false
     → more ≡ takes_of needs front → IsMain needs ((number + more) % 2 ^ 64) (granted needs lazy front rest lazy.unclosed) holder
 raised-main needs lawful wide lazy number holder more front rest calm was fits parts some adds =
@@ -63,9 +63,9 @@ raised-main needs lawful wide lazy number holder more front rest calm was fits p
     }
 
 -- Whoever goes round adds what it granted to the count, shows the answers, and walks anew
-pub step-GoRound : (needs : Needs) → AreNeeds needs → needs.top < 64 → (places : ℕ) (row : ℕ → ℕ) (standing : ℕ → Place) (lazy : Lazy) (me : ℕ)
-    → places < 65536 → me < places → (s : Stands needs places row standing lazy)
-    → (seen : Word) (count top : ℕ) → (standing me).stage ≡ GoRound seen count top → Stepped needs places row standing lazy me (GoRound seen count top)
+pub step-GoRound : (needs : Needs) → AreNeeds needs → needs.top < 2 ^ count_bits → (places : ℕ) (row : ℕ → ℕ) (standing : ℕ → Place) (lazy : Lazy) (me : ℕ)
+    → places < 65536 → me < places → (s : Refines needs places row standing lazy)
+    → (seen : Word) (count top : ℕ) → (standing me).stage ≡ GoRound seen count top → StepRefines needs places row standing lazy me (GoRound seen count top)
 step-GoRound needs lawful wide places row standing lazy me room here s seen count top at =
     let mine : s.holder ≡ me + 1 = flag-held needs places row standing lazy me s (ap is_holder at) in
     let none = subst (λ (stage : Stage). IsShowing (s.owed me) (s.worth me) stage) at (s.stages.showing me) in

@@ -11,10 +11,12 @@ use Rattle.saa_core_words.proofs.Words.{word-read}
 use Rattle.saa_word_steps.specs.declared.place.Place.{Place}
 use Rattle.saa_word_steps.specs.declared.place.Stage.{Stage}
 use Rattle.saa_word_steps.specs.Needs.{Needs, AreNeeds, fits_count}
-use Rattle.saa_word_steps.specs.Lazy.{Lazy, Event, Granted, Closed, IsAllowed, after_event, IsRun, IsFront, IsSettledAt, is_empty, is_in, waits_times, takes_of, answered_with, held_by}
+use Rattle.saa_word_steps.specs.declared.event.Event.{Event}
+use Rattle.saa_word_steps.specs.declared.event.Event.TheVariants.{Granted, Closed}
+use Rattle.saa_word_steps.specs.Lazy.{Lazy, IsEnabled, after_event, IsRun, IsFront, IsSettledAt, is_empty, is_in, waits_times, takes_of, answered_with, held_by}
 use Rattle.saa_word_steps.specs.Steps.{IsRanged, settled_word}
-use Rattle.saa_word_proofs.specs.Standing.{updated, line_of, newest, IsBehind, is_slot, is_holder, gives_up, IsAlone, IsOwn, IsShowing, IsHolding, IsMain, IsLine, AreSeats, AreDebts, Stands}
-use Rattle.saa_word_proofs.specs.Stepped.{of_place, named, never_poisons}
+use Rattle.saa_word_proofs.specs.Refinement.{updated, line_of, newest, IsBehind, is_slot, is_holder, gives_up, IsAlone, IsOwn, IsShowing, IsHolding, IsMain, IsLine, AreSeats, AreDebts, Refines}
+use Rattle.saa_word_proofs.specs.StepRefinement.{of_place, named, never_poisons}
 use Rattle.saa_word_proofs.proofs.RefinementLemmas.Lists.{each-updated, in-append, in-none, times-append, newest-append, newest-any, newest-empty, empty-nil, take-front, drop-front}
 use Rattle.saa_word_proofs.proofs.RefinementLemmas.Frames.{stages-next}
 use Rattle.saa_word_proofs.proofs.RefinementLemmas.Holders.{never-barren}
@@ -129,7 +131,7 @@ after-granted needs lazy me front rest parts =
     λ i. record lazy { count = lazy.count + takes_of needs (first i); line = last i; due = answered_with 0 (first i) lazy.due }
 
 granted-allowed : (needs : Needs) (lazy : Lazy) (me : ℕ) (front rest : List (ℕ × ℕ)) → lazy.line ≡ front ++ rest → lazy.unclosed ≡ true
-    → is_empty front ≡ false → IsFront needs lazy.count front → IsAllowed needs lazy me (Granted (length front))
+    → is_empty front ≡ false → IsFront needs lazy.count front → IsEnabled needs lazy me (Granted (length front))
 granted-allowed needs lazy me front rest parts opened some fits =
     let first : take (length front) lazy.line ≡ front = ap (λ (l : List (ℕ × ℕ)). take (length front) l) parts ∙ take-front front rest in
     let within : length lazy.line ≡ length front + length rest = ap (λ (l : List (ℕ × ℕ)). length l) parts ∙ length-append front rest in
@@ -301,7 +303,7 @@ out-of-rest place front rest line parts out =
     out-of-both false other h = h
 
 -- The holder grants a front by a write to the main word, and goes on at a stage
-pub granting : (needs : Needs) (places : ℕ) (row : ℕ → ℕ) (standing : ℕ → Place) (lazy : Lazy) (me : ℕ) (s : Stands needs places row standing lazy)
+pub granting : (needs : Needs) (places : ℕ) (row : ℕ → ℕ) (standing : ℕ → Place) (lazy : Lazy) (me : ℕ) (s : Refines needs places row standing lazy)
     (number : ℕ) (stage : Stage) (front rest : List (ℕ × ℕ)) (next : ℕ) (unclosed : Bool)
     → me < places → s.holder ≡ me + 1 → s.owed me ≡ [] → lazy.line ≡ front ++ rest → IsBehind (line_of row) 0 front → IsBehind (line_of row) 0 rest
     → IsMain needs number (granted needs lazy front rest unclosed) next
@@ -310,7 +312,7 @@ pub granting : (needs : Needs) (places : ℕ) (row : ℕ → ℕ) (standing : �
     → is_holder stage ≡ (next == me + 1)
     → (next ≡ me + 1 → IsHolding needs (line_of row) me (lazy.count + takes_of needs front) rest [] stage)
     → ((other : ℕ) → (other ≡ me → ⊥) → (s.holder == other + 1) ≡ (next == other + 1))
-    → Stands needs places (updated row 0 number) (updated standing me (record (standing me) { stage = stage }))
+    → Refines needs places (updated row 0 number) (updated standing me (record (standing me) { stage = stage }))
     (granted needs lazy front rest unclosed)
 granting needs places row standing lazy me s number stage front rest next unclosed here mine none parts linked stays main ranged alone apart own showing
     holder holding others =

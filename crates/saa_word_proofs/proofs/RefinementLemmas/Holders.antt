@@ -13,7 +13,7 @@ use Rattle.saa_word_steps.specs.declared.place.Stage.TheVariants.{Quiet, ReadLoa
 use Rattle.saa_word_steps.specs.Needs.{Needs}
 use Rattle.saa_word_steps.specs.Lazy.{Lazy, is_empty, IsSettledAt}
 use Rattle.saa_word_steps.specs.Steps.{IsSmall}
-use Rattle.saa_word_proofs.specs.Standing.{updated, line_of, newest, Work, IsHolding, IsMain, Stands}
+use Rattle.saa_word_proofs.specs.Refinement.{updated, line_of, newest, Work, IsHolding, IsMain, Refines}
 use Rattle.saa_word_proofs.proofs.RefinementLemmas.Rows.{word-whole, loaded}
 
 -- a line whose front or whose rest isn't empty isn't empty
@@ -67,7 +67,7 @@ holding-some needs words me held line cut (PoisonExchange seen) h = absurd h
 holding-some needs words me held line cut Clear h = absurd h
 
 -- where nobody waits nobody holds the flag
-pub nobody-holds : (needs : Needs) (places : ℕ) (row : ℕ → ℕ) (standing : ℕ → Place) (lazy : Lazy) (s : Stands needs places row standing lazy)
+pub nobody-holds : (needs : Needs) (places : ℕ) (row : ℕ → ℕ) (standing : ℕ → Place) (lazy : Lazy) (s : Refines needs places row standing lazy)
     → is_empty lazy.line ≡ true → s.holder == 0 ≡ true
 nobody-holds needs places row standing lazy s none =
     elim (cases_Bool (s.holder == 0)) [
@@ -99,7 +99,7 @@ main-now needs lazy holder word small tail_small count tail flag poison barren b
 
 -- an exchange that fails leaves the row
 pub failed : (needs : Needs) (places : ℕ) (row : ℕ → ℕ) (standing : ℕ → Place) (lazy : Lazy) (old new : ℕ) → row 0 == old ≡ false
-    → Stands needs places row standing lazy → Stands needs places (updated row 0 (if row 0 == old then new else row 0)) standing lazy
+    → Refines needs places row standing lazy → Refines needs places (updated row 0 (if row 0 == old then new else row 0)) standing lazy
 failed needs places row standing lazy old new test s = rw test (loaded needs places row standing lazy 0 s)
 
 -- where somebody waits, or holds the flag, nothing is poisoned
@@ -112,7 +112,7 @@ calm-some needs number lazy holder main some =
       | inr calm ↦ calm
     ]
 
-pub calm-held : (needs : Needs) (places : ℕ) (row : ℕ → ℕ) (standing : ℕ → Place) (lazy : Lazy) (me : ℕ) (s : Stands needs places row standing lazy)
+pub calm-held : (needs : Needs) (places : ℕ) (row : ℕ → ℕ) (standing : ℕ → Place) (lazy : Lazy) (me : ℕ) (s : Refines needs places row standing lazy)
     → s.holder ≡ me + 1 → lazy.poisoned ≡ false
 calm-held needs places row standing lazy me s held =
     calm-some needs (row 0) lazy s.holder s.main

@@ -1,5 +1,5 @@
 -- Steps of a place that asks and has to write: the count, its line word, the tail.
-use Rattle.std.proofs.Common.{◌≡◌, ℕ, ◌+◌, ◌<◌, ◌≤◌, Bool, true, false, List, [], ◌∷◌, ◌++◌, ◌==◌, Option, Some, None, is_some, refl, sym, ap, subst, ◌∙◌, arith, inl, inr, append-nil, append_assoc}
+use Rattle.std.proofs.Common.{◌^◌, ◌≡◌, ℕ, ◌+◌, ◌<◌, ◌≤◌, Bool, true, false, List, [], ◌∷◌, ◌++◌, ◌==◌, Option, Some, None, is_some, refl, sym, ap, subst, ◌∙◌, arith, inl, inr, append-nil, append_assoc}
 use Rattle.std.proofs.lemmas.Bool.{cases_Bool}
 use Rattle.saa_core_spec.specs.Object.{one_if}
 use Rattle.saa_core_spec.proofs.Counts.{same_number, number_other, one_if-same}
@@ -12,11 +12,12 @@ use Rattle.saa_word_steps.specs.declared.place.Ask.{Ask}
 use Rattle.saa_word_steps.specs.declared.place.Registration.TheVariants.{Once, Slot}
 use Rattle.saa_word_steps.specs.declared.place.Stage.TheVariants.{Quiet, AskExchange, Prepare, Join}
 use Rattle.saa_word_steps.specs.Needs.{Needs, AreNeeds, fits_count}
-use Rattle.saa_word_steps.specs.Lazy.{Lazy, Got, Joined, is_empty, is_in, waits_times, held_by, must_wait, IsSettledAt}
+use Rattle.saa_word_steps.specs.declared.event.Event.TheVariants.{Got, Joined}
+use Rattle.saa_word_steps.specs.Lazy.{Lazy, is_empty, is_in, waits_times, held_by, must_wait, IsSettledAt}
 use Rattle.saa_word_steps.specs.Steps.{IsRanged, IsSmall, decided}
 use Rattle.saa_word_steps.proofs.LazyRuns.{joined-settled}
-use Rattle.saa_word_proofs.specs.Standing.{updated, main_of, line_of, newest, is_slot, is_holder, gives_up, IsAlone, IsOwn, IsShowing, waits_behind, IsMain, IsLine, AreSeats, AreDebts, AreStages, Stands}
-use Rattle.saa_word_proofs.specs.Stepped.{Stepped, place_after}
+use Rattle.saa_word_proofs.specs.Refinement.{updated, main_of, line_of, newest, is_slot, is_holder, gives_up, IsAlone, IsOwn, IsShowing, waits_behind, IsMain, IsLine, AreSeats, AreDebts, AreStages, Refines}
+use Rattle.saa_word_proofs.specs.StepRefinement.{StepRefines, place_after}
 use Rattle.saa_word_proofs.proofs.RefinementLemmas.Lists.{each-updated, newest-empty, newest-append, newest-any, empty-nil, in-none, in-append, times-append, behind-frame, behind-append, in-some}
 use Rattle.saa_word_proofs.proofs.RefinementLemmas.Frames.{holding-frame, stages-next}
 use Rattle.saa_word_proofs.proofs.RefinementLemmas.Rows.{loaded, main-found, line-main, line-at, line-other, row-other, seats-next}
@@ -25,12 +26,12 @@ use Rattle.saa_word_proofs.proofs.RefinementLemmas.Asking.{decided-outcome, wait
 use Rattle.saa_word_proofs.proofs.RefinementLemmas.Outcomes.{not-holder, answers-main}
 
 -- Somebody is granted at once: the count is raised, and nobody waits
-raised : (needs : Needs) → AreNeeds needs → needs.top < 64 → (places : ℕ) (row : ℕ → ℕ) (standing : ℕ → Place) (lazy : Lazy) (me : ℕ)
-    → me < places → (s : Stands needs places row standing lazy) → is_holder (standing me).stage ≡ false → s.owed me ≡ []
+raised : (needs : Needs) → AreNeeds needs → needs.top < 2 ^ count_bits → (places : ℕ) (row : ℕ → ℕ) (standing : ℕ → Place) (lazy : Lazy) (me : ℕ)
+    → me < places → (s : Refines needs places row standing lazy) → is_holder (standing me).stage ≡ false → s.owed me ≡ []
     → lazy.poisoned ≡ false → (request : ℕ) (seen : Word) → IsSmall seen → main_of row ≡ seen → seen.tail == 0 ≡ true
     → fits_count needs seen.count request ≡ true
     → (place : Place) → place.stage ≡ Quiet → is_slot place.registration ≡ is_slot (standing me).registration
-    → Stands needs places (updated row 0 (word_number count_bits (record seen { count = seen.count + needs.takes request }))) (updated standing me place)
+    → Refines needs places (updated row 0 (word_number count_bits (record seen { count = seen.count + needs.takes request }))) (updated standing me place)
     (record lazy { count = lazy.count + needs.takes request })
 raised needs lawful wide places row standing lazy me here s none nothing calm request seen small is alone fits place quiet same =
     let tail : seen.tail ≡ newest 0 lazy.line = ap (λ (w : Word). w.tail) (sym is) ∙ s.main.tail in
@@ -74,9 +75,9 @@ raised needs lawful wide places row standing lazy me here s none nothing calm re
     }
 
 -- a place raises the count, where the main word is as it saw it, and else is decided by the main word as it stands
-pub step-AskExchange : (needs : Needs) → AreNeeds needs → needs.top < 64 → (places : ℕ) (row : ℕ → ℕ) (standing : ℕ → Place) (lazy : Lazy) (me : ℕ)
-    → places < 65536 → me < places → (s : Stands needs places row standing lazy)
-    → (ask : Ask) (seen : Word) → (standing me).stage ≡ AskExchange ask seen → Stepped needs places row standing lazy me (AskExchange ask seen)
+pub step-AskExchange : (needs : Needs) → AreNeeds needs → needs.top < 2 ^ count_bits → (places : ℕ) (row : ℕ → ℕ) (standing : ℕ → Place) (lazy : Lazy) (me : ℕ)
+    → places < 65536 → me < places → (s : Refines needs places row standing lazy)
+    → (ask : Ask) (seen : Word) → (standing me).stage ≡ AskExchange ask seen → StepRefines needs places row standing lazy me (AskExchange ask seen)
 step-AskExchange needs lawful wide places row standing lazy me room here s ask seen at =
     let alone : IsAlone needs (standing me).registration (standing me).back (AskExchange ask seen) =
     subst (λ stage. IsAlone needs (standing me).registration (standing me).back stage) at (s.stages.alone me) in
@@ -128,7 +129,7 @@ step-AskExchange needs lawful wide places row standing lazy me room here s ask s
     ]
 
 -- a place that isn't registered in the line doesn't stand in it, and nobody owes it an answer
-pub outside : (needs : Needs) (places : ℕ) (row : ℕ → ℕ) (standing : ℕ → Place) (lazy : Lazy) (me : ℕ) (s : Stands needs places row standing lazy)
+pub outside : (needs : Needs) (places : ℕ) (row : ℕ → ℕ) (standing : ℕ → Place) (lazy : Lazy) (me : ℕ) (s : Refines needs places row standing lazy)
     → is_slot (standing me).registration ≡ false → (waits_times me lazy.line ≡ 0) × (is_some (lazy.due me) ≡ false) × (is_some (lazy.shown me) ≡ false)
 outside needs places row standing lazy me s idle =
     let held : held_by me lazy ≡ 0 = s.seats.held me ∙ ap one_if idle in
@@ -139,9 +140,9 @@ outside needs places row standing lazy me s idle =
     none-one false is = refl
 
 -- a place writes its own line word before it joins
-pub step-Prepare : (needs : Needs) → AreNeeds needs → needs.top < 64 → (places : ℕ) (row : ℕ → ℕ) (standing : ℕ → Place) (lazy : Lazy) (me : ℕ)
-    → places < 65536 → me < places → (s : Stands needs places row standing lazy)
-    → (request : ℕ) (seen : Word) → (standing me).stage ≡ Prepare request seen → Stepped needs places row standing lazy me (Prepare request seen)
+pub step-Prepare : (needs : Needs) → AreNeeds needs → needs.top < 2 ^ count_bits → (places : ℕ) (row : ℕ → ℕ) (standing : ℕ → Place) (lazy : Lazy) (me : ℕ)
+    → places < 65536 → me < places → (s : Refines needs places row standing lazy)
+    → (request : ℕ) (seen : Word) → (standing me).stage ≡ Prepare request seen → StepRefines needs places row standing lazy me (Prepare request seen)
 step-Prepare needs lawful wide places row standing lazy me room here s request seen at =
     let alone : IsAlone needs (standing me).registration (standing me).back (Prepare request seen) =
     subst (λ stage. IsAlone needs (standing me).registration (standing me).back stage) at (s.stages.alone me) in
@@ -225,11 +226,11 @@ held-joined places standing lazy me request was idle =
     omega (arith, was.held other, times-append other lazy.line ((me, request) ∷ []), ap one_if test))
 
 -- A place joins the line
-joined : (needs : Needs) → AreNeeds needs → needs.top < 64 → (places : ℕ) (row : ℕ → ℕ) (standing : ℕ → Place) (lazy : Lazy) (me : ℕ)
-    → places < 65536 → me < places → (s : Stands needs places row standing lazy) → is_holder (standing me).stage ≡ false → s.owed me ≡ []
+joined : (needs : Needs) → AreNeeds needs → needs.top < 2 ^ count_bits → (places : ℕ) (row : ℕ → ℕ) (standing : ℕ → Place) (lazy : Lazy) (me : ℕ)
+    → places < 65536 → me < places → (s : Refines needs places row standing lazy) → is_holder (standing me).stage ≡ false → s.owed me ≡ []
     → lazy.poisoned ≡ false → (request : ℕ) (seen : Word) → IsSmall seen → is_slot (standing me).registration ≡ false → main_of row ≡ seen
     → must_wait needs lazy request ≡ true → IsOwn (line_of row me) (Join request seen)
-    → Stands needs places (updated row 0 (word_number count_bits (record seen { tail = me + 1 })))
+    → Refines needs places (updated row 0 (word_number count_bits (record seen { tail = me + 1 })))
     (updated standing me (record (standing me) { registration = Slot request; stage = Quiet })) (record lazy { line = lazy.line ++ (me, request) ∷ [] })
 joined needs lawful wide places row standing lazy me room here s none nothing calm request seen small idle is waits own =
     let tail : seen.tail ≡ newest 0 lazy.line = ap (λ (w : Word). w.tail) (sym is) ∙ s.main.tail in
@@ -290,9 +291,9 @@ joined needs lawful wide places row standing lazy me room here s none nothing ca
     never (asker ∷ rest) none = absurd (cc)
 
 -- a place joins the line, where the main word is as it saw it, and else is decided by the main word as it stands
-pub step-Join : (needs : Needs) → AreNeeds needs → needs.top < 64 → (places : ℕ) (row : ℕ → ℕ) (standing : ℕ → Place) (lazy : Lazy) (me : ℕ)
-    → places < 65536 → me < places → (s : Stands needs places row standing lazy)
-    → (request : ℕ) (seen : Word) → (standing me).stage ≡ Join request seen → Stepped needs places row standing lazy me (Join request seen)
+pub step-Join : (needs : Needs) → AreNeeds needs → needs.top < 2 ^ count_bits → (places : ℕ) (row : ℕ → ℕ) (standing : ℕ → Place) (lazy : Lazy) (me : ℕ)
+    → places < 65536 → me < places → (s : Refines needs places row standing lazy)
+    → (request : ℕ) (seen : Word) → (standing me).stage ≡ Join request seen → StepRefines needs places row standing lazy me (Join request seen)
 step-Join needs lawful wide places row standing lazy me room here s request seen at =
     let alone : IsAlone needs (standing me).registration (standing me).back (Join request seen) =
     subst (λ stage. IsAlone needs (standing me).registration (standing me).back stage) at (s.stages.alone me) in

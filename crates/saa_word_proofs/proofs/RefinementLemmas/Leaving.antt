@@ -11,10 +11,11 @@ use Rattle.saa_word_steps.specs.declared.place.Back.TheVariants.{Ends as EndsCal
 use Rattle.saa_word_steps.specs.declared.place.Stage.{Stage}
 use Rattle.saa_word_steps.specs.declared.place.Stage.TheVariants.{Quiet}
 use Rattle.saa_word_steps.specs.Needs.{Needs}
-use Rattle.saa_word_steps.specs.Lazy.{Lazy, Left, IsRun, is_empty, is_in, waits_times, line_without, held_by}
+use Rattle.saa_word_steps.specs.declared.event.Event.TheVariants.{Left}
+use Rattle.saa_word_steps.specs.Lazy.{Lazy, IsRun, is_empty, is_in, waits_times, line_without, held_by}
 use Rattle.saa_word_steps.specs.Steps.{IsRanged, left_line}
-use Rattle.saa_word_proofs.specs.Standing.{updated, line_of, newest, IsBehind, is_slot, is_holder, gives_up, IsAlone, IsOwn, IsShowing, Work, IsFound, IsHolding, IsMain, AreSeats, AreDebts, Stands}
-use Rattle.saa_word_proofs.specs.Stepped.{of_place}
+use Rattle.saa_word_proofs.specs.Refinement.{updated, line_of, newest, IsBehind, is_slot, is_holder, gives_up, IsAlone, IsOwn, IsShowing, Work, IsFound, IsHolding, IsMain, AreSeats, AreDebts, Refines}
+use Rattle.saa_word_proofs.specs.StepRefinement.{of_place}
 use Rattle.saa_word_proofs.proofs.RefinementLemmas.Lists.{each-updated, in-none, in-some, times-append, newest-append, newest-in, empty-nil, behind-append, behind-frame, behind-front, behind-rest}
 use Rattle.saa_word_proofs.proofs.RefinementLemmas.Frames.{stages-next}
 use Rattle.saa_word_proofs.proofs.RefinementLemmas.Rows.{row-other, own-any}
@@ -190,7 +191,7 @@ owed-out places words standing lazy owed shower worth seats debts place other ow
 -- The whole
 
 -- The holder leaves the line by a write that leaves the line words of all who don't wait, and goes on at a stage
-pub leaving : (needs : Needs) (places : ℕ) (row : ℕ → ℕ) (standing : ℕ → Place) (lazy : Lazy) (me : ℕ) (s : Stands needs places row standing lazy)
+pub leaving : (needs : Needs) (places : ℕ) (row : ℕ → ℕ) (standing : ℕ → Place) (lazy : Lazy) (me : ℕ) (s : Refines needs places row standing lazy)
     (at number request : ℕ) (stage : Stage) (before after : List (ℕ × ℕ)) (next : ℕ)
     → me < places → at ≤ places → s.holder ≡ me + 1 → lazy.line ≡ before ++ (me, request) ∷ after
     → ((place : ℕ) → is_in place lazy.line ≡ false → line_of (updated row at number) place ≡ line_of row place)
@@ -201,7 +202,7 @@ pub leaving : (needs : Needs) (places : ℕ) (row : ℕ → ℕ) (standing : ℕ
     → is_holder stage ≡ (next == me + 1)
     → (next ≡ me + 1 → IsHolding needs (line_of (updated row at number)) me lazy.count (before ++ after) [] stage)
     → ((other : ℕ) → (other ≡ me → ⊥) → (s.holder == other + 1) ≡ (next == other + 1))
-    → Stands needs places (updated row at number) (updated standing me (record (left_line (standing me)) { stage = stage })) (left lazy (before ++ after))
+    → Refines needs places (updated row at number) (updated standing me (record (left_line (standing me)) { stage = stage })) (left lazy (before ++ after))
 leaving needs places row standing lazy me s at number request stage before after next here below mine parts words linked main ranged alone stays own showing
     holder holding others = record {
       holder = next;

@@ -11,17 +11,17 @@ use Rattle.saa_word_steps.specs.declared.place.Stage.{Stage}
 use Rattle.saa_word_steps.specs.Needs.{Needs}
 use Rattle.saa_word_steps.specs.Lazy.{Lazy, is_empty, is_in, waits_times}
 use Rattle.saa_word_steps.specs.Steps.{IsRanged}
-use Rattle.saa_word_proofs.specs.Standing.{updated, line_of, newest, oldest, IsBehind, IsAhead, is_slot, is_holder, gives_up, IsAlone, IsOwn, IsShowing, Work, IsHolding, IsAt, IsMain, IsLine, AreSeats, Stands}
+use Rattle.saa_word_proofs.specs.Refinement.{updated, line_of, newest, oldest, IsBehind, IsAhead, is_slot, is_holder, gives_up, IsAlone, IsOwn, IsShowing, Work, IsHolding, IsAt, IsMain, IsLine, AreSeats, Refines}
 use Rattle.saa_word_proofs.proofs.RefinementLemmas.Lists.{in-some, behind-frame, behind-rest, newest-append, newest-last, empty-nil}
 use Rattle.saa_word_proofs.proofs.RefinementLemmas.Frames.{stages-next, newest-stands, oldest-stands, work-behind}
 use Rattle.saa_word_proofs.proofs.RefinementLemmas.Rows.{line-other, row-other, own-any, seats-next}
 
 -- a place that holds the flag is its holder, and knows what a holder does
-pub flag-held : (needs : Needs) (places : ℕ) (row : ℕ → ℕ) (standing : ℕ → Place) (lazy : Lazy) (me : ℕ) (s : Stands needs places row standing lazy)
+pub flag-held : (needs : Needs) (places : ℕ) (row : ℕ → ℕ) (standing : ℕ → Place) (lazy : Lazy) (me : ℕ) (s : Refines needs places row standing lazy)
     → is_holder (standing me).stage ≡ true → s.holder ≡ me + 1
 flag-held needs places row standing lazy me s holds = same_number s.holder (me + 1) (sym (s.stages.one me) ∙ holds)
 
-pub flag-knows : (needs : Needs) (places : ℕ) (row : ℕ → ℕ) (standing : ℕ → Place) (lazy : Lazy) (me : ℕ) (s : Stands needs places row standing lazy)
+pub flag-knows : (needs : Needs) (places : ℕ) (row : ℕ → ℕ) (standing : ℕ → Place) (lazy : Lazy) (me : ℕ) (s : Refines needs places row standing lazy)
     (stage : Stage) → (standing me).stage ≡ stage → is_holder stage ≡ true → IsHolding needs (line_of row) me lazy.count lazy.line s.cut stage
 flag-knows needs places row standing lazy me s stage at holds =
     subst (λ (other : Stage). IsHolding needs (line_of row) me lazy.count lazy.line s.cut other) at
@@ -88,7 +88,7 @@ pub line-room : (number : ℕ) → ((line_word_of number).request < 65536) × ((
 line-room number = (omega arith, omega arith, omega arith)
 
 -- The holder writes the line word of a place in line, and goes on as a holder that knows the line by the new words
-pub relinked : (needs : Needs) (places : ℕ) (row : ℕ → ℕ) (standing : ℕ → Place) (lazy : Lazy) (me : ℕ) (s : Stands needs places row standing lazy)
+pub relinked : (needs : Needs) (places : ℕ) (row : ℕ → ℕ) (standing : ℕ → Place) (lazy : Lazy) (me : ℕ) (s : Refines needs places row standing lazy)
     (next : Stage) (at number : ℕ) (off rest : List (ℕ × ℕ))
     → me < places → s.holder ≡ me + 1 → 0 < waits_times at lazy.line
     → IsLine (line_of (updated row (at + 1) number)) lazy.line off rest
@@ -96,7 +96,7 @@ pub relinked : (needs : Needs) (places : ℕ) (row : ℕ → ℕ) (standing : �
     → (gives_up (standing me).back next ≡ true → is_in me lazy.line ≡ false)
     → IsOwn (line_of (updated row (at + 1) number) me) next → IsShowing (s.owed me) (s.worth me) next
     → is_holder next ≡ true → IsHolding needs (line_of (updated row (at + 1) number)) me lazy.count lazy.line off next
-    → Stands needs places (updated row (at + 1) number) (updated standing me (record (standing me) { stage = next })) lazy
+    → Refines needs places (updated row (at + 1) number) (updated standing me (record (standing me) { stage = next })) lazy
 relinked needs places row standing lazy me s next at number off rest here flag there line ranged alone apart own showing holder holding =
     let seat = in-line places standing lazy at s.seats there in
     record {

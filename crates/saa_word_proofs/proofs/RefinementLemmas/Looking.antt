@@ -1,20 +1,20 @@
--- A cancel that set the flag looks for itself from the tail that it saw: each step keeps how words, places and the lazy object stand
+-- A cancel that set the flag looks for itself from the tail that it saw: each step keeps how words, places and the abstract state stand
 -- together.
-use Rattle.std.proofs.Common.{◌≡◌, ℕ, ◌+◌, ◌<◌, pred, true, false, List, [], ◌∷◌, ◌++◌, ◌==◌, refl, sym, ap, subst, ◌∙◌, arith, inl, inr, append-nil, append_assoc}
+use Rattle.std.proofs.Common.{◌^◌, ◌≡◌, ℕ, ◌+◌, ◌<◌, pred, true, false, List, [], ◌∷◌, ◌++◌, ◌==◌, refl, sym, ap, subst, ◌∙◌, arith, inl, inr, append-nil, append_assoc}
 use Rattle.std.proofs.lemmas.Bool.{cases_Bool}
 use Rattle.std.proofs.lemmas.Bool.Decides.{nat_tests}
 use Rattle.saa_core_spec.proofs.Counts.{same_number}
 use Rattle.saa_core_words.specs.declared.word.Word.{Word}
 use Rattle.saa_core_words.specs.declared.line_word.LineWord.{LineWord}
-use Rattle.saa_core_words.specs.Words.{line_number, line_word_of}
+use Rattle.saa_core_words.specs.Words.{count_bits, line_number, line_word_of}
 use Rattle.saa_word_steps.specs.declared.place.Place.{Place}
 use Rattle.saa_word_steps.specs.declared.place.Stage.{Stage}
 use Rattle.saa_word_steps.specs.declared.place.Stage.TheVariants.{Forward, LookLoad, LookStore, Unlink, DropTail}
 use Rattle.saa_word_steps.specs.Needs.{Needs, AreNeeds}
 use Rattle.saa_word_steps.specs.Lazy.{Lazy, is_empty, is_in}
 use Rattle.saa_word_steps.specs.Steps.{IsRanged}
-use Rattle.saa_word_proofs.specs.Standing.{updated, line_of, newest, oldest, IsBehind, is_holder, gives_up, IsLeaving, IsAlone, IsOwn, IsShowing, Work, IsHolding, IsAdded, IsBack, IsPassed, IsFound, Stands}
-use Rattle.saa_word_proofs.specs.Stepped.{Stepped}
+use Rattle.saa_word_proofs.specs.Refinement.{updated, line_of, newest, oldest, IsBehind, is_holder, gives_up, IsLeaving, IsAlone, IsOwn, IsShowing, Work, IsHolding, IsAdded, IsBack, IsPassed, IsFound, Refines}
+use Rattle.saa_word_proofs.specs.StepRefinement.{StepRefines}
 use Rattle.saa_word_proofs.proofs.RefinementLemmas.Lists.{in-append, split-last, newest-last, newest-empty, empty-nil, behind-rest}
 use Rattle.saa_word_proofs.proofs.RefinementLemmas.Frames.{newest-stands, work-front}
 use Rattle.saa_word_proofs.proofs.RefinementLemmas.Rows.{moved, loaded}
@@ -45,10 +45,10 @@ found words me held line seen current newer work back linked own =
     )
 
 -- The line word of the last of the front is loaded: it is the own one, or is to be linked to those behind it
-pub step-LookLoad : (needs : Needs) → AreNeeds needs → needs.top < 64 → (places : ℕ) (row : ℕ → ℕ) (standing : ℕ → Place) (lazy : Lazy) (me : ℕ)
-    → places < 65536 → me < places → (s : Stands needs places row standing lazy)
+pub step-LookLoad : (needs : Needs) → AreNeeds needs → needs.top < 2 ^ count_bits → (places : ℕ) (row : ℕ → ℕ) (standing : ℕ → Place) (lazy : Lazy) (me : ℕ)
+    → places < 65536 → me < places → (s : Refines needs places row standing lazy)
     → (seen : Word) (current newer : ℕ) (previous : LineWord) → (standing me).stage ≡ LookLoad seen current newer previous
-    → Stepped needs places row standing lazy me (LookLoad seen current newer previous)
+    → StepRefines needs places row standing lazy me (LookLoad seen current newer previous)
 step-LookLoad needs lawful wide places row standing lazy me room here s seen current newer previous at =
     let knows = flag-knows needs places row standing lazy me s (LookLoad seen current newer previous) at refl in
     let work : Work lazy.count lazy.line seen = knows.0 in
@@ -64,7 +64,7 @@ step-LookLoad needs lawful wide places row standing lazy me room here s seen cur
     → (gives_up (standing me).back next ≡ true → is_in me lazy.line ≡ false)
     → IsOwn (line_of row me) next → IsShowing (s.owed me) (s.worth me) next → is_holder next ≡ true
     → IsHolding needs (line_of row) me lazy.count lazy.line s.cut next
-    → Stands needs places (updated row current (row current)) (updated standing me (record (standing me) { stage = next })) lazy =
+    → Refines needs places (updated row current (row current)) (updated standing me (record (standing me) { stage = next })) lazy =
     λ next ranged alone apart own showing holder holding.
     loaded needs places row (updated standing me (record (standing me) { stage = next })) lazy current
     (moved needs places row standing lazy me s (record (standing me) { stage = next }) here refl ranged alone apart own showing
@@ -111,10 +111,10 @@ passed-all me held line seen work none passed =
     ∙ in-append me work.behind work.joined ∙ rw passed.0 passed.1
 
 -- It is written with the link to the one behind it; the look goes on to the one before, or the whole line is passed
-pub step-LookStore : (needs : Needs) → AreNeeds needs → needs.top < 64 → (places : ℕ) (row : ℕ → ℕ) (standing : ℕ → Place) (lazy : Lazy) (me : ℕ)
-    → places < 65536 → me < places → (s : Stands needs places row standing lazy)
+pub step-LookStore : (needs : Needs) → AreNeeds needs → needs.top < 2 ^ count_bits → (places : ℕ) (row : ℕ → ℕ) (standing : ℕ → Place) (lazy : Lazy) (me : ℕ)
+    → places < 65536 → me < places → (s : Refines needs places row standing lazy)
     → (seen : Word) (current newer : ℕ) (line : LineWord) → (standing me).stage ≡ LookStore seen current newer line
-    → Stepped needs places row standing lazy me (LookStore seen current newer line)
+    → StepRefines needs places row standing lazy me (LookStore seen current newer line)
 step-LookStore needs lawful wide places row standing lazy me room here s seen current newer line at =
     let knows = flag-knows needs places row standing lazy me s (LookStore seen current newer line) at refl in
     let flag = flag-held needs places row standing lazy me s (ap is_holder at) in
@@ -131,9 +131,9 @@ step-LookStore needs lawful wide places row standing lazy me room here s seen cu
     → (gives_up (standing me).back next ≡ true → is_in me lazy.line ≡ false)
     → IsOwn (line_of (updated row (pred current + 1) number) me) next → IsShowing (s.owed me) (s.worth me) next → is_holder next ≡ true
     → IsHolding needs (line_of (updated row (pred current + 1) number)) me lazy.count lazy.line s.cut next
-    → Stands needs places (updated row current number) (updated standing me (record (standing me) { stage = next })) lazy =
+    → Refines needs places (updated row current number) (updated standing me (record (standing me) { stage = next })) lazy =
     λ next ranged alone apart own showing holder holding.
-    subst (λ (link : ℕ). Stands needs places (updated row link number) (updated standing me (record (standing me) { stage = next })) lazy) (sym store.link)
+    subst (λ (link : ℕ). Refines needs places (updated row link number) (updated standing me (record (standing me) { stage = next })) lazy) (sym store.link)
     (relinked needs places row standing lazy me s next (pred current) number s.cut s.uncut here flag store.waits store.linked
     ranged alone apart own showing holder holding) in
     record {

@@ -26,10 +26,11 @@ use Rattle.saa_word_steps.specs.declared.place.Next.{Next}
 use Rattle.saa_word_steps.specs.declared.place.Stage.{Stage}
 use Rattle.saa_word_steps.specs.declared.place.Stage.TheVariants.{Take}
 use Rattle.saa_word_steps.specs.Needs.{Needs, left_count}
-use Rattle.saa_word_steps.specs.Lazy.{Event, Got, Refused, AskedPoisoned, Left, Gave, GaveNothing, Poisoned, NotPoisoned, NotReady, Took}
+use Rattle.saa_word_steps.specs.declared.event.Event.{Event}
+use Rattle.saa_word_steps.specs.declared.event.Event.TheVariants.{Got, Refused, AskedPoisoned, Left, Gave, GaveNothing, Poisoned, NotPoisoned, NotReady, Took}
 use Rattle.saa_word_steps.specs.Steps.{decided, granted, found_poisoned, finished, given, given_to, gave_nothing, dropped, taken_answer, shown_all, flagging, poisoning, tried_answer}
-use Rattle.saa_word_proofs.specs.Standing.{waits_behind}
-use Rattle.saa_word_proofs.specs.Stepped.{decided_events, given_events, left_events, taken_events, poisoning_events}
+use Rattle.saa_word_proofs.specs.Refinement.{waits_behind}
+use Rattle.saa_word_proofs.specs.StepRefinement.{decided_events, given_events, left_events, taken_events, poisoning_events}
 use Rattle.saa_word_proofs.specs.Calls.{answer_named, ask_named, release_named, read_named, poll_named, asked_by, given_by, read_by, taken_by, is_taken_up, IsDropped, IsCancelled, IsAnswered, IsGivingUp, IsReleasing, IsWorking, IsLeavingLine, IsTaking, IsUnder, IsUnderNext}
 
 -- Events that name an answer

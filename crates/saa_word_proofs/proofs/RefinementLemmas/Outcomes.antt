@@ -4,13 +4,14 @@ use Rattle.saa_core_spec.proofs.Counts.{number_same}
 use Rattle.saa_word_steps.specs.declared.place.Place.{Place}
 use Rattle.saa_word_steps.specs.declared.place.Next.{Next}
 use Rattle.saa_word_steps.specs.Needs.{Needs}
-use Rattle.saa_word_steps.specs.Lazy.{Lazy, Event, IsRun}
-use Rattle.saa_word_proofs.specs.Standing.{updated, is_holder, AreAnswers, Stands}
-use Rattle.saa_word_proofs.specs.Stepped.{of_place, named, never_poisons, place_after}
+use Rattle.saa_word_steps.specs.declared.event.Event.{Event}
+use Rattle.saa_word_steps.specs.Lazy.{Lazy, IsRun}
+use Rattle.saa_word_proofs.specs.Refinement.{updated, is_holder, AreAnswers, Refines}
+use Rattle.saa_word_proofs.specs.StepRefinement.{of_place, named, never_poisons, place_after}
 use Rattle.saa_word_proofs.proofs.RefinementLemmas.Rows.{row-other}
 
 -- a place that doesn't hold the flag isn't its holder
-pub not-holder : (needs : Needs) (places : ℕ) (row : ℕ → ℕ) (standing : ℕ → Place) (lazy : Lazy) (me : ℕ) (s : Stands needs places row standing lazy)
+pub not-holder : (needs : Needs) (places : ℕ) (row : ℕ → ℕ) (standing : ℕ → Place) (lazy : Lazy) (me : ℕ) (s : Refines needs places row standing lazy)
     → is_holder (standing me).stage ≡ false → s.holder ≡ me + 1 → ⊥
 not-holder needs places row standing lazy me s none is =
     let test : (s.holder == me + 1) ≡ true = ap (λ (n : ℕ). n == me + 1) is ∙ number_same (me + 1) in
@@ -24,7 +25,7 @@ pub record Outcome (needs : Needs) (places : ℕ) (row : ℕ → ℕ) (standing 
   pub run : IsRun needs lazy (of_place me events) last
   pub names : named events ≡ wanted
   pub calm : needs.is_lock ≡ false → never_poisons events ≡ true
-  pub stands : Stands needs places row (updated standing me (place_after (standing me) next)) last
+  pub stands : Refines needs places row (updated standing me (place_after (standing me) next)) last
 
 -- a row whose main word alone was written has its answer words
 pub answers-main : (places : ℕ) (row : ℕ → ℕ) (number : ℕ) (shown : ℕ → Option ℕ) → AreAnswers places row shown → AreAnswers places (updated row 0 number) shown

@@ -1,5 +1,5 @@
--- Steps of a place that poisons a lock or clears poison: each keeps how words, places and the lazy object stand together.
-use Rattle.std.proofs.Common.{◌≡◌, ◌≢◌, ℕ, ◌+◌, ◌/◌, ◌%◌, ◌<◌, ◌≤◌, Bool, true, false, not, ◌||◌, [], ◌∷◌, ◌==◌, if◌then◌else◌, refl, sym, ap, subst, ◌∙◌, arith, inl, inr, append-nil}
+-- Steps of a place that poisons a lock or clears poison: each keeps that words and places refine the abstract state.
+use Rattle.std.proofs.Common.{◌^◌, ◌≡◌, ◌≢◌, ℕ, ◌+◌, ◌/◌, ◌%◌, ◌<◌, ◌≤◌, Bool, true, false, not, ◌||◌, [], ◌∷◌, ◌==◌, if◌then◌else◌, refl, sym, ap, subst, ◌∙◌, arith, inl, inr, append-nil}
 use Rattle.std.proofs.lemmas.Bool.{cases_Bool}
 use Rattle.std.proofs.lemmas.Bool.Decides.{nat_tests}
 use Rattle.saa_core_spec.specs.Held.{Exclusive}
@@ -15,10 +15,11 @@ use Rattle.saa_word_steps.specs.declared.place.Next.TheVariants.{Waits}
 use Rattle.saa_word_steps.specs.declared.place.Stage.{Stage}
 use Rattle.saa_word_steps.specs.declared.place.Stage.TheVariants.{Quiet, ShowLoad, PoisonLoad, PoisonExchange, Clear}
 use Rattle.saa_word_steps.specs.Needs.{Needs, AreNeeds}
-use Rattle.saa_word_steps.specs.Lazy.{Lazy, Poisoned, NotPoisoned, Cleared, NotCleared, is_empty, is_in, answered_with, held_by}
+use Rattle.saa_word_steps.specs.declared.event.Event.TheVariants.{Poisoned, NotPoisoned, Cleared, NotCleared}
+use Rattle.saa_word_steps.specs.Lazy.{Lazy, IsOwned, is_empty, is_in, answered_with, held_by}
 use Rattle.saa_word_steps.specs.Steps.{IsRanged, going, poisoning, poisoned_word, settled_word}
-use Rattle.saa_word_proofs.specs.Standing.{updated, main_of, line_of, newest, is_holder, takes_back, IsAlone, IsOwn, IsShowing, IsLine, AreDebts, AreStages, Stands}
-use Rattle.saa_word_proofs.specs.Stepped.{Stepped, place_after, poisoning_events}
+use Rattle.saa_word_proofs.specs.Refinement.{updated, main_of, line_of, newest, is_holder, takes_back, IsAlone, IsOwn, IsShowing, IsLine, AreDebts, AreStages, Refines}
+use Rattle.saa_word_proofs.specs.StepRefinement.{StepRefines, place_after, poisoning_events}
 use Rattle.saa_word_proofs.proofs.RefinementLemmas.Lists.{updated-same}
 use Rattle.saa_word_proofs.proofs.RefinementLemmas.Frames.{stages-next}
 use Rattle.saa_word_proofs.proofs.RefinementLemmas.Rows.{moved, loaded, main-found, line-main, seats-next, count-small, tail-small}
@@ -47,16 +48,16 @@ not-owned false false test calm = refl
 
 -- Poison that is decided by the main word as it stands
 poisoning-outcome : (needs : Needs) (places : ℕ) (row : ℕ → ℕ) (standing : ℕ → Place) (lazy : Lazy) (me : ℕ)
-    → me < places → (s : Stands needs places row standing lazy) → is_holder (standing me).stage ≡ false → s.owed me ≡ []
+    → me < places → (s : Refines needs places row standing lazy) → is_holder (standing me).stage ≡ false → s.owed me ≡ []
     → needs.is_lock ≡ true → takes_back (standing me).back ≡ false
     → Outcome needs places row standing lazy me (poisoning (standing me) (main_of row)) (poisoning_events (main_of row))
 poisoning-outcome needs places row standing lazy me here s none nothing lock tells =
     let seen : Word = main_of row in
     elim (cases_Bool (seen.is_poisoned || not (seen.count == lock_count Exclusive))) [
       | inl refused ↦
-          let other : lazy.poisoned ≡ false → lazy.count ≢ lock_count Exclusive = λ calm owned.
-          let apart = not-owned seen.is_poisoned (seen.count == lock_count Exclusive) refused (s.main.poison ∙ calm) in
-          let same : seen.count == lock_count Exclusive ≡ true = ap (λ (n : ℕ). n == lock_count Exclusive) (s.main.count ∙ owned) in
+          let other : IsOwned needs lazy → ⊥ = λ owned.
+          let apart = not-owned seen.is_poisoned (seen.count == lock_count Exclusive) refused (s.main.poison ∙ owned.0) in
+          let same : seen.count == lock_count Exclusive ≡ true = ap (λ (n : ℕ). n == lock_count Exclusive) (s.main.count ∙ owned.1) in
           let wrong : true ≡ false = sym same ∙ apart in
           absurd (cc) in
           rw refused (record {
@@ -77,7 +78,7 @@ poisoning-outcome needs places row standing lazy me here s none nothing lock tel
               run = refl;
               names = refl;
               calm = λ semaphore. refl;
-              stands = subst (λ (p : ℕ → Place). Stands needs places row p lazy) (sym (updated-same standing me (standing me) refl)) s;
+              stands = subst (λ (p : ℕ → Place). Refines needs places row p lazy) (sym (updated-same standing me (standing me) refl)) s;
             })
             | inr clear ↦ rw owned
                 (subst (λ (next : Next). Outcome needs places row standing lazy me next [])
@@ -95,9 +96,9 @@ poisoning-outcome needs places row standing lazy me here s none nothing lock tel
     ]
 
 -- Whoever poisons looks at the main word
-pub step-PoisonLoad : (needs : Needs) → AreNeeds needs → needs.top < 64 → (places : ℕ) (row : ℕ → ℕ) (standing : ℕ → Place) (lazy : Lazy) (me : ℕ)
-    → places < 65536 → me < places → (s : Stands needs places row standing lazy)
-    → (standing me).stage ≡ PoisonLoad → Stepped needs places row standing lazy me PoisonLoad
+pub step-PoisonLoad : (needs : Needs) → AreNeeds needs → needs.top < 2 ^ count_bits → (places : ℕ) (row : ℕ → ℕ) (standing : ℕ → Place) (lazy : Lazy) (me : ℕ)
+    → places < 65536 → me < places → (s : Refines needs places row standing lazy)
+    → (standing me).stage ≡ PoisonLoad → StepRefines needs places row standing lazy me PoisonLoad
 step-PoisonLoad needs lawful wide places row standing lazy me room here s at =
     let alone : IsAlone needs (standing me).registration (standing me).back PoisonLoad =
     subst (λ (stage : Stage). IsAlone needs (standing me).registration (standing me).back stage) at (s.stages.alone me) in
@@ -126,11 +127,11 @@ held-poisoned lazy place once =
     ]
 
 -- A lock is poisoned by a write to the main word: who waited is owed by the place that poisoned, which goes on at a stage
-poisoned-stands : (needs : Needs) (places : ℕ) (row : ℕ → ℕ) (standing : ℕ → Place) (lazy : Lazy) (me : ℕ) (s : Stands needs places row standing lazy)
+poisoned-stands : (needs : Needs) (places : ℕ) (row : ℕ → ℕ) (standing : ℕ → Place) (lazy : Lazy) (me : ℕ) (s : Refines needs places row standing lazy)
     (stage : Stage) → me < places → s.holder == 0 ≡ true → s.owed me ≡ [] → needs.is_lock ≡ true
     → IsRanged needs stage → IsAlone needs (standing me).registration (standing me).back stage
     → IsOwn (line_of row me) stage → IsShowing lazy.line 2 stage → is_holder stage ≡ false
-    → Stands needs places (updated row 0 (word_number count_bits poisoned_word)) (updated standing me (record (standing me) { stage = stage }))
+    → Refines needs places (updated row 0 (word_number count_bits poisoned_word)) (updated standing me (record (standing me) { stage = stage }))
     (poisoned_after lazy)
 poisoned-stands needs places row standing lazy me s stage here unheld none lock ranged alone own showing holder =
     let number : ℕ = word_number count_bits poisoned_word in
@@ -172,9 +173,9 @@ poisoned-stands needs places row standing lazy me s stage here unheld none lock 
     }
 
 -- Whoever saw a lock that one owner has poisons it, and shows that to all who waited; or decides by the word that it found
-pub step-PoisonExchange : (needs : Needs) → AreNeeds needs → needs.top < 64 → (places : ℕ) (row : ℕ → ℕ) (standing : ℕ → Place) (lazy : Lazy) (me : ℕ)
-    → places < 65536 → me < places → (s : Stands needs places row standing lazy)
-    → (seen : Word) → (standing me).stage ≡ PoisonExchange seen → Stepped needs places row standing lazy me (PoisonExchange seen)
+pub step-PoisonExchange : (needs : Needs) → AreNeeds needs → needs.top < 2 ^ count_bits → (places : ℕ) (row : ℕ → ℕ) (standing : ℕ → Place) (lazy : Lazy) (me : ℕ)
+    → places < 65536 → me < places → (s : Refines needs places row standing lazy)
+    → (seen : Word) → (standing me).stage ≡ PoisonExchange seen → StepRefines needs places row standing lazy me (PoisonExchange seen)
 step-PoisonExchange needs lawful wide places row standing lazy me room here s seen at =
     let alone : IsAlone needs (standing me).registration (standing me).back (PoisonExchange seen) =
     subst (λ (stage : Stage). IsAlone needs (standing me).registration (standing me).back stage) at (s.stages.alone me) in
@@ -193,7 +194,7 @@ step-PoisonExchange needs lawful wide places row standing lazy me room here s se
           record {
             events = Poisoned ∷ [];
             last = poisoned_after lazy;
-            run = ((s.main.closed unheld, calm, owned), refl);
+            run = ((s.main.closed unheld, (calm, owned, alone.0)), refl);
             names = rw same refl;
             calm = λ semaphore. let wrong : true ≡ false = sym alone.0 ∙ semaphore in absurd (cc);
             inside = omega arith;
@@ -201,7 +202,7 @@ step-PoisonExchange needs lawful wide places row standing lazy me room here s se
                 elim (cases_Bool (seen.tail == 0)) [
                   | inl alone_there ↦
                       rw (same, alone_there)
-                      (subst (λ (p : Place). Stands needs places (updated row 0 (word_number count_bits poisoned_word)) (updated standing me p)
+                      (subst (λ (p : Place). Refines needs places (updated row 0 (word_number count_bits poisoned_word)) (updated standing me p)
                       (poisoned_after lazy))
                       (sym (ended (standing me) (standing me).back))
                       (poisoned-stands needs places row standing lazy me s (end_stage (standing me).back) here unheld nothing alone.0
@@ -243,7 +244,7 @@ number-kept : (number : ℕ) → number < 16777216 → word_number count_bits (w
 number-kept number whole = omega (arith, whole, bit-kept (number / 64), bit-kept (number / 64 / 2))
 
 -- the main word of a poisoned lock is that of poison alone
-poisoned-number : (needs : Needs) (places : ℕ) (row : ℕ → ℕ) (standing : ℕ → Place) (lazy : Lazy) (s : Stands needs places row standing lazy)
+pub poisoned-number : (needs : Needs) (places : ℕ) (row : ℕ → ℕ) (standing : ℕ → Place) (lazy : Lazy) (s : Refines needs places row standing lazy)
     → lazy.poisoned ≡ true → row 0 ≡ word_number count_bits poisoned_word
 poisoned-number needs places row standing lazy s poisoned =
     let barren = s.main.barren poisoned in
@@ -257,7 +258,7 @@ poisoned-number needs places row standing lazy s poisoned =
     sym (number-kept (row 0) s.main.whole) ∙ ap (word_number count_bits) is
 
 -- what isn't cleared isn't poisoned
-never-poisoned : (needs : Needs) (places : ℕ) (row : ℕ → ℕ) (standing : ℕ → Place) (lazy : Lazy) (s : Stands needs places row standing lazy)
+never-poisoned : (needs : Needs) (places : ℕ) (row : ℕ → ℕ) (standing : ℕ → Place) (lazy : Lazy) (s : Refines needs places row standing lazy)
     → row 0 == word_number count_bits poisoned_word ≡ false → lazy.poisoned ≡ false
 never-poisoned needs places row standing lazy s differs =
     elim (cases_Bool lazy.poisoned) [
@@ -270,9 +271,9 @@ never-poisoned needs places row standing lazy s differs =
     ]
 
 -- Poison is cleared by a write to the main word, where nobody waits
-cleared-stands : (needs : Needs) (places : ℕ) (row : ℕ → ℕ) (standing : ℕ → Place) (lazy : Lazy) (me : ℕ) (s : Stands needs places row standing lazy)
+cleared-stands : (needs : Needs) (places : ℕ) (row : ℕ → ℕ) (standing : ℕ → Place) (lazy : Lazy) (me : ℕ) (s : Refines needs places row standing lazy)
     → me < places → is_holder (standing me).stage ≡ false → s.owed me ≡ [] → lazy.poisoned ≡ true
-    → Stands needs places (updated row 0 (word_number count_bits (settled_word 0 0))) (updated standing me (record (standing me) { stage = Quiet }))
+    → Refines needs places (updated row 0 (word_number count_bits (settled_word 0 0))) (updated standing me (record (standing me) { stage = Quiet }))
     (record lazy { poisoned = false })
 cleared-stands needs places row standing lazy me s here none nothing poisoned =
     let barren = s.main.barren poisoned in
@@ -304,9 +305,9 @@ cleared-stands needs places row standing lazy me s here none nothing poisoned =
     }
 
 -- Whoever clears poison does so in one exchange, or finds none
-pub step-Clear : (needs : Needs) → AreNeeds needs → needs.top < 64 → (places : ℕ) (row : ℕ → ℕ) (standing : ℕ → Place) (lazy : Lazy) (me : ℕ)
-    → places < 65536 → me < places → (s : Stands needs places row standing lazy)
-    → (standing me).stage ≡ Clear → Stepped needs places row standing lazy me Clear
+pub step-Clear : (needs : Needs) → AreNeeds needs → needs.top < 2 ^ count_bits → (places : ℕ) (row : ℕ → ℕ) (standing : ℕ → Place) (lazy : Lazy) (me : ℕ)
+    → places < 65536 → me < places → (s : Refines needs places row standing lazy)
+    → (standing me).stage ≡ Clear → StepRefines needs places row standing lazy me Clear
 step-Clear needs lawful wide places row standing lazy me room here s at =
     let none : is_holder (standing me).stage ≡ false = ap is_holder at in
     let nothing : s.owed me ≡ [] = subst (λ (stage : Stage). IsShowing (s.owed me) (s.worth me) stage) at (s.stages.showing me) in

@@ -27,29 +27,29 @@ use Rattle.saa_word_steps.specs.Needs.{Needs, fits_count, left_count}
 use Rattle.saa_word_steps.specs.Lazy.{Lazy, is_in, held_by}
 use Rattle.saa_word_steps.specs.Steps.{word_at, operation_of, next_of, finished, granted, decided, gave_nothing, given_to, given, shown_all, dropped, looked_at, closing, taken_answer, flagging, poisoning, poisoned_word, flagged_word}
 use Rattle.saa_word_steps.proofs.LazyRuns.{waits-none}
-use Rattle.saa_word_proofs.specs.Standing.{main_of, is_slot, IsAlone, Stands}
-use Rattle.saa_word_proofs.specs.Stepped.{row_after}
-use Rattle.saa_word_proofs.specs.Stalls.{IsOwnedAndFlagged, IsStalled}
+use Rattle.saa_word_proofs.specs.Refinement.{main_of, is_slot, IsAlone, Refines}
+use Rattle.saa_word_proofs.specs.StepRefinement.{row_after}
+use Rattle.saa_word_proofs.specs.Blocking.{IsOwnedAndFlagged, IsBlockedAt}
 use Rattle.saa_word_proofs.proofs.RefinementLemmas.Lists.{updated-same}
 use Rattle.saa_word_proofs.proofs.RefinementLemmas.Rows.{apart-at}
 
 -- Which steps go on or are done
 
 -- whether an answer says that its place waits
-abbrev says_wait : Next → Bool
+abbrev pub says_wait : Next → Bool
 says_wait Waits = true
 says_wait _ = false
 
 -- it doesn't, and neither does what is one of two such
-abbrev GoesOn : Next → Type 0
+abbrev pub GoesOn : Next → Type 0
 GoesOn next = says_wait next ≡ false
 
-either : (test : Bool) (one other : Next) → GoesOn one → GoesOn other → GoesOn (if test then one else other)
+pub either : (test : Bool) (one other : Next) → GoesOn one → GoesOn other → GoesOn (if test then one else other)
 either true one other o t = o
 either false one other o t = t
 
 -- who is done with the line, who is granted at once, and who asked
-on-finished : (place : Place) (back : Back) → GoesOn (finished place back)
+pub on-finished : (place : Place) (back : Back) → GoesOn (finished place back)
 on-finished place Tells = refl
 on-finished place EndsCall = refl
 on-finished place (Takes request) = refl
@@ -88,7 +88,7 @@ on-dropped : (needs : Needs) (place : Place) (request value : ℕ) → GoesOn (d
 on-dropped needs place request value = either (value == granted_value && not (needs.takes request == 0)) _ _ refl refl
 
 -- an answer that is there is taken
-on-some : (needs : Needs) (place : Place) (taking : Taking) (value : ℕ) → GoesOn (taken_answer needs place taking (Some value))
+pub on-some : (needs : Needs) (place : Place) (taking : Taking) (value : ℕ) → GoesOn (taken_answer needs place taking (Some value))
 on-some needs place (Gives request) value = on-dropped needs place request value
 on-some needs place Awaits value = refl
 on-some needs place Tries value = refl
@@ -122,7 +122,7 @@ may_wait (PoisonExchange seen) = true
 may_wait _ = false
 
 -- every other step
-goes-on : (needs : Needs) (me : ℕ) (place : Place) (stage : Stage) (found : ℕ) → may_wait stage ≡ false → GoesOn (next_of needs me place stage found)
+pub goes-on : (needs : Needs) (me : ℕ) (place : Place) (stage : Stage) (found : ℕ) → may_wait stage ≡ false → GoesOn (next_of needs me place stage found)
 goes-on needs me place Quiet found other = refl
 goes-on needs me place (ReadLoad reading) found other = refl
 goes-on needs me place (AskLoad ask) found other = on-decided needs place ask (word_of count_bits found)
@@ -165,7 +165,7 @@ first-waits true other goes waits = refl
 first-waits false other goes waits = let wrong : false ≡ true = sym goes ∙ ap says_wait waits in absurd (cc)
 
 -- of two only the other waits
-second-waits : (test : Bool) (one other : Next) → GoesOn one → (if test then one else other) ≡ Waits → (test ≡ false) × (other ≡ Waits)
+pub second-waits : (test : Bool) (one other : Next) → GoesOn one → (if test then one else other) ≡ Waits → (test ≡ false) × (other ≡ Waits)
 second-waits true one other goes waits = let wrong : false ≡ true = sym goes ∙ ap says_wait waits in absurd (cc)
 second-waits false one other goes waits = (refl, waits)
 
@@ -218,7 +218,7 @@ held-else lazy me held none =
 
 -- a place that is registered in the line and finds no answer
 takes-none : (needs : Needs) (places : ℕ) (row : ℕ → ℕ) (standing : ℕ → Place) (lazy : Lazy) (me : ℕ) → me < places
-    → Stands needs places row standing lazy → (taking : Taking) → is_slot (standing me).registration ≡ true
+    → Refines needs places row standing lazy → (taking : Taking) → is_slot (standing me).registration ≡ true
     → taken_answer needs (standing me) taking (answer_of (row (places + me + 1) % 65536)) ≡ Waits
     → ((is_in me lazy.line || is_some (lazy.due me)) ≡ true) × (row_after row (operation_of needs places me (Take taking)) ≡ row)
 takes-none needs places row standing lazy me here s taking slot waits =
@@ -231,9 +231,9 @@ takes-none needs places row standing lazy me here s taking slot waits =
 
 -- A step that is answered that it waits
 pub only-stalls : (needs : Needs) (places : ℕ) (row : ℕ → ℕ) (standing : ℕ → Place) (lazy : Lazy) (me : ℕ) → me < places
-    → Stands needs places row standing lazy → (stage : Stage) → (standing me).stage ≡ stage
+    → Refines needs places row standing lazy → (stage : Stage) → (standing me).stage ≡ stage
     → next_of needs me (standing me) stage (row (word_at (operation_of needs places me stage))) ≡ Waits
-    → IsStalled lazy me (main_of row) stage × (row_after row (operation_of needs places me stage) ≡ row)
+    → IsBlockedAt lazy me (main_of row) stage × (row_after row (operation_of needs places me stage) ≡ row)
 only-stalls needs places row standing lazy me here s (Take Awaits) at waits =
     let slot : is_slot (standing me).registration ≡ true =
     subst (λ stage. IsAlone needs (standing me).registration (standing me).back stage) at (s.stages.alone me) in

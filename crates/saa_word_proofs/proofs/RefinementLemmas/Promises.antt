@@ -7,8 +7,9 @@ use Rattle.saa_core_words.specs.Words.{count_bits}
 use Rattle.saa_word_steps.specs.declared.place.Place.{Place}
 use Rattle.saa_word_steps.specs.Needs.{Needs}
 use Rattle.saa_word_steps.specs.Lazy.{Lazy, opening}
-use Rattle.saa_word_proofs.specs.Standing.{main_of, line_of, newest, IsBehind, is_slot, Stands}
-use Rattle.saa_word_proofs.specs.Promises.{idle_place, opening_row, IsMet, newest_first, SaysSo}
+use Rattle.saa_word_proofs.specs.Refinement.{main_of, line_of, newest, IsBehind, is_slot, Refines}
+use Rattle.saa_word_proofs.specs.Promises.{idle_place, opening_row, AreAsking, IsMet, newest_first, Observes}
+use Rattle.saa_word_proofs.proofs.RefinementLemmas.Poisoning.{poisoned-number}
 
 -- along older neighbours a line is met from its newest on
 line-met : (words : ℕ → LineWord) (older : ℕ) (line : List (ℕ × ℕ)) (before : List ℕ) → IsBehind words older line → IsMet words older before
@@ -24,14 +25,27 @@ not-false : (mark : Bool) → not mark ≡ false → mark ≡ true
 not-false true is = refl
 not-false false is = absurd (cc)
 
+-- whoever stands behind another asks what its line word says
+behind-asks : (words : ℕ → LineWord) (older : ℕ) (line : List (ℕ × ℕ)) → IsBehind words older line → AreAsking words line
+behind-asks words older [] behind = tt
+behind-asks words older (asker ∷ rest) behind = (behind.0, behind-asks words (asker.0 + 1) rest behind.2)
+
+asks-append : (words : ℕ → LineWord) (front rest : List (ℕ × ℕ)) → AreAsking words front → AreAsking words rest → AreAsking words (front ++ rest)
+asks-append words [] rest one other = other
+asks-append words (asker ∷ front) rest one other = (one.0, asks-append words front rest one.1 other)
+
 -- What stands in the words
-pub says-so : (needs : Needs) (places : ℕ) (row : ℕ → ℕ) (standing : ℕ → Place) (lazy : Lazy) → Stands needs places row standing lazy
-    → SaysSo needs places row lazy
+pub says-so : (needs : Needs) (places : ℕ) (row : ℕ → ℕ) (standing : ℕ → Place) (lazy : Lazy) → Refines needs places row standing lazy
+    → Observes needs places row lazy
 says-so needs places row standing lazy s =
     let free : (main_of row).is_flagged ≡ false → s.holder == 0 ≡ true = λ clear. not-false (s.holder == 0) (sym s.main.flag ∙ clear) in
     record {
       count = s.main.count;
       poisoned = s.main.poison;
+      whole = s.main.whole;
+      exact = λ poisoned. poisoned-number needs places row standing lazy s poisoned;
+      requests = subst (λ (l : List (ℕ × ℕ)). AreAsking (line_of row) l) (sym s.line.parts)
+          (asks-append (line_of row) s.cut s.uncut (behind-asks (line_of row) 0 s.cut s.line.granted) (behind-asks (line_of row) 0 s.uncut s.line.stays));
       shown = s.answers.words;
       line = λ clear.
           let whole : lazy.line ≡ s.uncut = s.line.parts ∙ ap (λ (l : List (ℕ × ℕ)). l ++ s.uncut) (s.free (free clear)) in
@@ -47,7 +61,7 @@ says-so needs places row standing lazy s =
     }
 
 -- How it begins
-pub opens : (needs : Needs) → needs.top < 64 → (places count : ℕ) → count ≤ needs.top → Stands needs places (opening_row count) (λ place. idle_place) (opening count)
+pub opens : (needs : Needs) → needs.top < 2 ^ count_bits → (places count : ℕ) → count ≤ needs.top → Refines needs places (opening_row count) (λ place. idle_place) (opening count)
 opens needs wide places count small = record {
   holder = 0;
   cut = [];

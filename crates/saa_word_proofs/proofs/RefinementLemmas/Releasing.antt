@@ -1,5 +1,5 @@
 -- Steps of a place that gives back.
-use Rattle.std.proofs.Common.{◌≡◌, ℕ, ◌+◌, ◌<◌, ◌≤◌, Bool, true, false, not, ◌&&◌, ◌||◌, List, [], ◌∷◌, ◌==◌, if◌then◌else◌, Option, Some, None, refl, sym, ap, subst, ◌∙◌, arith, inl, inr, append-nil}
+use Rattle.std.proofs.Common.{◌^◌, ◌≡◌, ℕ, ◌+◌, ◌<◌, ◌≤◌, Bool, true, false, not, ◌&&◌, ◌||◌, List, [], ◌∷◌, ◌==◌, if◌then◌else◌, Option, Some, None, refl, sym, ap, subst, ◌∙◌, arith, inl, inr, append-nil}
 use Rattle.std.proofs.lemmas.Bool.{cases_Bool}
 use Rattle.saa_core_spec.proofs.Counts.{number_same}
 use Rattle.saa_core_words.specs.declared.word.Word.{Word}
@@ -11,10 +11,11 @@ use Rattle.saa_word_steps.specs.declared.place.Back.TheVariants.{Tells, Ends, Ta
 use Rattle.saa_word_steps.specs.declared.place.Stage.{Stage}
 use Rattle.saa_word_steps.specs.declared.place.Stage.TheVariants.{Quiet, ReleaseLoad, ReleaseExchange, BackLoad}
 use Rattle.saa_word_steps.specs.Needs.{Needs, AreNeeds, left_count}
-use Rattle.saa_word_steps.specs.Lazy.{Lazy, Gave, GaveNothing, IsAllowed, is_empty, count_or, IsSettledAt}
+use Rattle.saa_word_steps.specs.declared.event.Event.TheVariants.{Gave, GaveNothing}
+use Rattle.saa_word_steps.specs.Lazy.{Lazy, IsEnabled, is_empty, count_or, IsSettledAt}
 use Rattle.saa_word_steps.specs.Steps.{IsRanged, gave_nothing, given, given_to, released}
-use Rattle.saa_word_proofs.specs.Standing.{updated, main_of, line_of, newest, is_holder, takes_back, gives_up, IsAlone, IsOwn, IsShowing, IsHolding, IsLine, AreDebts, AreStages, Stands}
-use Rattle.saa_word_proofs.specs.Stepped.{Stepped, place_after, left_events}
+use Rattle.saa_word_proofs.specs.Refinement.{updated, main_of, line_of, newest, is_holder, takes_back, gives_up, IsAlone, IsOwn, IsShowing, IsHolding, IsLine, AreDebts, AreStages, Refines}
+use Rattle.saa_word_proofs.specs.StepRefinement.{StepRefines, place_after, left_events}
 use Rattle.saa_word_proofs.proofs.RefinementLemmas.Lists.{newest-empty}
 use Rattle.saa_word_proofs.proofs.RefinementLemmas.Frames.{holding-frame, stages-next}
 use Rattle.saa_word_proofs.proofs.RefinementLemmas.Rows.{moved, loaded, main-found, line-main, seats-next, count-small, tail-small}
@@ -31,8 +32,8 @@ quiet-nothing place (Takes request) = refl
 
 -- A release of what isn't held, or of a poisoned lock
 nothing-outcome : (needs : Needs) (places : ℕ) (row : ℕ → ℕ) (standing : ℕ → Place) (lazy : Lazy) (me : ℕ)
-    → me < places → (s : Stands needs places row standing lazy) → is_holder (standing me).stage ≡ false → s.owed me ≡ []
-    → (request : ℕ) → IsAllowed needs lazy me (GaveNothing request)
+    → me < places → (s : Refines needs places row standing lazy) → is_holder (standing me).stage ≡ false → s.owed me ≡ []
+    → (request : ℕ) → IsEnabled needs lazy me (GaveNothing request)
     → Outcome needs places row standing lazy me (gave_nothing (standing me) (standing me).back) (GaveNothing request ∷ [])
 nothing-outcome needs places row standing lazy me here s none nothing request allowed = record {
   events = GaveNothing request ∷ [];
@@ -40,14 +41,14 @@ nothing-outcome needs places row standing lazy me here s none nothing request al
   run = (allowed, refl);
   names = refl;
   calm = λ semaphore. refl;
-  stands = subst (λ (p : Place). Stands needs places row (updated standing me p) lazy) (sym (quiet-nothing (standing me) (standing me).back))
+  stands = subst (λ (p : Place). Refines needs places row (updated standing me p) lazy) (sym (quiet-nothing (standing me) (standing me).back))
       (moved needs places row standing lazy me s (record (standing me) { stage = Quiet }) here refl
       tt tt (λ gives. absurd (cc)) tt nothing (sym none) (λ it. absurd (not-holder needs places row standing lazy me s none it)));
 }
 
 -- A release that is decided by the main word as it stands
 given-outcome : (needs : Needs) (places : ℕ) (row : ℕ → ℕ) (standing : ℕ → Place) (lazy : Lazy) (me : ℕ)
-    → me < places → (s : Stands needs places row standing lazy) → is_holder (standing me).stage ≡ false → s.owed me ≡ []
+    → me < places → (s : Refines needs places row standing lazy) → is_holder (standing me).stage ≡ false → s.owed me ≡ []
     → takes_back (standing me).back ≡ false → (request : ℕ) (poisoned : Bool) (left : Option ℕ)
     → (main_of row).is_poisoned ≡ poisoned → left_count needs (main_of row).count request ≡ left
     → Outcome needs places row standing lazy me
@@ -71,9 +72,9 @@ given-outcome needs places row standing lazy me here s none nothing ends request
 }
 
 -- Whoever is to give back looks at the main word
-pub step-ReleaseLoad : (needs : Needs) → AreNeeds needs → needs.top < 64 → (places : ℕ) (row : ℕ → ℕ) (standing : ℕ → Place) (lazy : Lazy) (me : ℕ)
-    → places < 65536 → me < places → (s : Stands needs places row standing lazy)
-    → (request : ℕ) → (standing me).stage ≡ ReleaseLoad request → Stepped needs places row standing lazy me (ReleaseLoad request)
+pub step-ReleaseLoad : (needs : Needs) → AreNeeds needs → needs.top < 2 ^ count_bits → (places : ℕ) (row : ℕ → ℕ) (standing : ℕ → Place) (lazy : Lazy) (me : ℕ)
+    → places < 65536 → me < places → (s : Refines needs places row standing lazy)
+    → (request : ℕ) → (standing me).stage ≡ ReleaseLoad request → StepRefines needs places row standing lazy me (ReleaseLoad request)
 step-ReleaseLoad needs lawful wide places row standing lazy me room here s request at =
     let ends : takes_back (standing me).back ≡ false =
     subst (λ stage. IsAlone needs (standing me).registration (standing me).back stage) at (s.stages.alone me) in
@@ -97,8 +98,8 @@ unopened [] other closed = refl
 unopened (asker ∷ rest) other closed = absurd (cc)
 
 -- Something is given back: the count falls; whoever holds the flag afterwards, and what this place does then, is said by the premises
-given-back : (needs : Needs) → AreNeeds needs → needs.top < 64 → (places : ℕ) (row : ℕ → ℕ) (standing : ℕ → Place) (lazy : Lazy) (me : ℕ)
-    → me < places → (s : Stands needs places row standing lazy)
+given-back : (needs : Needs) → AreNeeds needs → needs.top < 2 ^ count_bits → (places : ℕ) (row : ℕ → ℕ) (standing : ℕ → Place) (lazy : Lazy) (me : ℕ)
+    → me < places → (s : Refines needs places row standing lazy)
     → (request left : ℕ) (seen : Word) → seen.tail < 65536 → seen.is_poisoned ≡ false → main_of row ≡ seen → left_count needs seen.count request ≡ Some left
     → (stage : Stage) (holder : ℕ)
     → IsRanged needs stage → IsAlone needs (standing me).registration (standing me).back stage → gives_up (standing me).back stage ≡ false
@@ -108,7 +109,7 @@ given-back : (needs : Needs) → AreNeeds needs → needs.top < 64 → (places :
     → ((other : ℕ) → (other ≡ me → ⊥) → (s.holder == other + 1) ≡ (holder == other + 1))
     → (seen.is_flagged || not (seen.tail == 0)) ≡ not (holder == 0)
     → ((holder == 0) ≡ true → (is_empty lazy.line ≡ true) × (s.holder == 0 ≡ true))
-    → Stands needs places (updated row 0 (word_number count_bits (released needs seen request))) (updated standing me (record (standing me) { stage = stage }))
+    → Refines needs places (updated row 0 (word_number count_bits (released needs seen request))) (updated standing me (record (standing me) { stage = stage }))
     (record lazy { count = left; unclosed = not (is_empty lazy.line) || lazy.unclosed })
 given-back needs lawful wide places row standing lazy me here s request left seen tail_small clean is left_is stage holder ranged alone stays own showing
     one holding ones flag nobody =
@@ -174,10 +175,10 @@ no-tail false true test clear = absurd (cc)
 no-tail false false test clear = absurd (cc)
 
 -- Whoever gives back lowers the count, and works on the line where somebody waits and nobody does
-pub step-ReleaseExchange : (needs : Needs) → AreNeeds needs → needs.top < 64 → (places : ℕ) (row : ℕ → ℕ) (standing : ℕ → Place) (lazy : Lazy) (me : ℕ)
-    → places < 65536 → me < places → (s : Stands needs places row standing lazy)
+pub step-ReleaseExchange : (needs : Needs) → AreNeeds needs → needs.top < 2 ^ count_bits → (places : ℕ) (row : ℕ → ℕ) (standing : ℕ → Place) (lazy : Lazy) (me : ℕ)
+    → places < 65536 → me < places → (s : Refines needs places row standing lazy)
     → (request : ℕ) (seen : Word) → (standing me).stage ≡ ReleaseExchange request seen
-    → Stepped needs places row standing lazy me (ReleaseExchange request seen)
+    → StepRefines needs places row standing lazy me (ReleaseExchange request seen)
 step-ReleaseExchange needs lawful wide places row standing lazy me room here s request seen at =
     let back : Back = (standing me).back in
     let alone : IsAlone needs (standing me).registration back (ReleaseExchange request seen) =

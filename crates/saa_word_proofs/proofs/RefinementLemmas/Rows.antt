@@ -16,7 +16,7 @@ use Rattle.saa_word_steps.specs.declared.place.Stage.TheVariants.{Quiet, ReadLoa
 use Rattle.saa_word_steps.specs.Needs.{Needs}
 use Rattle.saa_word_steps.specs.Lazy.{Lazy, is_in, held_by}
 use Rattle.saa_word_steps.specs.Steps.{IsRanged, IsSmall}
-use Rattle.saa_word_proofs.specs.Standing.{updated, line_of, is_slot, is_holder, gives_up, IsAlone, IsOwn, IsShowing, IsHolding, AreSeats, Stands}
+use Rattle.saa_word_proofs.specs.Refinement.{updated, line_of, is_slot, is_holder, gives_up, IsAlone, IsOwn, IsShowing, IsHolding, AreSeats, Refines}
 use Rattle.saa_word_proofs.proofs.RefinementLemmas.Lists.{each-updated, all-same, updated-same, updated-at, updated-other}
 use Rattle.saa_word_proofs.proofs.RefinementLemmas.Frames.{stages-next}
 
@@ -112,19 +112,19 @@ seats-next places standing lazy me place was here same = record {
 }
 
 -- who takes its own answer next stands in no line
-pub apart-at : (needs : Needs) (places : ℕ) (row : ℕ → ℕ) (standing : ℕ → Place) (lazy : Lazy) (me : ℕ) → Stands needs places row standing lazy
+pub apart-at : (needs : Needs) (places : ℕ) (row : ℕ → ℕ) (standing : ℕ → Place) (lazy : Lazy) (me : ℕ) → Refines needs places row standing lazy
     → (stage : Stage) → (standing me).stage ≡ stage → gives_up (standing me).back stage ≡ true → is_in me lazy.line ≡ false
 apart-at needs places row standing lazy me s stage at gives = s.stages.apart me (ap (gives_up (standing me).back) at ∙ gives)
 
 -- A step that leaves words and object as they are
-pub moved : (needs : Needs) (places : ℕ) (row : ℕ → ℕ) (standing : ℕ → Place) (lazy : Lazy) (me : ℕ) (s : Stands needs places row standing lazy) (place : Place)
+pub moved : (needs : Needs) (places : ℕ) (row : ℕ → ℕ) (standing : ℕ → Place) (lazy : Lazy) (me : ℕ) (s : Refines needs places row standing lazy) (place : Place)
     → me < places → is_slot place.registration ≡ is_slot (standing me).registration
     → IsRanged needs place.stage → IsAlone needs place.registration place.back place.stage
     → (gives_up place.back place.stage ≡ true → is_in me lazy.line ≡ false)
     → IsOwn (line_of row me) place.stage → IsShowing (s.owed me) (s.worth me) place.stage
     → is_holder place.stage ≡ is_holder (standing me).stage
     → (s.holder ≡ me + 1 → IsHolding needs (line_of row) me lazy.count lazy.line s.cut place.stage)
-    → Stands needs places row (updated standing me place) lazy
+    → Refines needs places row (updated standing me place) lazy
 moved needs places row standing lazy me s place here same ranged alone apart own showing holder holding = record {
   holder = s.holder;
   cut = s.cut;
@@ -146,6 +146,6 @@ moved needs places row standing lazy me s place here same ranged alone apart own
 
 -- a step that only loads leaves the row
 pub loaded : (needs : Needs) (places : ℕ) (row : ℕ → ℕ) (standing : ℕ → Place) (lazy : Lazy) (at : ℕ)
-    → Stands needs places row standing lazy → Stands needs places (updated row at (row at)) standing lazy
+    → Refines needs places row standing lazy → Refines needs places (updated row at (row at)) standing lazy
 loaded needs places row standing lazy at s =
-    subst (λ (r : ℕ → ℕ). Stands needs places r standing lazy) (sym (updated-same row at (row at) refl)) s
+    subst (λ (r : ℕ → ℕ). Refines needs places r standing lazy) (sym (updated-same row at (row at) refl)) s

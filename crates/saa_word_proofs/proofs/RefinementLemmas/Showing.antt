@@ -1,11 +1,11 @@
 -- Steps of a place that shows answers, and of one that takes its own.
-use Rattle.std.proofs.Common.{◌≡◌, ℕ, ◌+◌, ◌<◌, ◌≤◌, Bool, true, false, ◌||◌, List, [], ◌∷◌, ◌++◌, ◌==◌, Option, Some, None, is_some, nat_lt, refl, sym, ap, subst, ◌∙◌, arith, inl, inr, append-nil}
+use Rattle.std.proofs.Common.{◌^◌, ◌≡◌, ℕ, ◌+◌, ◌<◌, ◌≤◌, Bool, true, false, ◌||◌, List, [], ◌∷◌, ◌++◌, ◌==◌, Option, Some, None, is_some, nat_lt, refl, sym, ap, subst, ◌∙◌, arith, inl, inr, append-nil}
 use Rattle.std.proofs.lemmas.Bool.{cases_Bool}
 use Rattle.std.proofs.lemmas.Bool.Decides.{nat_tests}
 use Rattle.saa_core_spec.specs.Object.{one_if}
 use Rattle.saa_core_spec.proofs.Counts.{number_same, same_number, number_other, one_if-same, one_if-le}
 use Rattle.saa_core_words.specs.declared.line_word.LineWord.{LineWord}
-use Rattle.saa_core_words.specs.Words.{line_word_of, answer_number}
+use Rattle.saa_core_words.specs.Words.{count_bits, line_word_of, answer_number}
 use Rattle.saa_word_steps.specs.declared.place.Place.{Place}
 use Rattle.saa_word_steps.specs.declared.place.Afterwards.{Afterwards}
 use Rattle.saa_word_steps.specs.declared.place.Afterwards.TheVariants.{Ends, Again}
@@ -15,8 +15,8 @@ use Rattle.saa_word_steps.specs.Needs.{Needs, AreNeeds}
 use Rattle.saa_word_steps.specs.Lazy.{Lazy, is_in, waits_times, held_by, with_answer}
 use Rattle.saa_word_steps.specs.Steps.{IsRanged}
 use Rattle.saa_word_steps.proofs.LazyRuns.{waits-some}
-use Rattle.saa_word_proofs.specs.Standing.{updated, line_of, newest, IsBehind, is_slot, is_holder, gives_up, IsAlone, IsOwn, IsShowing, IsHolding, IsMain, IsLine, AreSeats, AreAnswers, AreDebts, Stands}
-use Rattle.saa_word_proofs.specs.Stepped.{Stepped}
+use Rattle.saa_word_proofs.specs.Refinement.{updated, line_of, newest, IsBehind, is_slot, is_holder, gives_up, IsAlone, IsOwn, IsShowing, IsHolding, IsMain, IsLine, AreSeats, AreAnswers, AreDebts, Refines}
+use Rattle.saa_word_proofs.specs.StepRefinement.{StepRefines}
 use Rattle.saa_word_proofs.proofs.RefinementLemmas.Lists.{each-updated, updated-at, updated-other, newest-last, in-some, in-append, times-append, split-last, behind-frame, behind-front, behind-rest}
 use Rattle.saa_word_proofs.proofs.RefinementLemmas.Frames.{holding-frame, stages-next}
 use Rattle.saa_word_proofs.proofs.RefinementLemmas.Rows.{moved, loaded, row-other, apart-at}
@@ -27,13 +27,13 @@ slot-of true some = refl
 slot-of false some = absurd (omega (arith, some))
 
 -- whoever stands in a line is one of the places
-pub line-inside : (needs : Needs) (places : ℕ) (row : ℕ → ℕ) (standing : ℕ → Place) (lazy : Lazy) (s : Stands needs places row standing lazy) (other : ℕ)
+pub line-inside : (needs : Needs) (places : ℕ) (row : ℕ → ℕ) (standing : ℕ → Place) (lazy : Lazy) (s : Refines needs places row standing lazy) (other : ℕ)
     → 0 < waits_times other lazy.line → other < places
 line-inside needs places row standing lazy s other there =
     s.seats.within other (slot-of (is_slot (standing other).registration) (omega (arith, there, s.seats.held other)))
 
 -- so is whoever is owed an answer
-pub due-inside : (needs : Needs) (places : ℕ) (row : ℕ → ℕ) (standing : ℕ → Place) (lazy : Lazy) (s : Stands needs places row standing lazy) (place other : ℕ)
+pub due-inside : (needs : Needs) (places : ℕ) (row : ℕ → ℕ) (standing : ℕ → Place) (lazy : Lazy) (s : Refines needs places row standing lazy) (place other : ℕ)
     → is_in other (s.owed place) ≡ true → other < places
 due-inside needs places row standing lazy s place other there =
     let due : one_if (is_some (lazy.due other)) ≡ 1 = ap (λ (a : Option ℕ). one_if (is_some a)) (s.debts.due_to place other there).1 in
@@ -74,10 +74,10 @@ ranged-store needs current other next value Ends h = h
 ranged-store needs current other next value (Again seen) h = h
 
 -- The line word of the newest that is owed is looked at
-pub step-ShowLoad : (needs : Needs) → AreNeeds needs → needs.top < 64 → (places : ℕ) (row : ℕ → ℕ) (standing : ℕ → Place) (lazy : Lazy) (me : ℕ)
-    → places < 65536 → me < places → (s : Stands needs places row standing lazy)
+pub step-ShowLoad : (needs : Needs) → AreNeeds needs → needs.top < 2 ^ count_bits → (places : ℕ) (row : ℕ → ℕ) (standing : ℕ → Place) (lazy : Lazy) (me : ℕ)
+    → places < 65536 → me < places → (s : Refines needs places row standing lazy)
     → (current value : ℕ) (afterwards : Afterwards) → (standing me).stage ≡ ShowLoad current value afterwards
-    → Stepped needs places row standing lazy me (ShowLoad current value afterwards)
+    → StepRefines needs places row standing lazy me (ShowLoad current value afterwards)
 step-ShowLoad needs lawful wide places row standing lazy me room here s current value afterwards at =
     let stage : Stage = ShowLoad current value afterwards in
     let alone : IsAlone needs (standing me).registration (standing me).back stage =
@@ -113,7 +113,7 @@ line-answer row places at number place inside some =
     ap line_word_of (row-other row (places + at) number (place + 1) (λ is. absurd (omega (arith, is, inside, some))))
 
 -- the line words link the line once an answer word was written
-pub line-shown : (needs : Needs) (places : ℕ) (row : ℕ → ℕ) (standing : ℕ → Place) (lazy : Lazy) (s : Stands needs places row standing lazy) (at number : ℕ)
+pub line-shown : (needs : Needs) (places : ℕ) (row : ℕ → ℕ) (standing : ℕ → Place) (lazy : Lazy) (s : Refines needs places row standing lazy) (at number : ℕ)
     → 0 < at → IsLine (line_of (updated row (places + at) number)) lazy.line s.cut s.uncut
 line-shown needs places row standing lazy s at number some =
     let new : ℕ → LineWord = line_of (updated row (places + at) number) in
@@ -131,7 +131,7 @@ line-shown needs places row standing lazy s at number some =
     }
 
 -- and each place's own line word says what it did
-pub own-shown : (needs : Needs) (places : ℕ) (row : ℕ → ℕ) (standing : ℕ → Place) (lazy : Lazy) (s : Stands needs places row standing lazy) (at number : ℕ)
+pub own-shown : (needs : Needs) (places : ℕ) (row : ℕ → ℕ) (standing : ℕ → Place) (lazy : Lazy) (s : Refines needs places row standing lazy) (at number : ℕ)
     → 0 < at → (other : ℕ) → IsOwn (line_of (updated row (places + at) number) other) (standing other).stage
 own-shown needs places row standing lazy s at number some other =
     elim (cases_Bool (nat_lt other places)) [
@@ -144,7 +144,7 @@ own-shown needs places row standing lazy s at number some other =
     ]
 
 -- and what the holder knows of the line is so
-pub holding-shown : (needs : Needs) (places : ℕ) (row : ℕ → ℕ) (standing : ℕ → Place) (lazy : Lazy) (s : Stands needs places row standing lazy) (at number : ℕ)
+pub holding-shown : (needs : Needs) (places : ℕ) (row : ℕ → ℕ) (standing : ℕ → Place) (lazy : Lazy) (s : Refines needs places row standing lazy) (at number : ℕ)
     → 0 < at → (place : ℕ) (stage : Stage) → IsHolding needs (line_of row) place lazy.count lazy.line s.cut stage
     → IsHolding needs (line_of (updated row (places + at) number)) place lazy.count lazy.line s.cut stage
 holding-shown needs places row standing lazy s at number some mine stage h =
@@ -152,7 +152,7 @@ holding-shown needs places row standing lazy s at number some mine stage h =
     (sym (append-nil lazy.line)) refl (λ place there. line-answer row places at number place (line-inside needs places row standing lazy s place there) some) h
 
 -- an object whose answers alone changed has the same main word
-pub main-shown : (needs : Needs) (places : ℕ) (row : ℕ → ℕ) (standing : ℕ → Place) (lazy : Lazy) (s : Stands needs places row standing lazy) (at number : ℕ)
+pub main-shown : (needs : Needs) (places : ℕ) (row : ℕ → ℕ) (standing : ℕ → Place) (lazy : Lazy) (s : Refines needs places row standing lazy) (at number : ℕ)
     (due shown : ℕ → Option ℕ) → 0 < at → IsMain needs (updated row (places + at) number 0) (record lazy { due = due; shown = shown }) s.holder
 main-shown needs places row standing lazy s at number due shown some =
     subst (λ (n : ℕ). IsMain needs n (record lazy { due = due; shown = shown }) s.holder) (sym (row-other row (places + at) number 0 (λ is. absurd (omega (arith, is, some)))))
@@ -169,7 +169,7 @@ main-shown needs places row standing lazy s at number due shown some =
     })
 
 -- an answer that is shown holds its place as it did
-held-shown : (needs : Needs) (places : ℕ) (row : ℕ → ℕ) (standing : ℕ → Place) (lazy : Lazy) (s : Stands needs places row standing lazy) (asker value : ℕ)
+held-shown : (needs : Needs) (places : ℕ) (row : ℕ → ℕ) (standing : ℕ → Place) (lazy : Lazy) (s : Refines needs places row standing lazy) (asker value : ℕ)
     → lazy.due asker ≡ Some value → (other : ℕ)
     → held_by other (record lazy { due = with_answer asker None lazy.due; shown = with_answer asker (lazy.due asker) lazy.shown }) ≡ one_if (is_slot (standing other).registration)
 held-shown needs places row standing lazy s asker value due other =
@@ -183,7 +183,7 @@ held-shown needs places row standing lazy s asker value due other =
     ]
 
 -- the same seats, for other answers that hold each place as they did
-seats-shown : (needs : Needs) (places : ℕ) (row : ℕ → ℕ) (standing : ℕ → Place) (lazy last : Lazy) (s : Stands needs places row standing lazy) (me : ℕ) (place : Place)
+seats-shown : (needs : Needs) (places : ℕ) (row : ℕ → ℕ) (standing : ℕ → Place) (lazy last : Lazy) (s : Refines needs places row standing lazy) (me : ℕ) (place : Place)
     → me < places → is_slot place.registration ≡ is_slot (standing me).registration
     → ((other : ℕ) → held_by other last ≡ one_if (is_slot (standing other).registration)) → AreSeats places (updated standing me place) last
 seats-shown needs places row standing lazy last s me place here same held = record {
@@ -193,7 +193,7 @@ seats-shown needs places row standing lazy last s me place here same held = reco
 }
 
 -- the answer words once an answer is shown
-answers-shown : (needs : Needs) (places : ℕ) (row : ℕ → ℕ) (standing : ℕ → Place) (lazy : Lazy) (s : Stands needs places row standing lazy)
+answers-shown : (needs : Needs) (places : ℕ) (row : ℕ → ℕ) (standing : ℕ → Place) (lazy : Lazy) (s : Refines needs places row standing lazy)
     (asker value : ℕ) → lazy.due asker ≡ Some value → value < 256
     → AreAnswers places (updated row (places + (asker + 1)) (answer_number (Some value))) (with_answer asker (lazy.due asker) lazy.shown)
 answers-shown needs places row standing lazy s asker value due fits = record {
@@ -218,7 +218,7 @@ answers-shown needs places row standing lazy s asker value due fits = record {
 }
 
 -- what is owed once the newest of what a place owed is shown
-debts-shown : (needs : Needs) (places : ℕ) (row : ℕ → ℕ) (standing : ℕ → Place) (lazy : Lazy) (s : Stands needs places row standing lazy) (me : ℕ)
+debts-shown : (needs : Needs) (places : ℕ) (row : ℕ → ℕ) (standing : ℕ → Place) (lazy : Lazy) (s : Refines needs places row standing lazy) (me : ℕ)
     (before : List (ℕ × ℕ)) (asker : ℕ × ℕ) (number : ℕ) → s.owed me ≡ before ++ asker ∷ []
     → AreDebts (line_of (updated row (places + (asker.0 + 1)) number)) (with_answer asker.0 None lazy.due) (updated s.owed me before) s.shower s.worth
 debts-shown needs places row standing lazy s me before asker number is =
@@ -291,12 +291,12 @@ debts-shown needs places row standing lazy s me before asker number is =
 
 -- An answer is shown, whatever the place does next
 pub shown : (needs : Needs) (places : ℕ) (row : ℕ → ℕ) (standing : ℕ → Place) (lazy : Lazy) (me : ℕ)
-    → me < places → (s : Stands needs places row standing lazy) (before : List (ℕ × ℕ)) (asker : ℕ × ℕ) → s.owed me ≡ before ++ asker ∷ []
+    → me < places → (s : Refines needs places row standing lazy) (before : List (ℕ × ℕ)) (asker : ℕ × ℕ) → s.owed me ≡ before ++ asker ∷ []
     → (stage : Stage) → IsRanged needs stage → IsAlone needs (standing me).registration (standing me).back stage
     → (gives_up (standing me).back stage ≡ true → is_in me lazy.line ≡ false) → ((word : LineWord) → IsOwn word stage) → IsShowing before (s.worth me) stage
     → is_holder stage ≡ is_holder (standing me).stage
     → (s.holder ≡ me + 1 → IsHolding needs (line_of row) me lazy.count lazy.line s.cut stage)
-    → Stands needs places (updated row (places + (asker.0 + 1)) (answer_number (Some (s.worth me)))) (updated standing me (record (standing me) { stage = stage }))
+    → Refines needs places (updated row (places + (asker.0 + 1)) (answer_number (Some (s.worth me)))) (updated standing me (record (standing me) { stage = stage }))
     (record lazy { due = with_answer asker.0 None lazy.due; shown = with_answer asker.0 (lazy.due asker.0) lazy.shown })
 shown needs places row standing lazy me here s before asker is stage ranged alone apart own showing holder holding =
     let number : ℕ = answer_number (Some (s.worth me)) in

@@ -1,9 +1,10 @@
 -- A call that starts changes nothing of what stands in the words, and has named nothing.
-use Rattle.std.proofs.Common.{◌≡◌, ℕ, ◌<◌, ◌≤◌, true, false, List, [], ◌==◌, Some, nat_lt, refl, sym, ap, subst, ◌∙◌, arith, inl, inr}
+use Rattle.std.proofs.Common.{◌^◌, ◌≡◌, ℕ, ◌<◌, ◌≤◌, true, false, List, [], ◌==◌, Some, nat_lt, refl, sym, ap, subst, ◌∙◌, arith, inl, inr}
 use Rattle.std.proofs.lemmas.Bool.{cases_Bool}
 use Rattle.std.proofs.lemmas.Bool.Decides.{nat_tests}
 use Rattle.saa_core_spec.specs.declared.lock.Mode.{Mode}
 use Rattle.saa_core_spec.specs.declared.lock.Mode.TheVariants.{Exclusive as ModeExclusive, Shared as ModeShared, WaitExclusive, WaitShared}
+use Rattle.saa_core_words.specs.Words.{count_bits}
 use Rattle.saa_word_steps.specs.declared.call.WordCall.{WordCall}
 use Rattle.saa_word_steps.specs.declared.call.WordCall.TheVariants.{Try, Register, Release, Available, TryLock, TryShare, RegisterMode, ReleaseLock, ReleaseShare, PoisonLock, ClearPoison, IsFree, IsLocked, IsShared, IsPoisoned, TryPoll, Poll, Cancel}
 use Rattle.saa_word_steps.specs.declared.place.Place.{Place}
@@ -19,8 +20,8 @@ use Rattle.saa_word_steps.specs.declared.place.Stage.TheVariants.{Quiet, ReadLoa
 use Rattle.saa_word_steps.specs.Needs.{Needs}
 use Rattle.saa_word_steps.specs.Lazy.{Lazy}
 use Rattle.saa_word_steps.specs.Steps.{IsRanged, is_taken, is_idle, mode_number, polled_as, cancelled_as, registered_as, started}
-use Rattle.saa_word_proofs.specs.Standing.{updated, line_of, is_slot, is_holder, gives_up, IsAlone, IsOwn, IsShowing, Stands}
-use Rattle.saa_word_proofs.specs.Stepped.{place_after}
+use Rattle.saa_word_proofs.specs.Refinement.{updated, line_of, is_slot, is_holder, gives_up, IsAlone, IsOwn, IsShowing, Refines}
+use Rattle.saa_word_proofs.specs.StepRefinement.{place_after}
 use Rattle.saa_word_proofs.specs.Calls.{asked_by, is_taken_up, IsTaking, IsBegun}
 use Rattle.saa_word_proofs.proofs.RefinementLemmas.Lists.{updated-same}
 use Rattle.saa_word_proofs.proofs.RefinementLemmas.Rows.{moved}
@@ -29,11 +30,11 @@ use Rattle.saa_word_proofs.proofs.RefinementLemmas.Outcomes.{not-holder}
 -- All stand together still
 
 -- a place that starts: no word was looked at, and no event happened
-begun : (needs : Needs) (places : ℕ) (row : ℕ → ℕ) (standing : ℕ → Place) (lazy : Lazy) (me : ℕ) (s : Stands needs places row standing lazy) (place : Place)
+begun : (needs : Needs) (places : ℕ) (row : ℕ → ℕ) (standing : ℕ → Place) (lazy : Lazy) (me : ℕ) (s : Refines needs places row standing lazy) (place : Place)
     → me < places → (standing me).stage ≡ Quiet → is_slot place.registration ≡ is_slot (standing me).registration
     → IsRanged needs place.stage → IsAlone needs place.registration place.back place.stage → gives_up place.back place.stage ≡ false
     → IsOwn (line_of row me) place.stage → ((owed : List (ℕ × ℕ)) (worth : ℕ) → owed ≡ [] → IsShowing owed worth place.stage) → is_holder place.stage ≡ false
-    → Stands needs places row (updated standing me place) lazy
+    → Refines needs places row (updated standing me place) lazy
 begun needs places row standing lazy me s place here quiet same ranged alone keeps own showing none =
     moved needs places row standing lazy me s place here same ranged alone
     (λ gives. (let wrong : true ≡ false = sym gives ∙ keeps in absurd (cc))) own
@@ -41,9 +42,9 @@ begun needs places row standing lazy me s place here quiet same ranged alone kee
     (λ it. absurd (not-holder needs places row standing lazy me s (ap is_holder quiet) it))
 
 -- a call that is done at once leaves its place as it was
-same-place : (needs : Needs) (places : ℕ) (row : ℕ → ℕ) (standing : ℕ → Place) (lazy : Lazy) (me : ℕ) → Stands needs places row standing lazy
-    → Stands needs places row (updated standing me (standing me)) lazy
-same-place needs places row standing lazy me s = subst (λ (f : ℕ → Place). Stands needs places row f lazy) (sym (updated-same standing me (standing me) refl)) s
+same-place : (needs : Needs) (places : ℕ) (row : ℕ → ℕ) (standing : ℕ → Place) (lazy : Lazy) (me : ℕ) → Refines needs places row standing lazy
+    → Refines needs places row (updated standing me (standing me)) lazy
+same-place needs places row standing lazy me s = subst (λ (f : ℕ → Place). Refines needs places row f lazy) (sym (updated-same standing me (standing me) refl)) s
 
 -- who isn't registered holds no place
 idle-slot : (registration : Registration) → is_idle registration ≡ true → is_slot registration ≡ false
@@ -59,31 +60,31 @@ mode-small WaitExclusive = omega arith
 mode-small WaitShared = omega arith
 
 -- a reading call that starts
-reading-starts : (needs : Needs) (places : ℕ) (row : ℕ → ℕ) (standing : ℕ → Place) (lazy : Lazy) (me : ℕ) (s : Stands needs places row standing lazy)
+reading-starts : (needs : Needs) (places : ℕ) (row : ℕ → ℕ) (standing : ℕ → Place) (lazy : Lazy) (me : ℕ) (s : Refines needs places row standing lazy)
     → me < places → (standing me).stage ≡ Quiet → (reading : Reading)
-    → Stands needs places row (updated standing me (record (standing me) { stage = ReadLoad reading })) lazy
+    → Refines needs places row (updated standing me (record (standing me) { stage = ReadLoad reading })) lazy
 reading-starts needs places row standing lazy me s here quiet reading =
     begun needs places row standing lazy me s (record (standing me) { stage = ReadLoad reading }) here quiet refl tt tt refl tt (λ owed worth nothing. nothing) refl
 
 -- an ask that starts
-ask-starts : (needs : Needs) (places : ℕ) (row : ℕ → ℕ) (standing : ℕ → Place) (lazy : Lazy) (me : ℕ) (s : Stands needs places row standing lazy)
+ask-starts : (needs : Needs) (places : ℕ) (row : ℕ → ℕ) (standing : ℕ → Place) (lazy : Lazy) (me : ℕ) (s : Refines needs places row standing lazy)
     → me < places → (standing me).stage ≡ Quiet → (ask : Ask) → ask.request < 65536 → (ask.joins ≡ true → is_slot (standing me).registration ≡ false)
-    → Stands needs places row (updated standing me (record (standing me) { stage = AskLoad ask })) lazy
+    → Refines needs places row (updated standing me (record (standing me) { stage = AskLoad ask })) lazy
 ask-starts needs places row standing lazy me s here quiet ask small idle =
     begun needs places row standing lazy me s (record (standing me) { stage = AskLoad ask }) here quiet refl tt (small, idle) refl tt
     (λ owed worth nothing. nothing) refl
 
 -- a try that starts
-try-starts : (needs : Needs) (places : ℕ) (row : ℕ → ℕ) (standing : ℕ → Place) (lazy : Lazy) (me : ℕ) (s : Stands needs places row standing lazy)
+try-starts : (needs : Needs) (places : ℕ) (row : ℕ → ℕ) (standing : ℕ → Place) (lazy : Lazy) (me : ℕ) (s : Refines needs places row standing lazy)
     → me < places → (standing me).stage ≡ Quiet → (request : ℕ) → request < 65536
-    → Stands needs places row (updated standing me (record (standing me) { stage = AskLoad (record { request = request; joins = false }) })) lazy
+    → Refines needs places row (updated standing me (record (standing me) { stage = AskLoad (record { request = request; joins = false }) })) lazy
 try-starts needs places row standing lazy me s here quiet request small =
     ask-starts needs places row standing lazy me s here quiet (record { request = request; joins = false }) small (λ joins. absurd (cc))
 
 -- a registration that starts
-register-starts : (needs : Needs) (places : ℕ) (row : ℕ → ℕ) (standing : ℕ → Place) (lazy : Lazy) (me : ℕ) (s : Stands needs places row standing lazy)
+register-starts : (needs : Needs) (places : ℕ) (row : ℕ → ℕ) (standing : ℕ → Place) (lazy : Lazy) (me : ℕ) (s : Refines needs places row standing lazy)
     → me < places → (standing me).stage ≡ Quiet → (request : ℕ) → request < 65536
-    → Stands needs places row (updated standing me (place_after (standing me) (registered_as (standing me) request))) lazy
+    → Refines needs places row (updated standing me (place_after (standing me) (registered_as (standing me) request))) lazy
 register-starts needs places row standing lazy me s here quiet request small =
     elim (cases_Bool (is_idle (standing me).registration)) [
       | inl idle ↦ rw idle (ask-starts needs places row standing lazy me s here quiet (record { request = request; joins = true }) small
@@ -92,18 +93,18 @@ register-starts needs places row standing lazy me s here quiet request small =
     ]
 
 -- a release that starts
-release-starts : (needs : Needs) (places : ℕ) (row : ℕ → ℕ) (standing : ℕ → Place) (lazy : Lazy) (me : ℕ) (s : Stands needs places row standing lazy)
+release-starts : (needs : Needs) (places : ℕ) (row : ℕ → ℕ) (standing : ℕ → Place) (lazy : Lazy) (me : ℕ) (s : Refines needs places row standing lazy)
     → me < places → (standing me).stage ≡ Quiet → (request : ℕ)
-    → Stands needs places row (updated standing me (record (standing me) { stage = ReleaseLoad request; back = Tells })) lazy
+    → Refines needs places row (updated standing me (record (standing me) { stage = ReleaseLoad request; back = Tells })) lazy
 release-starts needs places row standing lazy me s here quiet request =
     begun needs places row standing lazy me s (record (standing me) { stage = ReleaseLoad request; back = Tells }) here quiet refl tt refl refl tt
     (λ owed worth nothing. nothing) refl
 
 -- a poll that starts; it doesn't give up what it is registered as
-poll-starts : (needs : Needs) (places : ℕ) (row : ℕ → ℕ) (standing : ℕ → Place) (lazy : Lazy) (me : ℕ) (s : Stands needs places row standing lazy) (taking : Taking)
+poll-starts : (needs : Needs) (places : ℕ) (row : ℕ → ℕ) (standing : ℕ → Place) (lazy : Lazy) (me : ℕ) (s : Refines needs places row standing lazy) (taking : Taking)
     → me < places → (standing me).stage ≡ Quiet → (registration : Registration) → (standing me).registration ≡ registration
     → (is_slot registration ≡ true → IsAlone needs (standing me).registration (standing me).back (Take taking)) → gives_up (standing me).back (Take taking) ≡ false
-    → Stands needs places row (updated standing me (place_after (standing me) (polled_as (standing me) taking registration))) lazy
+    → Refines needs places row (updated standing me (place_after (standing me) (polled_as (standing me) taking registration))) lazy
 poll-starts needs places row standing lazy me s taking here quiet Idle is alone keeps = same-place needs places row standing lazy me s
 poll-starts needs places row standing lazy me s taking here quiet (Once value request) is alone keeps =
     moved needs places row standing lazy me s (record (standing me) { registration = Idle }) here (ap is_slot (sym is)) (s.stages.ranged me)
@@ -114,9 +115,9 @@ poll-starts needs places row standing lazy me s taking here quiet (Slot request)
     (λ owed worth nothing. nothing) refl
 
 -- a cancel that starts: it gives back what it was granted, or looks for itself in the line
-cancel-starts : (needs : Needs) (places : ℕ) (row : ℕ → ℕ) (standing : ℕ → Place) (lazy : Lazy) (me : ℕ) (s : Stands needs places row standing lazy)
+cancel-starts : (needs : Needs) (places : ℕ) (row : ℕ → ℕ) (standing : ℕ → Place) (lazy : Lazy) (me : ℕ) (s : Refines needs places row standing lazy)
     → me < places → (standing me).stage ≡ Quiet → (registration : Registration) → (standing me).registration ≡ registration
-    → Stands needs places row (updated standing me (place_after (standing me) (cancelled_as needs (standing me) registration))) lazy
+    → Refines needs places row (updated standing me (place_after (standing me) (cancelled_as needs (standing me) registration))) lazy
 cancel-starts needs places row standing lazy me s here quiet Idle is = same-place needs places row standing lazy me s
 cancel-starts needs places row standing lazy me s here quiet (Once value request) is =
     elim (cases_Bool (is_taken_up needs request value)) [
@@ -130,9 +131,9 @@ cancel-starts needs places row standing lazy me s here quiet (Slot request) is =
     (λ owed worth nothing. nothing) refl
 
 -- A call that starts leaves all standing together
-pub starts : (needs : Needs) → needs.top < 64 → (places : ℕ) (row : ℕ → ℕ) (standing : ℕ → Place) (lazy : Lazy) (me : ℕ) (call : WordCall)
-    → me < places → Stands needs places row standing lazy → (standing me).stage ≡ Quiet → is_taken needs.is_lock call ≡ true
-    → Stands needs places row (updated standing me (place_after (standing me) (started needs (standing me) call))) lazy
+pub starts : (needs : Needs) → needs.top < 2 ^ count_bits → (places : ℕ) (row : ℕ → ℕ) (standing : ℕ → Place) (lazy : Lazy) (me : ℕ) (call : WordCall)
+    → me < places → Refines needs places row standing lazy → (standing me).stage ≡ Quiet → is_taken needs.is_lock call ≡ true
+    → Refines needs places row (updated standing me (place_after (standing me) (started needs (standing me) call))) lazy
 starts needs wide places row standing lazy me (Try count) here s quiet taken =
     elim (cases_Bool (nat_lt needs.top count)) [
       | inl more ↦ rw more (same-place needs places row standing lazy me s)

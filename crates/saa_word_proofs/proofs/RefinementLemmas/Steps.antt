@@ -1,12 +1,13 @@
--- Every step of every place keeps how words, places and the lazy object stand together.
-use Rattle.std.proofs.Common.{◌≡◌, ℕ, ◌<◌, [], refl, sym, subst, arith}
+-- Every step of every place keeps that words and places refine the abstract state.
+use Rattle.std.proofs.Common.{◌^◌, ◌≡◌, ℕ, ◌<◌, [], refl, sym, subst, arith}
+use Rattle.saa_core_words.specs.Words.{count_bits}
 use Rattle.saa_word_steps.specs.declared.place.Place.{Place}
 use Rattle.saa_word_steps.specs.declared.place.Stage.{Stage}
 use Rattle.saa_word_steps.specs.declared.place.Stage.TheVariants.{Quiet, ReadLoad, AskLoad, AskExchange, Prepare, Join, ReleaseLoad, ReleaseExchange, BackLoad, BackStore, Forward, CutToClose, CutToGoRound, Close, Empty, GoRound, ShowLoad, ShowStore, Take, FlagLoad, FlagExchange, LookLoad, LookStore, Unlink, DropTail, PoisonLoad, PoisonExchange, Clear}
 use Rattle.saa_word_steps.specs.Needs.{Needs, AreNeeds}
 use Rattle.saa_word_steps.specs.Lazy.{Lazy}
-use Rattle.saa_word_proofs.specs.Standing.{updated, Stands}
-use Rattle.saa_word_proofs.specs.Stepped.{Stepped}
+use Rattle.saa_word_proofs.specs.Refinement.{updated, Refines}
+use Rattle.saa_word_proofs.specs.StepRefinement.{StepRefines}
 use Rattle.saa_word_proofs.proofs.RefinementLemmas.Lists.{updated-same}
 use Rattle.saa_word_proofs.proofs.RefinementLemmas.Rows.{loaded}
 use Rattle.saa_word_proofs.proofs.RefinementLemmas.Asking.{step-ReadLoad, step-AskLoad}
@@ -26,7 +27,7 @@ use Rattle.saa_word_proofs.proofs.RefinementLemmas.Poisoning.{step-PoisonLoad, s
 
 -- a place that is in no call stays as it is
 step-Quiet : (needs : Needs) (places : ℕ) (row : ℕ → ℕ) (standing : ℕ → Place) (lazy : Lazy) (me : ℕ)
-    → Stands needs places row standing lazy → Stepped needs places row standing lazy me Quiet
+    → Refines needs places row standing lazy → StepRefines needs places row standing lazy me Quiet
 step-Quiet needs places row standing lazy me s = record {
   events = [];
   last = lazy;
@@ -35,13 +36,13 @@ step-Quiet needs places row standing lazy me s = record {
   calm = λ semaphore. refl;
   inside = omega arith;
   stands = loaded needs places row (updated standing me (standing me)) lazy 0
-      (subst (λ (f : ℕ → Place). Stands needs places row f lazy) (sym (updated-same standing me (standing me) refl)) s);
+      (subst (λ (f : ℕ → Place). Refines needs places row f lazy) (sym (updated-same standing me (standing me) refl)) s);
 }
 
 -- The step of a place, whatever its stage
-pub step : (needs : Needs) → AreNeeds needs → needs.top < 64 → (places : ℕ) (row : ℕ → ℕ) (standing : ℕ → Place) (lazy : Lazy) (me : ℕ)
-    → places < 65536 → me < places → Stands needs places row standing lazy
-    → (stage : Stage) → (standing me).stage ≡ stage → Stepped needs places row standing lazy me stage
+pub step : (needs : Needs) → AreNeeds needs → needs.top < 2 ^ count_bits → (places : ℕ) (row : ℕ → ℕ) (standing : ℕ → Place) (lazy : Lazy) (me : ℕ)
+    → places < 65536 → me < places → Refines needs places row standing lazy
+    → (stage : Stage) → (standing me).stage ≡ stage → StepRefines needs places row standing lazy me stage
 step needs lawful wide places row standing lazy me room here s Quiet at = step-Quiet needs places row standing lazy me s
 step needs lawful wide places row standing lazy me room here s (ReadLoad reading) at =
     step-ReadLoad needs lawful wide places row standing lazy me room here s reading at

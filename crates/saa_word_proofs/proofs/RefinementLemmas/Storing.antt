@@ -9,7 +9,7 @@ use Rattle.saa_core_words.proofs.Words.{line_word-read}
 use Rattle.saa_word_steps.specs.declared.place.Place.{Place}
 use Rattle.saa_word_steps.specs.Needs.{Needs}
 use Rattle.saa_word_steps.specs.Lazy.{Lazy, waits_times}
-use Rattle.saa_word_proofs.specs.Standing.{updated, line_of, newest, IsBehind, Work, IsAt, IsBack, IsPassed, IsLine, Stands}
+use Rattle.saa_word_proofs.specs.Refinement.{updated, line_of, newest, IsBehind, Work, IsAt, IsBack, IsPassed, IsLine, Refines}
 use Rattle.saa_word_proofs.proofs.RefinementLemmas.Lists.{split-last, newest-last, times-append, behind-frame, behind-rest, ahead-frame, ahead-cons}
 use Rattle.saa_word_proofs.proofs.RefinementLemmas.Frames.{newest-stands, work-front}
 use Rattle.saa_word_proofs.proofs.RefinementLemmas.Rows.{line-at, line-other}
@@ -107,7 +107,7 @@ pub record IsStored (places : ℕ) (row : ℕ → ℕ) (lazy : Lazy) (cut uncut 
   pub walk : IsWalked (line_of (updated row (pred current + 1) (line_number (record line { newer = newer })))) lazy.count lazy.line seen current line.older was
 
 -- what the last of the front, whose line word it knows, becomes by such a store
-pub stored : (needs : Needs) (places : ℕ) (row : ℕ → ℕ) (standing : ℕ → Place) (lazy : Lazy) (s : Stands needs places row standing lazy)
+pub stored : (needs : Needs) (places : ℕ) (row : ℕ → ℕ) (standing : ℕ → Place) (lazy : Lazy) (s : Refines needs places row standing lazy)
     (seen : Word) (current newer : ℕ) (line : LineWord) (work : Work lazy.count lazy.line seen) → places < 65536 → s.cut ≡ []
     → IsBack (line_of row) work.front work.behind current newer → line ≡ line_of row (pred current)
     → IsStored places row lazy s.cut s.uncut seen current newer line work

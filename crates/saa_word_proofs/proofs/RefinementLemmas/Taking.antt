@@ -1,12 +1,12 @@
 -- The step that writes an answer, and the one that takes an answer.
-use Rattle.std.proofs.Common.{◌≡◌, ℕ, ◌+◌, ◌%◌, ◌<◌, ◌≤◌, Bool, true, false, not, ◌&&◌, ◌||◌, List, [], ◌∷◌, ◌++◌, ◌==◌, Option, Some, None, is_some, if◌then◌else◌, refl, sym, ap, subst, ◌∙◌, arith, inl, inr, append-nil}
+use Rattle.std.proofs.Common.{◌^◌, ◌≡◌, ℕ, ◌+◌, ◌%◌, ◌<◌, ◌≤◌, Bool, true, false, not, ◌&&◌, ◌||◌, List, [], ◌∷◌, ◌++◌, ◌==◌, Option, Some, None, is_some, if◌then◌else◌, refl, sym, ap, subst, ◌∙◌, arith, inl, inr, append-nil}
 use Rattle.std.proofs.lemmas.Bool.{cases_Bool}
 use Rattle.saa_core_spec.specs.Object.{one_if}
 use Rattle.saa_core_spec.specs.Values.{granted_value}
 use Rattle.saa_core_spec.proofs.Counts.{number_same, same_number, number_other, one_if-same}
 use Rattle.saa_core_words.specs.declared.word.Word.{Word}
 use Rattle.saa_core_words.specs.declared.line_word.LineWord.{LineWord}
-use Rattle.saa_core_words.specs.Words.{answer_number, answer_of}
+use Rattle.saa_core_words.specs.Words.{count_bits, answer_number, answer_of}
 use Rattle.saa_core_words.proofs.Words.{answer-read}
 use Rattle.saa_word_steps.specs.declared.place.Place.{Place}
 use Rattle.saa_word_steps.specs.declared.place.Registration.{Registration}
@@ -23,10 +23,11 @@ use Rattle.saa_word_steps.specs.declared.call.Answer.TheVariants.{Unit as Ended}
 use Rattle.saa_word_steps.specs.declared.place.Next.{Next}
 use Rattle.saa_word_steps.specs.declared.place.Next.TheVariants.{Going, Done}
 use Rattle.saa_word_steps.specs.Needs.{Needs, AreNeeds}
-use Rattle.saa_word_steps.specs.Lazy.{Lazy, Showed, Took, NotReady, is_empty, is_in, waits_times, held_by, with_answer}
+use Rattle.saa_word_steps.specs.declared.event.Event.TheVariants.{Showed, Took, NotReady}
+use Rattle.saa_word_steps.specs.Lazy.{Lazy, is_empty, is_in, waits_times, held_by, with_answer}
 use Rattle.saa_word_steps.specs.Steps.{IsRanged, shown_all, going, taken_answer}
-use Rattle.saa_word_proofs.specs.Standing.{updated, line_of, newest, is_slot, is_holder, takes_back, gives_up, IsReturning, IsAlone, IsOwn, IsShowing, IsHolding, AreAnswers, Stands}
-use Rattle.saa_word_proofs.specs.Stepped.{Stepped, place_after, taken_events}
+use Rattle.saa_word_proofs.specs.Refinement.{updated, line_of, newest, is_slot, is_holder, takes_back, gives_up, IsReturning, IsAlone, IsOwn, IsShowing, IsHolding, AreAnswers, Refines}
+use Rattle.saa_word_proofs.specs.StepRefinement.{StepRefines, place_after, taken_events}
 use Rattle.saa_word_proofs.proofs.RefinementLemmas.Lists.{each-updated, updated-same, updated-at, newest-empty, empty-nil, in-some, times-append, behind-frame}
 use Rattle.saa_word_proofs.proofs.RefinementLemmas.Frames.{stages-next}
 use Rattle.saa_word_proofs.proofs.RefinementLemmas.Rows.{moved, row-other, apart-at}
@@ -52,10 +53,10 @@ walk-holding needs words me held line cut current next value seen h =
     )
 
 -- The newest answer that is owed is shown
-pub step-ShowStore : (needs : Needs) → AreNeeds needs → needs.top < 64 → (places : ℕ) (row : ℕ → ℕ) (standing : ℕ → Place) (lazy : Lazy) (me : ℕ)
-    → places < 65536 → me < places → (s : Stands needs places row standing lazy)
+pub step-ShowStore : (needs : Needs) → AreNeeds needs → needs.top < 2 ^ count_bits → (places : ℕ) (row : ℕ → ℕ) (standing : ℕ → Place) (lazy : Lazy) (me : ℕ)
+    → places < 65536 → me < places → (s : Refines needs places row standing lazy)
     → (current next value : ℕ) (afterwards : Afterwards) → (standing me).stage ≡ ShowStore current next value afterwards
-    → Stepped needs places row standing lazy me (ShowStore current next value afterwards)
+    → StepRefines needs places row standing lazy me (ShowStore current next value afterwards)
 step-ShowStore needs lawful wide places row standing lazy me room here s current next value afterwards at =
     let stage : Stage = ShowStore current next value afterwards in
     let alone : IsReturning (standing me).registration (standing me).back =
@@ -81,10 +82,10 @@ step-ShowStore needs lawful wide places row standing lazy me room here s current
     → IsAlone needs (standing me).registration (standing me).back goes → (gives_up (standing me).back goes ≡ true → is_in me lazy.line ≡ false)
     → ((word : LineWord) → IsOwn word goes) → IsShowing before (s.worth me) goes → is_holder goes ≡ is_holder stage
     → (s.holder ≡ me + 1 → IsHolding needs (line_of row) me lazy.count lazy.line s.cut goes)
-    → Stands needs places (updated row (places + current) (answer_number (Some value))) (updated standing me place) last =
+    → Refines needs places (updated row (places + current) (answer_number (Some value))) (updated standing me place) last =
     λ goes is goes_ranged goes_alone goes_apart goes_own goes_showing goes_holder goes_holding.
-    subst (λ (r : ℕ → ℕ). Stands needs places r (updated standing me place) last) (sym row_is)
-    (subst (λ (p : Place). Stands needs places (updated row (places + (asker.0 + 1)) (answer_number (Some (s.worth me)))) (updated standing me p) last) (sym is)
+    subst (λ (r : ℕ → ℕ). Refines needs places r (updated standing me place) last) (sym row_is)
+    (subst (λ (p : Place). Refines needs places (updated row (places + (asker.0 + 1)) (answer_number (Some (s.worth me)))) (updated standing me p) last) (sym is)
     (shown needs places row standing lazy me here s before asker showing.2 goes goes_ranged goes_alone goes_apart goes_own goes_showing
     (goes_holder ∙ ap is_holder (sym at)) goes_holding)) in
     record {
@@ -104,7 +105,7 @@ step-ShowStore needs lawful wide places row standing lazy me room here s current
           ];
     }
   where
-    at-end : (needs : Needs) (places : ℕ) (row : ℕ → ℕ) (standing : ℕ → Place) (lazy : Lazy) (me : ℕ) (s : Stands needs places row standing lazy)
+    at-end : (needs : Needs) (places : ℕ) (row : ℕ → ℕ) (standing : ℕ → Place) (lazy : Lazy) (me : ℕ) (s : Refines needs places row standing lazy)
         (current next value : ℕ) (afterwards : Afterwards) (before : List (ℕ × ℕ)) (last : Lazy) → next == 0 ≡ true → before ≡ []
         → IsRanged needs (ShowStore current next value afterwards) → IsReturning (standing me).registration (standing me).back
         → (takes_back (standing me).back ≡ true → is_in me lazy.line ≡ false)
@@ -114,9 +115,9 @@ step-ShowStore needs lawful wide places row standing lazy me room here s current
         → IsAlone needs (standing me).registration (standing me).back goes → (gives_up (standing me).back goes ≡ true → is_in me lazy.line ≡ false)
         → ((word : LineWord) → IsOwn word goes) → IsShowing before (s.worth me) goes → is_holder goes ≡ is_holder (ShowStore current next value afterwards)
         → (s.holder ≡ me + 1 → IsHolding needs (line_of row) me lazy.count lazy.line s.cut goes)
-        → Stands needs places (updated row (places + current) (answer_number (Some value)))
+        → Refines needs places (updated row (places + current) (answer_number (Some value)))
         (updated standing me (place_after (standing me) (if next == 0 then shown_all (standing me) afterwards else going (standing me) (ShowLoad next value afterwards)))) last)
-        → Stands needs places (updated row (places + current) (answer_number (Some value)))
+        → Refines needs places (updated row (places + current) (answer_number (Some value)))
         (updated standing me (place_after (standing me) (if next == 0 then shown_all (standing me) afterwards else going (standing me) (ShowLoad next value afterwards)))) last
     at-end needs places row standing lazy me s current next value Ends before last done nothing ranged alone apart holding goes =
         let back : Back = (standing me).back in
@@ -135,7 +136,7 @@ answer-again (Some value) small =
     ap answer_of kept ∙ answer-read (Some value) small
 
 -- a place that takes its answer is held no more
-held-taken : (needs : Needs) (places : ℕ) (row : ℕ → ℕ) (standing : ℕ → Place) (lazy : Lazy) (s : Stands needs places row standing lazy)
+held-taken : (needs : Needs) (places : ℕ) (row : ℕ → ℕ) (standing : ℕ → Place) (lazy : Lazy) (s : Refines needs places row standing lazy)
     (me value : ℕ) (place : Place) → is_slot (standing me).registration ≡ true → lazy.shown me ≡ Some value → is_slot place.registration ≡ false → (other : ℕ)
     → held_by other (record lazy { shown = with_answer me None lazy.shown }) ≡ one_if (is_slot (updated standing me place other).registration)
 held-taken needs places row standing lazy s me value place slot is idle =
@@ -145,7 +146,7 @@ held-taken needs places row standing lazy s me value place slot is idle =
     (λ other apart. rw (number_other other me apart) (s.seats.held other))
 
 -- the answer words once an answer is taken
-answers-taken : (needs : Needs) (places : ℕ) (row : ℕ → ℕ) (standing : ℕ → Place) (lazy : Lazy) (s : Stands needs places row standing lazy) (me : ℕ)
+answers-taken : (needs : Needs) (places : ℕ) (row : ℕ → ℕ) (standing : ℕ → Place) (lazy : Lazy) (s : Refines needs places row standing lazy) (me : ℕ)
     → AreAnswers places (updated row (places + (me + 1)) 0) (with_answer me None lazy.shown)
 answers-taken needs places row standing lazy s me = record {
   words = λ place inside.
@@ -167,12 +168,12 @@ answers-taken needs places row standing lazy s me = record {
 
 -- An answer is taken, whatever the place does next
 taken : (needs : Needs) (places : ℕ) (row : ℕ → ℕ) (standing : ℕ → Place) (lazy : Lazy) (me value : ℕ)
-    → me < places → (s : Stands needs places row standing lazy) → is_slot (standing me).registration ≡ true → is_holder (standing me).stage ≡ false
+    → me < places → (s : Refines needs places row standing lazy) → is_slot (standing me).registration ≡ true → is_holder (standing me).stage ≡ false
     → lazy.shown me ≡ Some value
     → (place : Place) → is_slot place.registration ≡ false → IsRanged needs place.stage → IsAlone needs place.registration place.back place.stage
     → gives_up place.back place.stage ≡ false → ((word : LineWord) → IsOwn word place.stage) → IsShowing (s.owed me) (s.worth me) place.stage
     → is_holder place.stage ≡ false
-    → Stands needs places (updated row (places + me + 1) 0) (updated standing me place) (record lazy { shown = with_answer me None lazy.shown })
+    → Refines needs places (updated row (places + me + 1) 0) (updated standing me place) (record lazy { shown = with_answer me None lazy.shown })
 taken needs places row standing lazy me value here s slot none is place idle ranged alone apart own showing free =
     let some : 0 < me + 1 = omega arith in
     let index : places + (me + 1) ≡ places + me + 1 = omega arith in
@@ -181,7 +182,7 @@ taken needs places row standing lazy me value here s slot none is place idle ran
     λ other inside.
     let same = line-answer row places (me + 1) 0 other inside some in
     (ap (λ (w : LineWord). w.request) same, ap (λ (w : LineWord). w.older) same) in
-    subst (λ (n : ℕ). Stands needs places (updated row n 0) (updated standing me place) (record lazy { shown = with_answer me None lazy.shown })) index (record {
+    subst (λ (n : ℕ). Refines needs places (updated row n 0) (updated standing me place) (record lazy { shown = with_answer me None lazy.shown })) index (record {
       holder = s.holder;
       cut = s.cut;
       uncut = s.uncut;
@@ -237,15 +238,15 @@ take-slot needs registration back Awaits alone = alone
 take-slot needs registration back (Gives request) alone = ap is_slot alone
 
 -- an answer that isn't there yet leaves the row, and a place that stays as it is leaves the whole
-stays : (needs : Needs) (places : ℕ) (row : ℕ → ℕ) (standing : ℕ → Place) (lazy : Lazy) (me at : ℕ) → Stands needs places row standing lazy → row at ≡ 0
-    → Stands needs places (updated row at 0) (updated standing me (standing me)) lazy
+stays : (needs : Needs) (places : ℕ) (row : ℕ → ℕ) (standing : ℕ → Place) (lazy : Lazy) (me at : ℕ) → Refines needs places row standing lazy → row at ≡ 0
+    → Refines needs places (updated row at 0) (updated standing me (standing me)) lazy
 stays needs places row standing lazy me at s number =
-    subst (λ (r : ℕ → ℕ). Stands needs places r (updated standing me (standing me)) lazy) (sym (updated-same row at 0 (sym number)))
-    (subst (λ (f : ℕ → Place). Stands needs places row f lazy) (sym (updated-same standing me (standing me) refl)) s)
+    subst (λ (r : ℕ → ℕ). Refines needs places r (updated standing me (standing me)) lazy) (sym (updated-same row at 0 (sym number)))
+    (subst (λ (f : ℕ → Place). Refines needs places row f lazy) (sym (updated-same standing me (standing me) refl)) s)
 
 -- the step of a place that takes its answer, by the answer that it is shown
 takes : (needs : Needs) (places : ℕ) (row : ℕ → ℕ) (standing : ℕ → Place) (lazy : Lazy) (me : ℕ)
-    → me < places → (s : Stands needs places row standing lazy) → is_slot (standing me).registration ≡ true → is_holder (standing me).stage ≡ false
+    → me < places → (s : Refines needs places row standing lazy) → is_slot (standing me).registration ≡ true → is_holder (standing me).stage ≡ false
     → s.owed me ≡ [] → (taking : Taking) (answer : Option ℕ) → lazy.shown me ≡ answer → row (places + me + 1) ≡ answer_number answer
     → Outcome needs places (updated row (places + me + 1) 0) standing lazy me (taken_answer needs (standing me) taking answer) (taken_events taking answer)
 takes needs places row standing lazy me here s slot none nothing Tries (Some value) is number = record {
@@ -275,7 +276,7 @@ takes needs places row standing lazy me here s slot none nothing (Gives request)
   stands =
       let drops : Place = record (standing me) { registration = Idle; stage = ReleaseLoad request; back = EndsCall } in
       let quiet : Place = record (standing me) { registration = Idle; stage = Quiet } in
-      either (λ (p : Place). Stands needs places (updated row (places + me + 1) 0) (updated standing me p) (record lazy { shown = with_answer me None lazy.shown }))
+      either (λ (p : Place). Refines needs places (updated row (places + me + 1) 0) (updated standing me p) (record lazy { shown = with_answer me None lazy.shown }))
       (standing me) (value == granted_value && not (needs.takes request == 0)) (Going drops) (Done quiet Ended)
       (taken needs places row standing lazy me value here s slot none is drops refl tt refl refl (λ word. tt) nothing refl)
       (taken needs places row standing lazy me value here s slot none is quiet refl tt tt refl (λ word. tt) nothing refl);
@@ -292,7 +293,7 @@ takes needs places row standing lazy me here s slot none nothing Tries None is n
   calm = λ semaphore. refl;
   stands =
       let quiet : Place = record (standing me) { stage = Quiet } in
-      subst (λ (r : ℕ → ℕ). Stands needs places r (updated standing me quiet) lazy) (sym (updated-same row (places + me + 1) 0 (sym number)))
+      subst (λ (r : ℕ → ℕ). Refines needs places r (updated standing me quiet) lazy) (sym (updated-same row (places + me + 1) 0 (sym number)))
       (moved needs places row standing lazy me s quiet here refl tt tt (λ gives. absurd (cc)) tt nothing (sym none)
       (λ it. absurd (not-holder needs places row standing lazy me s none it)));
 }
@@ -314,9 +315,9 @@ takes needs places row standing lazy me here s slot none nothing (Gives request)
 }
 
 -- A place takes its answer, or finds none
-pub step-Take : (needs : Needs) → AreNeeds needs → needs.top < 64 → (places : ℕ) (row : ℕ → ℕ) (standing : ℕ → Place) (lazy : Lazy) (me : ℕ)
-    → places < 65536 → me < places → (s : Stands needs places row standing lazy)
-    → (taking : Taking) → (standing me).stage ≡ Take taking → Stepped needs places row standing lazy me (Take taking)
+pub step-Take : (needs : Needs) → AreNeeds needs → needs.top < 2 ^ count_bits → (places : ℕ) (row : ℕ → ℕ) (standing : ℕ → Place) (lazy : Lazy) (me : ℕ)
+    → places < 65536 → me < places → (s : Refines needs places row standing lazy)
+    → (taking : Taking) → (standing me).stage ≡ Take taking → StepRefines needs places row standing lazy me (Take taking)
 step-Take needs lawful wide places row standing lazy me room here s taking at =
     let alone : IsAlone needs (standing me).registration (standing me).back (Take taking) =
     subst (λ stage. IsAlone needs (standing me).registration (standing me).back stage) at (s.stages.alone me) in
@@ -335,7 +336,7 @@ step-Take needs lawful wide places row standing lazy me room here s taking at =
       inside = omega (arith, here);
       stands = subst
           (λ (a : Option ℕ).
-          Stands needs places (updated row (places + me + 1) 0)
+          Refines needs places (updated row (places + me + 1) 0)
           (updated standing me (place_after (standing me) (taken_answer needs (standing me) taking a))) out.last)
           (sym answer_is) out.stands;
     }

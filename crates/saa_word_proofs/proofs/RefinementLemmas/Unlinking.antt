@@ -1,5 +1,5 @@
--- The steps by which a cancel leaves the line: they keep how words, places and the lazy object stand together.
-use Rattle.std.proofs.Common.{◌≡◌, ℕ, ◌+◌, ◌<◌, pred, true, false, not, List, [], ◌∷◌, ◌++◌, ◌==◌, if◌then◌else◌, refl, sym, ap, subst, ◌∙◌, arith, inl, inr, append-nil}
+-- The steps by which a cancel leaves the line: they keep that words and places refine the abstract state.
+use Rattle.std.proofs.Common.{◌^◌, ◌≡◌, ℕ, ◌+◌, ◌<◌, pred, true, false, not, List, [], ◌∷◌, ◌++◌, ◌==◌, if◌then◌else◌, refl, sym, ap, subst, ◌∙◌, arith, inl, inr, append-nil}
 use Rattle.std.proofs.lemmas.Bool.{cases_Bool}
 use Rattle.saa_core_spec.proofs.Counts.{number_same, number_other, same_number}
 use Rattle.saa_core_words.specs.declared.word.Word.{Word}
@@ -14,10 +14,11 @@ use Rattle.saa_word_steps.specs.declared.place.Stage.TheVariants.{Quiet, BackLoa
 use Rattle.saa_word_steps.specs.declared.call.Answer.TheVariants.{Unit as Ended}
 use Rattle.saa_word_steps.specs.declared.place.Next.{Next}
 use Rattle.saa_word_steps.specs.Needs.{Needs, AreNeeds}
-use Rattle.saa_word_steps.specs.Lazy.{Lazy, Left, IsRun, IsSettledAt, is_empty, waits_times}
+use Rattle.saa_word_steps.specs.declared.event.Event.TheVariants.{Left}
+use Rattle.saa_word_steps.specs.Lazy.{Lazy, IsRun, IsSettledAt, is_empty, waits_times}
 use Rattle.saa_word_steps.specs.Steps.{IsRanged, no_line, dropped_word, left_line, done, walking}
-use Rattle.saa_word_proofs.specs.Standing.{updated, main_of, line_of, newest, IsBehind, IsAhead, is_holder, IsAlone, IsShowing, Work, IsAdded, IsAt, IsFound, IsHolding, IsMain, IsLeaving, IsOwn, gives_up, Stands}
-use Rattle.saa_word_proofs.specs.Stepped.{Stepped, of_place, place_after}
+use Rattle.saa_word_proofs.specs.Refinement.{updated, main_of, line_of, newest, IsBehind, IsAhead, is_holder, IsAlone, IsShowing, Work, IsAdded, IsAt, IsFound, IsHolding, IsMain, IsLeaving, IsOwn, gives_up, Refines}
+use Rattle.saa_word_proofs.specs.StepRefinement.{StepRefines, of_place, place_after}
 use Rattle.saa_word_proofs.proofs.RefinementLemmas.Lists.{newest-any, newest-last, behind-front, ahead-frame}
 use Rattle.saa_word_proofs.proofs.RefinementLemmas.Frames.{oldest-stands, work-behind}
 use Rattle.saa_word_proofs.proofs.RefinementLemmas.Rows.{main-found, count-small, line-main, line-at, line-other, row-other, moved, loaded}
@@ -62,14 +63,14 @@ main-left needs number lazy holder before after gone was calm held parts some =
     some-rest (asker ∷ rest) behind there = refl
 
 -- What unlinking leaves, for any stage that the holder goes on at
-unlinking : (needs : Needs) (places : ℕ) (row : ℕ → ℕ) (standing : ℕ → Place) (lazy : Lazy) (me : ℕ) (s : Stands needs places row standing lazy)
+unlinking : (needs : Needs) (places : ℕ) (row : ℕ → ℕ) (standing : ℕ → Place) (lazy : Lazy) (me : ℕ) (s : Refines needs places row standing lazy)
     (seen : Word) (work : Work lazy.count lazy.line seen) (newer older : ℕ) (line : LineWord) (found : IsFound me work.front older) (next : Stage)
     → me < places → is_holder (standing me).stage ≡ true → s.cut ≡ [] → IsAt (line_of row) work.behind newer → line ≡ line_of row (pred newer)
     → IsRanged needs next → IsAlone needs Idle EndsCall next → gives_up EndsCall next ≡ false → ((word : LineWord) → IsOwn word next)
     → IsShowing (s.owed me) (s.worth me) next → is_holder next ≡ true
     → ((new : ℕ → LineWord) → IsAhead new work.behind
     → IsHolding needs new me lazy.count (found.0 ++ (work.behind ++ work.joined)) [] next)
-    → Stands needs places (updated row newer (line_number (record line { older = older })))
+    → Refines needs places (updated row newer (line_number (record line { older = older })))
     (updated standing me (record (left_line (standing me)) { stage = next })) (left lazy (found.0 ++ (work.behind ++ work.joined)))
 unlinking needs places row standing lazy me s seen work newer older line found next here holds none at word ranged alone stays own showing holder holding =
     let mine : s.holder ≡ me + 1 = flag-held needs places row standing lazy me s holds in
@@ -113,7 +114,7 @@ unlinking needs places row standing lazy me s seen work newer older line found n
     main-left needs (row 0) lazy s.holder before after (me, found.1) s.main calm (λ free. omega (arith, mine, same_number s.holder 0 free)) parts
     (some-append work.behind work.joined at.1) in
     subst (λ (link : ℕ).
-    Stands needs places (updated row link number) (updated standing me (record (left_line (standing me)) { stage = next })) (left lazy (before ++ after)))
+    Refines needs places (updated row link number) (updated standing me (record (left_line (standing me)) { stage = next })) (left lazy (before ++ after)))
     (sym there.1)
     (leaving needs places row standing lazy me s (pred newer + 1) number found.1 next before after s.holder here (omega (arith, seat.0)) mine parts
     (λ other out. others other (λ is. omega (arith, waits, ap (λ (n : ℕ). waits_times n lazy.line) is, in-no other lazy.line out)))
@@ -124,10 +125,10 @@ unlinking needs places row standing lazy me s seen work newer older line found n
     (λ is. holding new ahead) (λ other differs. refl))
 
 -- Where somebody is behind the holder, the first of those is linked to whoever is before the holder
-pub step-Unlink : (needs : Needs) → AreNeeds needs → needs.top < 64 → (places : ℕ) (row : ℕ → ℕ) (standing : ℕ → Place) (lazy : Lazy) (me : ℕ)
-    → places < 65536 → me < places → (s : Stands needs places row standing lazy)
+pub step-Unlink : (needs : Needs) → AreNeeds needs → needs.top < 2 ^ count_bits → (places : ℕ) (row : ℕ → ℕ) (standing : ℕ → Place) (lazy : Lazy) (me : ℕ)
+    → places < 65536 → me < places → (s : Refines needs places row standing lazy)
     → (seen : Word) (newer : ℕ) (line : LineWord) (older : ℕ) → (standing me).stage ≡ Unlink seen newer line older
-    → Stepped needs places row standing lazy me (Unlink seen newer line older)
+    → StepRefines needs places row standing lazy me (Unlink seen newer line older)
 step-Unlink needs lawful wide places row standing lazy me room here s seen newer line older at =
     let knows = flag-knows needs places row standing lazy me s (Unlink seen newer line older) at refl in
     let ranged = subst (λ (stage : Stage). IsRanged needs stage) at (s.stages.ranged me) in
@@ -168,14 +169,14 @@ step-Unlink needs lawful wide places row standing lazy me room here s seen newer
     }
 
 -- What dropping the tail leaves, for any stage that the holder goes on at: the flag is kept where somebody waits
-dropping : (needs : Needs) (places : ℕ) (row : ℕ → ℕ) (standing : ℕ → Place) (lazy : Lazy) (me : ℕ) (s : Stands needs places row standing lazy)
+dropping : (needs : Needs) (places : ℕ) (row : ℕ → ℕ) (standing : ℕ → Place) (lazy : Lazy) (me : ℕ) (s : Refines needs places row standing lazy)
     (seen : Word) (older request : ℕ) (before : List (ℕ × ℕ)) (stage : Stage) (next : ℕ)
     → me < places → s.holder ≡ me + 1 → s.cut ≡ [] → main_of row ≡ seen → lazy.line ≡ before ++ (me, request) ∷ [] → older ≡ newest 0 before
     → IsRanged needs stage → IsAlone needs Idle EndsCall stage → gives_up EndsCall stage ≡ false → ((word : LineWord) → IsOwn word stage)
     → IsShowing (s.owed me) (s.worth me) stage → is_holder stage ≡ (next == me + 1)
     → (next ≡ me + 1 → IsHolding needs (line_of row) me lazy.count before [] stage)
     → ((other : ℕ) → (other ≡ me → ⊥) → (s.holder == other + 1) ≡ (next == other + 1)) → (older == 0) ≡ (next == 0)
-    → Stands needs places (updated row 0 (word_number count_bits (dropped_word seen older)))
+    → Refines needs places (updated row 0 (word_number count_bits (dropped_word seen older)))
     (updated standing me (record (left_line (standing me)) { stage = stage })) (left lazy before)
 dropping needs places row standing lazy me s seen older request before stage next here mine none found parts is ranged alone stays own showing holder holding
     others flag =
@@ -193,7 +194,7 @@ dropping needs places row standing lazy me s seen older request before stage nex
     (λ free. ap (λ (l : List (ℕ × ℕ)). not (is_empty l)) (front-none before older is (flag ∙ free)))
     (λ closed. subst (λ (l : List (ℕ × ℕ)). IsSettledAt needs lazy.count l) (sym (nobody-left before closed)) tt) in
     subst (λ (l : List (ℕ × ℕ)).
-    Stands needs places (updated row 0 number) (updated standing me (record (left_line (standing me)) { stage = stage })) (left lazy l)) (sym whole)
+    Refines needs places (updated row 0 number) (updated standing me (record (left_line (standing me)) { stage = stage })) (left lazy l)) (sym whole)
     (leaving needs places row standing lazy me s 0 number request stage before [] next here (omega arith) mine parts
     (λ other out. ap (λ (words : ℕ → LineWord). words other) (line-main row number))
     (rw (line-main row number) (subst (λ (l : List (ℕ × ℕ)). IsBehind (line_of row) 0 l) whole linked_front))
@@ -208,10 +209,10 @@ dropping needs places row standing lazy me s seen older request before stage nex
 
 -- the exchange succeeds: the holder was the newest, and nobody is behind it
 dropped-step : (needs : Needs) (places : ℕ) (row : ℕ → ℕ) (standing : ℕ → Place) (lazy : Lazy) (me : ℕ) → me < places
-    → (s : Stands needs places row standing lazy) → (seen : Word) (older : ℕ) → row 0 == word_number count_bits seen ≡ true → s.holder ≡ me + 1
+    → (s : Refines needs places row standing lazy) → (seen : Word) (older : ℕ) → row 0 == word_number count_bits seen ≡ true → s.holder ≡ me + 1
     → IsRanged needs (DropTail seen older) → IsAlone needs (standing me).registration (standing me).back (DropTail seen older) → s.owed me ≡ []
     → IsHolding needs (line_of row) me lazy.count lazy.line s.cut (DropTail seen older)
-    → Stepped needs places row standing lazy me (DropTail seen older)
+    → StepRefines needs places row standing lazy me (DropTail seen older)
 dropped-step needs places row standing lazy me here s seen older same mine ranged alone nothing knows =
     let work : Work lazy.count lazy.line seen = knows.0 in
     let before : List (ℕ × ℕ) = knows.2.0 in
@@ -241,13 +242,13 @@ dropped-step needs places row standing lazy me here s seen older same mine range
           rw same
           (elim (cases_Bool (older == 0)) [
             | inl first ↦
-                subst (λ (n : Next). Stands needs places (updated row 0 number) (updated standing me (place_after (standing me) n)) (left lazy before))
+                subst (λ (n : Next). Refines needs places (updated row 0 number) (updated standing me (place_after (standing me) n)) (left lazy before))
                 (let is : done (left_line (standing me)) Ended ≡ after = rw first refl in is)
                 (dropping needs places row standing lazy me s seen older request before Quiet 0 here mine knows.1 found line knows.2.3
                 tt tt refl (λ word. tt) nothing (sym (nobody me)) (λ is. absurd (omega (arith, is)))
                 (λ other apart. holder-none s.holder me other mine apart) first)
             | inr others ↦
-                subst (λ (n : Next). Stands needs places (updated row 0 number) (updated standing me (place_after (standing me) n)) (left lazy before))
+                subst (λ (n : Next). Refines needs places (updated row 0 number) (updated standing me (place_after (standing me) n)) (left lazy before))
                 (let is : walking (left_line (standing me)) (dropped_word seen older) ≡ after = rw others refl in is)
                 (dropping needs places row standing lazy me s seen older request before (BackLoad (dropped_word seen older) older 0) s.holder
                 here mine knows.1 found line knows.2.3
@@ -270,10 +271,10 @@ dropped-step needs places row standing lazy me here s seen older same mine range
 
 -- the exchange fails: another word stands there, and the holder looks for itself again from that
 looks-again : (needs : Needs) (places : ℕ) (row : ℕ → ℕ) (standing : ℕ → Place) (lazy : Lazy) (me : ℕ) → me < places
-    → (s : Stands needs places row standing lazy) → (seen : Word) (older : ℕ) → (standing me).stage ≡ DropTail seen older
+    → (s : Refines needs places row standing lazy) → (seen : Word) (older : ℕ) → (standing me).stage ≡ DropTail seen older
     → row 0 == word_number count_bits seen ≡ false → IsLeaving (standing me).registration (standing me).back → s.owed me ≡ []
     → IsHolding needs (line_of row) me lazy.count lazy.line s.cut (DropTail seen older)
-    → Stepped needs places row standing lazy me (DropTail seen older)
+    → StepRefines needs places row standing lazy me (DropTail seen older)
 looks-again needs places row standing lazy me here s seen older at differs leaves nothing knows =
     let next : Place = record (standing me) { stage = LookLoad (main_of row) (main_of row).tail 0 no_line } in
     let some : is_empty lazy.line ≡ false = holding-some needs (line_of row) me lazy.count lazy.line s.cut (DropTail seen older) knows in
@@ -303,10 +304,10 @@ looks-again needs places row standing lazy me here s seen older at differs leave
     }
 
 -- Where nobody is behind the holder, the tail is whoever is before it
-pub step-DropTail : (needs : Needs) → AreNeeds needs → needs.top < 64 → (places : ℕ) (row : ℕ → ℕ) (standing : ℕ → Place) (lazy : Lazy) (me : ℕ)
-    → places < 65536 → me < places → (s : Stands needs places row standing lazy)
+pub step-DropTail : (needs : Needs) → AreNeeds needs → needs.top < 2 ^ count_bits → (places : ℕ) (row : ℕ → ℕ) (standing : ℕ → Place) (lazy : Lazy) (me : ℕ)
+    → places < 65536 → me < places → (s : Refines needs places row standing lazy)
     → (seen : Word) (older : ℕ) → (standing me).stage ≡ DropTail seen older
-    → Stepped needs places row standing lazy me (DropTail seen older)
+    → StepRefines needs places row standing lazy me (DropTail seen older)
 step-DropTail needs lawful wide places row standing lazy me room here s seen older at =
     let mine : s.holder ≡ me + 1 = flag-held needs places row standing lazy me s (ap is_holder at) in
     let knows = flag-knows needs places row standing lazy me s (DropTail seen older) at refl in

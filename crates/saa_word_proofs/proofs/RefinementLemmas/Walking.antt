@@ -1,19 +1,19 @@
 -- The holder of the flag walks the line, from the tail that it saw to the oldest and from there on: each step keeps how words, places
--- and the lazy object stand together.
-use Rattle.std.proofs.Common.{◌≡◌, ℕ, ◌+◌, ◌<◌, pred, true, false, List, [], ◌∷◌, ◌++◌, ◌==◌, refl, sym, ap, subst, ◌∙◌, arith, inl, inr, append_assoc}
+-- and the abstract state stand together.
+use Rattle.std.proofs.Common.{◌^◌, ◌≡◌, ℕ, ◌+◌, ◌<◌, pred, true, false, List, [], ◌∷◌, ◌++◌, ◌==◌, refl, sym, ap, subst, ◌∙◌, arith, inl, inr, append_assoc}
 use Rattle.std.proofs.lemmas.Bool.{cases_Bool}
 use Rattle.saa_core_spec.proofs.Counts.{same_number}
 use Rattle.saa_core_words.specs.declared.word.Word.{Word}
 use Rattle.saa_core_words.specs.declared.line_word.LineWord.{LineWord}
-use Rattle.saa_core_words.specs.Words.{line_number, line_word_of}
+use Rattle.saa_core_words.specs.Words.{count_bits, line_number, line_word_of}
 use Rattle.saa_word_steps.specs.declared.place.Place.{Place}
 use Rattle.saa_word_steps.specs.declared.place.Stage.TheVariants.{BackLoad, BackStore, Forward, CutToClose, Close, Empty}
 use Rattle.saa_word_steps.specs.Needs.{Needs, AreNeeds, fits_count}
 use Rattle.saa_word_steps.specs.Lazy.{Lazy, IsSettledAt, takes_of, is_empty}
 use Rattle.saa_word_steps.specs.Steps.{IsRanged, IsRangedNext, next_of}
 use Rattle.saa_word_steps.proofs.Ranges.{next-ranged}
-use Rattle.saa_word_proofs.specs.Standing.{updated, line_of, newest, is_holder, IsAlone, IsShowing, Work, IsAdded, IsAt, Stands}
-use Rattle.saa_word_proofs.specs.Stepped.{place_after, Stepped}
+use Rattle.saa_word_proofs.specs.Refinement.{updated, line_of, newest, is_holder, IsAlone, IsShowing, Work, IsAdded, IsAt, Refines}
+use Rattle.saa_word_proofs.specs.StepRefinement.{place_after, StepRefines}
 use Rattle.saa_word_proofs.proofs.RefinementLemmas.Lists.{newest-empty, empty-nil, front-append, takes-append}
 use Rattle.saa_word_proofs.proofs.RefinementLemmas.Frames.{newest-stands, oldest-stands, work-front, work-behind}
 use Rattle.saa_word_proofs.proofs.RefinementLemmas.Rows.{apart-at, moved, loaded}
@@ -21,10 +21,10 @@ use Rattle.saa_word_proofs.proofs.RefinementLemmas.Storing.{IsStored, stored}
 use Rattle.saa_word_proofs.proofs.RefinementLemmas.Linking.{flag-held, flag-knows, apart-by, in-line, relinked, IsLooked, looked, linked-all, tail-room}
 
 -- The line word of the last of the front is loaded, before it is linked to those behind it
-pub step-BackLoad : (needs : Needs) → AreNeeds needs → needs.top < 64 → (places : ℕ) (row : ℕ → ℕ) (standing : ℕ → Place) (lazy : Lazy) (me : ℕ)
-    → places < 65536 → me < places → (s : Stands needs places row standing lazy)
+pub step-BackLoad : (needs : Needs) → AreNeeds needs → needs.top < 2 ^ count_bits → (places : ℕ) (row : ℕ → ℕ) (standing : ℕ → Place) (lazy : Lazy) (me : ℕ)
+    → places < 65536 → me < places → (s : Refines needs places row standing lazy)
     → (seen : Word) (current newer : ℕ) → (standing me).stage ≡ BackLoad seen current newer
-    → Stepped needs places row standing lazy me (BackLoad seen current newer)
+    → StepRefines needs places row standing lazy me (BackLoad seen current newer)
 step-BackLoad needs lawful wide places row standing lazy me room here s seen current newer at =
     let knows = flag-knows needs places row standing lazy me s (BackLoad seen current newer) at refl in
     let there = newest-stands knows.0.front current knows.2.1 knows.2.0 in
@@ -47,10 +47,10 @@ step-BackLoad needs lawful wide places row standing lazy me room here s seen cur
     }
 
 -- It is written with the link to the one behind it; the walk goes on to the one before, or turns at the oldest
-pub step-BackStore : (needs : Needs) → AreNeeds needs → needs.top < 64 → (places : ℕ) (row : ℕ → ℕ) (standing : ℕ → Place) (lazy : Lazy) (me : ℕ)
-    → places < 65536 → me < places → (s : Stands needs places row standing lazy)
+pub step-BackStore : (needs : Needs) → AreNeeds needs → needs.top < 2 ^ count_bits → (places : ℕ) (row : ℕ → ℕ) (standing : ℕ → Place) (lazy : Lazy) (me : ℕ)
+    → places < 65536 → me < places → (s : Refines needs places row standing lazy)
     → (seen : Word) (current newer : ℕ) (line : LineWord) → (standing me).stage ≡ BackStore seen current newer line
-    → Stepped needs places row standing lazy me (BackStore seen current newer line)
+    → StepRefines needs places row standing lazy me (BackStore seen current newer line)
 step-BackStore needs lawful wide places row standing lazy me room here s seen current newer line at =
     let knows = flag-knows needs places row standing lazy me s (BackStore seen current newer line) at refl in
     let flag = flag-held needs places row standing lazy me s (ap is_holder at) in
@@ -76,7 +76,7 @@ step-BackStore needs lawful wide places row standing lazy me room here s seen cu
                 empty-nil work.front (sym (newest-empty work.front) ∙ ap (λ (n : ℕ). n == 0) (sym store.walk.before) ∙ none) in
                 rw none
                 (subst (λ (link : ℕ).
-                Stands needs places (updated row link number) (updated standing me (record (standing me) { stage = Forward seen current seen.count })) lazy)
+                Refines needs places (updated row link number) (updated standing me (record (standing me) { stage = Forward seen current seen.count })) lazy)
                 (sym store.link)
                 (relinked needs places row standing lazy me s (Forward seen current seen.count) (pred current) number s.cut s.uncut here flag store.waits
                 store.linked
@@ -87,7 +87,7 @@ step-BackStore needs lawful wide places row standing lazy me room here s seen cu
                 sym (newest-empty work.front) ∙ ap (λ (n : ℕ). n == 0) (sym store.walk.before) ∙ some in
                 rw some
                 (subst (λ (link : ℕ).
-                Stands needs places (updated row link number) (updated standing me (record (standing me) { stage = BackLoad seen line.older current })) lazy)
+                Refines needs places (updated row link number) (updated standing me (record (standing me) { stage = BackLoad seen line.older current })) lazy)
                 (sym store.link)
                 (relinked needs places row standing lazy me s (BackLoad seen line.older current) (pred current) number s.cut s.uncut here flag store.waits
                 store.linked
@@ -131,10 +131,10 @@ passed needs words held line seen current count work added look fits differs =
     )
 
 -- Whoever fits is passed; the line is emptied where all fit, and cut and closed at the first who does not
-pub step-Forward : (needs : Needs) → AreNeeds needs → needs.top < 64 → (places : ℕ) (row : ℕ → ℕ) (standing : ℕ → Place) (lazy : Lazy) (me : ℕ)
-    → places < 65536 → me < places → (s : Stands needs places row standing lazy)
+pub step-Forward : (needs : Needs) → AreNeeds needs → needs.top < 2 ^ count_bits → (places : ℕ) (row : ℕ → ℕ) (standing : ℕ → Place) (lazy : Lazy) (me : ℕ)
+    → places < 65536 → me < places → (s : Refines needs places row standing lazy)
     → (seen : Word) (current count : ℕ) → (standing me).stage ≡ Forward seen current count
-    → Stepped needs places row standing lazy me (Forward seen current count)
+    → StepRefines needs places row standing lazy me (Forward seen current count)
 step-Forward needs lawful wide places row standing lazy me room here s seen current count at =
     let knows = flag-knows needs places row standing lazy me s (Forward seen current count) at refl in
     let work : Work lazy.count lazy.line seen = knows.0 in

@@ -23,12 +23,12 @@ use Rattle.saa_word_steps.specs.declared.call.Answer.TheVariants.{Bool as Says, 
 use Rattle.saa_word_steps.specs.declared.call.WordCall.{WordCall}
 use Rattle.saa_word_steps.specs.declared.call.WordCall.TheVariants.{Try, Register, Release, Available, TryLock, TryShare, RegisterMode, ReleaseLock, ReleaseShare, PoisonLock, ClearPoison, IsFree, IsLocked, IsShared, IsPoisoned, TryPoll, Poll, Cancel}
 use Rattle.saa_word_steps.specs.Needs.{Needs, AreNeeds}
-use Rattle.saa_word_steps.specs.Lazy.{Event}
+use Rattle.saa_word_steps.specs.declared.event.Event.{Event}
 use Rattle.saa_word_steps.specs.Steps.{needs_of, is_taken, is_idle, going, started, tried_as, registered_as, released_as, polled_as, cancelled_as, mode_number}
 use Rattle.saa_word_steps.proofs.LazyRuns.{permits-lawful}
 use Rattle.saa_word_steps.proofs.LockNeeds.{locks-lawful}
-use Rattle.saa_word_proofs.specs.Standing.{updated, Stands}
-use Rattle.saa_word_proofs.specs.Stepped.{place_after}
+use Rattle.saa_word_proofs.specs.Refinement.{updated, Refines}
+use Rattle.saa_word_proofs.specs.StepRefinement.{place_after}
 use Rattle.saa_word_proofs.specs.Calls.{asked_by, given_by, read_by, taken_by, ask_named, release_named, read_named, is_taken_up, IsAnswered, IsBegun, IsCancelled, IsDropped}
 use Rattle.saa_word_proofs.proofs.RefinementLemmas.Starting.{starts, call-begun}
 use Rattle.saa_word_proofs.specs.Alone.{IsQuiet, Moment, put, IsEither, IsDoneIn, IsCalledAlone}
@@ -86,7 +86,7 @@ begin-done rules places me is_sync call now s b steps answer last taken h place 
     let done : (steps ≡ 0) × (said ≡ answer) × (put me (Done place said) now ≡ last) = subst (ByStart needs places me steps now answer last) is h in
     let ended : Agrees needs places me is_sync call s answer (put me (Done place said) now) = record {
       lazy = b.lazy;
-      stands = subst (λ (next : Next). Stands needs places now.row (updated now.standing me (place_after was next)) b.lazy) is
+      stands = subst (λ (next : Next). Refines needs places now.row (updated now.standing me (place_after was next)) b.lazy) is
           (starts needs b.small places now.row now.standing b.lazy me call b.here b.stands (b.quiet me) taken);
       quiet = quiet-put now.standing me place b.quiet
           (subst (λ (next : Next). IsBegun needs call was.registration next) is (call-begun needs was call (b.quiet me)));

@@ -1,6 +1,7 @@
 -- A call that moves alone, from its start to its last step: its events, its answer and the registration that it leaves.
-use Rattle.std.proofs.Common.{◌≡◌, ℕ, zero, suc, ◌<◌, true, List, [], ◌++◌, ◌==◌, Option, refl, sym, ap, subst, ◌∙◌, inl, inr}
+use Rattle.std.proofs.Common.{◌^◌, ◌≡◌, ℕ, zero, suc, ◌<◌, true, List, [], ◌++◌, ◌==◌, Option, refl, sym, ap, subst, ◌∙◌, inl, inr}
 use Rattle.std.proofs.lemmas.Bool.{cases_Bool}
+use Rattle.saa_core_words.specs.Words.{count_bits}
 use Rattle.saa_word_steps.specs.declared.place.Ask.{Ask}
 use Rattle.saa_word_steps.specs.declared.place.Place.{Place}
 use Rattle.saa_word_steps.specs.declared.place.Registration.{Registration}
@@ -11,10 +12,11 @@ use Rattle.saa_word_steps.specs.declared.place.Next.TheVariants.{Going, Waits, D
 use Rattle.saa_word_steps.specs.declared.call.Answer.{Answer}
 use Rattle.saa_word_steps.specs.declared.call.WordCall.{WordCall}
 use Rattle.saa_word_steps.specs.Needs.{Needs, AreNeeds}
-use Rattle.saa_word_steps.specs.Lazy.{Lazy, Event, IsRun}
+use Rattle.saa_word_steps.specs.declared.event.Event.{Event}
+use Rattle.saa_word_steps.specs.Lazy.{Lazy, IsRun}
 use Rattle.saa_word_steps.specs.Steps.{is_taken, word_at, operation_of, started}
-use Rattle.saa_word_proofs.specs.Standing.{updated, Stands}
-use Rattle.saa_word_proofs.specs.Stepped.{Stepped, of_place, named, named_at, place_after, row_after}
+use Rattle.saa_word_proofs.specs.Refinement.{updated, Refines}
+use Rattle.saa_word_proofs.specs.StepRefinement.{StepRefines, of_place, named, named_at, place_after, row_after}
 use Rattle.saa_word_proofs.specs.Calls.{asked_by, IsAnswered, IsUnder, IsUnderNext, IsBegun}
 use Rattle.saa_word_proofs.proofs.RefinementLemmas.Lists.{all-same, updated-at}
 use Rattle.saa_word_proofs.proofs.RefinementLemmas.Steps.{step}
@@ -22,7 +24,8 @@ use Rattle.saa_word_proofs.proofs.RefinementLemmas.Calls.{under-next}
 use Rattle.saa_word_proofs.proofs.RefinementLemmas.Starting.{starts, call-begun}
 use Rattle.saa_word_proofs.specs.Alone.{Moment, put, next_at, IsEither, IsDoneIn}
 use Rattle.saa_word_proofs.proofs.SoloLemmas.Events.{run-append, named-append}
-use Rattle.saa_word_proofs.proofs.SoloLemmas.Paths.{left_behind, left-append, IsLeft, left-next}
+use Rattle.saa_word_proofs.specs.Registering.{left_behind, IsLeft}
+use Rattle.saa_word_proofs.proofs.SoloLemmas.Paths.{left-append, left-next}
 
 updated-twice : {A : Type 0} (old : ℕ → A) (at : ℕ) (one two : A) → updated (updated old at one) at two ≡ updated old at two
 updated-twice old at one two =
@@ -42,7 +45,7 @@ pub record SoFar (needs : Needs) (me : ℕ) (start lazy : Lazy) (names : List Ev
 -- as `was`, and its events say what it is now
 pub record Arrives (needs : Needs) (places me : ℕ) (start : Lazy) (first : ℕ → Place) (call : WordCall) (registered was : Registration) (answer : Answer) (last : Moment) : Type 0 where
   pub lazy : Lazy
-  pub stands : Stands needs places last.row last.standing lazy
+  pub stands : Refines needs places last.row last.standing lazy
   pub names : List Event
   pub far : SoFar needs me start lazy names
   pub answered : IsAnswered needs call registered names answer
@@ -52,12 +55,12 @@ pub record Arrives (needs : Needs) (places me : ℕ) (start : Lazy) (first : ℕ
 
 -- how a call goes on behind a step, where what it does then is known
 goes : (needs : Needs) (places me : ℕ) (call : WordCall) (registered was : Registration) (steps : ℕ) (first : ℕ → Place) (now : Moment) (row : ℕ → ℕ) (start lazy : Lazy) (stage : Stage) (names : List Event) (answer : Answer) (last : Moment)
-    → ((next : Moment) → Stands needs places next.row next.standing lazy → IsUnder needs call registered (next.standing me).back (next.standing me).stage names
+    → ((next : Moment) → Refines needs places next.row next.standing lazy → IsUnder needs call registered (next.standing me).back (next.standing me).stage names
     → (next.standing me).registration ≡ left_behind names (asked_by call) was → next.standing ≡ updated first me (next.standing me)
     → IsDoneIn needs places me steps next answer last → Arrives needs places me start first call registered was answer last)
     → (next : Next) → SoFar needs me start lazy names → now.standing ≡ updated first me (now.standing me)
-    → IsUnderNext needs call registered (now.standing me).back stage names next → IsLeft (left_behind names (asked_by call) was) next
-    → Stands needs places row (updated now.standing me (place_after (now.standing me) next)) lazy
+    → IsUnderNext needs call registered (now.standing me).back stage names next → IsLeft (now.standing me).registration (left_behind names (asked_by call) was) next
+    → Refines needs places row (updated now.standing me (place_after (now.standing me) next)) lazy
     → IsEither next (IsDoneIn needs places me steps (put me next (record now { row = row })) answer last)
     (λ said. (steps ≡ 0) × (said ≡ answer) × (put me next (record now { row = row }) ≡ last))
     → Arrives needs places me start first call registered was answer last
@@ -87,10 +90,10 @@ goes needs places me call registered was steps first now row start lazy stage na
     } in
     subst (λ (m : Moment). Arrives needs places me start first call registered was answer m) h.2 arrived
 
-along : (needs : Needs) → AreNeeds needs → needs.top < 64 → (places me : ℕ) → places < 65536 → me < places
+along : (needs : Needs) → AreNeeds needs → needs.top < 2 ^ count_bits → (places me : ℕ) → places < 65536 → me < places
     → (call : WordCall) (registered was : Registration) (first : ℕ → Place) (start : Lazy) (answer : Answer) (last : Moment)
     → (steps : ℕ) (now : Moment) (lazy : Lazy) (names : List Event) → SoFar needs me start lazy names
-    → Stands needs places now.row now.standing lazy → IsUnder needs call registered (now.standing me).back (now.standing me).stage names
+    → Refines needs places now.row now.standing lazy → IsUnder needs call registered (now.standing me).back (now.standing me).stage names
     → (now.standing me).registration ≡ left_behind names (asked_by call) was → now.standing ≡ updated first me (now.standing me)
     → IsDoneIn needs places me steps now answer last → Arrives needs places me start first call registered was answer last
 along needs lawful small places me room here call registered was first start answer last zero now lazy names far s under same others h = absurd h
@@ -98,7 +101,7 @@ along needs lawful small places me room here call registered was first start ans
     let stage : Stage = (now.standing me).stage in
     let asks : Option Ask = asked_by call in
     let found : ℕ = now.row (word_at (operation_of needs places me stage)) in
-    let made : Stepped needs places now.row now.standing lazy me stage =
+    let made : StepRefines needs places now.row now.standing lazy me stage =
     step needs lawful small places now.row now.standing lazy me room here s stage refl in
     let farther : SoFar needs me start made.last (names ++ named_at needs stage found) = record {
       events = far.events ++ made.events;
@@ -114,21 +117,21 @@ along needs lawful small places me room here call registered was first start ans
     stands then_under then_same then_others then_h)
     (next_at needs places me now) farther others
     (under-next needs call registered me (now.standing me) stage found names under)
-    (subst (λ (r : Registration). IsLeft r (next_at needs places me now)) behind
+    (subst (λ (r : Registration). IsLeft (now.standing me).registration r (next_at needs places me now)) behind
     (left-next needs call registered me (now.standing me) stage found names under))
     made.stands h
 
 -- A call that has steps to make, from its start
-pub from-start : (needs : Needs) → AreNeeds needs → needs.top < 64 → (places me : ℕ) → places < 65536 → me < places
+pub from-start : (needs : Needs) → AreNeeds needs → needs.top < 2 ^ count_bits → (places me : ℕ) → places < 65536 → me < places
     → (call : WordCall) (place : Place) (lazy : Lazy) (answer : Answer) (last : Moment) (steps : ℕ) (now : Moment)
-    → Stands needs places now.row now.standing lazy → (now.standing me).stage ≡ Quiet → is_taken needs.is_lock call ≡ true
+    → Refines needs places now.row now.standing lazy → (now.standing me).stage ≡ Quiet → is_taken needs.is_lock call ≡ true
     → started needs (now.standing me) call ≡ Going place → IsDoneIn needs places me steps (put me (Going place) now) answer last
     → Arrives needs places me lazy now.standing call (now.standing me).registration place.registration answer last
 from-start needs lawful small places me room here call place lazy answer last steps now s quiet taken is h =
     let registered : Registration = (now.standing me).registration in
     let at : updated now.standing me place me ≡ place = updated-at now.standing me place in
-    let stands : Stands needs places now.row (updated now.standing me place) lazy =
-    subst (λ (next : Next). Stands needs places now.row (updated now.standing me (place_after (now.standing me) next)) lazy) is
+    let stands : Refines needs places now.row (updated now.standing me place) lazy =
+    subst (λ (next : Next). Refines needs places now.row (updated now.standing me (place_after (now.standing me) next)) lazy) is
     (starts needs small places now.row now.standing lazy me call here s quiet taken) in
     let under : IsUnder needs call registered place.back place.stage [] =
     subst (λ (next : Next). IsBegun needs call registered next) is (call-begun needs (now.standing me) call quiet) in

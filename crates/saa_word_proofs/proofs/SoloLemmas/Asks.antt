@@ -20,9 +20,10 @@ use Rattle.saa_word_steps.specs.declared.call.Answer.TheVariants.{Bool as Says, 
 use Rattle.saa_word_steps.specs.declared.call.WordCall.{WordCall}
 use Rattle.saa_word_steps.specs.declared.call.WordCall.TheVariants.{Try, Register}
 use Rattle.saa_word_steps.specs.Needs.{Needs, lock_at, fits_count}
-use Rattle.saa_word_steps.specs.Lazy.{Lazy, Got, Refused, Joined, AskedPoisoned, IsAllowed, after_event, is_empty, must_wait}
+use Rattle.saa_word_steps.specs.declared.event.Event.TheVariants.{Got, Refused, Joined, AskedPoisoned}
+use Rattle.saa_word_steps.specs.Lazy.{Lazy, IsEnabled, after_event, is_empty, must_wait}
 use Rattle.saa_word_steps.specs.Steps.{needs_of, is_taken, tried_answer, is_idle as is_free}
-use Rattle.saa_word_proofs.specs.Standing.{updated}
+use Rattle.saa_word_proofs.specs.Refinement.{updated}
 use Rattle.saa_word_proofs.specs.Calls.{asked_by}
 use Rattle.saa_word_proofs.specs.Mirrors.{waiters, entry_of, held_at, Mirrors}
 use Rattle.saa_word_proofs.proofs.SoloLemmas.HeldAt.{plus-at, asks-at, answer-at, held-calm, held-poisoned}
@@ -52,7 +53,7 @@ granted-test needs places standing lazy s request m calm =
 
 -- what was got is granted, and what waits or is refused isn't
 got-test : (needs : Needs) (places me : ℕ) (standing : ℕ → Place) (lazy : Lazy) (s : Object) (request : ℕ) → Mirrors needs places standing lazy s
-    → IsAllowed needs lazy me (Got request) → is_granted_at_once s (needs.read request) ≡ true
+    → IsEnabled needs lazy me (Got request) → is_granted_at_once s (needs.read request) ≡ true
 got-test needs places me standing lazy s request m allowed =
     let free : must_wait needs lazy request ≡ false = rw (allowed.1, allowed.2) refl in
     granted-test needs places standing lazy s request m allowed.0 ∙ ap not free
@@ -75,7 +76,7 @@ poisoned-test needs places standing lazy s request m poisoned =
 
 -- what the object holds once something is got
 got-held : (rules : Rules) (places me : ℕ) (standing : ℕ → Place) (lazy : Lazy) (s : Object) (request : ℕ) → Mirrors (needs_of rules) places standing lazy s
-    → IsAllowed (needs_of rules) lazy me (Got request)
+    → IsEnabled (needs_of rules) lazy me (Got request)
     → plus s.held ((needs_of rules).read request) ≡ held_at (needs_of rules) (after_event (needs_of rules) lazy me (Got request))
 got-held rules places me standing lazy s request m allowed =
     let needs : Needs = needs_of rules in
@@ -113,7 +114,7 @@ says-refused false = refl
 
 pub try-got : (rules : Rules) (places me : ℕ) (is_sync : Bool) (call : WordCall) (standing : ℕ → Place) (lazy : Lazy) (s : Object) (ask : Ask) (place : Place)
     → Starts (needs_of rules) places me standing lazy s → asked_by call ≡ Some ask → ask.joins ≡ false → is_taken (needs_of rules).is_lock call ≡ true
-    → IsAllowed (needs_of rules) lazy me (Got ask.request) → place.registration ≡ (standing me).registration
+    → IsEnabled (needs_of rules) lazy me (Got ask.request) → place.registration ≡ (standing me).registration
     → Answers (needs_of rules) places me is_sync call (updated standing me place) s
     (after_event (needs_of rules) lazy me (Got ask.request)) (tried_answer (needs_of rules) true)
 try-got rules places me is_sync call standing lazy s ask place h asks joins taken allowed same =
@@ -147,7 +148,7 @@ tried-nothing rules places me is_sync call standing lazy s ask place answer h as
 
 pub try-refused : (rules : Rules) (places me : ℕ) (is_sync : Bool) (call : WordCall) (standing : ℕ → Place) (lazy : Lazy) (s : Object) (ask : Ask) (place : Place)
     → Starts (needs_of rules) places me standing lazy s → asked_by call ≡ Some ask → ask.joins ≡ false → is_taken (needs_of rules).is_lock call ≡ true
-    → IsAllowed (needs_of rules) lazy me (Refused ask.request) → place.registration ≡ (standing me).registration
+    → IsEnabled (needs_of rules) lazy me (Refused ask.request) → place.registration ≡ (standing me).registration
     → Answers (needs_of rules) places me is_sync call (updated standing me place) s lazy (tried_answer (needs_of rules) false)
 try-refused rules places me is_sync call standing lazy s ask place h asks joins taken allowed same =
     let needs : Needs = needs_of rules in
@@ -157,7 +158,7 @@ try-refused rules places me is_sync call standing lazy s ask place h asks joins 
 
 pub try-poisoned : (rules : Rules) (places me : ℕ) (is_sync : Bool) (call : WordCall) (standing : ℕ → Place) (lazy : Lazy) (s : Object) (ask : Ask) (place : Place)
     → Starts (needs_of rules) places me standing lazy s → asked_by call ≡ Some ask → ask.joins ≡ false → is_taken (needs_of rules).is_lock call ≡ true
-    → IsAllowed (needs_of rules) lazy me AskedPoisoned → place.registration ≡ (standing me).registration
+    → IsEnabled (needs_of rules) lazy me AskedPoisoned → place.registration ≡ (standing me).registration
     → Answers (needs_of rules) places me is_sync call (updated standing me place) s lazy (Tried (try_answer false true))
 try-poisoned rules places me is_sync call standing lazy s ask place h asks joins taken allowed same =
     let needs : Needs = needs_of rules in
@@ -248,7 +249,7 @@ register-answered rules places me is_sync call standing lazy now s ask held valu
 
 pub register-got : (rules : Rules) (places me : ℕ) (is_sync : Bool) (call : WordCall) (standing : ℕ → Place) (lazy : Lazy) (s : Object) (ask : Ask) (place : Place)
     → Starts (needs_of rules) places me standing lazy s → asked_by call ≡ Some ask → ask.joins ≡ true → is_taken (needs_of rules).is_lock call ≡ true
-    → IsAllowed (needs_of rules) lazy me (Got ask.request)
+    → IsEnabled (needs_of rules) lazy me (Got ask.request)
     → (standing me).registration ≡ IsIdle → ((needs_of rules).is_lock ≡ false → nat_lt (needs_of rules).top ask.request ≡ false)
     → place.registration ≡ Once 0 ask.request
     → Answers (needs_of rules) places me is_sync call (updated standing me place) s
@@ -267,7 +268,7 @@ register-got rules places me is_sync call standing lazy s ask place h asks joins
 
 pub register-poisoned : (rules : Rules) (places me : ℕ) (is_sync : Bool) (call : WordCall) (standing : ℕ → Place) (lazy : Lazy) (s : Object) (ask : Ask) (place : Place)
     → Starts (needs_of rules) places me standing lazy s → asked_by call ≡ Some ask → ask.joins ≡ true → is_taken (needs_of rules).is_lock call ≡ true
-    → IsAllowed (needs_of rules) lazy me AskedPoisoned
+    → IsEnabled (needs_of rules) lazy me AskedPoisoned
     → (standing me).registration ≡ IsIdle → place.registration ≡ Once 2 ask.request
     → Answers (needs_of rules) places me is_sync call (updated standing me place) s lazy (Says true)
 register-poisoned rules places me is_sync call standing lazy s ask place h asks joins taken allowed idle once =
@@ -282,7 +283,7 @@ register-poisoned rules places me is_sync call standing lazy s ask place h asks 
 
 pub register-joined : (rules : Rules) (places me : ℕ) (is_sync : Bool) (call : WordCall) (standing : ℕ → Place) (lazy : Lazy) (s : Object) (ask : Ask) (place : Place)
     → Starts (needs_of rules) places me standing lazy s → asked_by call ≡ Some ask → ask.joins ≡ true → is_taken (needs_of rules).is_lock call ≡ true
-    → IsAllowed (needs_of rules) lazy me (Joined ask.request)
+    → IsEnabled (needs_of rules) lazy me (Joined ask.request)
     → (standing me).registration ≡ IsIdle → ((needs_of rules).is_lock ≡ false → nat_lt (needs_of rules).top ask.request ≡ false)
     → place.registration ≡ Slot ask.request
     → Answers (needs_of rules) places me is_sync call (updated standing me place) s

@@ -16,9 +16,10 @@ use Rattle.saa_word_steps.specs.declared.place.Registration.TheVariants.{Idle as
 use Rattle.saa_word_steps.specs.declared.call.Answer.TheVariants.{Unit as SaysNothing}
 use Rattle.saa_word_steps.specs.declared.call.WordCall.TheVariants.{Cancel}
 use Rattle.saa_word_steps.specs.Needs.{Needs, lock_at, left_count}
-use Rattle.saa_word_steps.specs.Lazy.{Lazy, Took, GaveNothing, IsAllowed, after_event, is_in, line_without, with_answer}
+use Rattle.saa_word_steps.specs.declared.event.Event.TheVariants.{Took, GaveNothing}
+use Rattle.saa_word_steps.specs.Lazy.{Lazy, IsEnabled, after_event, is_in, line_without, with_answer}
 use Rattle.saa_word_steps.specs.Steps.{needs_of}
-use Rattle.saa_word_proofs.specs.Standing.{updated, is_slot, AreSeats}
+use Rattle.saa_word_proofs.specs.Refinement.{updated, is_slot, AreSeats}
 use Rattle.saa_word_proofs.specs.Calls.{is_taken_up}
 use Rattle.saa_word_proofs.specs.Mirrors.{waiters, entry_of, held_at, Mirrors}
 use Rattle.saa_word_proofs.proofs.SoloLemmas.HeldAt.{held-calm}
@@ -167,7 +168,7 @@ gives-back rules places me is_sync standing lazy middle s value request left now
 -- what it took isn't held any more
 gives-nothing : (rules : Rules) (places me : ℕ) (is_sync : Bool) (standing : ℕ → Place) (lazy middle : Lazy) (s : Object) (value request : ℕ) (place : Place)
     → Starts (needs_of rules) places me standing lazy s → Gives (needs_of rules) places me standing lazy middle s value request
-    → value == 0 ≡ true → (needs_of rules).takes request == 0 ≡ false → IsAllowed (needs_of rules) lazy me (GaveNothing request)
+    → value == 0 ≡ true → (needs_of rules).takes request == 0 ≡ false → IsEnabled (needs_of rules) lazy me (GaveNothing request)
     → place.registration ≡ IsIdle
     → Answers (needs_of rules) places me is_sync Cancel (updated standing me place) s middle SaysNothing
 gives-nothing rules places me is_sync standing lazy middle s value request place h g granted some allowed idle =
@@ -227,7 +228,7 @@ cancel-once-gave rules places me is_sync standing lazy s value request left now 
 pub cancel-once-nothing : (rules : Rules) (places me : ℕ) (is_sync : Bool) (standing : ℕ → Place) (lazy : Lazy) (s : Object) (value request : ℕ) (place : Place)
     → Starts (needs_of rules) places me standing lazy s → (standing me).registration ≡ Once value request
     → is_taken_up (needs_of rules) request value ≡ true
-    → IsAllowed (needs_of rules) lazy me (GaveNothing request) → place.registration ≡ IsIdle
+    → IsEnabled (needs_of rules) lazy me (GaveNothing request) → place.registration ≡ IsIdle
     → Answers (needs_of rules) places me is_sync Cancel (updated standing me place) s lazy SaysNothing
 cancel-once-nothing rules places me is_sync standing lazy s value request place h once up allowed idle =
     let took = took-something (needs_of rules) request value up in
@@ -281,7 +282,7 @@ cancel-took-gave rules places me is_sync standing lazy s request left now place 
 pub cancel-took-nothing : (rules : Rules) (places me : ℕ) (is_sync : Bool) (standing : ℕ → Place) (lazy : Lazy) (s : Object) (request : ℕ) (place : Place)
     → Starts (needs_of rules) places me standing lazy s → (standing me).registration ≡ Slot request → lazy.shown me ≡ Some 0
     → ((needs_of rules).takes request ≡ 0 → ⊥)
-    → IsAllowed (needs_of rules) lazy me (GaveNothing request) → place.registration ≡ IsIdle
+    → IsEnabled (needs_of rules) lazy me (GaveNothing request) → place.registration ≡ IsIdle
     → Answers (needs_of rules) places me is_sync Cancel (updated standing me place) s (after_event (needs_of rules) lazy me (Took 0)) SaysNothing
 cancel-took-nothing rules places me is_sync standing lazy s request place h slot shown some allowed idle =
     gives-nothing rules places me is_sync standing lazy (after_event (needs_of rules) lazy me (Took 0)) s 0 request place h

@@ -19,9 +19,11 @@ use Rattle.saa_word_steps.specs.declared.call.Answer.TheVariants.{Bool as Says, 
 use Rattle.saa_word_steps.specs.declared.call.WordCall.{WordCall}
 use Rattle.saa_word_steps.specs.declared.call.WordCall.TheVariants.{PoisonLock, ClearPoison, TryPoll, Poll, Cancel}
 use Rattle.saa_word_steps.specs.Needs.{Needs}
-use Rattle.saa_word_steps.specs.Lazy.{Lazy, Event, Got, Refused, AskedPoisoned, Joined, Left, Gave, GaveNothing, Poisoned, NotPoisoned, Cleared, NotCleared, NotReady, Took, Read, IsAllowed, after_event, count_or, is_in}
+use Rattle.saa_word_steps.specs.declared.event.Event.{Event}
+use Rattle.saa_word_steps.specs.declared.event.Event.TheVariants.{Got, Refused, AskedPoisoned, Joined, Left, Gave, GaveNothing, Poisoned, NotPoisoned, Cleared, NotCleared, NotReady, Took, Read}
+use Rattle.saa_word_steps.specs.Lazy.{Lazy, IsEnabled, after_event, count_or, is_in}
 use Rattle.saa_word_steps.specs.Steps.{is_taken, needs_of, tried_answer, read_as}
-use Rattle.saa_word_proofs.specs.Standing.{updated}
+use Rattle.saa_word_proofs.specs.Refinement.{updated}
 use Rattle.saa_word_proofs.specs.Calls.{asked_by, given_by, read_by, taken_by, ask_named, release_named, read_named, poll_named, poison_named, clear_named, is_taken_up, IsDropped, IsCancelled}
 use Rattle.saa_word_proofs.specs.Alone.{IsAtRest, Moment}
 use Rattle.saa_word_proofs.proofs.SoloLemmas.Mirroring.{Starts, Settles, Answers}
@@ -31,7 +33,7 @@ use Rattle.saa_word_proofs.proofs.SoloLemmas.Cancels.{cancel-once-gave, cancel-o
 use Rattle.saa_word_proofs.proofs.SoloLemmas.PollsAlone.{poll-took, poll-not_ready}
 use Rattle.saa_word_proofs.proofs.SoloLemmas.Locks.{reads, poison-done, poison-refused, clear-done, clear-refused}
 use Rattle.saa_word_proofs.proofs.SoloLemmas.Events.{no-events, IsFirst, first-event, settles, tells}
-use Rattle.saa_word_proofs.proofs.SoloLemmas.Paths.{left_behind}
+use Rattle.saa_word_proofs.specs.Registering.{left_behind}
 use Rattle.saa_word_proofs.proofs.SoloLemmas.Along.{Arrives}
 
 -- What is known of both ends of a call that moved alone
@@ -62,7 +64,7 @@ left-as rules places me call first start s was answer last e names asks is same 
 only : (rules : Rules) (places me : ℕ) (is_sync : Bool) (call : WordCall) (first : ℕ → Place) (start : Lazy) (s : Object) (was : Registration) (answer : Answer) (last : Moment)
     (e : IsOver rules places me call first start s was answer last) (event : Event) (said : Answer) → e.arrived.names ≡ event ∷ [] → said ≡ answer
     → (after_event (needs_of rules) start me event).unclosed ≡ false → ((place : ℕ) → (after_event (needs_of rules) start me event).due place ≡ None)
-    → (IsAllowed (needs_of rules) start me event → Beside rules places me is_sync call first s (after_event (needs_of rules) start me event) said last)
+    → (IsEnabled (needs_of rules) start me event → Beside rules places me is_sync call first s (after_event (needs_of rules) start me event) said last)
     → Beside rules places me is_sync call first s e.arrived.lazy answer last
 only rules places me is_sync call first start s was answer last e event said is says closed paid beside =
     let f = came-first rules places me call first start s was answer last e event [] is in

@@ -1,9 +1,9 @@
--- A call that moves alone is done: each of its steps lowers its budget, and it needn't wait for anybody.
-use Rattle.std.proofs.Common.{◌≡◌, ◌≢◌, ℕ, suc, zero, ◌+◌, ◌*◌, ◌<◌, ◌≤◌, false, true, List, length, ◌==◌, Option, Some, None, is_some, nat_lt, refl, sym, ap, subst, ◌∙◌, arith, inl, inr, Ok}
+-- A call that moves alone is done: each of its steps lowers its step bound, and it needn't wait for anybody.
+use Rattle.std.proofs.Common.{◌^◌, ◌≡◌, ◌≢◌, ℕ, suc, zero, ◌+◌, ◌*◌, ◌<◌, ◌≤◌, false, true, List, length, ◌==◌, Option, Some, None, is_some, nat_lt, refl, sym, ap, subst, ◌∙◌, arith, inl, inr, Ok}
 use Rattle.std.proofs.lemmas.Bool.{cases_Bool}
 use Rattle.std.proofs.lemmas.List.{length-append}
 use Rattle.saa_core_spec.specs.Object.{one_if}
-use Rattle.saa_core_words.specs.Words.{answer_number}
+use Rattle.saa_core_words.specs.Words.{count_bits, answer_number}
 use Rattle.saa_word_steps.specs.declared.call.Answer.{Answer}
 use Rattle.saa_word_steps.specs.declared.call.Answer.TheVariants.{Taken}
 use Rattle.saa_word_steps.specs.declared.call.WordCall.{WordCall}
@@ -19,15 +19,16 @@ use Rattle.saa_word_steps.specs.declared.place.Stage.TheVariants.{Quiet, Take}
 use Rattle.saa_word_steps.specs.declared.place.Taking.{Taking}
 use Rattle.saa_word_steps.specs.declared.place.Taking.TheVariants.{Tries, Awaits}
 use Rattle.saa_word_steps.specs.Needs.{Needs, AreNeeds}
-use Rattle.saa_word_steps.specs.Lazy.{Lazy, Event, is_in, waits_times}
+use Rattle.saa_word_steps.specs.declared.event.Event.{Event}
+use Rattle.saa_word_steps.specs.Lazy.{Lazy, is_in, waits_times}
 use Rattle.saa_word_steps.specs.Steps.{is_taken, is_idle, going, operation_of, mode_number, polled_as, cancelled_as, registered_as, started}
 use Rattle.saa_word_steps.proofs.LazyRuns.{waits-none}
-use Rattle.saa_word_proofs.specs.Standing.{Stands, main_of, is_slot}
-use Rattle.saa_word_proofs.specs.Stepped.{place_after, row_after}
+use Rattle.saa_word_proofs.specs.Refinement.{Refines, main_of, is_slot}
+use Rattle.saa_word_proofs.specs.StepRefinement.{place_after, row_after}
 use Rattle.saa_word_proofs.specs.Calls.{is_taken_up, IsUnder, IsBegun}
 use Rattle.saa_word_proofs.proofs.RefinementLemmas.Lists.{updated-at}
 use Rattle.saa_word_proofs.proofs.RefinementLemmas.Starting.{call-begun}
-use Rattle.saa_word_proofs.specs.Budget.{IsLower, budget, way}
+use Rattle.saa_word_proofs.specs.StepBound.{IsLower, step_bound, way}
 use Rattle.saa_word_proofs.proofs.StepBoundLemmas.Lowered.{lowered}
 use Rattle.saa_word_proofs.proofs.StepBoundLemmas.Ways.{way-length}
 use Rattle.saa_word_proofs.proofs.StepBoundLemmas.Lines.{uncut-way}
@@ -83,22 +84,22 @@ some-left ways number before (Going place) lower = omega (arith, lower)
 some-left ways number before Waits lower = lower
 some-left ways number before (Done place answer) lower = lower.1
 
--- A call that doesn't poll is done, with as many steps as its budget at most
-finishes : (needs : Needs) → AreNeeds needs → needs.top < 64 → (places me : ℕ) → places < 65536 → me < places
+-- A call that doesn't poll is done, with as many steps as its step bound at most
+finishes : (needs : Needs) → AreNeeds needs → needs.top < 2 ^ count_bits → (places me : ℕ) → places < 65536 → me < places
     → (call : WordCall) (registered : Registration) → (call ≡ Poll → ⊥)
     → (most : ℕ) (now : Moment) → Moves needs places me call registered now
-    → budget places now.row (now.standing me).back (now.standing me).stage ≤ most → Finishes needs places me now most
+    → step_bound places now.row (now.standing me).back (now.standing me).stage ≤ most → Finishes needs places me now most
 finishes needs lawful wide places me room here call registered asks zero now m small =
     let stage : Stage = (now.standing me).stage in
     let row : ℕ → ℕ = row_after now.row (operation_of needs places me stage) in
     let lower = lowered needs lawful wide places now.row now.standing m.lazy me m.stands stage refl
     (in-call needs call registered (now.standing me).back stage m.names m.under) in
-    let some = some-left (way places row) (row 0) (budget places now.row (now.standing me).back stage) (next_at needs places me now) lower in
+    let some = some-left (way places row) (row 0) (step_bound places now.row (now.standing me).back stage) (next_at needs places me now) lower in
     absurd (omega (arith, some, small))
 finishes needs lawful wide places me room here call registered asks (suc most) now m small =
     let stage : Stage = (now.standing me).stage in
     let row : ℕ → ℕ = row_after now.row (operation_of needs places me stage) in
-    let before : ℕ = budget places now.row (now.standing me).back stage in
+    let before : ℕ = step_bound places now.row (now.standing me).back stage in
     let next : Next = next_at needs places me now in
     let lower = lowered needs lawful wide places now.row now.standing m.lazy me m.stands stage refl
     (in-call needs call registered (now.standing me).back stage m.names m.under) in
@@ -107,20 +108,20 @@ finishes needs lawful wide places me room here call registered asks (suc most) n
     (λ place is.
     let there : (stepped needs places me now).standing me ≡ place =
     updated-at now.standing me (place_after (now.standing me) next) ∙ ap (place_after (now.standing me)) is in
-    let less : budget places row place.back place.stage < before = subst (λ (n : Next). IsLower (way places row) (row 0) before n) is lower in
-    let same : budget places row ((stepped needs places me now).standing me).back ((stepped needs places me now).standing me).stage
-    ≡ budget places row place.back place.stage = ap (λ (p : Place). budget places row p.back p.stage) there in
+    let less : step_bound places row place.back place.stage < before = subst (λ (n : Next). IsLower (way places row) (row 0) before n) is lower in
+    let same : step_bound places row ((stepped needs places me now).standing me).back ((stepped needs places me now).standing me).stage
+    ≡ step_bound places row place.back place.stage = ap (λ (p : Place). step_bound places row p.back p.stage) there in
     finishes needs lawful wide places me room here call registered asks most (stepped needs places me now)
     (moves-on needs lawful wide places me room here call registered now m place is) (omega (arith, less, same, small)))
 
 -- what is left of a call that starts so
 abbrev IsFew : ℕ → (ℕ → ℕ) → ℕ → Next → Type 0
-IsFew places row most (Going place) = budget places row place.back place.stage ≤ most
+IsFew places row most (Going place) = step_bound places row place.back place.stage ≤ most
 IsFew places row most _ = Unit {0}
 
 -- few steps are left where a call starts: a poll, a cancel and a registration
 poll-few : (places : ℕ) (row : ℕ → ℕ) (most : ℕ) (place : Place) (taking : Taking) (registration : Registration)
-    → budget places row place.back (Take taking) ≤ most → IsFew places row most (polled_as place taking registration)
+    → step_bound places row place.back (Take taking) ≤ most → IsFew places row most (polled_as place taking registration)
 poll-few places row most place taking Idle small = tt
 poll-few places row most place taking (Once value request) small = tt
 poll-few places row most place taking (Slot request) small = small
@@ -202,7 +203,7 @@ has-answer waits due None none nobody held = absurd (omega (arith, none, held, a
 has-answer waits due (Some value) none nobody held = (value, refl)
 
 -- a poll of a place that isn't in the line is done in one step
-polled : (needs : Needs) (places me : ℕ) (now : Moment) (lazy : Lazy) (most : ℕ) → me < places → Stands needs places now.row now.standing lazy
+polled : (needs : Needs) (places me : ℕ) (now : Moment) (lazy : Lazy) (most : ℕ) → me < places → Refines needs places now.row now.standing lazy
     → IsQuiet now.standing → is_in me lazy.line ≡ false → 0 < most
     → (registration : Registration) → (now.standing me).registration ≡ registration
     → (place : Place) → polled_as (now.standing me) Awaits registration ≡ Going place
@@ -219,8 +220,8 @@ polled needs places me now lazy most here s quiet absent some (Slot request) is 
     (λ value it. s.answers.small me value (found.1 ∙ it))) some
 
 -- Whatever call it is
-pub ends : (needs : Needs) → AreNeeds needs → needs.top < 64 → (places : ℕ) (row : ℕ → ℕ) (standing : ℕ → Place) (lazy : Lazy) (me : ℕ) (call : WordCall)
-    → places < 65536 → me < places → Stands needs places row standing lazy → IsQuiet standing → is_taken needs.is_lock call ≡ true
+pub ends : (needs : Needs) → AreNeeds needs → needs.top < 2 ^ count_bits → (places : ℕ) (row : ℕ → ℕ) (standing : ℕ → Place) (lazy : Lazy) (me : ℕ) (call : WordCall)
+    → places < 65536 → me < places → Refines needs places row standing lazy → IsQuiet standing → is_taken needs.is_lock call ≡ true
     → (call ≡ Poll → is_in me lazy.line ≡ false)
     → Ends needs places me call (record { row = row; standing = standing }) (8 * length lazy.line + 24)
 ends needs lawful wide places row standing lazy me call room here s quiet taken absent =
@@ -238,11 +239,11 @@ ends needs lawful wide places row standing lazy me call room here s quiet taken 
         → Finishes needs places me (put me (Going place) (record { row = row; standing = standing })) (8 * length lazy.line + 24)
     other call taken asks small place is =
         let now : Moment = record { row = row; standing = standing } in
-        let few : budget places row place.back place.stage ≤ 8 * length lazy.line + 24 =
+        let few : step_bound places row place.back place.stage ≤ 8 * length lazy.line + 24 =
         subst (λ (n : Next). IsFew places row (8 * length lazy.line + 24) n) is
         (start-few needs places row (8 * length lazy.line + 24) (standing me) call small) in
-        let same : budget places row ((put me (Going place) now).standing me).back ((put me (Going place) now).standing me).stage
-        ≡ budget places row place.back place.stage = ap (λ (p : Place). budget places row p.back p.stage) (updated-at standing me place) in
+        let same : step_bound places row ((put me (Going place) now).standing me).back ((put me (Going place) now).standing me).stage
+        ≡ step_bound places row place.back place.stage = ap (λ (p : Place). step_bound places row p.back p.stage) (updated-at standing me place) in
         finishes needs lawful wide places me room here call (standing me).registration asks (8 * length lazy.line + 24) (put me (Going place) now)
         (moves-first needs wide places me call now lazy s quiet here taken place is) (omega (arith, few, same))
 

@@ -4,8 +4,10 @@ use Rattle.std.proofs.lemmas.List.{take-append-drop}
 use Rattle.std.proofs.lemmas.Bool.{cases_Bool}
 use Rattle.saa_core_spec.proofs.Counts.{same_number}
 use Rattle.saa_word_steps.specs.Needs.{Needs}
-use Rattle.saa_word_steps.specs.Lazy.{Lazy, Event, Closed, Granted, Showed, Poisoned, IsAllowed, after_event, IsRun, IsFront, is_in, takes_of, answered_with}
-use Rattle.saa_word_proofs.specs.Stepped.{of_place, is_named, named}
+use Rattle.saa_word_steps.specs.declared.event.Event.{Event}
+use Rattle.saa_word_steps.specs.declared.event.Event.TheVariants.{Closed, Granted, Showed, Poisoned}
+use Rattle.saa_word_steps.specs.Lazy.{Lazy, IsEnabled, after_event, IsRun, IsFront, is_in, takes_of, answered_with}
+use Rattle.saa_word_proofs.specs.StepRefinement.{of_place, is_named, named}
 use Rattle.saa_word_proofs.proofs.RefinementLemmas.Lists.{in-append, front-append, takes-append}
 use Rattle.saa_word_proofs.specs.Alone.{IsAtRest}
 use Rattle.saa_word_proofs.proofs.SoloLemmas.Mirroring.{Settles}
@@ -28,7 +30,7 @@ named-append (event ∷ first) second =
 
 -- while nothing is open and nothing due, nothing happens that no answer names
 nothing-else : (needs : Needs) (lazy : Lazy) (me : ℕ) (event : Event) → lazy.unclosed ≡ false → ((place : ℕ) → lazy.due place ≡ None)
-    → is_named event ≡ false → IsAllowed needs lazy me event → ⊥
+    → is_named event ≡ false → IsEnabled needs lazy me event → ⊥
 nothing-else needs lazy me (Granted askers) closed paid unnamed allowed = let wrong : true ≡ false = sym allowed.0 ∙ closed in absurd (cc)
 nothing-else needs lazy me Closed closed paid unnamed allowed = let wrong : true ≡ false = sym allowed.0 ∙ closed in absurd (cc)
 nothing-else needs lazy me (Showed shown_place) closed paid unnamed allowed =
@@ -61,7 +63,7 @@ no-events needs me (event ∷ rest) lazy last closed paid names run =
 
 -- What answers name first comes first, and what they name behind it comes behind
 pub record IsFirst (needs : Needs) (me : ℕ) (lazy : Lazy) (event : Event) (more : List Event) (last : Lazy) : Type 0 where
-  pub allowed : IsAllowed needs lazy me event
+  pub allowed : IsEnabled needs lazy me event
   pub rest : List Event
   pub run : IsRun needs (after_event needs lazy me event) (of_place me rest) last
   pub names : named rest ≡ more
@@ -76,7 +78,7 @@ first-event needs me (head ∷ rest) event more lazy last closed paid names run 
           let both : head ∷ named rest ≡ event ∷ more = sym (named-one head rest is) ∙ names in
           let same : head ≡ event = ap (λ (l : List Event). get_or l 0 head) both in
           record {
-            allowed = subst (λ (e : Event). IsAllowed needs lazy me e) same run.0;
+            allowed = subst (λ (e : Event). IsEnabled needs lazy me e) same run.0;
             rest = rest;
             run = subst (λ (e : Event). IsRun needs (after_event needs lazy me e) (of_place me rest) last) same run.1;
             names = ap (λ (l : List Event). drop 1 l) both;
@@ -134,7 +136,7 @@ record Grants (needs : Needs) (start lazy : Lazy) : Type 0 where
   paid : (place : ℕ) → IsPaid 0 start front lazy place
 
 -- an event that no answer names grants more of the line, or none
-grants-event : (needs : Needs) (start lazy : Lazy) (me : ℕ) (event : Event) → is_named event ≡ false → IsAllowed needs lazy me event
+grants-event : (needs : Needs) (start lazy : Lazy) (me : ℕ) (event : Event) → is_named event ≡ false → IsEnabled needs lazy me event
     → Grants needs start lazy → Grants needs start (after_event needs lazy me event)
 grants-event needs start lazy me (Granted askers) unnamed allowed was =
     let more : List (ℕ × ℕ) = take askers lazy.line in
@@ -219,7 +221,7 @@ record Tells (start lazy : Lazy) : Type 0 where
   line : lazy.line ≡ []
   paid : (place : ℕ) → IsPaid 2 start start.line lazy place
 
-tells-event : (needs : Needs) (start lazy : Lazy) (me : ℕ) (event : Event) → is_named event ≡ false → IsAllowed needs lazy me event
+tells-event : (needs : Needs) (start lazy : Lazy) (me : ℕ) (event : Event) → is_named event ≡ false → IsEnabled needs lazy me event
     → Tells start lazy → Tells start (after_event needs lazy me event)
 tells-event needs start lazy me (Granted askers) unnamed allowed was = let wrong : true ≡ false = sym allowed.0 ∙ was.closed in absurd (cc)
 tells-event needs start lazy me Closed unnamed allowed was = let wrong : true ≡ false = sym allowed.0 ∙ was.closed in absurd (cc)

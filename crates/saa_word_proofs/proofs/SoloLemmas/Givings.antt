@@ -15,9 +15,10 @@ use Rattle.saa_word_steps.specs.declared.call.Answer.TheVariants.{Bool as Says}
 use Rattle.saa_word_steps.specs.declared.call.WordCall.{WordCall}
 use Rattle.saa_word_steps.specs.declared.call.WordCall.TheVariants.{Release, ReleaseLock, ReleaseShare}
 use Rattle.saa_word_steps.specs.Needs.{Needs, lock_needs, left_count}
-use Rattle.saa_word_steps.specs.Lazy.{Lazy, GaveNothing, IsAllowed, IsSettledAt, is_in, takes_of, answered_with}
+use Rattle.saa_word_steps.specs.declared.event.Event.TheVariants.{GaveNothing}
+use Rattle.saa_word_steps.specs.Lazy.{Lazy, IsEnabled, IsSettledAt, is_in, takes_of, answered_with}
 use Rattle.saa_word_steps.specs.Steps.{needs_of, is_taken}
-use Rattle.saa_word_proofs.specs.Standing.{updated, is_slot, AreSeats}
+use Rattle.saa_word_proofs.specs.Refinement.{updated, is_slot, AreSeats}
 use Rattle.saa_word_proofs.specs.Calls.{given_by}
 use Rattle.saa_word_proofs.proofs.RefinementLemmas.Lists.{in-append}
 use Rattle.saa_word_proofs.specs.Mirrors.{waiters, entry_of, held_at, Mirrors}
@@ -99,7 +100,7 @@ giving-back rules lazy s request left held calm bounded some gives =
 
 -- what isn't held isn't given back
 pub giving-nothing : (rules : Rules) (lazy : Lazy) (s : Object) (me request : ℕ) → s.held ≡ held_at (needs_of rules) lazy
-    → lazy.count ≤ (needs_of rules).top → (needs_of rules).takes request == 0 ≡ false → IsAllowed (needs_of rules) lazy me (GaveNothing request)
+    → lazy.count ≤ (needs_of rules).top → (needs_of rules).takes request == 0 ≡ false → IsEnabled (needs_of rules) lazy me (GaveNothing request)
     → given_back s ((needs_of rules).read request) ≡ record { state = s; reply = false }
 giving-nothing rules lazy s me request held bounded some allowed =
     let needs : Needs = needs_of rules in
@@ -161,7 +162,7 @@ release-gave rules places me is_sync call standing lazy s given left now place h
 pub release-nothing : (rules : Rules) (places me : ℕ) (is_sync : Bool) (call : WordCall) (standing : ℕ → Place) (lazy : Lazy) (s : Object) (given : ℕ) (place : Place)
     → Starts (needs_of rules) places me standing lazy s → given_by call ≡ Some given → is_taken (needs_of rules).is_lock call ≡ true
     → ((needs_of rules).is_lock ≡ false → given == 0 ≡ false)
-    → IsAllowed (needs_of rules) lazy me (GaveNothing given) → place.registration ≡ (standing me).registration
+    → IsEnabled (needs_of rules) lazy me (GaveNothing given) → place.registration ≡ (standing me).registration
     → Answers (needs_of rules) places me is_sync call (updated standing me place) s lazy (Says false)
 release-nothing rules places me is_sync call standing lazy s given place h gives taken some allowed same =
     let needs : Needs = needs_of rules in

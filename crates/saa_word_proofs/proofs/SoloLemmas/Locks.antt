@@ -18,9 +18,10 @@ use Rattle.saa_word_steps.specs.declared.call.Answer.TheVariants.{Bool as Says, 
 use Rattle.saa_word_steps.specs.declared.call.WordCall.{WordCall}
 use Rattle.saa_word_steps.specs.declared.call.WordCall.TheVariants.{Available, IsFree, IsLocked, IsShared, IsPoisoned, PoisonLock, ClearPoison}
 use Rattle.saa_word_steps.specs.Needs.{Needs, lock_needs, lock_at}
-use Rattle.saa_word_steps.specs.Lazy.{Lazy, Read, Poisoned as IsPoisonedNow, NotPoisoned, Cleared, NotCleared, IsAllowed, after_event, answered_with}
+use Rattle.saa_word_steps.specs.declared.event.Event.TheVariants.{Read, Poisoned as IsPoisonedNow, NotPoisoned, Cleared, NotCleared}
+use Rattle.saa_word_steps.specs.Lazy.{Lazy, IsEnabled, after_event, answered_with}
 use Rattle.saa_word_steps.specs.Steps.{needs_of, is_taken, read_as}
-use Rattle.saa_word_proofs.specs.Standing.{updated}
+use Rattle.saa_word_proofs.specs.Refinement.{updated}
 use Rattle.saa_word_proofs.specs.Calls.{read_by}
 use Rattle.saa_word_proofs.specs.Mirrors.{waiters, held_at, Mirrors, called}
 use Rattle.saa_word_proofs.proofs.SoloLemmas.HeldAt.{held-calm, held-poisoned, lock-free, lock-alone, lock-shared}
@@ -114,7 +115,7 @@ read-call Modes me is_sync _ s lazy reading known taken held calm barren = absur
 
 pub reads : (rules : Rules) (places me : ℕ) (is_sync : Bool) (call : WordCall) (standing : ℕ → Place) (lazy : Lazy) (s : Object) (reading : Reading) (count : ℕ) (poisoned : Bool) (place : Place)
     → Starts (needs_of rules) places me standing lazy s → read_by call ≡ Some reading → is_taken (needs_of rules).is_lock call ≡ true
-    → IsAllowed (needs_of rules) lazy me (Read count poisoned) → place.registration ≡ (standing me).registration
+    → IsEnabled (needs_of rules) lazy me (Read count poisoned) → place.registration ≡ (standing me).registration
     → Answers (needs_of rules) places me is_sync call (updated standing me place) s lazy (read_as (needs_of rules) reading count poisoned)
 reads rules places me is_sync call standing lazy s reading count poisoned place h known taken allowed same =
     let needs : Needs = needs_of rules in
@@ -130,7 +131,7 @@ reads rules places me is_sync call standing lazy s reading count poisoned place 
 -- a lock that one owner has is poisoned, and all who wait are answered so
 pub poison-done : (rules : Rules) (places me : ℕ) (is_sync : Bool) (standing : ℕ → Place) (lazy : Lazy) (s : Object) (now : Lazy) (place : Place)
     → Starts (needs_of rules) places me standing lazy s → is_taken (needs_of rules).is_lock PoisonLock ≡ true
-    → IsAllowed (needs_of rules) lazy me IsPoisonedNow
+    → IsEnabled (needs_of rules) lazy me IsPoisonedNow
     → now.poisoned ≡ true → now.line ≡ [] → ((other : ℕ) → now.shown other ≡ answered_with 2 lazy.line lazy.shown other)
     → place.registration ≡ (standing me).registration
     → Answers (needs_of rules) places me is_sync PoisonLock (updated standing me place) s now (Says true)
@@ -138,7 +139,7 @@ poison-done (Permits bound) places me is_sync standing lazy s now place h taken 
 poison-done Modes places me is_sync standing lazy s now place h taken allowed poisoned line shown same =
     let m = h.mirrors in
     let test : is_locked s.held ≡ true =
-    ap is_locked m.held ∙ reads-locked lazy.poisoned lazy.count (λ poison. (h.barren poison).0) ∙ ap (λ (n : ℕ). n == 63) allowed.2 in
+    ap is_locked m.held ∙ reads-locked lazy.poisoned lazy.count (λ poison. (h.barren poison).0) ∙ ap (λ (n : ℕ). n == 63) allowed.1.1 in
     let all : List Waiter = waiters lock_needs lazy.line in
     let left : Object = record s { held = OfLock Poisoned; line = []; book = answered_in 2 all s.book } in
     let whole : lazy.line ≡ lazy.line ++ [] = sym (append-nil lazy.line) in
@@ -159,7 +160,7 @@ poison-done Modes places me is_sync standing lazy s now place h taken allowed po
 -- any other isn't
 pub poison-refused : (rules : Rules) (places me : ℕ) (is_sync : Bool) (standing : ℕ → Place) (lazy : Lazy) (s : Object) (place : Place)
     → Starts (needs_of rules) places me standing lazy s → is_taken (needs_of rules).is_lock PoisonLock ≡ true
-    → IsAllowed (needs_of rules) lazy me NotPoisoned → place.registration ≡ (standing me).registration
+    → IsEnabled (needs_of rules) lazy me NotPoisoned → place.registration ≡ (standing me).registration
     → Answers (needs_of rules) places me is_sync PoisonLock (updated standing me place) s lazy (Says false)
 poison-refused (Permits bound) places me is_sync standing lazy s place h taken allowed same = absurd (cc)
 poison-refused Modes places me is_sync standing lazy s place h taken allowed same =
@@ -169,7 +170,7 @@ poison-refused Modes places me is_sync standing lazy s place h taken allowed sam
       | inl poison ↦ ap (λ (n : ℕ). n == 63) (h.barren poison).0
       | inr calm ↦
           elim (cases_Bool (lazy.count == 63)) [
-            | inl one ↦ absurd (allowed calm (same_number lazy.count 63 one))
+            | inl one ↦ absurd (allowed (calm, same_number lazy.count 63 one, refl))
             | inr several ↦ several
           ]
     ] in
@@ -182,7 +183,7 @@ poison-refused Modes places me is_sync standing lazy s place h taken allowed sam
 -- a poisoned lock is cleared, and is free then
 pub clear-done : (rules : Rules) (places me : ℕ) (is_sync : Bool) (standing : ℕ → Place) (lazy : Lazy) (s : Object) (place : Place)
     → Starts (needs_of rules) places me standing lazy s → is_taken (needs_of rules).is_lock ClearPoison ≡ true
-    → IsAllowed (needs_of rules) lazy me Cleared → place.registration ≡ (standing me).registration
+    → IsEnabled (needs_of rules) lazy me Cleared → place.registration ≡ (standing me).registration
     → Answers (needs_of rules) places me is_sync ClearPoison (updated standing me place) s (after_event (needs_of rules) lazy me Cleared) (Says true)
 clear-done (Permits bound) places me is_sync standing lazy s place h taken allowed same = absurd (cc)
 clear-done Modes places me is_sync standing lazy s place h taken allowed same =
@@ -197,7 +198,7 @@ clear-done Modes places me is_sync standing lazy s place h taken allowed same =
 
 pub clear-refused : (rules : Rules) (places me : ℕ) (is_sync : Bool) (standing : ℕ → Place) (lazy : Lazy) (s : Object) (place : Place)
     → Starts (needs_of rules) places me standing lazy s → is_taken (needs_of rules).is_lock ClearPoison ≡ true
-    → IsAllowed (needs_of rules) lazy me NotCleared → place.registration ≡ (standing me).registration
+    → IsEnabled (needs_of rules) lazy me NotCleared → place.registration ≡ (standing me).registration
     → Answers (needs_of rules) places me is_sync ClearPoison (updated standing me place) s lazy (Says false)
 clear-refused (Permits bound) places me is_sync standing lazy s place h taken allowed same = absurd (cc)
 clear-refused Modes places me is_sync standing lazy s place h taken allowed same =

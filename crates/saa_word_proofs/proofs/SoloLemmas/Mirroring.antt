@@ -13,7 +13,7 @@ use Rattle.saa_word_steps.specs.declared.call.Answer.{Answer}
 use Rattle.saa_word_steps.specs.declared.call.WordCall.{WordCall}
 use Rattle.saa_word_steps.specs.Needs.{Needs}
 use Rattle.saa_word_steps.specs.Lazy.{Lazy, IsFront, IsSettledAt, takes_of, answered_with, is_in, waits_times, with_answer}
-use Rattle.saa_word_proofs.specs.Standing.{updated, is_slot, AreSeats}
+use Rattle.saa_word_proofs.specs.Refinement.{updated, is_slot, AreSeats}
 use Rattle.saa_word_proofs.proofs.RefinementLemmas.Lists.{each-updated}
 use Rattle.saa_word_proofs.proofs.RefinementLemmas.Granting.{in-waits}
 use Rattle.saa_word_proofs.specs.Mirrors.{waiters, entry_of, held_at, Mirrors, called}

@@ -22,40 +22,22 @@ use Rattle.saa_word_steps.specs.declared.place.Next.{Next}
 use Rattle.saa_word_steps.specs.declared.place.Next.TheVariants.{Going, Waits, Done}
 use Rattle.saa_word_steps.specs.declared.call.WordCall.{WordCall}
 use Rattle.saa_word_steps.specs.Needs.{Needs, fits_count, left_count}
-use Rattle.saa_word_steps.specs.Lazy.{Event, Got, AskedPoisoned, Joined, Left, GaveNothing, Took}
+use Rattle.saa_word_steps.specs.declared.event.Event.{Event}
+use Rattle.saa_word_steps.specs.declared.event.Event.TheVariants.{Got, AskedPoisoned, Joined, Left, GaveNothing, Took}
 use Rattle.saa_word_steps.specs.Steps.{next_of, decided, granted, given, given_to, gave_nothing, finished, taken_answer, looked_at, closing, shown_all, flagging, poisoning, poisoned_word}
-use Rattle.saa_word_proofs.specs.Standing.{waits_behind}
-use Rattle.saa_word_proofs.specs.Stepped.{named_at, decided_events, given_events, left_events, taken_events, poisoning_events}
+use Rattle.saa_word_proofs.specs.Refinement.{waits_behind}
+use Rattle.saa_word_proofs.specs.StepRefinement.{named_at, decided_events, given_events, left_events, taken_events, poisoning_events}
 use Rattle.saa_word_proofs.specs.Calls.{asked_by, IsUnder}
-
--- what a place is registered as behind an event of its call, which may ask for something
-abbrev pub left_by : Event → Option Ask → Registration → Registration
-left_by (Got request) (Some ask) was = if ask.joins then Once granted_value ask.request else was
-left_by AskedPoisoned (Some ask) was = if ask.joins then Once poisoned_value ask.request else was
-left_by (Joined request) (Some ask) was = Slot ask.request
-left_by Left asks was = Idle
-left_by (Took value) asks was = Idle
-left_by _ asks was = was
-
--- the same behind some events
-abbrev pub left_behind : List Event → Option Ask → Registration → Registration
-left_behind [] asks was = was
-left_behind (event ∷ rest) asks was = left_behind rest asks (left_by event asks was)
+use Rattle.saa_word_proofs.specs.Registering.{left_by, left_behind, IsLeft}
 
 pub left-append : (first second : List Event) (asks : Option Ask) (was : Registration)
     → left_behind (first ++ second) asks was ≡ left_behind second asks (left_behind first asks was)
 left-append [] second asks was = refl
 left-append (event ∷ first) second asks was = left-append first second asks (left_by event asks was)
 
--- a place is registered so where its call goes on or is done
-abbrev pub IsLeft : Registration → Next → Type 0
-IsLeft now (Going place) = place.registration ≡ now
-IsLeft now Waits = Unit {0}
-IsLeft now (Done place answer) = (place.registration ≡ now) × (place.stage ≡ Quiet)
-
 -- Asks
 
-granted-left : (needs : Needs) (place : Place) (ask : Ask) → IsLeft (left_by (Got ask.request) (Some ask) place.registration) (granted needs place ask)
+granted-left : (needs : Needs) (place : Place) (ask : Ask) → IsLeft place.registration (left_by (Got ask.request) (Some ask) place.registration) (granted needs place ask)
 granted-left needs place ask =
     elim (cases_Bool ask.joins) [
       | inl joins ↦ rw joins (refl, refl)
@@ -63,7 +45,7 @@ granted-left needs place ask =
     ]
 
 decided-left : (needs : Needs) (place : Place) (ask : Ask) (seen : Word)
-    → IsLeft (left_behind (decided_events needs ask.request ask.joins seen) (Some ask) place.registration) (decided needs place ask seen)
+    → IsLeft place.registration (left_behind (decided_events needs ask.request ask.joins seen) (Some ask) place.registration) (decided needs place ask seen)
 decided-left needs place ask seen =
     elim (cases_Bool seen.is_poisoned) [
       | inl poisoned ↦
@@ -88,32 +70,32 @@ decided-left needs place ask seen =
 
 -- the same of a call that asks so
 asks-left : (needs : Needs) (asks : Option Ask) (place : Place) (ask : Ask) (seen : Word) → asks ≡ Some ask
-    → IsLeft (left_behind (decided_events needs ask.request ask.joins seen) asks place.registration) (decided needs place ask seen)
+    → IsLeft place.registration (left_behind (decided_events needs ask.request ask.joins seen) asks place.registration) (decided needs place ask seen)
 asks-left needs asks place ask seen is = rw is (decided-left needs place ask seen)
 
 -- Releases
 
-gave_nothing-left : (place : Place) (back : Back) → IsLeft place.registration (gave_nothing place back)
+gave_nothing-left : (place : Place) (back : Back) → IsLeft place.registration place.registration (gave_nothing place back)
 gave_nothing-left place Tells = (refl, refl)
 gave_nothing-left place EndsCall = (refl, refl)
 gave_nothing-left place (Takes request) = (refl, refl)
 
 given-left : (needs : Needs) (asks : Option Ask) (place : Place) (request : ℕ) (seen : Word)
-    → IsLeft (left_behind (given_events needs request seen) asks place.registration) (given needs place request seen)
+    → IsLeft place.registration (left_behind (given_events needs request seen) asks place.registration) (given needs place request seen)
 given-left needs asks place request seen = by-poison seen.is_poisoned
   where
-    by-left : (left : Option ℕ) → IsLeft (left_behind (left_events request left) asks place.registration) (given_to place request seen left)
+    by-left : (left : Option ℕ) → IsLeft place.registration (left_behind (left_events request left) asks place.registration) (given_to place request seen left)
     by-left None = gave_nothing-left place place.back
     by-left (Some left) = refl
 
     by-poison : (poisoned : Bool)
-        → IsLeft
+        → IsLeft place.registration
         (left_behind (if poisoned then GaveNothing request ∷ [] else left_events request (left_count needs seen.count request)) asks place.registration)
         (if poisoned then gave_nothing place place.back else given_to place request seen (left_count needs seen.count request))
     by-poison true = gave_nothing-left place place.back
     by-poison false = by-left (left_count needs seen.count request)
 
-finished-left : (place : Place) (back : Back) → IsLeft place.registration (finished place back)
+finished-left : (place : Place) (back : Back) → IsLeft place.registration place.registration (finished place back)
 finished-left place Tells = (refl, refl)
 finished-left place EndsCall = (refl, refl)
 finished-left place (Takes request) = refl
@@ -121,7 +103,7 @@ finished-left place (Takes request) = refl
 -- Those who work on the line
 
 looked-left : (needs : Needs) (place : Place) (seen : Word) (current count : ℕ) (line : LineWord)
-    → IsLeft place.registration (looked_at needs place seen current count line)
+    → IsLeft place.registration place.registration (looked_at needs place seen current count line)
 looked-left needs place seen current count line =
     elim (cases_Bool (fits_count needs count line.request)) [
       | inl fits ↦
@@ -136,7 +118,7 @@ looked-left needs place seen current count line =
           ]
     ]
 
-closing-left : (place : Place) (seen : Word) (count top found : ℕ) → IsLeft place.registration (closing place seen count top found)
+closing-left : (place : Place) (seen : Word) (count top found : ℕ) → IsLeft place.registration place.registration (closing place seen count top found)
 closing-left place seen count top found =
     elim (cases_Bool (found == word_number count_bits seen)) [
       | inl hit ↦
@@ -151,29 +133,29 @@ closing-left place seen count top found =
           ]
     ]
 
-shown-left : (place : Place) (afterwards : Afterwards) → IsLeft place.registration (shown_all place afterwards)
+shown-left : (place : Place) (afterwards : Afterwards) → IsLeft place.registration place.registration (shown_all place afterwards)
 shown-left place Ends = finished-left place place.back
 shown-left place (Again seen) = refl
 
 -- Polls and cancels
 
 taken-left : (needs : Needs) (asks : Option Ask) (place : Place) (taking : Taking) (answer : Option ℕ)
-    → IsLeft (left_behind (taken_events taking answer) asks place.registration) (taken_answer needs place taking answer)
+    → IsLeft place.registration (left_behind (taken_events taking answer) asks place.registration) (taken_answer needs place taking answer)
 taken-left needs asks place Tries None = (refl, refl)
 taken-left needs asks place Tries (Some value) = (refl, refl)
-taken-left needs asks place Awaits None = tt
+taken-left needs asks place Awaits None = refl
 taken-left needs asks place Awaits (Some value) = (refl, refl)
-taken-left needs asks place (Gives request) None = tt
+taken-left needs asks place (Gives request) None = refl
 taken-left needs asks place (Gives request) (Some value) =
     elim (cases_Bool ((value == granted_value) && not (needs.takes request == 0))) [
       | inl gives ↦ rw gives refl
       | inr keeps ↦ rw keeps (refl, refl)
     ]
 
-flagging-left : (place : Place) (seen : Word) → IsLeft place.registration (flagging place seen)
+flagging-left : (place : Place) (seen : Word) → IsLeft place.registration place.registration (flagging place seen)
 flagging-left place seen =
     elim (cases_Bool seen.is_flagged) [
-      | inl flagged ↦ rw flagged tt
+      | inl flagged ↦ rw flagged refl
       | inr clear ↦
           elim (cases_Bool (seen.tail == 0)) [
             | inl nobody ↦ rw (clear, nobody) (finished-left place place.back)
@@ -184,13 +166,13 @@ flagging-left place seen =
 -- Poison
 
 poisoning-left : (asks : Option Ask) (place : Place) (seen : Word)
-    → IsLeft (left_behind (poisoning_events seen) asks place.registration) (poisoning place seen)
+    → IsLeft place.registration (left_behind (poisoning_events seen) asks place.registration) (poisoning place seen)
 poisoning-left asks place seen =
     elim (cases_Bool (seen.is_poisoned || not (seen.count == lock_count Exclusive))) [
       | inl other ↦ rw other (refl, refl)
       | inr owned ↦
           elim (cases_Bool seen.is_flagged) [
-            | inl flagged ↦ rw (owned, flagged) tt
+            | inl flagged ↦ rw (owned, flagged) refl
             | inr clear ↦ rw (owned, clear) refl
           ]
     ]
@@ -198,7 +180,7 @@ poisoning-left asks place seen =
 -- Behind each step of a call its place is registered so
 pub left-next : (needs : Needs) (call : WordCall) (registered : Registration) (me : ℕ) (place : Place) (stage : Stage) (found : ℕ) (events : List Event)
     → IsUnder needs call registered place.back stage events
-    → IsLeft (left_behind (named_at needs stage found) (asked_by call) place.registration) (next_of needs me place stage found)
+    → IsLeft place.registration (left_behind (named_at needs stage found) (asked_by call) place.registration) (next_of needs me place stage found)
 left-next needs call registered me place Quiet found events h = absurd h
 left-next needs call registered me place (ReadLoad reading) found events h = (refl, refl)
 left-next needs call registered me place (AskLoad ask) found events h = asks-left needs (asked_by call) place ask (word_of count_bits found) h.0
@@ -210,7 +192,7 @@ left-next needs call registered me place (AskExchange ask seen) found events h =
 left-next needs call registered me place (Prepare request seen) found events h = refl
 left-next needs call registered me place (Join request seen) found events h =
     elim (cases_Bool (found == word_number count_bits seen)) [
-      | inl hit ↦ rw (hit, h.0) (refl, refl)
+      | inl hit ↦ rw hit (refl, refl)
       | inr missed ↦ rw missed (asks-left needs (asked_by call) place (record { request = request; joins = true }) (word_of count_bits found) h.0)
     ]
 left-next needs call registered me place (ReleaseLoad request) found events h = given-left needs (asked_by call) place request (word_of count_bits found)

@@ -15,9 +15,10 @@ use Rattle.saa_word_steps.specs.declared.call.Answer.TheVariants.{Taken}
 use Rattle.saa_word_steps.specs.declared.call.WordCall.{WordCall}
 use Rattle.saa_word_steps.specs.declared.call.WordCall.TheVariants.{TryPoll, Poll}
 use Rattle.saa_word_steps.specs.Needs.{Needs}
-use Rattle.saa_word_steps.specs.Lazy.{Lazy, Took, NotReady, IsAllowed, after_event, is_in}
+use Rattle.saa_word_steps.specs.declared.event.Event.TheVariants.{Took, NotReady}
+use Rattle.saa_word_steps.specs.Lazy.{Lazy, IsEnabled, after_event, is_in}
 use Rattle.saa_word_steps.specs.Steps.{needs_of}
-use Rattle.saa_word_proofs.specs.Standing.{updated, AreSeats}
+use Rattle.saa_word_proofs.specs.Refinement.{updated, AreSeats}
 use Rattle.saa_word_proofs.specs.Calls.{taken_by}
 use Rattle.saa_word_proofs.specs.Mirrors.{held_at, Mirrors, called}
 use Rattle.saa_word_proofs.proofs.SoloLemmas.Commands.{polled_by, poll-call}
@@ -39,7 +40,7 @@ poll-answered rules places me is_sync call standing lazy now s taking value requ
 -- that is shown, or was given at once
 pub poll-took : (rules : Rules) (places me : ℕ) (is_sync : Bool) (call : WordCall) (standing : ℕ → Place) (lazy : Lazy) (s : Object) (taking : Taking) (value : ℕ) (place : Place)
     → Starts (needs_of rules) places me standing lazy s → taken_by call ≡ Some taking
-    → IsAllowed (needs_of rules) lazy me (Took value) → place.registration ≡ IsIdle
+    → IsEnabled (needs_of rules) lazy me (Took value) → place.registration ≡ IsIdle
     → Answers (needs_of rules) places me is_sync call (updated standing me place) s
     (after_event (needs_of rules) lazy me (Took value)) (Taken (Ok (value == 0)))
 poll-took rules places me is_sync call standing lazy s taking value place h takes shown idle =
@@ -62,7 +63,7 @@ poll-once rules places me is_sync call standing lazy s taking value request plac
 -- a try to poll that finds no answer
 pub poll-not_ready : (rules : Rules) (places me : ℕ) (is_sync : Bool) (standing : ℕ → Place) (lazy : Lazy) (s : Object) (place : Place)
     → Starts (needs_of rules) places me standing lazy s
-    → IsAllowed (needs_of rules) lazy me NotReady → place.registration ≡ (standing me).registration
+    → IsEnabled (needs_of rules) lazy me NotReady → place.registration ≡ (standing me).registration
     → Answers (needs_of rules) places me is_sync TryPoll (updated standing me place) s lazy (Taken (Err IsNotReady))
 poll-not_ready rules places me is_sync standing lazy s place h allowed same =
     let needs : Needs = needs_of rules in

@@ -7,11 +7,11 @@ use Rattle.saa_word_steps.specs.declared.place.Place.{Place}
 use Rattle.saa_word_steps.specs.declared.place.Stage.{Stage}
 use Rattle.saa_word_steps.specs.Needs.{Needs}
 use Rattle.saa_word_steps.specs.Lazy.{Lazy, is_in}
-use Rattle.saa_word_proofs.specs.Standing.{line_of, IsBehind, is_holder, IsShowing, Stands}
+use Rattle.saa_word_proofs.specs.Refinement.{line_of, IsBehind, is_holder, IsShowing, Refines}
 use Rattle.saa_word_proofs.specs.Alone.{IsQuiet, IsAtRest}
 
 -- nobody holds the flag
-pub quiet-holder : (needs : Needs) (places : ℕ) (row : ℕ → ℕ) (standing : ℕ → Place) (lazy : Lazy) (s : Stands needs places row standing lazy)
+pub quiet-holder : (needs : Needs) (places : ℕ) (row : ℕ → ℕ) (standing : ℕ → Place) (lazy : Lazy) (s : Refines needs places row standing lazy)
     → IsQuiet standing → s.holder == 0 ≡ true
 quiet-holder needs places row standing lazy s quiet =
     elim (cases_Bool (s.holder == 0)) [
@@ -28,7 +28,7 @@ none-due : (due : Option ℕ) → is_some due ≡ false → due ≡ None
 none-due None none = refl
 none-due (Some value) none = absurd (cc)
 
-quiet-due : (needs : Needs) (places : ℕ) (row : ℕ → ℕ) (standing : ℕ → Place) (lazy : Lazy) (s : Stands needs places row standing lazy)
+quiet-due : (needs : Needs) (places : ℕ) (row : ℕ → ℕ) (standing : ℕ → Place) (lazy : Lazy) (s : Refines needs places row standing lazy)
     → IsQuiet standing → (place : ℕ) → lazy.due place ≡ None
 quiet-due needs places row standing lazy s quiet place =
     elim (cases_Bool (is_some (lazy.due place))) [
@@ -41,7 +41,7 @@ quiet-due needs places row standing lazy s quiet place =
     ]
 
 pub at-rest : (needs : Needs) (places : ℕ) (row : ℕ → ℕ) (standing : ℕ → Place) (lazy : Lazy)
-    → Stands needs places row standing lazy → IsQuiet standing → IsAtRest needs row lazy
+    → Refines needs places row standing lazy → IsQuiet standing → IsAtRest needs row lazy
 at-rest needs places row standing lazy s quiet =
     let free : s.holder == 0 ≡ true = quiet-holder needs places row standing lazy s quiet in
     let closed : lazy.unclosed ≡ false = s.main.closed free in

@@ -1,10 +1,10 @@
 -- A poll of a place that stands in the line finds no answer, and leaves all as it is; no other call waits that moves alone.
-use Rattle.std.proofs.Common.{zero, suc, true, false, not, pred, Bool, Option, Some, None, is_some, ◌==◌, arith, inl, inr, refl, List, [], ◌++◌, ◌≡◌, ℕ, ◌+◌, ◌%◌, ◌<◌, sym, ap, subst, ◌∙◌}
+use Rattle.std.proofs.Common.{◌^◌, zero, suc, true, false, not, pred, Bool, Option, Some, None, is_some, ◌==◌, arith, inl, inr, refl, List, [], ◌++◌, ◌≡◌, ℕ, ◌+◌, ◌%◌, ◌<◌, sym, ap, subst, ◌∙◌}
 use Rattle.std.proofs.lemmas.Bool.{cases_Bool}
 use Rattle.std.proofs.lemmas.Bool.Decides.{nat_tests}
 use Rattle.saa_core_spec.specs.Object.{one_if}
 use Rattle.saa_core_spec.proofs.Counts.{number_same, same_number}
-use Rattle.saa_core_words.specs.Words.{answer_number, answer_of}
+use Rattle.saa_core_words.specs.Words.{count_bits, answer_number, answer_of}
 use Rattle.saa_word_steps.specs.declared.place.Place.{Place}
 use Rattle.saa_word_steps.specs.declared.place.Registration.{Registration}
 use Rattle.saa_word_steps.specs.declared.place.Registration.TheVariants.{Idle, Once, Slot}
@@ -16,10 +16,11 @@ use Rattle.saa_word_steps.specs.declared.place.Next.TheVariants.{Going, Waits, D
 use Rattle.saa_word_steps.specs.declared.call.WordCall.{WordCall}
 use Rattle.saa_word_steps.specs.declared.call.WordCall.TheVariants.{Poll}
 use Rattle.saa_word_steps.specs.Needs.{Needs, AreNeeds}
-use Rattle.saa_word_steps.specs.Lazy.{Lazy, Event, is_in}
+use Rattle.saa_word_steps.specs.declared.event.Event.{Event}
+use Rattle.saa_word_steps.specs.Lazy.{Lazy, is_in}
 use Rattle.saa_word_steps.specs.Steps.{word_at, operation_of, next_of, going, polled_as, started, taken_answer, is_taken}
-use Rattle.saa_word_proofs.specs.Standing.{main_of, updated, is_slot, is_holder, IsShowing, AreSeats, Stands}
-use Rattle.saa_word_proofs.specs.Stepped.{named_at, place_after, row_after}
+use Rattle.saa_word_proofs.specs.Refinement.{main_of, updated, is_slot, is_holder, IsShowing, AreSeats, Refines}
+use Rattle.saa_word_proofs.specs.StepRefinement.{named_at, place_after, row_after}
 use Rattle.saa_word_proofs.specs.Calls.{taken_by, IsUnder, IsUnderNext, IsBegun}
 use Rattle.saa_word_proofs.proofs.RefinementLemmas.Lists.{updated-at, updated-other, updated-same, in-some}
 use Rattle.saa_word_proofs.proofs.RefinementLemmas.Steps.{step}
@@ -60,7 +61,7 @@ waits-there needs places me now none =
     (waits, λ i. record { row = row i; standing = standing i })
 
 -- A poll of a place that stands in the line
-pub left-waiting : (needs : Needs) (places me : ℕ) (now : Moment) (lazy : Lazy) → Stands needs places now.row now.standing lazy → me < places
+pub left-waiting : (needs : Needs) (places me : ℕ) (now : Moment) (lazy : Lazy) → Refines needs places now.row now.standing lazy → me < places
     → is_in me lazy.line ≡ true → IsLeftWaiting needs places me Poll now
 left-waiting needs places me now lazy s here there =
     let waits = waits-slot places me now.standing lazy s.seats there in
@@ -87,7 +88,7 @@ each-but P me mine others place =
     ]
 
 -- nobody holds the flag where this place doesn't
-alone-clear : (needs : Needs) (places : ℕ) (row : ℕ → ℕ) (standing : ℕ → Place) (lazy : Lazy) (me : ℕ) → Stands needs places row standing lazy
+alone-clear : (needs : Needs) (places : ℕ) (row : ℕ → ℕ) (standing : ℕ → Place) (lazy : Lazy) (me : ℕ) → Refines needs places row standing lazy
     → AreQuietBut me standing → is_holder (standing me).stage ≡ false → (main_of row).is_flagged ≡ false
 alone-clear needs places row standing lazy me s quiet mine =
     elim (cases_Bool (s.holder == 0)) [
@@ -102,7 +103,7 @@ alone-clear needs places row standing lazy me s quiet mine =
     ]
 
 -- no answer is due where this place has none to show
-alone-paid : (needs : Needs) (places : ℕ) (row : ℕ → ℕ) (standing : ℕ → Place) (lazy : Lazy) (me : ℕ) (s : Stands needs places row standing lazy)
+alone-paid : (needs : Needs) (places : ℕ) (row : ℕ → ℕ) (standing : ℕ → Place) (lazy : Lazy) (me : ℕ) (s : Refines needs places row standing lazy)
     → AreQuietBut me standing → s.owed me ≡ [] → (place : ℕ) → is_some (lazy.due place) ≡ true → ⊥
 alone-paid needs places row standing lazy me s quiet mine place due =
     let none : s.owed (s.shower place) ≡ [] =
@@ -113,7 +114,7 @@ alone-paid needs places row standing lazy me s quiet mine place due =
 
 -- it waits for its own answer only
 alone-stalls : (needs : Needs) (places : ℕ) (row : ℕ → ℕ) (standing : ℕ → Place) (lazy : Lazy) (me : ℕ) → me < places
-    → Stands needs places row standing lazy → AreQuietBut me standing → (stage : Stage) → (standing me).stage ≡ stage
+    → Refines needs places row standing lazy → AreQuietBut me standing → (stage : Stage) → (standing me).stage ≡ stage
     → next_of needs me (standing me) stage (row (word_at (operation_of needs places me stage))) ≡ Waits → stage ≡ Take Awaits
 alone-stalls needs places row standing lazy me here s quiet (Take Awaits) at waits = refl
 alone-stalls needs places row standing lazy me here s quiet (Take (Gives request)) at waits =
@@ -142,19 +143,19 @@ alone-stalls needs places row standing lazy me here s quiet stage at waits =
 -- A place is in the middle of its call, of which it has named some events, and no other place is in one
 pub record Moves (needs : Needs) (places me : ℕ) (call : WordCall) (registered : Registration) (now : Moment) : Type 0 where
   pub lazy : Lazy
-  pub stands : Stands needs places now.row now.standing lazy
+  pub stands : Refines needs places now.row now.standing lazy
   pub names : List Event
   pub under : IsUnder needs call registered (now.standing me).back (now.standing me).stage names
   pub quiet : AreQuietBut me now.standing
 
 -- so it is once a call has started that isn't done at once
-pub moves-first : (needs : Needs) → needs.top < 64 → (places me : ℕ) (call : WordCall) (now : Moment) (lazy : Lazy)
-    → Stands needs places now.row now.standing lazy → IsQuiet now.standing → me < places → is_taken needs.is_lock call ≡ true
+pub moves-first : (needs : Needs) → needs.top < 2 ^ count_bits → (places me : ℕ) (call : WordCall) (now : Moment) (lazy : Lazy)
+    → Refines needs places now.row now.standing lazy → IsQuiet now.standing → me < places → is_taken needs.is_lock call ≡ true
     → (place : Place) → started needs (now.standing me) call ≡ Going place
     → Moves needs places me call (now.standing me).registration (put me (Going place) now)
 moves-first needs wide places me call now lazy s quiet here taken place is = record {
   lazy = lazy;
-  stands = subst (λ (next : Next). Stands needs places now.row (updated now.standing me (place_after (now.standing me) next)) lazy) is
+  stands = subst (λ (next : Next). Refines needs places now.row (updated now.standing me (place_after (now.standing me) next)) lazy) is
       (starts needs wide places now.row now.standing lazy me call here s (quiet me) taken);
   names = [];
   under = subst (λ (p : Place). IsUnder needs call (now.standing me).registration p.back p.stage []) (sym (updated-at now.standing me place))
@@ -163,7 +164,7 @@ moves-first needs wide places me call now lazy s quiet here taken place is = rec
 }
 
 -- and behind each step with which it isn't done
-pub moves-on : (needs : Needs) → AreNeeds needs → needs.top < 64 → (places me : ℕ) → places < 65536 → me < places
+pub moves-on : (needs : Needs) → AreNeeds needs → needs.top < 2 ^ count_bits → (places me : ℕ) → places < 65536 → me < places
     → (call : WordCall) (registered : Registration) (now : Moment) → Moves needs places me call registered now
     → (place : Place) → next_at needs places me now ≡ Going place → Moves needs places me call registered (stepped needs places me now)
 moves-on needs lawful wide places me room here call registered now m place is =
@@ -203,7 +204,7 @@ is-going Waits going h = absurd h
 is-going (Done place answer) going h = absurd h
 
 -- a call that waits behind some steps is a poll
-waits-poll : (needs : Needs) → AreNeeds needs → needs.top < 64 → (places me : ℕ) → places < 65536 → me < places
+waits-poll : (needs : Needs) → AreNeeds needs → needs.top < 2 ^ count_bits → (places me : ℕ) → places < 65536 → me < places
     → (call : WordCall) (registered : Registration) (steps : ℕ) (now : Moment) → Moves needs places me call registered now
     → WaitsBehind needs places me steps now → call ≡ Poll
 waits-poll needs lawful wide places me room here call registered zero now m h = moves-waits needs places me here call registered now m h
@@ -232,7 +233,7 @@ stands-there places me standing lazy seats slot due shown =
     (omega (arith, seats.held me, ap one_if slot, ap (λ (a : Option ℕ). one_if (is_some a)) due, ap (λ (a : Option ℕ). one_if (is_some a)) shown))
 
 -- a poll that waits is one of a place that stands in the line
-poll-only : (needs : Needs) (places me : ℕ) (steps : ℕ) (now : Moment) (lazy : Lazy) → Stands needs places now.row now.standing lazy → me < places
+poll-only : (needs : Needs) (places me : ℕ) (steps : ℕ) (now : Moment) (lazy : Lazy) → Refines needs places now.row now.standing lazy → me < places
     → lazy.due me ≡ None → (registration : Registration) → (now.standing me).registration ≡ registration
     → IsEither (polled_as (now.standing me) Awaits registration)
     (WaitsBehind needs places me steps (put me (polled_as (now.standing me) Awaits registration) now)) (λ said. ⊥)
@@ -249,7 +250,7 @@ poll-only needs places me steps now lazy s here due (Slot request) is h = shown-
 
 -- Only a poll of a place that stands in the line waits
 pub only-polls : (needs : Needs) → AreNeeds needs → (places me : ℕ) (call : WordCall) (steps : ℕ) (now : Moment) (lazy : Lazy)
-    → needs.top < 64 → places < 65536 → Stands needs places now.row now.standing lazy → IsQuiet now.standing → me < places
+    → needs.top < 2 ^ count_bits → places < 65536 → Refines needs places now.row now.standing lazy → IsQuiet now.standing → me < places
     → is_taken needs.is_lock call ≡ true → IsKeptWaiting needs places me call steps now → (call ≡ Poll) × (is_in me lazy.line ≡ true)
 only-polls needs lawful places me call steps now lazy wide room s quiet here taken h =
     let start : Next = started needs (now.standing me) call in

@@ -1,4 +1,4 @@
--- What holds of every budget, whatever stands in the words.
+-- What holds of every step bound, whatever stands in the words.
 use Rattle.std.proofs.Common.{◌≡◌, ℕ, suc, zero, ◌+◌, ◌-◌, ◌*◌, ◌≤◌, ◌==◌, false, refl, arith, inl, inr}
 use Rattle.std.proofs.lemmas.Bool.{cases_Bool}
 use Rattle.saa_core_words.specs.declared.word.Word.{Word}
@@ -9,8 +9,8 @@ use Rattle.saa_word_steps.specs.declared.place.Afterwards.{Afterwards}
 use Rattle.saa_word_steps.specs.declared.place.Afterwards.TheVariants.{Ends, Again}
 use Rattle.saa_word_steps.specs.declared.place.Stage.{Stage}
 use Rattle.saa_word_steps.specs.declared.place.Stage.TheVariants.{Quiet, ReadLoad, AskLoad, AskExchange, Prepare, Join, ReleaseLoad, ReleaseExchange, BackLoad, BackStore, Forward, CutToClose, CutToGoRound, Close, Empty, GoRound, ShowLoad, ShowStore, Take, FlagLoad, FlagExchange, LookLoad, LookStore, Unlink, DropTail, PoisonLoad, PoisonExchange, Clear}
-use Rattle.saa_word_proofs.specs.Standing.{takes_back}
-use Rattle.saa_word_proofs.specs.Budget.{is_link, met, way, by_seen, waiting, more_to_walk, more_to_end, left_afterwards, steps_left, budget}
+use Rattle.saa_word_proofs.specs.Refinement.{takes_back}
+use Rattle.saa_word_proofs.specs.StepBound.{is_link, met, way, by_seen, waiting, more_to_walk, more_to_end, left_afterwards, steps_left, step_bound}
 
 -- no more places are met than there is fuel
 pub met-bounded : (places : ℕ) (row : ℕ → ℕ) (fuel link : ℕ) → met places row fuel link ≤ fuel
@@ -70,7 +70,7 @@ more-none back wait ends = rw ends refl
 pub end-none : (back : Back) (wait : ℕ) → takes_back back ≡ false → more_to_end back wait ≡ 0
 end-none back wait ends = rw ends refl
 
--- Every budget
+-- Every step bound
 
 -- what is left behind the last answer
 afterwards-bounded : (ways : ℕ → ℕ) (places number : ℕ) (back : Back) (afterwards : Afterwards) → ((link : ℕ) → ways link ≤ places)
@@ -88,7 +88,7 @@ afterwards-bounded ways places number back (Again seen) most =
           (omega arith) (omega arith) (omega arith) (omega arith),
     )
 
--- where no way is longer than there are places, no budget is more than this
+-- where no way is longer than there are places, no step bound is more than this
 pub left-bounded : (ways : ℕ → ℕ) (places number : ℕ) (back : Back) (stage : Stage) → ((link : ℕ) → ways link ≤ places)
     → steps_left ways number back stage ≤ 16 * places + 13
 left-bounded ways places number back Quiet most = omega arith
@@ -215,5 +215,5 @@ left-bounded ways places number back (PoisonExchange seen) most =
     (omega arith) (omega arith) (omega arith) (omega arith)).1
 left-bounded ways places number back Clear most = omega arith
 
-pub budget-bounded : (places : ℕ) (row : ℕ → ℕ) (back : Back) (stage : Stage) → budget places row back stage ≤ 16 * places + 13
-budget-bounded places row back stage = left-bounded (way places row) places (row 0) back stage (λ link. met-bounded places row places link)
+pub step_bound-bounded : (places : ℕ) (row : ℕ → ℕ) (back : Back) (stage : Stage) → step_bound places row back stage ≤ 16 * places + 13
+step_bound-bounded places row back stage = left-bounded (way places row) places (row 0) back stage (λ link. met-bounded places row places link)

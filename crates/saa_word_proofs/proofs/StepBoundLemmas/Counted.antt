@@ -1,5 +1,5 @@
 -- What a place has made since another one last changed the main word, and what it has left, stay within one bound.
-use Rattle.std.proofs.Common.{◌≡◌, ℕ, ◌+◌, ◌*◌, ◌<◌, ◌≤◌, Bool, true, false, not, ◌&&◌, ◌||◌, ◌==◌, if◌then◌else◌, Option, Some, None, refl, sym, ap, ◌∙◌, arith, inl, inr}
+use Rattle.std.proofs.Common.{◌^◌, ◌≡◌, ℕ, ◌+◌, ◌*◌, ◌<◌, ◌≤◌, Bool, true, false, not, ◌&&◌, ◌||◌, ◌==◌, if◌then◌else◌, Option, Some, None, refl, sym, ap, ◌∙◌, arith, inl, inr}
 use Rattle.std.proofs.lemmas.Bool.{cases_Bool}
 use Rattle.saa_core_spec.proofs.Counts.{number_same, same_number, number_other}
 use Rattle.saa_core_words.specs.declared.word.Word.{Word}
@@ -17,13 +17,13 @@ use Rattle.saa_word_steps.specs.declared.place.Stage.TheVariants.{Quiet, ReadLoa
 use Rattle.saa_word_steps.specs.Needs.{Needs, AreNeeds, fits_count, left_count}
 use Rattle.saa_word_steps.specs.Lazy.{Lazy}
 use Rattle.saa_word_steps.specs.Steps.{word_at, operation_of, next_of, finished, granted, decided, gave_nothing, given_to, given, shown_all}
-use Rattle.saa_word_proofs.specs.Standing.{updated, Stands}
-use Rattle.saa_word_proofs.specs.Stepped.{row_after, place_after}
+use Rattle.saa_word_proofs.specs.Refinement.{updated, Refines}
+use Rattle.saa_word_proofs.specs.StepRefinement.{row_after, place_after}
 use Rattle.saa_word_proofs.proofs.RefinementLemmas.Lists.{each-updated, updated-same}
 use Rattle.saa_word_proofs.proofs.RefinementLemmas.Rows.{row-other}
-use Rattle.saa_word_proofs.specs.Budget.{steps_left, way, budget, IsLower, IsLowered, made_by, counted, AreWithin, IsCounted}
+use Rattle.saa_word_proofs.specs.StepBound.{steps_left, way, step_bound, IsLower, IsLowered, made_by, counted, AreWithin, IsCounted}
 use Rattle.saa_word_proofs.proofs.StepBoundLemmas.Ways.{ways-answer}
-use Rattle.saa_word_proofs.proofs.StepBoundLemmas.Bounds.{budget-bounded}
+use Rattle.saa_word_proofs.proofs.StepBoundLemmas.Bounds.{step_bound-bounded}
 use Rattle.saa_word_proofs.proofs.StepBoundLemmas.Stores.{kept-row, kept-ways}
 use Rattle.saa_word_proofs.proofs.StepBoundLemmas.Kept.{kept}
 use Rattle.saa_word_proofs.proofs.StepBoundLemmas.Lowered.{lowered}
@@ -77,7 +77,7 @@ never test is not_so = let wrong : true ≡ false = sym is ∙ not_so in absurd 
 -- what is left at a stage on the row behind a step is no more than before it
 abbrev IsNoMore : Needs → ℕ → (ℕ → ℕ) → ℕ → Back → Stage → Type 0
 IsNoMore needs places row me back stage =
-    budget places (row_after row (operation_of needs places me stage)) back stage ≤ budget places row back stage
+    step_bound places (row_after row (operation_of needs places me stage)) back stage ≤ step_bound places row back stage
 
 -- a step of a place that has to wait leaves what it has left
 waits-kept : (needs : Needs) (places : ℕ) (row : ℕ → ℕ) (me : ℕ) (place : Place) (stage : Stage)
@@ -157,20 +157,20 @@ own-within place made before places ways number Waits lower waits within = omega
 own-within place made before places ways number (Done now answer) lower waits within =
     omega (arith, lower.1, within, ap (steps_left ways number now.back) lower.0)
 
--- each step of a place that lowers its budget keeps what all places have made and have left within the bound
+-- each step of a place that lowers its step bound keeps what all places have made and have left within the bound
 counted-by : (needs : Needs) (places : ℕ) (row : ℕ → ℕ) (standing : ℕ → Place) (lazy : Lazy) (me : ℕ) (made : ℕ → ℕ)
-    → Stands needs places row standing lazy → IsLowered needs places row standing me (standing me).stage → AreWithin places row standing made
+    → Refines needs places row standing lazy → IsLowered needs places row standing me (standing me).stage → AreWithin places row standing made
     → IsCounted needs places row standing me made (standing me).stage
 counted-by needs places row standing lazy me made s lower within =
     let found : ℕ = row (word_at (operation_of needs places me (standing me).stage)) in
     let new : ℕ → ℕ = row_after row (operation_of needs places me (standing me).stage) in
     let next : Next = next_of needs me (standing me) (standing me).stage found in
     each-updated
-    (λ (n : ℕ) (p : Place). counted made me next (new 0 == row 0) n + budget places new p.back p.stage ≤ 16 * places + 48)
+    (λ (n : ℕ) (p : Place). counted made me next (new 0 == row 0) n + step_bound places new p.back p.stage ≤ 16 * places + 48)
     standing me (place_after (standing me) next)
     (let mine : me == me ≡ true = number_same me in
     rw mine
-    (own-within (standing me) (made me) (budget places row (standing me).back (standing me).stage) places (way places new) (new 0) next lower
+    (own-within (standing me) (made me) (step_bound places row (standing me).back (standing me).stage) places (way places new) (new 0) next lower
     (waits-kept needs places row me (standing me) (standing me).stage) (within me)))
     (λ other apart.
     let theirs : other == me ≡ false = number_other other me apart in
@@ -178,11 +178,11 @@ counted-by needs places row standing lazy me made s lower within =
       | inl same ↦
           rw (theirs, same)
           (omega (arith, within other, kept needs places row standing lazy me other s apart (same_number (new 0) (row 0) same)))
-      | inr changed ↦ rw (theirs, changed) (omega (arith, budget-bounded places new (standing other).back (standing other).stage))
+      | inr changed ↦ rw (theirs, changed) (omega (arith, step_bound-bounded places new (standing other).back (standing other).stage))
     ])
 
-pub counted-within : (needs : Needs) → AreNeeds needs → needs.top < 64 → (places : ℕ) (row : ℕ → ℕ) (standing : ℕ → Place) (lazy : Lazy) (me : ℕ)
-    (made : ℕ → ℕ) → Stands needs places row standing lazy → ((standing me).stage ≡ Quiet → ⊥) → AreWithin places row standing made
+pub counted-within : (needs : Needs) → AreNeeds needs → needs.top < 2 ^ count_bits → (places : ℕ) (row : ℕ → ℕ) (standing : ℕ → Place) (lazy : Lazy) (me : ℕ)
+    (made : ℕ → ℕ) → Refines needs places row standing lazy → ((standing me).stage ≡ Quiet → ⊥) → AreWithin places row standing made
     → IsCounted needs places row standing me made (standing me).stage
 counted-within needs lawful wide places row standing lazy me made s busy within =
     counted-by needs places row standing lazy me made s (lowered needs lawful wide places row standing lazy me s (standing me).stage refl busy) within

@@ -9,10 +9,10 @@ use Rattle.saa_core_words.specs.Words.{line_number, line_word_of}
 use Rattle.saa_word_steps.specs.declared.place.Place.{Place}
 use Rattle.saa_word_steps.specs.Needs.{Needs}
 use Rattle.saa_word_steps.specs.Lazy.{Lazy, is_empty, waits_times}
-use Rattle.saa_word_proofs.specs.Standing.{updated, main_of, line_of, newest, oldest, IsBehind, IsAhead, Work, Stands}
+use Rattle.saa_word_proofs.specs.Refinement.{updated, main_of, line_of, newest, oldest, IsBehind, IsAhead, Work, Refines}
 use Rattle.saa_word_proofs.proofs.RefinementLemmas.Lists.{updated-at, behind-frame, behind-front, behind-rest, newest-append, newest-last, times-append}
 use Rattle.saa_word_proofs.proofs.RefinementLemmas.Rows.{row-other, line-at, line-other}
-use Rattle.saa_word_proofs.specs.Budget.{way, waiting}
+use Rattle.saa_word_proofs.specs.StepBound.{way, waiting}
 use Rattle.saa_word_proofs.proofs.StepBoundLemmas.Ways.{IsWay, way-length, ways-same}
 use Rattle.saa_word_proofs.proofs.StepBoundLemmas.Lines.{uncut-way, work-behind}
 
@@ -96,7 +96,7 @@ pub record IsCut (places : ℕ) (row new : ℕ → ℕ) (older front behind join
   pub front_ways : way places new older ≡ front
   pub rest_ways : waiting (way places new) (row 0) ≡ behind + joined
 
-pub cut-line : (needs : Needs) (places : ℕ) (row : ℕ → ℕ) (standing : ℕ → Place) (lazy : Lazy) (s : Stands needs places row standing lazy)
+pub cut-line : (needs : Needs) (places : ℕ) (row : ℕ → ℕ) (standing : ℕ → Place) (lazy : Lazy) (s : Refines needs places row standing lazy)
     (seen : Word)
     (work : Work lazy.count lazy.line seen) (behind : List (ℕ × ℕ)) (current : ℕ) (line : LineWord) → s.cut ≡ [] → work.behind ≡ behind
     → current ≡ oldest behind
@@ -132,7 +132,7 @@ cut-line needs places row standing lazy s seen work (asker ∷ rest) current lin
     })
 
 -- as many are met from the place that the holder looks at as stand in the front, and one more
-pub at-way : (needs : Needs) (places : ℕ) (row : ℕ → ℕ) (standing : ℕ → Place) (lazy : Lazy) (s : Stands needs places row standing lazy) (seen : Word)
+pub at-way : (needs : Needs) (places : ℕ) (row : ℕ → ℕ) (standing : ℕ → Place) (lazy : Lazy) (s : Refines needs places row standing lazy) (seen : Word)
     (work : Work lazy.count lazy.line seen) (behind : List (ℕ × ℕ)) (current : ℕ) → s.cut ≡ [] → work.behind ≡ behind → current ≡ oldest behind
     → is_empty behind ≡ false → (way places row current ≡ length work.front + 1) × (0 < length work.behind)
 at-way needs places row standing lazy s seen work [] current whole is at some = absurd (cc)
@@ -142,7 +142,7 @@ at-way needs places row standing lazy s seen work (asker ∷ rest) current whole
 )
 
 -- the newer link of a place that isn't the tail that was seen leads to one more
-pub next-way : (needs : Needs) (places : ℕ) (row : ℕ → ℕ) (standing : ℕ → Place) (lazy : Lazy) (s : Stands needs places row standing lazy)
+pub next-way : (needs : Needs) (places : ℕ) (row : ℕ → ℕ) (standing : ℕ → Place) (lazy : Lazy) (s : Refines needs places row standing lazy)
     (seen : Word)
     (work : Work lazy.count lazy.line seen) (behind : List (ℕ × ℕ)) (current : ℕ) → s.cut ≡ [] → work.behind ≡ behind → current ≡ oldest behind
     → is_empty behind ≡ false → IsAhead (line_of row) behind → current == seen.tail ≡ false

@@ -1,4 +1,4 @@
--- A step of a place that leaves the main word raises the budget of no other place.
+-- A step of a place that leaves the main word raises the step bound of no other place.
 use Rattle.std.proofs.Common.{◌≡◌, ℕ, ◌+◌, ◌≤◌, pred, refl, sym, ap, subst, ◌∙◌, arith}
 use Rattle.saa_core_words.specs.declared.line_word.LineWord.{LineWord}
 use Rattle.saa_core_words.specs.Words.{line_number, line_word_of}
@@ -8,22 +8,22 @@ use Rattle.saa_word_steps.specs.declared.place.Stage.TheVariants.{Quiet, ReadLoa
 use Rattle.saa_word_steps.specs.Needs.{Needs}
 use Rattle.saa_word_steps.specs.Lazy.{Lazy}
 use Rattle.saa_word_steps.specs.Steps.{operation_of}
-use Rattle.saa_word_proofs.specs.Standing.{updated, is_holder, IsAlone, Stands}
-use Rattle.saa_word_proofs.specs.Stepped.{row_after}
+use Rattle.saa_word_proofs.specs.Refinement.{updated, is_holder, IsAlone, Refines}
+use Rattle.saa_word_proofs.specs.StepRefinement.{row_after}
 use Rattle.saa_word_proofs.proofs.RefinementLemmas.Lists.{updated-same}
 use Rattle.saa_word_proofs.proofs.RefinementLemmas.Frames.{newest-stands}
-use Rattle.saa_word_proofs.specs.Budget.{budget, IsKept}
+use Rattle.saa_word_proofs.specs.StepBound.{step_bound, IsKept}
 use Rattle.saa_word_proofs.proofs.StepBoundLemmas.Ways.{ways-answer}
 use Rattle.saa_word_proofs.proofs.StepBoundLemmas.Lines.{holds, shows}
 use Rattle.saa_word_proofs.proofs.StepBoundLemmas.Cuts.{older-kept, ways-store}
 use Rattle.saa_word_proofs.proofs.StepBoundLemmas.Leaves.{past-line}
 use Rattle.saa_word_proofs.proofs.StepBoundLemmas.Stores.{kept-row, kept-ways, kept-shorter, other-free, none-older, kept-cut, kept-prepare}
 
--- a step at a stage that leaves the main word raises the budget of no other place
-kept-by : (needs : Needs) (places : ℕ) (row : ℕ → ℕ) (standing : ℕ → Place) (lazy : Lazy) (me other : ℕ) (s : Stands needs places row standing lazy)
+-- a step at a stage that leaves the main word raises the step bound of no other place
+kept-by : (needs : Needs) (places : ℕ) (row : ℕ → ℕ) (standing : ℕ → Place) (lazy : Lazy) (me other : ℕ) (s : Refines needs places row standing lazy)
     → (other ≡ me → ⊥) → (stage : Stage) → (standing me).stage ≡ stage → row_after row (operation_of needs places me stage) 0 ≡ row 0
-    → budget places (row_after row (operation_of needs places me stage)) (standing other).back (standing other).stage
-    ≤ budget places row (standing other).back (standing other).stage
+    → step_bound places (row_after row (operation_of needs places me stage)) (standing other).back (standing other).stage
+    ≤ step_bound places row (standing other).back (standing other).stage
 kept-by needs places row standing lazy me other s apart Quiet at main =
     kept-row places row (updated row 0 (row 0)) (standing other).back (standing other).stage (updated-same row 0 (row 0) refl)
 kept-by needs places row standing lazy me other s apart (ReadLoad reading) at main =
@@ -115,6 +115,6 @@ kept-by needs places row standing lazy me other s apart Clear at main =
     kept-row places row (row_after row (operation_of needs places me Clear)) (standing other).back (standing other).stage
     (updated-same row 0 (row_after row (operation_of needs places me Clear) 0) main)
 
-pub kept : (needs : Needs) (places : ℕ) (row : ℕ → ℕ) (standing : ℕ → Place) (lazy : Lazy) (me other : ℕ) → Stands needs places row standing lazy
+pub kept : (needs : Needs) (places : ℕ) (row : ℕ → ℕ) (standing : ℕ → Place) (lazy : Lazy) (me other : ℕ) → Refines needs places row standing lazy
     → (other ≡ me → ⊥) → IsKept needs places row standing me other
 kept needs places row standing lazy me other s apart = kept-by needs places row standing lazy me other s apart (standing me).stage refl

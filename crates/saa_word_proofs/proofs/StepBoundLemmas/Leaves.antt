@@ -9,10 +9,10 @@ use Rattle.saa_core_words.specs.Words.{line_number, line_word_of}
 use Rattle.saa_word_steps.specs.declared.place.Place.{Place}
 use Rattle.saa_word_steps.specs.Needs.{Needs}
 use Rattle.saa_word_steps.specs.Lazy.{Lazy, is_empty, waits_times}
-use Rattle.saa_word_proofs.specs.Standing.{updated, main_of, line_of, newest, oldest, IsBehind, IsFound, Work, Stands}
+use Rattle.saa_word_proofs.specs.Refinement.{updated, main_of, line_of, newest, oldest, IsBehind, IsFound, Work, Refines}
 use Rattle.saa_word_proofs.proofs.RefinementLemmas.Lists.{updated-at, behind-frame, behind-append, behind-front, behind-rest, newest-append, times-append}
 use Rattle.saa_word_proofs.proofs.RefinementLemmas.Rows.{row-other, line-at, line-other}
-use Rattle.saa_word_proofs.specs.Budget.{is_link, met, way, waiting}
+use Rattle.saa_word_proofs.specs.StepBound.{is_link, met, way, waiting}
 use Rattle.saa_word_proofs.proofs.StepBoundLemmas.Ways.{IsWay, way-length, way-front, link-of}
 use Rattle.saa_word_proofs.proofs.StepBoundLemmas.Lines.{uncut-way}
 use Rattle.saa_word_proofs.proofs.StepBoundLemmas.Cuts.{other-link}
@@ -204,7 +204,7 @@ past-of places row tail before rest joined gone asker number leads tail_is reque
     }
 
 -- where the holder of the flag found itself, and links the first of those behind it past it
-pub past-line : (needs : Needs) (places : ℕ) (row : ℕ → ℕ) (standing : ℕ → Place) (lazy : Lazy) (s : Stands needs places row standing lazy)
+pub past-line : (needs : Needs) (places : ℕ) (row : ℕ → ℕ) (standing : ℕ → Place) (lazy : Lazy) (s : Refines needs places row standing lazy)
     (me : ℕ) (seen : Word) (work : Work lazy.count lazy.line seen) (behind : List (ℕ × ℕ)) (newer older : ℕ) (line : LineWord)
     (found : IsFound me work.front older)
     → s.cut ≡ [] → work.behind ≡ behind → newer ≡ oldest behind → is_empty behind ≡ false → line ≡ line_of row (pred newer)

@@ -1,4 +1,4 @@
--- Ways along the line, and along those whose answers are to be shown, where words, places and the lazy object stand together.
+-- Ways along the line, and along those whose answers are to be shown, where words, places and the abstract state stand together.
 use Rattle.std.proofs.Common.{◌≡◌, ℕ, ◌+◌, ◌<◌, ◌≤◌, true, List, [], ◌∷◌, ◌++◌, length, Option, Some, is_some, refl, sym, ap, subst, ◌∙◌, arith, inl, inr, length-append, append_assoc}
 use Rattle.std.proofs.lemmas.Bool.{cases_Bool}
 use Rattle.saa_core_spec.specs.Object.{one_if}
@@ -8,13 +8,13 @@ use Rattle.saa_word_steps.specs.declared.place.Place.{Place}
 use Rattle.saa_word_steps.specs.declared.place.Stage.{Stage}
 use Rattle.saa_word_steps.specs.Needs.{Needs}
 use Rattle.saa_word_steps.specs.Lazy.{Lazy, is_empty, waits_times, held_by}
-use Rattle.saa_word_proofs.specs.Standing.{main_of, line_of, newest, is_slot, is_holder, IsShowing, Work, IsHolding, Stands}
+use Rattle.saa_word_proofs.specs.Refinement.{main_of, line_of, newest, is_slot, is_holder, IsShowing, Work, IsHolding, Refines}
 use Rattle.saa_word_proofs.proofs.RefinementLemmas.Lists.{newest-any, newest-append, newest-last, times-append, in-some}
-use Rattle.saa_word_proofs.specs.Budget.{way, waiting}
+use Rattle.saa_word_proofs.specs.StepBound.{way, waiting}
 use Rattle.saa_word_proofs.proofs.StepBoundLemmas.Ways.{IsWay, way-length, way-front}
 
 -- whoever is held once at least is a place
-slot-within : (needs : Needs) (places : ℕ) (row : ℕ → ℕ) (standing : ℕ → Place) (lazy : Lazy) (s : Stands needs places row standing lazy) (place : ℕ)
+slot-within : (needs : Needs) (places : ℕ) (row : ℕ → ℕ) (standing : ℕ → Place) (lazy : Lazy) (s : Refines needs places row standing lazy) (place : ℕ)
     → 0 < held_by place lazy → place < places
 slot-within needs places row standing lazy s place held =
     elim (cases_Bool (is_slot (standing place).registration)) [
@@ -23,19 +23,19 @@ slot-within needs places row standing lazy s place held =
     ]
 
 -- each place is held once at most
-pub held-once : (needs : Needs) (places : ℕ) (row : ℕ → ℕ) (standing : ℕ → Place) (lazy : Lazy) (s : Stands needs places row standing lazy)
+pub held-once : (needs : Needs) (places : ℕ) (row : ℕ → ℕ) (standing : ℕ → Place) (lazy : Lazy) (s : Refines needs places row standing lazy)
     (place : ℕ)
     → held_by place lazy ≤ 1
 held-once needs places row standing lazy s place = omega (arith, s.seats.held place, one_if-le (is_slot (standing place).registration))
 
 -- an answer that a place has to show is due
-pub owed-due : (needs : Needs) (places : ℕ) (row : ℕ → ℕ) (standing : ℕ → Place) (lazy : Lazy) (s : Stands needs places row standing lazy)
+pub owed-due : (needs : Needs) (places : ℕ) (row : ℕ → ℕ) (standing : ℕ → Place) (lazy : Lazy) (s : Refines needs places row standing lazy)
     (shows place : ℕ)
     → 0 < waits_times place (s.owed shows) → lazy.due place ≡ Some (s.worth shows)
 owed-due needs places row standing lazy s shows place there = (s.debts.due_to shows place (in-some place (s.owed shows) there)).1
 
 -- the newest whose answer a place has to show leads along all of them
-pub owed-way : (needs : Needs) (places : ℕ) (row : ℕ → ℕ) (standing : ℕ → Place) (lazy : Lazy) (s : Stands needs places row standing lazy) (shows : ℕ)
+pub owed-way : (needs : Needs) (places : ℕ) (row : ℕ → ℕ) (standing : ℕ → Place) (lazy : Lazy) (s : Refines needs places row standing lazy) (shows : ℕ)
     → IsWay places row (newest 0 (s.owed shows)) (s.owed shows)
 owed-way needs places row standing lazy s shows = record {
   behind = s.debts.links shows;
@@ -46,12 +46,12 @@ owed-way needs places row standing lazy s shows = record {
 }
 
 -- how often a place stands in the parts of the line
-parts-times : (needs : Needs) (places : ℕ) (row : ℕ → ℕ) (standing : ℕ → Place) (lazy : Lazy) (s : Stands needs places row standing lazy) (place : ℕ)
+parts-times : (needs : Needs) (places : ℕ) (row : ℕ → ℕ) (standing : ℕ → Place) (lazy : Lazy) (s : Refines needs places row standing lazy) (place : ℕ)
     → waits_times place lazy.line ≡ waits_times place s.cut + waits_times place s.uncut
 parts-times needs places row standing lazy s place = ap (waits_times place) s.line.parts ∙ times-append place s.cut s.uncut
 
 -- the tail leads along those who aren't cut off
-pub tail-newest : (needs : Needs) (places : ℕ) (row : ℕ → ℕ) (standing : ℕ → Place) (lazy : Lazy) (s : Stands needs places row standing lazy)
+pub tail-newest : (needs : Needs) (places : ℕ) (row : ℕ → ℕ) (standing : ℕ → Place) (lazy : Lazy) (s : Refines needs places row standing lazy)
     → (main_of row).tail ≡ newest 0 s.uncut
 tail-newest needs places row standing lazy s =
     s.main.tail ∙ ap (newest 0) s.line.parts ∙ newest-append 0 s.cut s.uncut ∙ elim (cases_Bool (is_empty s.uncut)) [
@@ -59,7 +59,7 @@ tail-newest needs places row standing lazy s =
       | inr some ↦ newest-any (newest 0 s.cut) 0 s.uncut some
     ]
 
-pub uncut-way : (needs : Needs) (places : ℕ) (row : ℕ → ℕ) (standing : ℕ → Place) (lazy : Lazy) (s : Stands needs places row standing lazy)
+pub uncut-way : (needs : Needs) (places : ℕ) (row : ℕ → ℕ) (standing : ℕ → Place) (lazy : Lazy) (s : Refines needs places row standing lazy)
     → IsWay places row (main_of row).tail s.uncut
 uncut-way needs places row standing lazy s = record {
   behind = s.line.stays;
@@ -69,7 +69,7 @@ uncut-way needs places row standing lazy s = record {
 }
 
 -- the newest of those who are cut off leads along them
-pub cut-way : (needs : Needs) (places : ℕ) (row : ℕ → ℕ) (standing : ℕ → Place) (lazy : Lazy) (s : Stands needs places row standing lazy)
+pub cut-way : (needs : Needs) (places : ℕ) (row : ℕ → ℕ) (standing : ℕ → Place) (lazy : Lazy) (s : Refines needs places row standing lazy)
     → IsWay places row (newest 0 s.cut) s.cut
 cut-way needs places row standing lazy s = record {
   behind = s.line.granted;
@@ -79,40 +79,40 @@ cut-way needs places row standing lazy s = record {
 }
 
 -- so many wait as aren't cut off
-pub rest-length : (needs : Needs) (places : ℕ) (row : ℕ → ℕ) (standing : ℕ → Place) (lazy : Lazy) (s : Stands needs places row standing lazy)
+pub rest-length : (needs : Needs) (places : ℕ) (row : ℕ → ℕ) (standing : ℕ → Place) (lazy : Lazy) (s : Refines needs places row standing lazy)
     → waiting (way places row) (row 0) ≡ length s.uncut
 rest-length needs places row standing lazy s = way-length places row (main_of row).tail s.uncut (uncut-way needs places row standing lazy s)
 
 -- where nobody is cut off, the newest of a front of the line leads along it
-pub part-way : (needs : Needs) (places : ℕ) (row : ℕ → ℕ) (standing : ℕ → Place) (lazy : Lazy) (s : Stands needs places row standing lazy)
+pub part-way : (needs : Needs) (places : ℕ) (row : ℕ → ℕ) (standing : ℕ → Place) (lazy : Lazy) (s : Refines needs places row standing lazy)
     → s.cut ≡ [] → (part rest : List (ℕ × ℕ)) → lazy.line ≡ part ++ rest → IsWay places row (newest 0 part) part
 part-way needs places row standing lazy s whole part rest is =
     way-front places row (main_of row).tail part rest
     (subst (λ (l : List (ℕ × ℕ)). IsWay places row (main_of row).tail l) (sym (uncut-line needs places row standing lazy s whole) ∙ is)
     (uncut-way needs places row standing lazy s))
   where
-    uncut-line : (needs : Needs) (places : ℕ) (row : ℕ → ℕ) (standing : ℕ → Place) (lazy : Lazy) (s : Stands needs places row standing lazy)
+    uncut-line : (needs : Needs) (places : ℕ) (row : ℕ → ℕ) (standing : ℕ → Place) (lazy : Lazy) (s : Refines needs places row standing lazy)
         → s.cut ≡ [] → lazy.line ≡ s.uncut
     uncut-line needs places row standing lazy s whole = s.line.parts ∙ ap (λ (l : List (ℕ × ℕ)). l ++ s.uncut) whole
 
-pub part-length : (needs : Needs) (places : ℕ) (row : ℕ → ℕ) (standing : ℕ → Place) (lazy : Lazy) (s : Stands needs places row standing lazy)
+pub part-length : (needs : Needs) (places : ℕ) (row : ℕ → ℕ) (standing : ℕ → Place) (lazy : Lazy) (s : Refines needs places row standing lazy)
     → s.cut ≡ [] → (part rest : List (ℕ × ℕ)) → lazy.line ≡ part ++ rest → way places row (newest 0 part) ≡ length part
 part-length needs places row standing lazy s whole part rest is =
     way-length places row (newest 0 part) part (part-way needs places row standing lazy s whole part rest is)
 
 -- what a place knows of the answers that it has to show
-pub shows : (needs : Needs) (places : ℕ) (row : ℕ → ℕ) (standing : ℕ → Place) (lazy : Lazy) (s : Stands needs places row standing lazy) (me : ℕ)
+pub shows : (needs : Needs) (places : ℕ) (row : ℕ → ℕ) (standing : ℕ → Place) (lazy : Lazy) (s : Refines needs places row standing lazy) (me : ℕ)
     (stage : Stage) → (standing me).stage ≡ stage → IsShowing (s.owed me) (s.worth me) stage
 shows needs places row standing lazy s me stage at = subst (λ (now : Stage). IsShowing (s.owed me) (s.worth me) now) at (s.stages.showing me)
 
 -- The line as the holder of the flag sees it
 
 -- who holds the flag
-pub holder-is : (needs : Needs) (places : ℕ) (row : ℕ → ℕ) (standing : ℕ → Place) (lazy : Lazy) (s : Stands needs places row standing lazy) (me : ℕ)
+pub holder-is : (needs : Needs) (places : ℕ) (row : ℕ → ℕ) (standing : ℕ → Place) (lazy : Lazy) (s : Refines needs places row standing lazy) (me : ℕ)
     → is_holder (standing me).stage ≡ true → s.holder ≡ me + 1
 holder-is needs places row standing lazy s me holds = same_number s.holder (me + 1) (sym (s.stages.one me) ∙ holds)
 
-pub holds : (needs : Needs) (places : ℕ) (row : ℕ → ℕ) (standing : ℕ → Place) (lazy : Lazy) (s : Stands needs places row standing lazy)
+pub holds : (needs : Needs) (places : ℕ) (row : ℕ → ℕ) (standing : ℕ → Place) (lazy : Lazy) (s : Refines needs places row standing lazy)
     (me : ℕ) (stage : Stage)
     → (standing me).stage ≡ stage → is_holder stage ≡ true → IsHolding needs (line_of row) me lazy.count lazy.line s.cut stage
 holds needs places row standing lazy s me stage at is =
@@ -120,7 +120,7 @@ holds needs places row standing lazy s me stage at is =
     (s.stages.holding me (holder-is needs places row standing lazy s me (ap is_holder at ∙ is)))
 
 -- so many wait as the front, those behind it and those who joined since
-pub work-rest : (needs : Needs) (places : ℕ) (row : ℕ → ℕ) (standing : ℕ → Place) (lazy : Lazy) (s : Stands needs places row standing lazy)
+pub work-rest : (needs : Needs) (places : ℕ) (row : ℕ → ℕ) (standing : ℕ → Place) (lazy : Lazy) (s : Refines needs places row standing lazy)
     (seen : Word)
     (work : Work lazy.count lazy.line seen) → s.cut ≡ []
     → waiting (way places row) (row 0) ≡ length work.front + (length work.behind + length work.joined)
@@ -136,7 +136,7 @@ work-rest needs places row standing lazy s seen work whole =
     )
 
 -- the tail that was seen leads along the front and those behind it
-pub work-tail : (needs : Needs) (places : ℕ) (row : ℕ → ℕ) (standing : ℕ → Place) (lazy : Lazy) (s : Stands needs places row standing lazy)
+pub work-tail : (needs : Needs) (places : ℕ) (row : ℕ → ℕ) (standing : ℕ → Place) (lazy : Lazy) (s : Refines needs places row standing lazy)
     (seen : Word)
     (work : Work lazy.count lazy.line seen) → s.cut ≡ [] → way places row seen.tail ≡ length work.front + length work.behind
 work-tail needs places row standing lazy s seen work whole =
@@ -146,7 +146,7 @@ work-tail needs places row standing lazy s seen work whole =
     ∙ length-append work.front work.behind
 
 -- the newest of the front leads along the front
-pub work-back : (needs : Needs) (places : ℕ) (row : ℕ → ℕ) (standing : ℕ → Place) (lazy : Lazy) (s : Stands needs places row standing lazy)
+pub work-back : (needs : Needs) (places : ℕ) (row : ℕ → ℕ) (standing : ℕ → Place) (lazy : Lazy) (s : Refines needs places row standing lazy)
     (seen : Word)
     (work : Work lazy.count lazy.line seen) → s.cut ≡ [] → way places row (newest 0 work.front) ≡ length work.front
 work-back needs places row standing lazy s seen work whole =
@@ -154,7 +154,7 @@ work-back needs places row standing lazy s seen work whole =
 
 -- each of those behind the front leads along the front and those before it
 pub work-behind : (needs : Needs) (places : ℕ) (row : ℕ → ℕ) (standing : ℕ → Place) (lazy : Lazy)
-    (s : Stands needs places row standing lazy) (seen : Word)
+    (s : Refines needs places row standing lazy) (seen : Word)
     (work : Work lazy.count lazy.line seen) → s.cut ≡ [] → (before rest : List (ℕ × ℕ)) (last : ℕ × ℕ) → work.behind ≡ (before ++ last ∷ []) ++ rest
     → way places row (last.0 + 1) ≡ length work.front + (length before + 1)
 work-behind needs places row standing lazy s seen work whole before rest last is =

@@ -1,5 +1,5 @@
--- Each step of a place lowers its budget.
-use Rattle.std.proofs.Common.{◌≡◌, ℕ, ◌+◌, ◌%◌, ◌<◌, refl, arith}
+-- Each step of a place lowers its step bound.
+use Rattle.std.proofs.Common.{◌^◌, ◌≡◌, ℕ, ◌+◌, ◌%◌, ◌<◌, refl, arith}
 use Rattle.saa_core_words.specs.Words.{count_bits, word_of, answer_of}
 use Rattle.saa_word_steps.specs.declared.place.Place.{Place}
 use Rattle.saa_word_steps.specs.declared.place.Stage.{Stage}
@@ -7,8 +7,8 @@ use Rattle.saa_word_steps.specs.declared.place.Stage.TheVariants.{Quiet, ReadLoa
 use Rattle.saa_word_steps.specs.Needs.{Needs, AreNeeds}
 use Rattle.saa_word_steps.specs.Lazy.{Lazy}
 use Rattle.saa_word_steps.specs.Steps.{next_of}
-use Rattle.saa_word_proofs.specs.Standing.{Stands}
-use Rattle.saa_word_proofs.specs.Budget.{way, budget, IsLowered}
+use Rattle.saa_word_proofs.specs.Refinement.{Refines}
+use Rattle.saa_word_proofs.specs.StepBound.{way, step_bound, IsLowered}
 use Rattle.saa_word_proofs.proofs.StepBoundLemmas.Ways.{ways-answer}
 use Rattle.saa_word_proofs.proofs.StepBoundLemmas.Nexts.{found-seen, onto-load, onto-same, decided-lower, given-lower, taken-lower, flagging-lower, poisoning-lower}
 use Rattle.saa_word_proofs.proofs.StepBoundLemmas.LoweredAsking.{lower-AskExchange, lower-Prepare, lower-Join, lower-ReleaseExchange}
@@ -17,9 +17,9 @@ use Rattle.saa_word_proofs.proofs.StepBoundLemmas.LoweredShowing.{lower-Close, l
 use Rattle.saa_word_proofs.proofs.StepBoundLemmas.LoweredLeaving.{lower-FlagExchange, lower-LookLoad, lower-LookStore, lower-Unlink, lower-DropTail}
 use Rattle.saa_word_proofs.proofs.StepBoundLemmas.LoweredPoison.{lower-PoisonExchange}
 
--- a step of a place lowers its budget
-pub lowered : (needs : Needs) → AreNeeds needs → needs.top < 64 → (places : ℕ) (row : ℕ → ℕ) (standing : ℕ → Place) (lazy : Lazy) (me : ℕ)
-    → (s : Stands needs places row standing lazy) (stage : Stage) → (standing me).stage ≡ stage → (stage ≡ Quiet → ⊥)
+-- a step of a place lowers its step bound
+pub lowered : (needs : Needs) → AreNeeds needs → needs.top < 2 ^ count_bits → (places : ℕ) (row : ℕ → ℕ) (standing : ℕ → Place) (lazy : Lazy) (me : ℕ)
+    → (s : Refines needs places row standing lazy) (stage : Stage) → (standing me).stage ≡ stage → (stage ≡ Quiet → ⊥)
     → IsLowered needs places row standing me stage
 lowered needs lawful wide places row standing lazy me s Quiet at busy = absurd (busy refl)
 lowered needs lawful wide places row standing lazy me s (ReadLoad reading) at busy =
@@ -31,8 +31,8 @@ lowered needs lawful wide places row standing lazy me s (AskExchange ask seen) a
 lowered needs lawful wide places row standing lazy me s (Prepare request seen) at busy = lower-Prepare needs places row standing me request seen
 lowered needs lawful wide places row standing lazy me s (Join request seen) at busy = lower-Join needs places row standing lazy me s request seen
 lowered needs lawful wide places row standing lazy me s (ReleaseLoad given_back) at busy =
-    onto-load places row 0 (budget places row (standing me).back (ReleaseLoad given_back)) (next_of needs me (standing me) (ReleaseLoad given_back) (row 0))
-    (given-lower (way places row) (row 0) (budget places row (standing me).back (ReleaseLoad given_back)) needs (standing me) given_back
+    onto-load places row 0 (step_bound places row (standing me).back (ReleaseLoad given_back)) (next_of needs me (standing me) (ReleaseLoad given_back) (row 0))
+    (given-lower (way places row) (row 0) (step_bound places row (standing me).back (ReleaseLoad given_back)) needs (standing me) given_back
     (word_of count_bits (row 0)) (found-seen (row 0) s.main.whole) (omega arith))
 lowered needs lawful wide places row standing lazy me s (ReleaseExchange given_back seen) at busy =
     lower-ReleaseExchange needs lawful places row standing lazy me s given_back seen at
@@ -56,13 +56,13 @@ lowered needs lawful wide places row standing lazy me s (ShowLoad current value 
 lowered needs lawful wide places row standing lazy me s (ShowStore current next value afterwards) at busy =
     lower-ShowStore needs places row standing lazy me s current next value afterwards at
 lowered needs lawful wide places row standing lazy me s (Take taking) at busy =
-    onto-same places row (places + me + 1) 0 (budget places row (standing me).back (Take taking))
+    onto-same places row (places + me + 1) 0 (step_bound places row (standing me).back (Take taking))
     (next_of needs me (standing me) (Take taking) (row (places + me + 1))) (omega arith)
     (ways-answer places row (places + me + 1) 0 (omega arith))
     (taken-lower (way places row) (row 0) needs (standing me) taking (answer_of (row (places + me + 1) % 65536)))
 lowered needs lawful wide places row standing lazy me s FlagLoad at busy =
-    onto-load places row 0 (budget places row (standing me).back FlagLoad) (next_of needs me (standing me) FlagLoad (row 0))
-    (flagging-lower (way places row) (row 0) (budget places row (standing me).back FlagLoad) (standing me) (word_of count_bits (row 0))
+    onto-load places row 0 (step_bound places row (standing me).back FlagLoad) (next_of needs me (standing me) FlagLoad (row 0))
+    (flagging-lower (way places row) (row 0) (step_bound places row (standing me).back FlagLoad) (standing me) (word_of count_bits (row 0))
     (found-seen (row 0) s.main.whole) (omega arith))
 lowered needs lawful wide places row standing lazy me s (FlagExchange seen) at busy = lower-FlagExchange needs places row standing lazy me s seen at
 lowered needs lawful wide places row standing lazy me s (LookLoad seen current newer previous) at busy =
@@ -73,8 +73,8 @@ lowered needs lawful wide places row standing lazy me s (Unlink seen newer line 
     lower-Unlink needs places row standing lazy me s seen newer line older at
 lowered needs lawful wide places row standing lazy me s (DropTail seen older) at busy = lower-DropTail needs places row standing lazy me s seen older at
 lowered needs lawful wide places row standing lazy me s PoisonLoad at busy =
-    onto-load places row 0 (budget places row (standing me).back PoisonLoad) (next_of needs me (standing me) PoisonLoad (row 0))
-    (poisoning-lower (way places row) (row 0) (budget places row (standing me).back PoisonLoad) (standing me) (word_of count_bits (row 0))
+    onto-load places row 0 (step_bound places row (standing me).back PoisonLoad) (next_of needs me (standing me) PoisonLoad (row 0))
+    (poisoning-lower (way places row) (row 0) (step_bound places row (standing me).back PoisonLoad) (standing me) (word_of count_bits (row 0))
     (found-seen (row 0) s.main.whole) (omega arith))
 lowered needs lawful wide places row standing lazy me s (PoisonExchange seen) at busy = lower-PoisonExchange needs places row standing lazy me s seen at
 lowered needs lawful wide places row standing lazy me s Clear at busy = (refl, omega arith)

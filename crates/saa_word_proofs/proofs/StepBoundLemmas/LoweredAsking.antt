@@ -1,4 +1,4 @@
--- Each step of a place that asks, joins or gives back lowers its budget.
+-- Each step of a place that asks, joins or gives back lowers its step bound.
 use Rattle.std.proofs.Common.{◌≡◌, ℕ, ◌+◌, ◌*◌, ◌<◌, true, not, ◌&&◌, ◌==◌, if◌then◌else◌, Some, refl, sym, ap, subst, arith, inl, inr}
 use Rattle.std.proofs.lemmas.Bool.{cases_Bool}
 use Rattle.saa_core_spec.proofs.Counts.{number_same}
@@ -13,14 +13,14 @@ use Rattle.saa_word_steps.specs.declared.place.Stage.TheVariants.{Quiet, AskExch
 use Rattle.saa_word_steps.specs.Needs.{Needs, AreNeeds, left_count}
 use Rattle.saa_word_steps.specs.Lazy.{Lazy, count_or}
 use Rattle.saa_word_steps.specs.Steps.{IsSmall, released, finished, granted, decided, given, walking}
-use Rattle.saa_word_proofs.specs.Standing.{Stands}
+use Rattle.saa_word_proofs.specs.Refinement.{Refines}
 use Rattle.saa_word_proofs.proofs.RefinementLemmas.Rows.{row-other}
-use Rattle.saa_word_proofs.specs.Budget.{way, by_seen, waiting, IsLowered}
+use Rattle.saa_word_proofs.specs.StepBound.{way, by_seen, waiting, IsLowered}
 use Rattle.saa_word_proofs.proofs.StepBoundLemmas.Bounds.{more-none, end-none}
 use Rattle.saa_word_proofs.proofs.StepBoundLemmas.Nexts.{by-less, found-seen, waits-new, waits-seen, ranged-at, alone-at, exchange-lower, finished-lower, granted-lower, decided-lower, given-lower, walking-lower}
 
 pub lower-AskExchange : (needs : Needs) (places : ℕ) (row : ℕ → ℕ) (standing : ℕ → Place) (lazy : Lazy) (me : ℕ)
-    (s : Stands needs places row standing lazy)
+    (s : Refines needs places row standing lazy)
     (ask : Ask) (seen : Word) → IsLowered needs places row standing me (AskExchange ask seen)
 lower-AskExchange needs places row standing lazy me s ask seen =
     exchange-lower places row seen (record seen { count = seen.count + needs.takes ask.request }) 1 3
@@ -36,7 +36,7 @@ lower-Prepare needs places row standing me request seen =
     (sym (row-other row (me + 1) (line_number (record { request = request; older = seen.tail; newer = 0 })) 0 (λ is. absurd (omega (arith, is)))))
     (by-less (row 0) seen 1 3 2 4 (omega arith) (omega arith))
 
-pub lower-Join : (needs : Needs) (places : ℕ) (row : ℕ → ℕ) (standing : ℕ → Place) (lazy : Lazy) (me : ℕ) (s : Stands needs places row standing lazy)
+pub lower-Join : (needs : Needs) (places : ℕ) (row : ℕ → ℕ) (standing : ℕ → Place) (lazy : Lazy) (me : ℕ) (s : Refines needs places row standing lazy)
     (request : ℕ) (seen : Word) → IsLowered needs places row standing me (Join request seen)
 lower-Join needs places row standing lazy me s request seen =
     exchange-lower places row seen (record seen { tail = me + 1 }) 1 3
@@ -54,7 +54,7 @@ released-small needs lawful seen given left small is =
     omega (arith, now, small, lawful.shrinks seen.count given left is)
 
 pub lower-ReleaseExchange : (needs : Needs) → AreNeeds needs → (places : ℕ) (row : ℕ → ℕ) (standing : ℕ → Place) (lazy : Lazy) (me : ℕ)
-    (s : Stands needs places row standing lazy) (given_back : ℕ) (seen : Word) → (standing me).stage ≡ ReleaseExchange given_back seen
+    (s : Refines needs places row standing lazy) (given_back : ℕ) (seen : Word) → (standing me).stage ≡ ReleaseExchange given_back seen
     → IsLowered needs places row standing me (ReleaseExchange given_back seen)
 lower-ReleaseExchange needs lawful places row standing lazy me s given_back seen at =
     let small : IsSmall seen = ranged-at needs places row standing lazy me s (ReleaseExchange given_back seen) at in

@@ -1,4 +1,4 @@
--- Each step of a place that gives its registration up, and looks for itself in the line, lowers its budget.
+-- Each step of a place that gives its registration up, and looks for itself in the line, lowers its step bound.
 use Rattle.std.proofs.Common.{◌≡◌, ℕ, ◌+◌, ◌-◌, ◌*◌, ◌<◌, ◌==◌, if◌then◌else◌, List, [], ◌∷◌, ◌++◌, length, refl, sym, ap, subst, ◌∙◌, arith, inl, inr, length-append}
 use Rattle.std.proofs.lemmas.Bool.{cases_Bool}
 use Rattle.saa_core_spec.proofs.Counts.{number_same, same_number}
@@ -11,9 +11,9 @@ use Rattle.saa_word_steps.specs.declared.place.Stage.TheVariants.{BackLoad, Forw
 use Rattle.saa_word_steps.specs.Needs.{Needs}
 use Rattle.saa_word_steps.specs.Lazy.{Lazy}
 use Rattle.saa_word_steps.specs.Steps.{flagged_word, dropped_word, going, done, walking, flagging, looking, looked_for, left_line, next_of}
-use Rattle.saa_word_proofs.specs.Standing.{updated, line_of, newest, Stands}
+use Rattle.saa_word_proofs.specs.Refinement.{updated, line_of, newest, Refines}
 use Rattle.saa_word_proofs.proofs.RefinementLemmas.Frames.{newest-stands}
-use Rattle.saa_word_proofs.specs.Budget.{way, waiting, steps_left, budget, IsLower, IsLowered}
+use Rattle.saa_word_proofs.specs.StepBound.{way, waiting, steps_left, step_bound, IsLower, IsLowered}
 use Rattle.saa_word_proofs.proofs.StepBoundLemmas.Bounds.{more-most}
 use Rattle.saa_word_proofs.proofs.StepBoundLemmas.Ways.{IsWay, way-length, way-older, met-nobody}
 use Rattle.saa_word_proofs.proofs.StepBoundLemmas.Lines.{holds, work-tail, part-way}
@@ -25,7 +25,7 @@ use Rattle.saa_word_proofs.proofs.StepBoundLemmas.LoweredWalking.{older-way}
 -- Steps that set the flag and look
 
 pub lower-FlagExchange : (needs : Needs) (places : ℕ) (row : ℕ → ℕ) (standing : ℕ → Place) (lazy : Lazy) (me : ℕ)
-    (s : Stands needs places row standing lazy) (seen : Word) → (standing me).stage ≡ FlagExchange seen
+    (s : Refines needs places row standing lazy) (seen : Word) → (standing me).stage ≡ FlagExchange seen
     → IsLowered needs places row standing me (FlagExchange seen)
 lower-FlagExchange needs places row standing lazy me s seen at =
     let small = ranged-at needs places row standing lazy me s (FlagExchange seen) at in
@@ -41,7 +41,7 @@ lower-FlagExchange needs places row standing lazy me s seen at =
     flagging-lower (way places row) (row 0) (8 * waiting (way places row) (row 0) + 11) (standing me) (word_of count_bits (row 0))
     (found-seen (row 0) s.main.whole) (omega arith))
 
-pub lower-LookLoad : (needs : Needs) (places : ℕ) (row : ℕ → ℕ) (standing : ℕ → Place) (lazy : Lazy) (me : ℕ) (s : Stands needs places row standing lazy)
+pub lower-LookLoad : (needs : Needs) (places : ℕ) (row : ℕ → ℕ) (standing : ℕ → Place) (lazy : Lazy) (me : ℕ) (s : Refines needs places row standing lazy)
     (seen : Word) (current newer : ℕ) (previous : LineWord) → (standing me).stage ≡ LookLoad seen current newer previous
     → IsLowered needs places row standing me (LookLoad seen current newer previous)
 lower-LookLoad needs places row standing lazy me s seen current newer previous at =
@@ -51,7 +51,7 @@ lower-LookLoad needs places row standing lazy me s seen current newer previous a
     let older : way places row current ≡ way places row (line_word_of (row current)).older + 1 =
     older-way needs places row standing lazy s h.0.front leads h.2.1 current h.2.0
     ∙ ap (λ (n : ℕ). way places row (line_word_of (row n)).older + 1) (sym stands.1) in
-    onto-load places row current (budget places row (standing me).back (LookLoad seen current newer previous))
+    onto-load places row current (step_bound places row (standing me).back (LookLoad seen current newer previous))
     (looked_for me (standing me) seen current newer previous (line_word_of (row current)))
     (looked_for-lower (way places row) (row 0) me (standing me) seen current newer previous (line_word_of (row current)) older)
 
@@ -90,7 +90,7 @@ look-lower ways number place seen current newer line older nobody =
           ))
     ]
 
-pub lower-LookStore : (needs : Needs) (places : ℕ) (row : ℕ → ℕ) (standing : ℕ → Place) (lazy : Lazy) (me : ℕ) (s : Stands needs places row standing lazy)
+pub lower-LookStore : (needs : Needs) (places : ℕ) (row : ℕ → ℕ) (standing : ℕ → Place) (lazy : Lazy) (me : ℕ) (s : Refines needs places row standing lazy)
     (seen : Word) (current newer : ℕ) (line : LineWord) → (standing me).stage ≡ LookStore seen current newer line
     → IsLowered needs places row standing me (LookStore seen current newer line)
 lower-LookStore needs places row standing lazy me s seen current newer line at =
@@ -102,14 +102,14 @@ lower-LookStore needs places row standing lazy me s seen current newer line at =
     older-way needs places row standing lazy s h.0.front leads h.2.1 current h.2.0 ∙ ap (λ (w : LineWord). way places row w.older + 1) (sym h.4) in
     let kept : (line_word_of (line_number (record line { newer = newer }))).older ≡ (line_word_of (row current)).older =
     ap (λ (w : LineWord). (line_word_of (line_number (record w { newer = newer }))).older) read ∙ older-kept (row current) newer in
-    onto-same places row current (line_number (record line { newer = newer })) (budget places row (standing me).back (LookStore seen current newer line))
+    onto-same places row current (line_number (record line { newer = newer })) (step_bound places row (standing me).back (LookStore seen current newer line))
     (next_of needs me (standing me) (LookStore seen current newer line) (row current)) (omega (arith, stands.1))
     (ways-store places row current (line_number (record line { newer = newer })) kept)
     (look-lower (way places row) (row 0) (standing me) seen current newer line older (met-nobody places row places))
 
 -- Steps that leave the line
 
-pub lower-Unlink : (needs : Needs) (places : ℕ) (row : ℕ → ℕ) (standing : ℕ → Place) (lazy : Lazy) (me : ℕ) (s : Stands needs places row standing lazy)
+pub lower-Unlink : (needs : Needs) (places : ℕ) (row : ℕ → ℕ) (standing : ℕ → Place) (lazy : Lazy) (me : ℕ) (s : Refines needs places row standing lazy)
     (seen : Word) (newer : ℕ) (line : LineWord) (older : ℕ) → (standing me).stage ≡ Unlink seen newer line older
     → IsLowered needs places row standing me (Unlink seen newer line older)
 lower-Unlink needs places row standing lazy me s seen newer line older at =
@@ -123,7 +123,7 @@ lower-Unlink needs places row standing lazy me s seen newer line older at =
     let tail_now = past.tail_ways in
     let rest = past.rest_was in
     let rest_now = past.rest_ways in
-    subst (λ (n : ℕ). IsLower (way places new) n (budget places row (standing me).back (Unlink seen newer line older))
+    subst (λ (n : ℕ). IsLower (way places new) n (step_bound places row (standing me).back (Unlink seen newer line older))
     (if older == 0 then going (left_line (standing me)) (Forward seen newer seen.count) else going (left_line (standing me)) (BackLoad seen older newer)))
     (sym past.number)
     (elim (cases_Bool (older == 0)) [
@@ -152,7 +152,7 @@ lower-Unlink needs places row standing lazy me s seen newer line older at =
 link-small : (number : ℕ) → (line_word_of number).older < 65536
 link-small number = omega arith
 
-pub lower-DropTail : (needs : Needs) (places : ℕ) (row : ℕ → ℕ) (standing : ℕ → Place) (lazy : Lazy) (me : ℕ) (s : Stands needs places row standing lazy)
+pub lower-DropTail : (needs : Needs) (places : ℕ) (row : ℕ → ℕ) (standing : ℕ → Place) (lazy : Lazy) (me : ℕ) (s : Refines needs places row standing lazy)
     (seen : Word) (older : ℕ) → (standing me).stage ≡ DropTail seen older → IsLowered needs places row standing me (DropTail seen older)
 lower-DropTail needs places row standing lazy me s seen older at =
     let small = ranged-at needs places row standing lazy me s (DropTail seen older) at in

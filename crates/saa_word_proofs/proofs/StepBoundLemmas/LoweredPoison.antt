@@ -1,4 +1,4 @@
--- Each step of a place that poisons a lock lowers its budget.
+-- Each step of a place that poisons a lock lowers its step bound.
 use Rattle.std.proofs.Common.{◌≡◌, ℕ, ◌+◌, ◌*◌, ◌==◌, if◌then◌else◌, arith, inl, inr}
 use Rattle.std.proofs.lemmas.Bool.{cases_Bool}
 use Rattle.saa_core_spec.specs.Values.{poisoned_value}
@@ -10,13 +10,13 @@ use Rattle.saa_word_steps.specs.declared.place.Stage.TheVariants.{ShowLoad, Pois
 use Rattle.saa_word_steps.specs.Needs.{Needs}
 use Rattle.saa_word_steps.specs.Lazy.{Lazy}
 use Rattle.saa_word_steps.specs.Steps.{poisoned_word, finished, going, poisoning}
-use Rattle.saa_word_proofs.specs.Standing.{Stands}
-use Rattle.saa_word_proofs.specs.Budget.{way, waiting, IsLowered}
+use Rattle.saa_word_proofs.specs.Refinement.{Refines}
+use Rattle.saa_word_proofs.specs.StepBound.{way, waiting, IsLowered}
 use Rattle.saa_word_proofs.proofs.StepBoundLemmas.Bounds.{end-none}
 use Rattle.saa_word_proofs.proofs.StepBoundLemmas.Nexts.{found-seen, waits-seen, ranged-at, alone-at, exchange-lower, finished-lower, poisoning-lower}
 
 pub lower-PoisonExchange : (needs : Needs) (places : ℕ) (row : ℕ → ℕ) (standing : ℕ → Place) (lazy : Lazy) (me : ℕ)
-    (s : Stands needs places row standing lazy) (seen : Word) → (standing me).stage ≡ PoisonExchange seen
+    (s : Refines needs places row standing lazy) (seen : Word) → (standing me).stage ≡ PoisonExchange seen
     → IsLowered needs places row standing me (PoisonExchange seen)
 lower-PoisonExchange needs places row standing lazy me s seen at =
     let small = ranged-at needs places row standing lazy me s (PoisonExchange seen) at in

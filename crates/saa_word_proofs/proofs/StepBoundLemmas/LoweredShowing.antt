@@ -1,4 +1,4 @@
--- Each step of a place that publishes what it granted, or shows it, lowers its budget.
+-- Each step of a place that publishes what it granted, or shows it, lowers its step bound.
 use Rattle.std.proofs.Common.{◌≡◌, ℕ, ◌+◌, ◌-◌, ◌*◌, ◌/◌, ◌%◌, ◌^◌, ◌<◌, ◌≤◌, true, ◌==◌, if◌then◌else◌, List, [], ◌∷◌, refl, sym, ap, ◌∙◌, arith, inl, inr}
 use Rattle.std.proofs.lemmas.Bool.{cases_Bool}
 use Rattle.saa_core_spec.specs.Values.{granted_value}
@@ -13,10 +13,10 @@ use Rattle.saa_word_steps.specs.declared.place.Stage.TheVariants.{CutToGoRound, 
 use Rattle.saa_word_steps.specs.Needs.{Needs, AreNeeds}
 use Rattle.saa_word_steps.specs.Lazy.{Lazy, IsFront, takes_of}
 use Rattle.saa_word_steps.specs.Steps.{settled_word, finished, walking, going, shown_all}
-use Rattle.saa_word_proofs.specs.Standing.{Stands}
+use Rattle.saa_word_proofs.specs.Refinement.{Refines}
 use Rattle.saa_word_proofs.proofs.RefinementLemmas.Lists.{front-lower}
 use Rattle.saa_word_proofs.proofs.RefinementLemmas.Frames.{newest-stands}
-use Rattle.saa_word_proofs.specs.Budget.{way, waiting, more_to_walk, more_to_end, budget, IsLowered}
+use Rattle.saa_word_proofs.specs.StepBound.{way, waiting, more_to_walk, more_to_end, step_bound, IsLowered}
 use Rattle.saa_word_proofs.proofs.StepBoundLemmas.Bounds.{more-within, end-within}
 use Rattle.saa_word_proofs.proofs.StepBoundLemmas.Ways.{met-nobody, ways-answer}
 use Rattle.saa_word_proofs.proofs.StepBoundLemmas.Lines.{holds, shows, owed-way, work-rest, work-tail}
@@ -25,7 +25,7 @@ use Rattle.saa_word_proofs.proofs.StepBoundLemmas.LoweredWalking.{older-way}
 
 -- Steps that publish
 
-pub lower-Close : (needs : Needs) (places : ℕ) (row : ℕ → ℕ) (standing : ℕ → Place) (lazy : Lazy) (me : ℕ) (s : Stands needs places row standing lazy)
+pub lower-Close : (needs : Needs) (places : ℕ) (row : ℕ → ℕ) (standing : ℕ → Place) (lazy : Lazy) (me : ℕ) (s : Refines needs places row standing lazy)
     (seen : Word) (count top : ℕ) → (standing me).stage ≡ Close seen count top → IsLowered needs places row standing me (Close seen count top)
 lower-Close needs places row standing lazy me s seen count top at =
     let ranged = ranged-at needs places row standing lazy me s (Close seen count top) at in
@@ -57,7 +57,7 @@ lower-Close needs places row standing lazy me s seen count top at =
       | inr less ↦ rw less (omega (arith, more-within back wait (wait + way places row top) (omega arith)))
     ])
 
-pub lower-Empty : (needs : Needs) (places : ℕ) (row : ℕ → ℕ) (standing : ℕ → Place) (lazy : Lazy) (me : ℕ) (s : Stands needs places row standing lazy)
+pub lower-Empty : (needs : Needs) (places : ℕ) (row : ℕ → ℕ) (standing : ℕ → Place) (lazy : Lazy) (me : ℕ) (s : Refines needs places row standing lazy)
     (seen : Word) (current count : ℕ) (line : LineWord) → (standing me).stage ≡ Empty seen current count line
     → IsLowered needs places row standing me (Empty seen current count line)
 lower-Empty needs places row standing lazy me s seen current count line at =
@@ -98,8 +98,8 @@ added-to number added small room =
       tail = ap (λ (n : ℕ). n / 64 / 4 % 65536) whole ∙ ap (λ (n : ℕ). n / 4 % 65536) high;
     }
 
-pub lower-GoRound : (needs : Needs) → AreNeeds needs → needs.top < 64 → (places : ℕ) (row : ℕ → ℕ) (standing : ℕ → Place) (lazy : Lazy) (me : ℕ)
-    (s : Stands needs places row standing lazy) (seen : Word) (count top : ℕ) → (standing me).stage ≡ GoRound seen count top
+pub lower-GoRound : (needs : Needs) → AreNeeds needs → needs.top < 2 ^ count_bits → (places : ℕ) (row : ℕ → ℕ) (standing : ℕ → Place) (lazy : Lazy) (me : ℕ)
+    (s : Refines needs places row standing lazy) (seen : Word) (count top : ℕ) → (standing me).stage ≡ GoRound seen count top
     → IsLowered needs places row standing me (GoRound seen count top)
 lower-GoRound needs lawful wide places row standing lazy me s seen count top at =
     let h = holds needs places row standing lazy s me (GoRound seen count top) at refl in
@@ -110,21 +110,21 @@ lower-GoRound needs lawful wide places row standing lazy me s seen count top at 
     let tail : waiting (way places row) number ≡ waiting (way places row) (row 0) = ap (way places row) added.tail in
     let walks = ap (more_to_walk (standing me).back) tail in
     let fresh : number == word_number count_bits (word_of count_bits number) ≡ true = found-seen number added.whole in
-    onto-main places row number (budget places row (standing me).back (GoRound seen count top))
+    onto-main places row number (step_bound places row (standing me).back (GoRound seen count top))
     (if top == 0
     then walking (standing me) (word_of count_bits number)
     else going (standing me) (ShowLoad top granted_value (Again (word_of count_bits number))))
     (elim (cases_Bool (top == 0)) [
       | inl none ↦
           rw none
-          (walking-lower (way places row) number (budget places row (standing me).back (GoRound seen count top)) (standing me) (word_of count_bits number)
+          (walking-lower (way places row) number (step_bound places row (standing me).back (GoRound seen count top)) (standing me) (word_of count_bits number)
           fresh refl (omega (arith, tail, walks)))
       | inr some ↦ rw (some, fresh) (omega (arith, tail, walks))
     ])
 
 -- Steps that show
 
-pub lower-ShowLoad : (needs : Needs) (places : ℕ) (row : ℕ → ℕ) (standing : ℕ → Place) (lazy : Lazy) (me : ℕ) (s : Stands needs places row standing lazy)
+pub lower-ShowLoad : (needs : Needs) (places : ℕ) (row : ℕ → ℕ) (standing : ℕ → Place) (lazy : Lazy) (me : ℕ) (s : Refines needs places row standing lazy)
     (current value : ℕ) (afterwards : Afterwards) → (standing me).stage ≡ ShowLoad current value afterwards
     → IsLowered needs places row standing me (ShowLoad current value afterwards)
 lower-ShowLoad needs places row standing lazy me s current value afterwards at =
@@ -133,23 +133,23 @@ lower-ShowLoad needs places row standing lazy me s current value afterwards at =
     let older : way places row current ≡ way places row (line_word_of (row current)).older + 1 =
     older-way needs places row standing lazy s (s.owed me) (owed-way needs places row standing lazy s me) showing.1 current (sym showing.0)
     ∙ ap (λ (n : ℕ). way places row (line_word_of (row n)).older + 1) (sym stands.1) in
-    onto-load places row current (budget places row (standing me).back (ShowLoad current value afterwards))
+    onto-load places row current (step_bound places row (standing me).back (ShowLoad current value afterwards))
     (going (standing me) (ShowStore current (line_word_of (row current)).older value afterwards))
     (omega (arith, older))
 
-pub lower-ShowStore : (needs : Needs) (places : ℕ) (row : ℕ → ℕ) (standing : ℕ → Place) (lazy : Lazy) (me : ℕ) (s : Stands needs places row standing lazy)
+pub lower-ShowStore : (needs : Needs) (places : ℕ) (row : ℕ → ℕ) (standing : ℕ → Place) (lazy : Lazy) (me : ℕ) (s : Refines needs places row standing lazy)
     (current next value : ℕ) (afterwards : Afterwards) → (standing me).stage ≡ ShowStore current next value afterwards
     → IsLowered needs places row standing me (ShowStore current next value afterwards)
 lower-ShowStore needs places row standing lazy me s current next value afterwards at =
     let showing = shows needs places row standing lazy s me (ShowStore current next value afterwards) at in
     let number : ℕ = value + 1 in
-    onto-same places row (places + current) number (budget places row (standing me).back (ShowStore current next value afterwards))
+    onto-same places row (places + current) number (step_bound places row (standing me).back (ShowStore current next value afterwards))
     (if next == 0 then shown_all (standing me) afterwards else going (standing me) (ShowLoad next value afterwards))
     (omega (arith, showing.3)) (ways-answer places row (places + current) number (omega (arith, showing.3)))
     (elim (cases_Bool (next == 0)) [
       | inl none ↦
           rw none
-          (shown-lower (way places row) (row 0) (budget places row (standing me).back (ShowStore current next value afterwards)) (standing me) afterwards
+          (shown-lower (way places row) (row 0) (step_bound places row (standing me).back (ShowStore current next value afterwards)) (standing me) afterwards
           (λ seen is same.
           let h = holds needs places row standing lazy s me (ShowStore current next value (Again seen)) (at ∙ ap (ShowStore current next value) is) refl in
           omega (arith, work-rest needs places row standing lazy s seen h.0 h.1, work-tail needs places row standing lazy s seen h.0 h.1))

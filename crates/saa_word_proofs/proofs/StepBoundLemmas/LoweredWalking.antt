@@ -1,4 +1,4 @@
--- Each step of a place that walks along the line, or cuts it, lowers its budget.
+-- Each step of a place that walks along the line, or cuts it, lowers its step bound.
 use Rattle.std.proofs.Common.{◌≡◌, ℕ, ◌+◌, ◌-◌, ◌*◌, pred, false, ◌==◌, if◌then◌else◌, List, [], ◌∷◌, ◌++◌, refl, sym, ap, subst, ◌∙◌, arith, inl, inr, length-append}
 use Rattle.std.proofs.lemmas.Bool.{cases_Bool}
 use Rattle.saa_core_spec.proofs.Counts.{same_number}
@@ -11,10 +11,10 @@ use Rattle.saa_word_steps.specs.declared.place.Stage.TheVariants.{BackLoad, Back
 use Rattle.saa_word_steps.specs.Needs.{Needs}
 use Rattle.saa_word_steps.specs.Lazy.{Lazy, is_empty}
 use Rattle.saa_word_steps.specs.Steps.{going, looked_at, next_of}
-use Rattle.saa_word_proofs.specs.Standing.{updated, line_of, newest, Stands}
+use Rattle.saa_word_proofs.specs.Refinement.{updated, line_of, newest, Refines}
 use Rattle.saa_word_proofs.proofs.RefinementLemmas.Lists.{split-last, newest-last}
 use Rattle.saa_word_proofs.proofs.RefinementLemmas.Frames.{newest-stands}
-use Rattle.saa_word_proofs.specs.Budget.{way, waiting, more_to_walk, more_to_end, steps_left, budget, IsLower, IsLowered}
+use Rattle.saa_word_proofs.specs.StepBound.{way, waiting, more_to_walk, more_to_end, steps_left, step_bound, IsLower, IsLowered}
 use Rattle.saa_word_proofs.proofs.StepBoundLemmas.Bounds.{more-within, end-within}
 use Rattle.saa_word_proofs.proofs.StepBoundLemmas.Ways.{IsWay, way-length, way-older, met-nobody}
 use Rattle.saa_word_proofs.proofs.StepBoundLemmas.Lines.{holds, work-rest, work-tail, part-way}
@@ -24,7 +24,7 @@ use Rattle.saa_word_proofs.proofs.StepBoundLemmas.Cuts.{cut-line, at-way, next-w
 pub lower-BackLoad : (needs : Needs) (places : ℕ) (row : ℕ → ℕ) (standing : ℕ → Place) (me : ℕ) (seen : Word) (current newer : ℕ)
     → IsLowered needs places row standing me (BackLoad seen current newer)
 lower-BackLoad needs places row standing me seen current newer =
-    onto-load places row current (budget places row (standing me).back (BackLoad seen current newer))
+    onto-load places row current (step_bound places row (standing me).back (BackLoad seen current newer))
     (going (standing me) (BackStore seen current newer (line_word_of (row current))))
     (omega (
       arith,
@@ -61,7 +61,7 @@ back-lower ways number place seen current newer line older nobody =
     ]
 
 -- one more is met from the newest of a front than from its older link
-pub older-way : (needs : Needs) (places : ℕ) (row : ℕ → ℕ) (standing : ℕ → Place) (lazy : Lazy) (s : Stands needs places row standing lazy)
+pub older-way : (needs : Needs) (places : ℕ) (row : ℕ → ℕ) (standing : ℕ → Place) (lazy : Lazy) (s : Refines needs places row standing lazy)
     (list : List (ℕ × ℕ))
     → IsWay places row (newest 0 list) list → is_empty list ≡ false → (current : ℕ) → current ≡ newest 0 list
     → way places row current ≡ way places row (line_of row (pred current)).older + 1
@@ -76,7 +76,7 @@ older-way needs places row standing lazy s list leads some current is =
     ∙ length-append parts.before (parts.last ∷ [])
     ∙ ap (λ (n : ℕ). n + 1) (sym before ∙ ap (λ (n : ℕ). way places row (line_of row n).older) place_is)
 
-pub lower-BackStore : (needs : Needs) (places : ℕ) (row : ℕ → ℕ) (standing : ℕ → Place) (lazy : Lazy) (me : ℕ) (s : Stands needs places row standing lazy)
+pub lower-BackStore : (needs : Needs) (places : ℕ) (row : ℕ → ℕ) (standing : ℕ → Place) (lazy : Lazy) (me : ℕ) (s : Refines needs places row standing lazy)
     (seen : Word) (current newer : ℕ) (line : LineWord) → (standing me).stage ≡ BackStore seen current newer line
     → IsLowered needs places row standing me (BackStore seen current newer line)
 lower-BackStore needs places row standing lazy me s seen current newer line at =
@@ -88,12 +88,12 @@ lower-BackStore needs places row standing lazy me s seen current newer line at =
     older-way needs places row standing lazy s h.0.front leads h.2.1 current h.2.0 ∙ ap (λ (w : LineWord). way places row w.older + 1) (sym h.3) in
     let kept : (line_word_of (line_number (record line { newer = newer }))).older ≡ (line_word_of (row current)).older =
     ap (λ (w : LineWord). (line_word_of (line_number (record w { newer = newer }))).older) read ∙ older-kept (row current) newer in
-    onto-same places row current (line_number (record line { newer = newer })) (budget places row (standing me).back (BackStore seen current newer line))
+    onto-same places row current (line_number (record line { newer = newer })) (step_bound places row (standing me).back (BackStore seen current newer line))
     (next_of needs me (standing me) (BackStore seen current newer line) (row current)) (omega (arith, stands.1))
     (ways-store places row current (line_number (record line { newer = newer })) kept)
     (back-lower (way places row) (row 0) (standing me) seen current newer line older (met-nobody places row places))
 
-pub lower-Forward : (needs : Needs) (places : ℕ) (row : ℕ → ℕ) (standing : ℕ → Place) (lazy : Lazy) (me : ℕ) (s : Stands needs places row standing lazy)
+pub lower-Forward : (needs : Needs) (places : ℕ) (row : ℕ → ℕ) (standing : ℕ → Place) (lazy : Lazy) (me : ℕ) (s : Refines needs places row standing lazy)
     (seen : Word) (current count : ℕ) → (standing me).stage ≡ Forward seen current count → IsLowered needs places row standing me
     (Forward seen current count)
 lower-Forward needs places row standing lazy me s seen current count at =
@@ -101,14 +101,14 @@ lower-Forward needs places row standing lazy me s seen current count at =
     let here = at-way needs places row standing lazy s seen h.0 h.0.behind current h.1 refl h.3.0 h.3.1 in
     let rest = work-rest needs places row standing lazy s seen h.0 h.1 in
     let tail = work-tail needs places row standing lazy s seen h.0 h.1 in
-    onto-load places row current (budget places row (standing me).back (Forward seen current count))
+    onto-load places row current (step_bound places row (standing me).back (Forward seen current count))
     (looked_at needs (standing me) seen current count (line_word_of (row current)))
     (looked-lower (way places row) (row 0) needs (standing me) seen current count (line_word_of (row current))
     (omega (arith, here.0, here.1, rest)) (omega (arith, here.0, here.1, tail)) (met-nobody places row places)
     (λ more. next-way needs places row standing lazy s seen h.0 h.0.behind current h.1 refl h.3.0 h.3.1 h.3.2 more ∙ omega (arith, here.0)))
 
 pub lower-CutToClose : (needs : Needs) (places : ℕ) (row : ℕ → ℕ) (standing : ℕ → Place) (lazy : Lazy) (me : ℕ)
-    (s : Stands needs places row standing lazy)
+    (s : Refines needs places row standing lazy)
     (seen : Word) (current count : ℕ) (line : LineWord) → (standing me).stage ≡ CutToClose seen current count line
     → IsLowered needs places row standing me (CutToClose seen current count line)
 lower-CutToClose needs places row standing lazy me s seen current count line at =
@@ -123,7 +123,7 @@ lower-CutToClose needs places row standing lazy me s seen current count line at 
     let ends = end-within back (waiting (way places new) (row 0)) (waiting (way places row) (row 0)) (omega (arith, rest, stays)) in
     let walks =
     more-within back (waiting (way places new) (row 0) + way places new line.older) (waiting (way places row) (row 0)) (omega (arith, front, rest, stays)) in
-    subst (λ (n : ℕ). IsLower (way places new) n (budget places row (standing me).back (CutToClose seen current count line))
+    subst (λ (n : ℕ). IsLower (way places new) n (step_bound places row (standing me).back (CutToClose seen current count line))
     (going (standing me) (Close seen count line.older)))
     (sym parted.number)
     (by-less-more (row 0) seen (2 * way places new line.older + 1 + more_to_end back (waiting (way places new) (row 0)))
@@ -133,7 +133,7 @@ lower-CutToClose needs places row standing lazy me s seen current count line at 
     (omega (arith, front, rest, stays, ends)) (omega (arith, front, rest, stays, here.1, walks)))
 
 pub lower-CutToGoRound : (needs : Needs) (places : ℕ) (row : ℕ → ℕ) (standing : ℕ → Place) (lazy : Lazy) (me : ℕ)
-    (s : Stands needs places row standing lazy)
+    (s : Refines needs places row standing lazy)
     (seen : Word) (current count : ℕ) (line : LineWord) → (standing me).stage ≡ CutToGoRound seen current count line
     → IsLowered needs places row standing me (CutToGoRound seen current count line)
 lower-CutToGoRound needs places row standing lazy me s seen current count line at =
@@ -145,7 +145,7 @@ lower-CutToGoRound needs places row standing lazy me s seen current count line a
     let new : ℕ → ℕ = updated row current (line_number (record line { older = 0 })) in
     let walks =
     more-within (standing me).back (waiting (way places new) (row 0)) (waiting (way places row) (row 0)) (omega (arith, rest, stays)) in
-    subst (λ (n : ℕ). IsLower (way places new) n (budget places row (standing me).back (CutToGoRound seen current count line))
+    subst (λ (n : ℕ). IsLower (way places new) n (step_bound places row (standing me).back (CutToGoRound seen current count line))
     (going (standing me) (GoRound seen count line.older)))
     (sym parted.number)
     (omega (arith, front, rest, stays, walks))

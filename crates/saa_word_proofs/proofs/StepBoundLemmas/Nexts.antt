@@ -1,4 +1,4 @@
--- How much lower the budget is with which a place goes on, by how many places are met from each link and by the main word's number.
+-- How much lower the step bound is with which a place goes on, by how many places are met from each link and by the main word's number.
 use Rattle.std.proofs.Common.{◌≡◌, ℕ, suc, zero, ◌+◌, ◌-◌, ◌*◌, ◌/◌, ◌%◌, ◌<◌, ◌≤◌, Bool, true, false, not, ◌&&◌, ◌||◌, ◌==◌, if◌then◌else◌, Option, Some, None, refl, sym, ap, subst, ◌∙◌, arith, inl, inr}
 use Rattle.std.proofs.lemmas.Bool.{cases_Bool}
 use Rattle.saa_core_spec.specs.Object.{one_if}
@@ -24,11 +24,11 @@ use Rattle.saa_core_spec.specs.Held.{Exclusive}
 use Rattle.saa_core_spec.specs.Values.{granted_value}
 use Rattle.saa_word_steps.specs.Lazy.{Lazy}
 use Rattle.saa_word_steps.specs.Steps.{IsRanged, IsSmall, exchanged, going, done, finished, tried_answer, granted, found_poisoned, decided, gave_nothing, given_to, given, walking, shown_all, dropped, taken_answer, looked_at, flagging, looking, looked_for, poisoning}
-use Rattle.saa_word_proofs.specs.Standing.{updated, IsAlone, Stands}
-use Rattle.saa_word_proofs.specs.Stepped.{row_after}
+use Rattle.saa_word_proofs.specs.Refinement.{updated, IsAlone, Refines}
+use Rattle.saa_word_proofs.specs.StepRefinement.{row_after}
 use Rattle.saa_word_proofs.proofs.RefinementLemmas.Lists.{updated-same}
 use Rattle.saa_word_proofs.proofs.RefinementLemmas.Rows.{row-other, main-found}
-use Rattle.saa_word_proofs.specs.Budget.{way, by_seen, waiting, more_to_walk, more_to_end, left_afterwards, steps_left, IsLower}
+use Rattle.saa_word_proofs.specs.StepBound.{way, by_seen, waiting, more_to_walk, more_to_end, left_afterwards, steps_left, IsLower}
 use Rattle.saa_word_proofs.proofs.StepBoundLemmas.Bounds.{more-within, end-most, end-within}
 use Rattle.saa_word_proofs.proofs.StepBoundLemmas.Ways.{ways-main}
 
@@ -84,11 +84,11 @@ waits-seen ways number seen small tail same = ap (λ (w : Word). ways w.tail) (m
 
 -- What a place at a stage remembers
 
-pub ranged-at : (needs : Needs) (places : ℕ) (row : ℕ → ℕ) (standing : ℕ → Place) (lazy : Lazy) (me : ℕ) → Stands needs places row standing lazy
+pub ranged-at : (needs : Needs) (places : ℕ) (row : ℕ → ℕ) (standing : ℕ → Place) (lazy : Lazy) (me : ℕ) → Refines needs places row standing lazy
     → (stage : Stage) → (standing me).stage ≡ stage → IsRanged needs stage
 ranged-at needs places row standing lazy me s stage at = subst (λ (now : Stage). IsRanged needs now) at (s.stages.ranged me)
 
-pub alone-at : (needs : Needs) (places : ℕ) (row : ℕ → ℕ) (standing : ℕ → Place) (lazy : Lazy) (me : ℕ) → Stands needs places row standing lazy
+pub alone-at : (needs : Needs) (places : ℕ) (row : ℕ → ℕ) (standing : ℕ → Place) (lazy : Lazy) (me : ℕ) → Refines needs places row standing lazy
     → (stage : Stage) → (standing me).stage ≡ stage → IsAlone needs (standing me).registration (standing me).back stage
 alone-at needs places row standing lazy me s stage at =
     subst (λ (now : Stage). IsAlone needs (standing me).registration (standing me).back now) at (s.stages.alone me)

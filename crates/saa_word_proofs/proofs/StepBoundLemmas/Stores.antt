@@ -1,4 +1,4 @@
--- What a store to a line word leaves of the budgets of other places: none is raised where no way gets longer, or where the ways that it
+-- What a store to a line word leaves of the step bounds of other places: none is raised where no way gets longer, or where the ways that it
 -- depends on are as they were.
 use Rattle.std.proofs.Common.{◌≡◌, ℕ, suc, zero, ◌+◌, ◌*◌, ◌<◌, ◌≤◌, true, false, ◌==◌, List, [], ◌∷◌, ◌++◌, Option, is_some, refl, sym, ap, subst, ◌∙◌, arith, inl, inr, append_assoc, append-nil}
 use Rattle.std.proofs.lemmas.Bool.{cases_Bool}
@@ -16,10 +16,10 @@ use Rattle.saa_word_steps.specs.declared.place.Stage.{Stage}
 use Rattle.saa_word_steps.specs.declared.place.Stage.TheVariants.{Quiet, ReadLoad, AskLoad, AskExchange, Prepare, Join, ReleaseLoad, ReleaseExchange, BackLoad, BackStore, Forward, CutToClose, CutToGoRound, Close, Empty, GoRound, ShowLoad, ShowStore, Take, FlagLoad, FlagExchange, LookLoad, LookStore, Unlink, DropTail, PoisonLoad, PoisonExchange, Clear}
 use Rattle.saa_word_steps.specs.Needs.{Needs}
 use Rattle.saa_word_steps.specs.Lazy.{Lazy, is_empty, waits_times, held_by}
-use Rattle.saa_word_proofs.specs.Standing.{updated, main_of, newest, oldest, is_slot, is_holder, Work, IsFound, Stands}
+use Rattle.saa_word_proofs.specs.Refinement.{updated, main_of, newest, oldest, is_slot, is_holder, Work, IsFound, Refines}
 use Rattle.saa_word_proofs.proofs.RefinementLemmas.Lists.{updated-at, newest-last, times-append}
 use Rattle.saa_word_proofs.proofs.RefinementLemmas.Rows.{row-other}
-use Rattle.saa_word_proofs.specs.Budget.{way, by_seen, waiting, more_to_end, left_afterwards, steps_left, budget}
+use Rattle.saa_word_proofs.specs.StepBound.{way, by_seen, waiting, more_to_end, left_afterwards, steps_left, step_bound}
 use Rattle.saa_word_proofs.proofs.StepBoundLemmas.Ways.{IsWay, way-front, met-cut}
 use Rattle.saa_word_proofs.proofs.StepBoundLemmas.Lines.{holds, shows, owed-due, owed-way, uncut-way, cut-way, part-way, holder-is}
 use Rattle.saa_word_proofs.proofs.StepBoundLemmas.Cuts.{other-link}
@@ -28,11 +28,11 @@ use Rattle.saa_word_proofs.proofs.StepBoundLemmas.Leaves.{way-kept}
 -- Rows with the same ways
 
 pub kept-row : (places : ℕ) (row new : ℕ → ℕ) (back : Back) (stage : Stage) → new ≡ row
-    → budget places new back stage ≤ budget places row back stage
-kept-row places row new back stage same = omega (arith, ap (λ (now : ℕ → ℕ). budget places now back stage) same)
+    → step_bound places new back stage ≤ step_bound places row back stage
+kept-row places row new back stage same = omega (arith, ap (λ (now : ℕ → ℕ). step_bound places now back stage) same)
 
 pub kept-ways : (places : ℕ) (row new : ℕ → ℕ) (back : Back) (stage : Stage) → way places new ≡ way places row → new 0 ≡ row 0
-    → budget places new back stage ≤ budget places row back stage
+    → step_bound places new back stage ≤ step_bound places row back stage
 kept-ways places row new back stage same number =
     omega (arith, ap (λ (ways : ℕ → ℕ). steps_left ways (new 0) back stage) same ∙ ap (λ (n : ℕ). steps_left (way places row) n back stage) number)
 
@@ -52,7 +52,7 @@ end-at-most Tells now before less = omega arith
 end-at-most EndsCall now before less = omega arith
 end-at-most (Takes request) now before less = omega (arith, less)
 
--- where no way gets longer, the budget of a place that doesn't hold the flag isn't raised
+-- where no way gets longer, the step bound of a place that doesn't hold the flag isn't raised
 shorter : (ways new : ℕ → ℕ) (number : ℕ) (back : Back) (stage : Stage) → is_holder stage ≡ false → ((link : ℕ) → new link ≤ ways link)
     → steps_left new number back stage ≤ steps_left ways number back stage
 shorter ways new number back Quiet free less = omega arith
@@ -99,15 +99,15 @@ shorter ways new number back (PoisonExchange seen) free less =
     (omega (arith, rest)) (omega (arith, rest))
 shorter ways new number back Clear free less = omega arith
 
--- so no budget of such a place is raised
+-- so no step bound of such a place is raised
 pub kept-shorter : (places : ℕ) (row new : ℕ → ℕ) (back : Back) (stage : Stage) → is_holder stage ≡ false
-    → ((link : ℕ) → way places new link ≤ way places row link) → new 0 ≡ row 0 → budget places new back stage ≤ budget places row back stage
+    → ((link : ℕ) → way places new link ≤ way places row link) → new 0 ≡ row 0 → step_bound places new back stage ≤ step_bound places row back stage
 kept-shorter places row new back stage free less main =
-    subst (λ (n : ℕ). steps_left (way places new) n back stage ≤ budget places row back stage) (sym main)
+    subst (λ (n : ℕ). steps_left (way places new) n back stage ≤ step_bound places row back stage) (sym main)
     (shorter (way places row) (way places new) (row 0) back stage free less)
 
 -- beside whoever holds the flag nobody else does
-pub other-free : (needs : Needs) (places : ℕ) (row : ℕ → ℕ) (standing : ℕ → Place) (lazy : Lazy) (s : Stands needs places row standing lazy)
+pub other-free : (needs : Needs) (places : ℕ) (row : ℕ → ℕ) (standing : ℕ → Place) (lazy : Lazy) (s : Refines needs places row standing lazy)
     (me other : ℕ)
     → is_holder (standing me).stage ≡ true → (other ≡ me → ⊥) → is_holder (standing other).stage ≡ false
 other-free needs places row standing lazy s me other is apart =
@@ -123,10 +123,10 @@ other-free needs places row standing lazy s me other is apart =
 pub none-older : (number : ℕ) → (line_word_of (line_number (record (line_word_of number) { older = 0 }))).older ≡ 0
 none-older number = omega arith
 
--- a cut raises no budget of a place that doesn't hold the flag
+-- a cut raises no step bound of a place that doesn't hold the flag
 pub kept-cut : (places : ℕ) (row : ℕ → ℕ) (index number : ℕ) (back : Back) (stage : Stage) → is_holder stage ≡ false
     → (line_word_of number).older ≡ 0 → updated row index number 0 ≡ row 0
-    → budget places (updated row index number) back stage ≤ budget places row back stage
+    → step_bound places (updated row index number) back stage ≤ step_bound places row back stage
 kept-cut places row index number back stage free none main =
     kept-shorter places row (updated row index number) back stage free
     (λ link. met-cut places row (updated row index number) places link (λ at some within.
@@ -215,7 +215,7 @@ same-left ways new number back (PoisonExchange seen) same = rw same refl
 same-left ways new number back Clear same = refl
 
 -- a place that isn't held by the object, and what a store to its line word leaves of the others' ways
-module _ (needs : Needs) (places : ℕ) (row : ℕ → ℕ) (standing : ℕ → Place) (lazy : Lazy) (s : Stands needs places row standing lazy) (me number : ℕ)
+module _ (needs : Needs) (places : ℕ) (row : ℕ → ℕ) (standing : ℕ → Place) (lazy : Lazy) (s : Refines needs places row standing lazy) (me number : ℕ)
     (free : held_by me lazy ≡ 0) where
   rest-kept : waiting (way places (updated row (me + 1) number)) (row 0) ≡ waiting (way places row) (row 0)
   rest-kept =
@@ -281,7 +281,7 @@ module _ (needs : Needs) (places : ℕ) (row : ℕ → ℕ) (standing : ℕ → 
           above zero wrong = absurd (cc)
           above (suc n) wrong = omega arith
 
-  -- all ways that a budget depends on are as they were
+  -- all ways that a step bound depends on are as they were
   ways-kept : (other : ℕ) (stage : Stage) → (standing other).stage ≡ stage → AreSame (way places row)
       (way places (updated row (me + 1) number)) (row 0) stage
   ways-kept other Quiet at = tt
@@ -346,16 +346,16 @@ module _ (needs : Needs) (places : ℕ) (row : ℕ → ℕ) (standing : ℕ → 
   ways-kept other Clear at = tt
 
 -- who isn't registered isn't held
-free-place : (needs : Needs) (places : ℕ) (row : ℕ → ℕ) (standing : ℕ → Place) (lazy : Lazy) (s : Stands needs places row standing lazy) (me : ℕ)
+free-place : (needs : Needs) (places : ℕ) (row : ℕ → ℕ) (standing : ℕ → Place) (lazy : Lazy) (s : Refines needs places row standing lazy) (me : ℕ)
     → is_slot (standing me).registration ≡ false → held_by me lazy ≡ 0
 free-place needs places row standing lazy s me none = s.seats.held me ∙ ap one_if none
 
--- so what such a place writes into its own line word leaves the budgets of the others
-pub kept-prepare : (needs : Needs) (places : ℕ) (row : ℕ → ℕ) (standing : ℕ → Place) (lazy : Lazy) (s : Stands needs places row standing lazy)
+-- so what such a place writes into its own line word leaves the step bounds of the others
+pub kept-prepare : (needs : Needs) (places : ℕ) (row : ℕ → ℕ) (standing : ℕ → Place) (lazy : Lazy) (s : Refines needs places row standing lazy)
     (me other number : ℕ)
     → is_slot (standing me).registration ≡ false
-    → budget places (updated row (me + 1) number) (standing other).back (standing other).stage
-    ≤ budget places row (standing other).back (standing other).stage
+    → step_bound places (updated row (me + 1) number) (standing other).back (standing other).stage
+    ≤ step_bound places row (standing other).back (standing other).stage
 kept-prepare needs places row standing lazy s me other number none =
     let main : updated row (me + 1) number 0 ≡ row 0 = row-other row (me + 1) number 0 (λ is. absurd (omega (arith, is))) in
     let same = same-left (way places row) (way places (updated row (me + 1) number)) (row 0) (standing other).back (standing other).stage

@@ -1,20 +1,22 @@
+use Rattle.std.proofs.Common.{refl}
 use Rattle.saa_word_steps.specs.Needs.{permit_needs}
 use Rattle.saa_word_steps.specs.Lazy.{opening}
-use Rattle.saa_word_steps.proofs.LazyRuns.{permits-lawful}
-use Rattle.saa_word_proofs.proofs.Balance.{run-balanced, run-pending, run-granted, run-never}
+use Rattle.saa_word_proofs.proofs.Conservation.{opening-granted, run-balanced, run-pending, run-granted, run-never, run-permits}
 use Rattle.saa_word_proofs.proofs.conservation.conservation.Goals as goal
 
 pub returns-clause-balanced : goal.returns-clause-balanced
-returns-clause-balanced c = run-balanced
+returns-clause-balanced c = λ bound withheld events last run.
+    run-balanced bound withheld events last (run-never (permit_needs bound) refl (opening withheld) events last run) run
 
 pub returns-clause-each_once : goal.returns-clause-each_once
-returns-clause-each_once c = λ bound withheld events last none run place. (run-pending (permit_needs bound) withheld events last none run).pending place
+returns-clause-each_once c = λ bound withheld events last run place.
+    (run-pending (permit_needs bound) withheld events last (run-never (permit_needs bound) refl (opening withheld) events last run) run).pending place
 
 pub returns-clause-granted : goal.returns-clause-granted
-returns-clause-granted c = λ bound withheld events last none run place value.
-    let granted = run-granted (permit_needs bound) withheld events last none run in
+returns-clause-granted c = λ bound withheld events last run place value.
+    let granted = run-granted (permit_needs bound) withheld events last (run-never (permit_needs bound) refl (opening withheld) events last run) run in
     (granted.due place value, granted.shown place value)
 
-pub returns-clause-never_poisoned : goal.returns-clause-never_poisoned
-returns-clause-never_poisoned c = λ bound withheld events last small within run.
-    run-never (permit_needs bound) (permits-lawful bound) small (opening withheld) events last within run
+pub returns-clause-of_permits : goal.returns-clause-of_permits
+returns-clause-of_permits c = λ bound withheld events last run.
+    run-permits (permit_needs bound) refl (opening withheld) events last refl (opening-granted withheld) run

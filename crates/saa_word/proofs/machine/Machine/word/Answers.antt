@@ -1,4 +1,4 @@
-use Rattle.saa_word.proofs.Keeping.{loaded-machine}
+use Rattle.saa_word.proofs.Machines.{loaded-machine}
 use Rattle.saa_word.proofs.machine.Machine.word.Goals as goal
 
 pub invariant_of-self : goal.invariant_of-self

@@ -1,0 +1,194 @@
+-- How each move of a machine goes on with every trace that tracks it.
+use Rattle.std.specs.Prelude.{◌≡◌, ◌≢◌, ℕ, ◌⊎◌, ◌+◌, ◌*◌, ◌≤◌, ◌==◌, ◌||◌, Bool, true, false, List, [], ◌∷◌, ◌++◌, Option, Some, None, is_some, length, if◌then◌else◌}
+use Rattle.saa_core_spec.specs.Object.{one_if}
+use Rattle.saa_word_steps.specs.declared.call.Answer.{Answer}
+use Rattle.saa_word_steps.specs.declared.call.WordCall.{WordCall}
+use Rattle.saa_word_steps.specs.declared.call.WordCall.TheVariants.{Poll, Cancel, PoisonLock}
+use Rattle.saa_word_steps.specs.declared.event.Event.{Event}
+use Rattle.saa_word_steps.specs.declared.place.Ask.{Ask}
+use Rattle.saa_word_steps.specs.declared.place.Registration.{Registration}
+use Rattle.saa_word_steps.specs.declared.rules.Rules.TheVariants.{Permits}
+use Rattle.saa_word_steps.specs.Needs.{Needs, permit_needs}
+use Rattle.saa_word_steps.specs.Lazy.{Lazy, IsRun, is_in, waits_times}
+use Rattle.saa_word_steps.specs.Steps.{needs_of, word_at}
+use Rattle.saa_core_words.specs.declared.word.Word.{Word}
+use Rattle.saa_word_proofs.specs.Refinement.{is_slot, main_of, updated}
+use Rattle.saa_word_proofs.specs.Blocking.{IsOwnedAndFlagged}
+use Rattle.saa_word_proofs.specs.StepRefinement.{named, of_place}
+use Rattle.saa_word_proofs.specs.Calls.{IsAnswered, asked_by}
+use Rattle.saa_word_proofs.specs.History.{LeadsTo}
+use Rattle.saa_word_proofs.specs.Promises.{Observes}
+use Rattle.saa_word_proofs.specs.Conservation.{AreOfPermits, ConservesPermits, tally_of}
+use Rattle.saa_word_proofs.specs.Registering.{begun_as, left_behind, starting_answer}
+use Rattle.saa_word.specs.declared.moves.Move.{Move}
+use Rattle.saa_word.specs.declared.moves.Move.TheVariants.{Start, Go}
+use Rattle.saa_word.specs.declared.moves.Step.{Step}
+use Rattle.saa_word.specs.declared.moves.Step.TheVariants.{Idle, Busy, Going, Waits, Done}
+use Rattle.saa_word.specs.Machine.{State, place_of, row_of}
+use Rattle.saa_word.specs.Moves.{Moved, gone, operation_at, ran}
+use Rattle.saa_word.specs.Trace.{Trace, Tracks, Underway}
+
+-- the place that moves
+abbrev pub mover : Move → ℕ
+mover (Start me call) = me
+mover (Go me) = me
+
+-- what the call that a place is in asks for
+abbrev pub asked_in : Option Underway → Option Ask
+asked_in None = None
+asked_in (Some underway) = asked_by underway.call
+
+-- what the mover is registered as behind a move that named these events
+abbrev pub registered_after : Option Underway → Move → List Event → Step → Registration → Registration
+registered_after underway (Start me call) events Busy was = was
+registered_after underway (Start me call) events step was = begun_as call was
+registered_after underway (Go me) events step was = left_behind events (asked_in underway) was
+
+-- who holds the flag behind a move: nobody while it is clear, whoever held it while it stays set, and the mover where the move set it
+abbrev pub holder_after : ℕ → ℕ → Word → Word → ℕ
+holder_after holder me before after = if after.is_flagged then (if before.is_flagged then holder else me + 1) else 0
+
+-- the call that the mover, registered so, is in behind a move that named these events
+abbrev pub call_after : Registration → Option Underway → Move → List Event → Step → Option Underway
+call_after registered underway (Start me call) events Going = Some (record { call = call; registered = registered; events = [] })
+call_after registered (Some underway) (Go me) events Going = Some (record underway { events = underway.events ++ events })
+call_after registered underway (Go me) events (Done answer) = None
+call_after registered underway _ events _ = underway
+
+-- how many steps the mover has made behind a move
+abbrev pub mine_after : ℕ → Move → Step → ℕ
+mine_after made (Start me call) Going = 0
+mine_after made (Go me) Going = made + 1
+mine_after made (Go me) (Done answer) = made + 1
+mine_after made _ _ = made
+
+-- how many steps each place has made behind a move, by which the main word's number is the same or not
+abbrev pub made_after : (ℕ → ℕ) → Move → Step → Bool → ℕ → ℕ
+made_after made move step same place =
+    if place == mover move then mine_after (made place) move step else (if same then made place else 0)
+
+-- the trace behind a move that was these events and left this abstract state
+abbrev pub trace_after : State → Move → Moved → Trace → List Event → Lazy → Trace
+trace_after state move moved trace events last = record {
+  withheld = trace.withheld;
+  history = trace.history ++ of_place (mover move) events;
+  lazy = last;
+  registered = updated trace.registered (mover move)
+      (registered_after (trace.calls (mover move)) move (named events) moved.step (trace.registered (mover move)));
+  holder = holder_after trace.holder (mover move) (main_of (row_of state)) (main_of (row_of moved.machine));
+  calls = updated trace.calls (mover move)
+      (call_after (trace.registered (mover move)) (trace.calls (mover move)) move (named events) moved.step);
+  made = made_after trace.made move moved.step (row_of moved.machine 0 == row_of state 0);
+}
+
+-- a Start is no event, and neither is a Go that waits or finds no call
+abbrev pub IsSilent : Move → Step → List Event → Type 0
+IsSilent (Start me call) step events = events ≡ []
+IsSilent (Go me) Waits events = events ≡ []
+IsSilent (Go me) Idle events = events ≡ []
+IsSilent (Go me) step events = Unit {0}
+
+-- what a Start does: it answers at once, or the call goes on
+abbrev pub started_step : Option Answer → Step
+started_step None = Going
+started_step (Some answer) = Done answer
+
+-- A step is the one that the call of the mover and its events name. A Start is busy exactly in a call, and else answers by what the place is
+-- registered as; a Go is idle exactly in no call, and an answer is the one that the call's events name
+abbrev pub IsRight : Needs → Registration → Option Underway → Move → List Event → Step → Type 0
+IsRight needs registered None (Start me call) events step = step ≡ started_step (starting_answer needs call registered)
+IsRight needs registered (Some underway) (Start me call) events step = step ≡ Busy
+IsRight needs registered None (Go me) events step = step ≡ Idle
+IsRight needs registered (Some underway) (Go me) events Idle = ⊥
+IsRight needs registered (Some underway) (Go me) events Busy = ⊥
+IsRight needs registered (Some underway) (Go me) events (Done answer) =
+    IsAnswered needs underway.call underway.registered (underway.events ++ events) answer
+IsRight needs registered (Some underway) (Go me) events step = Unit {0}
+
+-- another place holds the flag
+abbrev pub IsHeldByAnother : Trace → ℕ → Type 0
+IsHeldByAnother trace me = (trace.holder ≢ 0) × (trace.holder ≢ me + 1)
+
+-- Why a call is blocked, at a step that read the word of this index, out of so many places: a poll reads its own answer word, and its
+-- place is in the line, or its answer is due; a cancel does so where its answer is due, or it reads the main word while it is registered in
+-- the line and another place holds the flag; and poison reads the main word, finds one owner, and another place holds the flag
+abbrev pub IsBlocked : Trace → ℕ → ℕ → Word → (read : ℕ) → WordCall → Type 0
+IsBlocked trace places me seen read Poll = (read ≡ places + me + 1) × ((is_in me trace.lazy.line || is_some (trace.lazy.due me)) ≡ true)
+IsBlocked trace places me seen read Cancel =
+    ((read ≡ places + me + 1) × (is_some (trace.lazy.due me) ≡ true))
+    ⊎ ((read ≡ 0) × (seen.is_flagged ≡ true) × IsHeldByAnother trace me × (is_slot (trace.registered me) ≡ true))
+IsBlocked trace places me seen read PoisonLock = (read ≡ 0) × IsOwnedAndFlagged seen × IsHeldByAnother trace me
+IsBlocked trace places me seen read _ = ⊥
+
+-- a place waits whose call is blocked; it doesn't hold the flag, and words and places are as they were
+pub record IsWaiting (state after : State) (trace : Trace) (me : ℕ) : Type 0 where
+  pub blocked : (underway : Underway) × (trace.calls me ≡ Some underway)
+      × IsBlocked trace (length state.places) me (main_of (row_of state)) (word_at (operation_at state me)) underway.call
+  pub free : trace.holder ≢ me + 1
+  pub row : after.row ≡ state.row
+  pub places : after.places ≡ state.places
+
+abbrev pub WaitsRightly : State → State → Trace → Move → Step → Type 0
+WaitsRightly state after trace (Go me) Waits = IsWaiting state after trace me
+WaitsRightly state after trace _ _ = Unit {0}
+
+-- Permits are conserved along a trace: what is held and what was given back are what was withheld, what was got, and what is granted and not
+-- taken. Each place whose answer is due or shown has one such grant, and no other has any. No ask finds a semaphore poisoned, and each answer
+-- that is taken is a grant
+pub record IsConserved (needs : Needs) (trace : Trace) : Type 0 where
+  pub balanced : ConservesPermits needs trace.withheld trace.lazy (tally_of needs trace.withheld trace.history)
+  pub pending : (place : ℕ) → waits_times place (tally_of needs trace.withheld trace.history).pending
+      ≡ one_if (is_some (trace.lazy.due place)) + one_if (is_some (trace.lazy.shown place))
+  pub events : AreOfPermits trace.history
+
+-- the permits of a semaphore are
+abbrev pub Conserves : State → Trace → Type 0
+Conserves state trace = (bound : ℕ) → state.rules ≡ Permits bound → IsConserved (permit_needs bound) trace
+
+-- A move simulates a list of events, none where it starts a call or waits, each enabled where it comes. What it answers is what its call and
+-- events name; the words show the abstract state then, and all events so far lead to them; permits are conserved; no place has made too
+-- many steps; and the trace behind the events tracks the machine
+pub record Simulates (state : State) (move : Move) (moved : Moved) (trace : Trace) : Type 0 where
+  pub events : List Event
+  pub last : Lazy
+  pub run : IsRun (needs_of state.rules) trace.lazy (of_place (mover move) events) last
+  pub silent : IsSilent move moved.step events
+  pub answers : IsRight (needs_of state.rules) (trace.registered (mover move)) (trace.calls (mover move)) move (named events) moved.step
+  pub waits : WaitsRightly state moved.machine trace move moved.step
+  pub words : Observes (needs_of state.rules) (length state.places) (row_of moved.machine) last
+  pub leads : LeadsTo (needs_of state.rules) (length state.places) trace.withheld (trace.history ++ of_place (mover move) events) (row_of moved.machine)
+  pub conserved : Conserves state (trace_after state move moved trace events last)
+  pub few : (place : ℕ) → (trace_after state move moved trace events last).made place ≤ 16 * length state.places + 48
+  pub tracks : Tracks moved.machine (trace_after state move moved trace events last)
+
+-- each of a list of moves does
+abbrev pub AllSimulate : State → List Move → Trace → Type 0
+AllSimulate state [] trace = Unit {0}
+AllSimulate state (move ∷ moves) trace =
+    (one : Simulates state move (gone state move) trace)
+    × AllSimulate (gone state move).machine moves (trace_after state move (gone state move) trace one.events one.last)
+
+-- the trace behind a list of moves
+abbrev pub last_trace : (state : State) (moves : List Move) (trace : Trace) → AllSimulate state moves trace → Trace
+last_trace state [] trace all = trace
+last_trace state (move ∷ moves) trace all =
+    last_trace (gone state move).machine moves (trace_after state move (gone state move) trace all.0.events all.0.last) all.1
+
+-- the events of a list of moves, each with its place
+abbrev pub events_of : (state : State) (moves : List Move) (trace : Trace) → AllSimulate state moves trace → List (ℕ × Event)
+events_of state [] trace all = []
+events_of state (move ∷ moves) trace all =
+    of_place (mover move) all.0.events
+    ++ events_of (gone state move).machine moves (trace_after state move (gone state move) trace all.0.events all.0.last) all.1
+
+-- A list of moves simulates: each move does, and all their events are one run, which goes on with the history so far. The trace behind them
+-- tracks the machine, all events so far lead to its words, and permits are conserved
+pub record SimulatesAll (state : State) (moves : List Move) (trace : Trace) : Type 0 where
+  pub each : AllSimulate state moves trace
+  pub run : IsRun (needs_of state.rules) trace.lazy (events_of state moves trace each) (last_trace state moves trace each).lazy
+  pub history : (last_trace state moves trace each).history ≡ trace.history ++ events_of state moves trace each
+  pub withheld : (last_trace state moves trace each).withheld ≡ trace.withheld
+  pub leads : LeadsTo (needs_of state.rules) (length state.places) trace.withheld (trace.history ++ events_of state moves trace each)
+      (row_of (ran state moves).machine)
+  pub conserved : Conserves state (last_trace state moves trace each)
+  pub tracks : Tracks (ran state moves).machine (last_trace state moves trace each)

@@ -1,0 +1,83 @@
+-- A step that waits is no event.
+use Rattle.std.proofs.Common.{◌≡◌, ℕ, ◌^◌, ◌%◌, ◌<◌, true, false, not, ◌||◌, ◌==◌, List, [], Option, Some, None, refl, sym, ap, subst, ◌∙◌}
+use Rattle.saa_core_spec.specs.Held.{Exclusive}
+use Rattle.saa_core_words.specs.declared.word.Word.{Word}
+use Rattle.saa_core_words.specs.Words.{count_bits, word_number, word_of, answer_of, lock_count}
+use Rattle.saa_word_steps.specs.declared.place.Place.{Place}
+use Rattle.saa_word_steps.specs.declared.place.Taking.{Taking}
+use Rattle.saa_word_steps.specs.declared.place.Taking.TheVariants.{Tries, Awaits, Gives}
+use Rattle.saa_word_steps.specs.declared.place.Stage.{Stage}
+use Rattle.saa_word_steps.specs.declared.place.Stage.TheVariants.{Quiet, ReadLoad, AskLoad, AskExchange, Prepare, Join, ReleaseLoad, ReleaseExchange, BackLoad, BackStore, Forward, CutToClose, CutToGoRound, Close, Empty, GoRound, ShowLoad, ShowStore, Take, FlagLoad, FlagExchange, LookLoad, LookStore, Unlink, DropTail, PoisonLoad, PoisonExchange, Clear}
+use Rattle.saa_word_steps.specs.declared.place.Next.{Next}
+use Rattle.saa_word_steps.specs.declared.place.Next.TheVariants.{Going, Waits, Done}
+use Rattle.saa_word_steps.specs.declared.event.Event.{Event}
+use Rattle.saa_word_steps.specs.Needs.{Needs, AreNeeds}
+use Rattle.saa_word_steps.specs.Lazy.{Lazy}
+use Rattle.saa_word_steps.specs.Steps.{word_at, operation_of, next_of, taken_answer, poisoning}
+use Rattle.saa_word_proofs.specs.Refinement.{updated, Refines}
+use Rattle.saa_word_proofs.specs.StepRefinement.{StepRefines, named_at, place_after, poisoning_events, row_after, taken_events}
+use Rattle.saa_word_proofs.proofs.RefinementLemmas.Lists.{updated-same}
+use Rattle.saa_word_proofs.proofs.RefinementLemmas.Polls.{says_wait, either, on-finished, on-some, goes-on, second-waits, only-stalls}
+use Rattle.saa_word_proofs.proofs.RefinementLemmas.Steps.{step}
+
+-- What it names
+
+unnamed-taking : (needs : Needs) (place : Place) (taking : Taking) (answer : Option ℕ) → taken_answer needs place taking answer ≡ Waits
+    → taken_events taking answer ≡ []
+unnamed-taking needs place (Gives request) None waits = refl
+unnamed-taking needs place Awaits None waits = refl
+unnamed-taking needs place Tries None waits = absurd (cc)
+unnamed-taking needs place taking (Some value) waits =
+    let wrong : false ≡ true = sym (on-some needs place taking value) ∙ ap says_wait waits in absurd (cc)
+
+unnamed-poisoning : (place : Place) (seen : Word) → poisoning place seen ≡ Waits → poisoning_events seen ≡ []
+unnamed-poisoning place seen waits =
+    let owned = second-waits (seen.is_poisoned || not (seen.count == lock_count Exclusive)) _ _ refl waits in
+    rw owned.0 refl
+
+unnamed : (needs : Needs) (me : ℕ) (place : Place) (stage : Stage) (found : ℕ) → next_of needs me place stage found ≡ Waits → named_at needs stage found ≡ []
+unnamed needs me place (Take taking) found waits = unnamed-taking needs place taking (answer_of (found % 65536)) waits
+unnamed needs me place FlagLoad found waits = refl
+unnamed needs me place (FlagExchange seen) found waits = refl
+unnamed needs me place PoisonLoad found waits = unnamed-poisoning place (word_of count_bits found) waits
+unnamed needs me place (PoisonExchange seen) found waits =
+    let both = second-waits (found == word_number count_bits seen) _ _ (either (seen.tail == 0) _ _ (on-finished place place.back) refl) waits in
+    rw both.0 (unnamed-poisoning place (word_of count_bits found) both.1)
+unnamed needs me place stage found waits =
+    let wrong : false ≡ true = sym (goes-on needs me place stage found refl) ∙ ap says_wait waits in absurd (cc)
+
+-- What it is
+
+-- a step as it is known, by how its place goes on: one that waits is no event
+silent-by : (needs : Needs) (places : ℕ) (row : ℕ → ℕ) (standing : ℕ → Place) (lazy : Lazy) (me : ℕ) → me < places
+    → Refines needs places row standing lazy → (made : StepRefines needs places row standing lazy me (standing me).stage)
+    → (next : Next) → next_of needs me (standing me) (standing me).stage (row (word_at (operation_of needs places me (standing me).stage))) ≡ next
+    → (other : StepRefines needs places row standing lazy me (standing me).stage) × (next ≡ Waits → other.events ≡ [])
+silent-by needs places row standing lazy me here s made (Going place) is = (made, λ waits. absurd (cc))
+silent-by needs places row standing lazy me here s made (Done place answer) is = (made, λ waits. absurd (cc))
+silent-by needs places row standing lazy me here s made Waits is =
+    let stage : Stage = (standing me).stage in
+    let only = only-stalls needs places row standing lazy me here s stage refl is in
+    let same : Refines needs places row (updated standing me (standing me)) lazy =
+    subst (λ (f : ℕ → Place). Refines needs places row f lazy) (sym (updated-same standing me (standing me) refl)) s in (
+      record {
+        events = [];
+        last = lazy;
+        run = refl;
+        names = sym (unnamed needs me (standing me) stage (row (word_at (operation_of needs places me stage))) is);
+        calm = λ semaphore. refl;
+        inside = made.inside;
+        stands =
+            subst (λ (n : Next). Refines needs places (row_after row (operation_of needs places me stage)) (updated standing me (place_after (standing me) n)) lazy) (sym is)
+            (subst (λ (r : ℕ → ℕ). Refines needs places r (updated standing me (standing me)) lazy) (sym only.1) same);
+      },
+      λ waits. refl,
+    )
+
+pub silent-step : (needs : Needs) → AreNeeds needs → needs.top < 2 ^ count_bits → (places : ℕ) (row : ℕ → ℕ) (standing : ℕ → Place) (lazy : Lazy) (me : ℕ)
+    → places < 65536 → me < places → Refines needs places row standing lazy
+    → (made : StepRefines needs places row standing lazy me (standing me).stage)
+    × (next_of needs me (standing me) (standing me).stage (row (word_at (operation_of needs places me (standing me).stage))) ≡ Waits → made.events ≡ [])
+silent-step needs lawful wide places row standing lazy me room here s =
+    silent-by needs places row standing lazy me here s (step needs lawful wide places row standing lazy me room here s (standing me).stage refl)
+    (next_of needs me (standing me) (standing me).stage (row (word_at (operation_of needs places me (standing me).stage)))) refl

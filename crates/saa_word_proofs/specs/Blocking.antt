@@ -1,0 +1,24 @@
+-- Why a place has to wait for another one: its answer isn't shown yet, or another place holds the flag.
+use Rattle.std.specs.Prelude.{◌≡◌, ℕ, true, false, ◌||◌, is_some}
+use Rattle.saa_core_spec.specs.Held.{Exclusive}
+use Rattle.saa_core_words.specs.declared.word.Word.{Word}
+use Rattle.saa_core_words.specs.Words.{lock_count}
+use Rattle.saa_word_steps.specs.declared.place.Stage.{Stage}
+use Rattle.saa_word_steps.specs.declared.place.Stage.TheVariants.{Take, FlagLoad, FlagExchange, PoisonLoad, PoisonExchange}
+use Rattle.saa_word_steps.specs.declared.place.Taking.TheVariants.{Awaits, Gives}
+use Rattle.saa_word_steps.specs.Lazy.{Lazy, is_in}
+
+-- the main word is that of a lock that one owner has, while somebody works on the line
+abbrev pub IsOwnedAndFlagged : Word → Type 0
+IsOwnedAndFlagged seen = (seen.count ≡ lock_count Exclusive) × (seen.is_poisoned ≡ false) × (seen.is_flagged ≡ true)
+
+-- a place waits at a stage: a poll of who is in the line or due, a cancel of who is due, a cancel that finds the flag set, and poison that
+-- finds one owner and the flag set
+abbrev pub IsBlockedAt : Lazy → ℕ → Word → Stage → Type 0
+IsBlockedAt lazy me seen (Take Awaits) = (is_in me lazy.line || is_some (lazy.due me)) ≡ true
+IsBlockedAt lazy me seen (Take (Gives request)) = is_some (lazy.due me) ≡ true
+IsBlockedAt lazy me seen FlagLoad = seen.is_flagged ≡ true
+IsBlockedAt lazy me seen (FlagExchange old) = seen.is_flagged ≡ true
+IsBlockedAt lazy me seen PoisonLoad = IsOwnedAndFlagged seen
+IsBlockedAt lazy me seen (PoisonExchange old) = IsOwnedAndFlagged seen
+IsBlockedAt lazy me seen _ = ⊥

@@ -1,0 +1,69 @@
+-- What is counted along the events of the abstract state: what was got, what was given back, and what is granted and not taken yet.
+use Rattle.std.specs.Prelude.{◌≡◌, ℕ, ◌+◌, ◌==◌, Bool, true, false, if◌then◌else◌, List, [], ◌∷◌, ◌++◌, take}
+use Rattle.saa_core_spec.specs.Values.{granted_value}
+use Rattle.saa_word_steps.specs.Needs.{Needs}
+use Rattle.saa_word_steps.specs.declared.event.Event.{Event}
+use Rattle.saa_word_steps.specs.declared.event.Event.TheVariants.{Got, AskedPoisoned, Gave, Granted, Poisoned, Cleared, Took}
+use Rattle.saa_word_steps.specs.Lazy.{Lazy, after_event, opening, line_without, takes_of}
+
+-- What asks that were granted at once took, and what grants took whose answers were taken; what was given back; and the grants that
+-- aren't taken yet: each place that was granted, with the number of what it asked, oldest first
+pub record Tally : Type 0 where
+  pub got : ℕ
+  pub given : ℕ
+  pub pending : List (ℕ × ℕ)
+
+-- nothing happened yet
+abbrev pub nothing_yet : Tally
+nothing_yet = record { got = 0; given = 0; pending = [] }
+
+-- those of a line that are of one place
+abbrev pub line_of_place : ℕ → List (ℕ × ℕ) → List (ℕ × ℕ)
+line_of_place place [] = []
+line_of_place place (asker ∷ rest) = if asker.0 == place then (asker ∷ line_of_place place rest) else line_of_place place rest
+
+-- the tally behind an event of a place, which happens to the object in this state
+abbrev pub after_counting : Needs → Lazy → Tally → ℕ → Event → Tally
+after_counting needs lazy tally place (Got request) = record tally { got = tally.got + needs.takes request }
+after_counting needs lazy tally place (Gave request) = record tally { given = tally.given + needs.takes request }
+after_counting needs lazy tally place (Granted askers) = record tally { pending = tally.pending ++ take askers lazy.line }
+after_counting needs lazy tally place (Took value) =
+    record tally { got = tally.got + takes_of needs (line_of_place place tally.pending); pending = line_without place tally.pending }
+after_counting needs lazy tally place _ = tally
+
+-- the tally behind a list of events, from a state of the object and a tally on
+abbrev pub tallied : Needs → Lazy → Tally → List (ℕ × Event) → Tally
+tallied needs lazy tally [] = tally
+tallied needs lazy tally (event ∷ events) =
+    tallied needs (after_event needs lazy event.0 event.1) (after_counting needs lazy tally event.0 event.1) events
+
+-- the tally of a list of events from the moment on when so much is held and nobody waits
+abbrev pub tally_of : Needs → ℕ → List (ℕ × Event) → Tally
+tally_of needs withheld events = tallied needs (opening withheld) nothing_yet events
+
+-- what is held and what was given back are what was withheld, what was got, and what is granted and not taken yet
+abbrev pub ConservesPermits : Needs → ℕ → Lazy → Tally → Type 0
+ConservesPermits needs withheld lazy tally = lazy.count + tally.given ≡ withheld + tally.got + takes_of needs tally.pending
+
+-- whether an event poisons the object
+abbrev pub poisons : Event → Bool
+poisons Poisoned = true
+poisons _ = false
+
+-- none of these events poisons the object
+abbrev pub NonePoisons : List (ℕ × Event) → Type 0
+NonePoisons [] = Unit {0}
+NonePoisons (event ∷ events) = (poisons event.1 ≡ false) × NonePoisons events
+
+-- whether an event may be one of a semaphore: it isn't poisoned, no ask finds it poisoned, and an answer says that the place was granted
+abbrev pub is_of_permits : Event → Bool
+is_of_permits Poisoned = false
+is_of_permits AskedPoisoned = false
+is_of_permits Cleared = false
+is_of_permits (Took value) = value == granted_value
+is_of_permits _ = true
+
+-- each of these events may be one of a semaphore
+abbrev pub AreOfPermits : List (ℕ × Event) → Type 0
+AreOfPermits [] = Unit {0}
+AreOfPermits (event ∷ events) = (is_of_permits event.1 ≡ true) × AreOfPermits events

@@ -1,0 +1,32 @@
+-- Histories: lists of events, each with its place, and what they say of words and of each place.
+use Rattle.std.specs.Prelude.{◌≡◌, ℕ, Bool, false, ◌||◌, ◌==◌, if◌then◌else◌, List, [], ◌∷◌, ◌++◌}
+use Rattle.saa_word_steps.specs.declared.event.Event.{Event}
+use Rattle.saa_word_steps.specs.Needs.{Needs}
+use Rattle.saa_word_steps.specs.Lazy.{Lazy, IsRun, opening}
+use Rattle.saa_word_proofs.specs.Promises.{Observes}
+
+-- A place's part of a history: its events, in their order
+abbrev pub part_of : ℕ → List (ℕ × Event) → List Event
+part_of place [] = []
+part_of place (entry ∷ rest) = if entry.0 == place then (entry.1 ∷ part_of place rest) else part_of place rest
+
+-- whether a place has an event in a history
+abbrev pub has_part : ℕ → List (ℕ × Event) → Bool
+has_part place [] = false
+has_part place (entry ∷ rest) = (entry.0 == place) || has_part place rest
+
+-- What a place has seen of a history: the history as it was at the place's last event, with that event
+abbrev pub seen_by : ℕ → List (ℕ × Event) → List (ℕ × Event)
+seen_by place [] = []
+seen_by place (entry ∷ rest) = if has_part place (entry ∷ rest) then (entry ∷ seen_by place rest) else []
+
+-- a history begins with another one
+abbrev pub BeginsWith : List (ℕ × Event) → List (ℕ × Event) → Type 0
+BeginsWith history seen = (rest : List (ℕ × Event)) × (history ≡ seen ++ rest)
+
+-- A history leads to these words of so many places: from the moment on when so much is held and nobody waits, each of its events is enabled
+-- where it comes, and the words show what the last one leaves
+pub record LeadsTo (needs : Needs) (places withheld : ℕ) (history : List (ℕ × Event)) (row : ℕ → ℕ) : Type 0 where
+  pub last : Lazy
+  pub run : IsRun needs (opening withheld) history last
+  pub shown : Observes needs places row last

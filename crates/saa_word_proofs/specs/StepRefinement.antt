@@ -1,0 +1,112 @@
+-- What a step of a place is to the whole: events of the abstract state, after which words, places and object stand together again.
+use Rattle.std.specs.Prelude.{◌≡◌, ℕ, ◌+◌, ◌%◌, ◌<◌, Bool, true, false, not, ◌||◌, ◌==◌, if◌then◌else◌, List, [], ◌∷◌, Option, Some, None}
+use Rattle.saa_core_spec.specs.Held.{Exclusive}
+use Rattle.saa_core_words.specs.declared.word.Word.{Word}
+use Rattle.saa_core_words.specs.Words.{count_bits, word_number, word_of, answer_of, lock_count}
+use Rattle.saa_word_steps.specs.declared.place.Place.{Place}
+use Rattle.saa_word_steps.specs.declared.place.Taking.{Taking}
+use Rattle.saa_word_steps.specs.declared.place.Taking.TheVariants.{Tries, Awaits, Gives}
+use Rattle.saa_word_steps.specs.declared.place.Stage.{Stage}
+use Rattle.saa_word_steps.specs.declared.place.Stage.TheVariants.{ReadLoad, AskLoad, AskExchange, Join, ReleaseLoad, ReleaseExchange, Take, Unlink, DropTail, PoisonLoad, PoisonExchange, Clear}
+use Rattle.saa_word_steps.specs.declared.place.Next.{Next}
+use Rattle.saa_word_steps.specs.declared.place.Next.TheVariants.{Going, Waits, Done}
+use Rattle.saa_word_steps.specs.declared.operation.Operation.{Operation}
+use Rattle.saa_word_steps.specs.Needs.{Needs, left_count}
+use Rattle.saa_word_steps.specs.declared.event.Event.{Event}
+use Rattle.saa_word_steps.specs.declared.event.Event.TheVariants.{Got, Refused, AskedPoisoned, Joined, Left, Gave, GaveNothing, NotReady, Granted, Closed, Poisoned, NotPoisoned, Cleared, NotCleared, Showed, Took, Read}
+use Rattle.saa_word_steps.specs.Lazy.{Lazy, IsRun}
+use Rattle.saa_word_steps.specs.Steps.{word_at, written_by, operation_of, next_of, poisoned_word}
+use Rattle.saa_word_proofs.specs.Refinement.{Refines, updated, waits_behind}
+
+-- the events of one place
+abbrev pub of_place : ℕ → List Event → List (ℕ × Event)
+of_place place [] = []
+of_place place (event ∷ rest) = (place, event) ∷ of_place place rest
+
+-- whether an answer names an event; none names what the holder of the flag does for others
+abbrev pub is_named : Event → Bool
+is_named (Granted askers) = false
+is_named Closed = false
+is_named (Showed shown_place) = false
+is_named _ = true
+
+abbrev pub named : List Event → List Event
+named [] = []
+named (event ∷ rest) = if is_named event then (event ∷ named rest) else named rest
+
+-- nothing is poisoned by these
+abbrev pub never_poisons : List Event → Bool
+never_poisons [] = true
+never_poisons (Poisoned ∷ rest) = false
+never_poisons (event ∷ rest) = never_poisons rest
+
+-- what an answer names where an ask is decided by the main word that it saw
+abbrev pub decided_events : Needs → ℕ → Bool → Word → List Event
+decided_events needs request joins seen =
+    if seen.is_poisoned
+    then AskedPoisoned ∷ []
+    else (if waits_behind needs seen request
+    then (if joins then [] else Refused request ∷ [])
+    else (if needs.takes request == 0 then Got request ∷ [] else []))
+
+-- the same of a release
+abbrev pub left_events : ℕ → Option ℕ → List Event
+left_events request None = GaveNothing request ∷ []
+left_events request (Some left) = []
+
+abbrev pub given_events : Needs → ℕ → Word → List Event
+given_events needs request seen = if seen.is_poisoned then GaveNothing request ∷ [] else left_events request (left_count needs seen.count request)
+
+-- the same of a place that takes its answer
+abbrev pub taken_events : Taking → Option ℕ → List Event
+taken_events taking (Some value) = Took value ∷ []
+taken_events Tries None = NotReady ∷ []
+taken_events Awaits None = []
+taken_events (Gives request) None = []
+
+-- the same of poison
+abbrev pub poisoning_events : Word → List Event
+poisoning_events seen = if seen.is_poisoned || not (seen.count == lock_count Exclusive) then NotPoisoned ∷ [] else []
+
+-- what answers name of the events of a step, from its stage and the number that it finds
+abbrev pub named_at : Needs → Stage → ℕ → List Event
+named_at needs (ReadLoad reading) found = Read (word_of count_bits found).count (word_of count_bits found).is_poisoned ∷ []
+named_at needs (AskLoad ask) found = decided_events needs ask.request ask.joins (word_of count_bits found)
+named_at needs (AskExchange ask seen) found =
+    if found == word_number count_bits seen then Got ask.request ∷ [] else decided_events needs ask.request ask.joins (word_of count_bits found)
+named_at needs (Join request seen) found =
+    if found == word_number count_bits seen then Joined request ∷ [] else decided_events needs request true (word_of count_bits found)
+named_at needs (ReleaseLoad given) found = given_events needs given (word_of count_bits found)
+named_at needs (ReleaseExchange given seen) found =
+    if found == word_number count_bits seen then Gave given ∷ [] else given_events needs given (word_of count_bits found)
+named_at needs (Take taking) found = taken_events taking (answer_of (found % 65536))
+named_at needs (Unlink seen newer line older) found = Left ∷ []
+named_at needs (DropTail seen older) found = if found == word_number count_bits seen then Left ∷ [] else []
+named_at needs PoisonLoad found = poisoning_events (word_of count_bits found)
+named_at needs (PoisonExchange seen) found =
+    if found == word_number count_bits seen then Poisoned ∷ [] else poisoning_events (word_of count_bits found)
+named_at needs Clear found = if found == word_number count_bits poisoned_word then Cleared ∷ [] else NotCleared ∷ []
+named_at needs _ found = []
+
+-- a place as it is behind a step
+abbrev pub place_after : Place → Next → Place
+place_after place (Going next) = next
+place_after place Waits = place
+place_after place (Done next answer) = next
+
+-- a row once an operation was made on it
+abbrev pub row_after : (ℕ → ℕ) → Operation → ℕ → ℕ
+row_after row operation = updated row (word_at operation) (written_by operation (row (word_at operation)))
+
+-- A place makes the operation of its stage and goes on with the number that it found: these events happen, in which what an answer
+-- names is said by stage and number, and words, places and object stand together again
+pub record StepRefines (needs : Needs) (places : ℕ) (row : ℕ → ℕ) (standing : ℕ → Place) (lazy : Lazy) (me : ℕ) (stage : Stage) : Type 0 where
+  pub events : List Event
+  pub last : Lazy
+  pub run : IsRun needs lazy (of_place me events) last
+  pub names : named events ≡ named_at needs stage (row (word_at (operation_of needs places me stage)))
+  pub calm : needs.is_lock ≡ false → never_poisons events ≡ true
+  pub inside : word_at (operation_of needs places me stage) < places + places + 1
+  pub stands : Refines needs places (row_after row (operation_of needs places me stage))
+      (updated standing me (place_after (standing me) (next_of needs me (standing me) stage (row (word_at (operation_of needs places me stage))))))
+      last

@@ -1,0 +1,42 @@
+//! What happens to the abstract state that the words stand for.
+
+/// An event. Each belongs to the place whose step it is.
+///
+/// `specs/Lazy.antt` says where an event is enabled, and what it changes. Requests are numbers, and so are values of answers.
+#[derive(Clone, Copy, Debug, Eq, PartialEq)]
+pub enum Event {
+    /// An ask is granted at once.
+    Got(u16),
+    /// A try is refused.
+    Refused(u16),
+    /// A registration joins the line.
+    Joined(u16),
+    /// Something is given back.
+    Gave(u16),
+    /// Something that isn't held is given back.
+    GaveNothing(u16),
+    /// An ask finds the lock poisoned.
+    AskedPoisoned,
+    /// A place leaves the line.
+    Left,
+    /// The line is settled.
+    Closed,
+    /// The lock is poisoned.
+    Poisoned,
+    /// The lock isn't poisoned, since no one owner has it.
+    NotPoisoned,
+    /// A poisoned lock is made free.
+    Cleared,
+    /// The lock wasn't poisoned.
+    NotCleared,
+    /// A poll finds no answer.
+    NotReady,
+    /// So many of the line are granted, from the oldest on.
+    Granted(u16),
+    /// The answer of this place is shown.
+    Showed(u16),
+    /// A place takes its answer.
+    Took(u8),
+    /// The count is read, and whether the lock is poisoned.
+    Read(u16, bool),
+}
