@@ -35,6 +35,7 @@ pub use Rattle.saa_core.specs.Tickets
 pub use Rattle.saa_core.specs.Beginning
 pub use Rattle.saa_sync.specs.Guards
 pub use Rattle.saa_sync.specs.Waits
+pub use Rattle.saa_sync.specs.Futures
 pub use Rattle.saa_sync.specs.BarrierAnswers
 pub use Rattle.saa_sync.specs.GateAnswers
 pub use Rattle.saa_sync.specs.LockAnswers

@@ -23,6 +23,21 @@ gate_fault (Err GateNotRegistered) = Some NotRegistered
 gate_fault (Err GateWrongMode) = Some WrongMode
 gate_fault (Err GateNotReady) = Some NotReady
 
+-- What a poll of a gate is told: what the number means that the core answered, or the gate's error of the same name. No gate
+-- answers a number that reads as an error of a poll; such a one says that somebody gave up
+abbrev pub answered_with : Result State GateError → Result State GateError
+answered_with (Ok state) = Ok state
+answered_with (Err Rejected) = Err Rejected
+answered_with (Err Sealed) = Err Sealed
+answered_with (Err SpuriousFailure) = Err SpuriousFailure
+answered_with (Err GateNotRegistered) = Err SpuriousFailure
+answered_with (Err GateWrongMode) = Err SpuriousFailure
+answered_with (Err GateNotReady) = Err SpuriousFailure
+
+abbrev pub gate_reading : Result ℕ Error → Result State GateError
+gate_reading (Ok value) = answered_with (gate_value (Ok value))
+gate_reading (Err error) = gate_value (Err error)
+
 -- what a gate's answer means
 abbrev pub passing : Option ℕ → Result State GateError
 passing None = Err SpuriousFailure

@@ -1,5 +1,6 @@
 pub mod Guards
 pub mod Waits
+pub mod Futures
 pub mod BarrierAnswers
 pub mod GateAnswers
 pub mod LockAnswers

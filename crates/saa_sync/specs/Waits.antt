@@ -1,5 +1,5 @@
 -- How a call that may wait begins, and how a wait ends.
-use Rattle.std.specs.Prelude.{ℕ, Bool, true, false, Option, Some, None, Result, Ok, Err}
+use Rattle.std.specs.Prelude.{◌≡◌, ℕ, Bool, true, false, Option, Some, None, Result, Ok, Err}
 use Rattle.saa_core_spec.specs.declared.request.Request.{Request}
 use Rattle.saa_core_spec.specs.declared.polling.Error.{Error}
 use Rattle.saa_core_spec.specs.declared.request.Full.{Full}
@@ -7,6 +7,8 @@ use Rattle.saa_core_spec.specs.declared.polling.How.TheVariants.{Sync}
 use Rattle.saa_core_spec.specs.Asking.{registered}
 use Rattle.saa_core_spec.specs.Object.{Object, After}
 use Rattle.saa_core_spec.specs.Polling.{polled, read_as}
+use Rattle.saa_core.specs.declared.ticket.Registration.{Registration}
+use Rattle.saa_core.specs.Tickets.{HasAnswer}
 use Rattle.saa_sync.specs.declared.shell.Begun.{Begun}
 use Rattle.saa_sync.specs.declared.shell.Wake.{Wake}
 use Rattle.saa_sync.specs.declared.shell.Begun.TheVariants.{Refused, Answered, Joined}
@@ -47,3 +49,10 @@ begun s name request = begun_from name (registered s name request true)
 abbrev pub slot_woken : Option Wake → Option ℕ
 slot_woken None = None
 slot_woken (Some wake) = Some wake.slot
+
+-- What a poll tells of a ticket: what the number means, to this primitive, that its core answered, or why there is none. A
+-- ticket that was answered at once is told its own answer
+pub record IsTold {A : Type 0} (reading : Result ℕ Error → A) (ticket : Registration) (answer : A) : Type 0 where
+  pub number : Result ℕ Error
+  pub answered : HasAnswer ticket number
+  pub reads : answer ≡ reading number

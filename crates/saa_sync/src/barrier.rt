@@ -18,6 +18,7 @@ use crate::seat::PATIENCE;
 use crate::shell::Shell;
 use futures::task::{Context, Poll};
 use saa_core::barrier::BarrierCore;
+use saa_core::bench::Primitive;
 use saa_core::ticket::{Error, Full, How, Ticket};
 use std::alloc::{AllocError, Global};
 use std::sync::Wait;
@@ -153,6 +154,8 @@ impl<R: Wait + Drop> Barrier<R> {
 
 impl<R: Wait + Drop> SyncResult for Barrier<R> {
     ghost use Rattle.saa_core.specs.Tickets.{fault_of};
+    ghost use Rattle.std.proofs.Common.{refl};
+    ghost use Rattle.saa_core_spec.specs.Values.{barrier_value};
     ghost use Rattle.saa_sync.specs.BarrierAnswers.{barrier_answer};
 
     type Result = Result<bool, Error>;
@@ -164,6 +167,10 @@ impl<R: Wait + Drop> SyncResult for Barrier<R> {
     ghost answer = { barrier_answer };
 
     ghost fault = { λ result. fault_of result };
+
+    ghost reading = { barrier_value };
+
+    ghost errors = { λ value error. refl };
 
     ghost source = { λ form. form.shell.source.id };
 
@@ -178,17 +185,13 @@ impl<R: Wait + Drop> SyncResult for Barrier<R> {
     /// `Ok(true)`: it was the last arrival of its round; `Ok(false)`: another one was. The ticket is idle then; its slot,
     /// if it had one, is free again.
     fn take(&self, ticket: &mut Ticket, how: How) -> Result<bool, Error> {
-        match self.shell.take(ticket, how) {
-            Ok(value) => Ok(is_leader(value)),
-            Err(error) => Err(error),
-        }
+        BarrierCore::value_of(self.shell.take(ticket, how))
     }
 
     /// As [`Self::take`] as async, for a task: it is woken once the answer is there.
     fn poll_task(&self, ticket: &mut Ticket, cx: &mut Context<'_>) -> Poll<Result<bool, Error>> {
         match self.shell.poll_task(ticket, cx) {
-            Poll::Ready(Ok(value)) => Poll::Ready(Ok(is_leader(value))),
-            Poll::Ready(Err(error)) => Poll::Ready(Err(error)),
+            Poll::Ready(answer) => Poll::Ready(BarrierCore::value_of(answer)),
             Poll::Pending => Poll::Pending,
         }
     }

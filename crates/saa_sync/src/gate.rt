@@ -13,9 +13,9 @@ ghost use Rattle.saa_core_spec.specs.Values.{gate_value, permitted_value, reject
 ghost use Rattle.saa_core.specs.Slots.{all_slots_answered};
 ghost use Rattle.saa_core_spec.specs.declared.request.Request.TheVariants.{Enter as AskEnter};
 ghost use Rattle.saa_core.specs.declared.ticket.Registration.TheVariants.{Unregistered};
-ghost use Rattle.saa_core.specs.Tickets.{Calls, is_busy, is_yes};
+ghost use Rattle.saa_core.specs.Tickets.{Calls, fault_of, is_busy, is_yes};
 ghost use Rattle.saa_core.specs.Beginning.{mode_of};
-ghost use Rattle.saa_sync.specs.GateAnswers.{gate_fault};
+ghost use Rattle.saa_sync.specs.GateAnswers.{gate_fault, gate_reading};
 
 use crate::future::gate::{Asked, AskedWith, Enter, EnterWith};
 use crate::pager::{Pager, SyncResult};
@@ -199,7 +199,8 @@ impl<R: Wait + Drop> Gate<R> {
 impl<R: Wait + Drop> SyncResult for Gate<R> {
     ghost use Rattle.std.specs.Prelude.{◌≡◌, None, Ok};
     ghost use Rattle.saa_core_spec.specs.Values.{gate_value};
-    ghost use Rattle.saa_sync.specs.GateAnswers.{gate_answer, gate_fault};
+    ghost use Rattle.std.proofs.Common.{refl};
+    ghost use Rattle.saa_sync.specs.GateAnswers.{gate_answer, gate_fault, gate_reading};
 
     type Result = Result<State, Error>;
 
@@ -210,6 +211,10 @@ impl<R: Wait + Drop> SyncResult for Gate<R> {
     ghost answer = { gate_answer };
 
     ghost fault = { gate_fault };
+
+    ghost reading = { gate_reading };
+
+    ghost errors = { λ value error. refl };
 
     ghost source = { λ form. form.shell.source.id };
 
@@ -225,17 +230,13 @@ impl<R: Wait + Drop> SyncResult for Gate<R> {
     /// `Ok(state)`, `Rejected`, `Sealed` and `SpuriousFailure` are answers: the ticket is idle then, and its slot, if it
     /// had one, is free again.
     fn take(&self, ticket: &mut Ticket, how: How) -> Result<State, Error> {
-        match self.shell.take(ticket, how) {
-            Ok(value) => read_value(value),
-            Err(error) => GateCore::value_of(Err(error)),
-        }
+        read_answer(self.shell.take(ticket, how))
     }
 
     /// As [`Self::take`] as async, for a task: it is woken once the answer is there.
     fn poll_task(&self, ticket: &mut Ticket, cx: &mut Context<'_>) -> Poll<Result<State, Error>> {
         match self.shell.poll_task(ticket, cx) {
-            Poll::Ready(Ok(value)) => Poll::Ready(read_value(value)),
-            Poll::Ready(Err(error)) => Poll::Ready(GateCore::value_of(Err(error))),
+            Poll::Ready(answer) => Poll::Ready(read_answer(answer)),
             Poll::Pending => Poll::Pending,
         }
     }
@@ -248,11 +249,23 @@ impl<R: Wait + Drop> SyncResult for Gate<R> {
     }
 }
 
+// What a poll is told, by the number that the core answered, or by why there is none.
+fn read_answer(answer: Result<u8, polling::Error>) -> Result<State, Error>
+    ensures reads { result ≡ gate_reading answer }
+    ensures fault { gate_fault result ≡ fault_of answer }
+{
+    match answer {
+        Ok(value) => read_value(value),
+        Err(error) => GateCore::value_of(Err(error)),
+    }
+}
+
 // What a number means that the core answered.
 //
 // No gate answers a number that reads as an error of a poll. Such a one would say that somebody gave up, so that whoever
 // has an answer isn't told that it has none.
 fn read_value(value: u8) -> Result<State, Error>
+    ensures reads { result ≡ gate_reading (Ok value) }
     ensures means { gate_fault (gate_value (Ok value)) ≡ None → result ≡ gate_value (Ok value) }
     ensures answered { gate_fault result ≡ None }
 {

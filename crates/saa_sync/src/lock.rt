@@ -21,6 +21,7 @@ use crate::pager::{Pager, SyncResult};
 use crate::seat::PATIENCE;
 use crate::shell::Shell;
 use futures::task::{Context, Poll};
+use saa_core::bench::Primitive;
 use saa_core::lock::LockCore;
 pub use saa_core::lock::{Mode, TryLockError};
 use saa_core::ticket::{Error, Full, How, Ticket};
@@ -255,6 +256,8 @@ impl<R: Wait + Drop> Lock<R> {
 impl<R: Wait + Drop> SyncResult for Lock<R> {
     ghost use Rattle.std.specs.Prelude.{◌≡◌, ◌⊎◌};
     ghost use Rattle.saa_core.specs.Tickets.{fault_of};
+    ghost use Rattle.std.proofs.Common.{refl};
+    ghost use Rattle.saa_core_spec.specs.Values.{lock_value};
     ghost use Rattle.saa_sync.specs.LockAnswers.{lock_answer};
 
     type Result = Result<bool, Error>;
@@ -266,6 +269,10 @@ impl<R: Wait + Drop> SyncResult for Lock<R> {
     ghost answer = { lock_answer };
 
     ghost fault = { λ result. fault_of result };
+
+    ghost reading = { lock_value };
+
+    ghost errors = { λ value error. refl };
 
     ghost source = { λ form. form.shell.source.id };
 
@@ -280,17 +287,13 @@ impl<R: Wait + Drop> SyncResult for Lock<R> {
     /// `Ok(true)`: granted; `Ok(false)`: the lock was poisoned. The ticket is idle then; its slot, if it had one, is free
     /// again.
     fn take(&self, ticket: &mut Ticket, how: How) -> Result<bool, Error> {
-        match self.shell.take(ticket, how) {
-            Ok(value) => Ok(is_granted(value)),
-            Err(error) => Err(error),
-        }
+        LockCore::value_of(self.shell.take(ticket, how))
     }
 
     /// As [`Self::take`] as async, for a task: it is woken once the answer is there.
     fn poll_task(&self, ticket: &mut Ticket, cx: &mut Context<'_>) -> Poll<Result<bool, Error>> {
         match self.shell.poll_task(ticket, cx) {
-            Poll::Ready(Ok(value)) => Poll::Ready(Ok(is_granted(value))),
-            Poll::Ready(Err(error)) => Poll::Ready(Err(error)),
+            Poll::Ready(answer) => Poll::Ready(LockCore::value_of(answer)),
             Poll::Pending => Poll::Pending,
         }
     }

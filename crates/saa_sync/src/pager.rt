@@ -3,11 +3,12 @@
 //! `SyncResult` is what generic code knows of a threaded form. A pager is held to the plain clause of every poll: it
 //! is registered afterwards exactly where it was before and the answer is one of the three errors of a poll.
 
-ghost use Rattle.std.specs.Prelude.{◌≡◌, ℕ, false, Option, Some, None};
+ghost use Rattle.std.specs.Prelude.{◌≡◌, ℕ, false, Option, Some, None, Result, Err};
 ghost use Rattle.saa_core_spec.specs.declared.polling.Error.{Error};
 ghost use Rattle.saa_core_spec.specs.declared.polling.How.TheVariants.{Try, Sync, Async};
 ghost use Rattle.saa_core.specs.declared.ticket.Registration.TheVariants.{Unregistered};
 ghost use Rattle.saa_core.specs.Tickets.{Polled, is_busy, is_not_ready, slot_of};
+ghost use Rattle.saa_sync.specs.Waits.{IsTold};
 ghost use Rattle.futures.specs.Task.{Hears, IsArmed, Keeps};
 ghost use Rattle.futures.specs.Poll.{IfReady, OnPending};
 
@@ -29,6 +30,11 @@ pub trait SyncResult: Sized {
     ghost answer: { ℕ → Option Error → Self.Result };
 
     ghost fault: { Self.Result → Option Error };
+
+    // What a poll is told, by the number that the core answered, or by why there is none; an error reads as in `answer`.
+    ghost reading: { Result ℕ Error → Self.Result };
+
+    ghost errors: { (value : ℕ) (error : Error) → answer value (Some error) ≡ reading (Err error) };
 
     // What a task that polls here waits for.
     ghost source: { Self → ℕ };
@@ -54,6 +60,7 @@ pub trait SyncResult: Sized {
     /// was answered at once, or where its slot's number is held here too: it is polled as if it were from here.
     fn take(&self, ticket: &mut Ticket, how: How) -> Self::Result
         ensures polled { Polled ticket.old ticket.new how (fault result) }
+        ensures told { IsTold reading ticket.old result }
         ensures waited { how ≡ Sync → is_not_ready (fault result) ≡ false };
 
     /// Polls a ticket that was registered here, for a task, as [`Self::take`] does as async.
@@ -63,6 +70,7 @@ pub trait SyncResult: Sized {
     /// Every other answer is ready, the three errors of a poll among them. May wait for the lock.
     fn poll_task(&self, ticket: &mut Ticket, cx: &mut Context<'_>) -> Poll<Self::Result>
         ensures ready { IfReady result (λ answer. Polled ticket.old ticket.new Async (fault answer)) }
+        ensures told { IfReady result (λ answer. IsTold reading ticket.old answer) }
         ensures waited { IfReady result (λ answer. is_not_ready (fault answer) ≡ false) }
         ensures pending { OnPending result (ticket.new ≡ ticket.old) }
         ensures armed { OnPending result (IsArmed cx.new) }
@@ -128,7 +136,8 @@ impl<'s, S: SyncResult> Pager<'s, S> {
     /// there yet; these leave the pager as it was. Any other answer leaves it unregistered. It is never in the wrong
     /// mode. May wait for the lock.
     pub fn try_poll(&mut self) -> S::Result
-        ensures { Polled self.old self.new Try (S.fault result) }
+        ensures polled { Polled self.old self.new Try (S.fault result) }
+        ensures told { IsTold S.reading self.old result }
     {
         self.poll(How::Try)
     }
@@ -141,6 +150,7 @@ impl<'s, S: SyncResult> Pager<'s, S> {
     /// `WrongMode`, nor by `NotReady`.
     pub fn poll_sync(&mut self) -> S::Result
         ensures polled { Polled self.old self.new Sync (S.fault result) }
+        ensures told { IsTold S.reading self.old result }
         ensures waited { is_not_ready (S.fault result) ≡ false }
     {
         self.poll(How::Sync)
@@ -188,6 +198,7 @@ impl<'s, S: SyncResult> Pager<'s, S> {
     // One poll for a task; an unregistered pager is answered without its primitive.
     fn poll_task(&mut self, cx: &mut Context<'_>) -> Poll<S::Result>
         ensures ready { IfReady result (λ answer. Polled self.old self.new Async (S.fault answer)) }
+        ensures told { IfReady result (λ answer. IsTold S.reading self.old answer) }
         ensures waited { IfReady result (λ answer. is_not_ready (S.fault answer) ≡ false) }
         ensures pending { OnPending result (self.new ≡ self.old) }
         ensures armed { OnPending result (IsArmed cx.new) }
@@ -213,6 +224,7 @@ impl<'s, S: SyncResult> Pager<'s, S> {
     // One poll, in this way; an unregistered pager is answered without its primitive.
     pub(crate) fn poll(&mut self, how: How) -> S::Result
         ensures polled { Polled self.old self.new how (S.fault result) }
+        ensures told { IsTold S.reading self.old result }
         ensures waited { how ≡ Sync → is_not_ready (S.fault result) ≡ false }
     {
         let Some(primitive) = self.at else {

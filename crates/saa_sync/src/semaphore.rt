@@ -21,6 +21,7 @@ use crate::pager::{Pager, SyncResult};
 use crate::seat::PATIENCE;
 use crate::shell::Shell;
 use futures::task::{Context, Poll};
+use saa_core::bench::Primitive;
 use saa_core::semaphore::SemaphoreCore;
 use saa_core::ticket::{Error, Full, How, Ticket};
 use std::alloc::{AllocError, Global};
@@ -271,6 +272,8 @@ impl<R: Wait + Drop> Semaphore<R> {
 
 impl<R: Wait + Drop> SyncResult for Semaphore<R> {
     ghost use Rattle.saa_core.specs.Tickets.{fault_of};
+    ghost use Rattle.std.proofs.Common.{refl};
+    ghost use Rattle.saa_core_spec.specs.Values.{semaphore_value};
     ghost use Rattle.saa_sync.specs.SemaphoreAnswers.{semaphore_answer};
 
     type Result = Result<(), Error>;
@@ -282,6 +285,10 @@ impl<R: Wait + Drop> SyncResult for Semaphore<R> {
     ghost answer = { semaphore_answer };
 
     ghost fault = { λ result. fault_of result };
+
+    ghost reading = { semaphore_value };
+
+    ghost errors = { λ value error. refl };
 
     ghost source = { λ form. form.shell.source.id };
 
@@ -295,17 +302,13 @@ impl<R: Wait + Drop> SyncResult for Semaphore<R> {
 
     /// `Ok(())`: granted, and the ticket is idle; its slot, if it had one, is free again.
     fn take(&self, ticket: &mut Ticket, how: How) -> Result<(), Error> {
-        match self.shell.take(ticket, how) {
-            Ok(_granted) => Ok(()),
-            Err(error) => Err(error),
-        }
+        SemaphoreCore::value_of(self.shell.take(ticket, how))
     }
 
     /// As [`Self::take`] as async, for a task: it is woken once the answer is there.
     fn poll_task(&self, ticket: &mut Ticket, cx: &mut Context<'_>) -> Poll<Result<(), Error>> {
         match self.shell.poll_task(ticket, cx) {
-            Poll::Ready(Ok(_granted)) => Poll::Ready(Ok(())),
-            Poll::Ready(Err(error)) => Poll::Ready(Err(error)),
+            Poll::Ready(answer) => Poll::Ready(SemaphoreCore::value_of(answer)),
             Poll::Pending => Poll::Pending,
         }
     }

@@ -13,7 +13,7 @@ ghost use Rattle.saa_core_spec.specs.declared.polling.How.TheVariants.{Sync, Asy
 ghost use Rattle.saa_core.specs.declared.ticket.Registration.TheVariants.{Unregistered};
 ghost use Rattle.saa_core_spec.specs.Asking.{registered};
 ghost use Rattle.saa_core_spec.specs.Polling.{polled};
-ghost use Rattle.saa_core.specs.Tickets.{Acts, Polled, dropping, fault_of, is_busy, is_not_ready, is_yes, IsNeverTooMuch};
+ghost use Rattle.saa_core.specs.Tickets.{Acts, HasAnswer, Polled, dropping, fault_of, is_busy, is_not_ready, is_yes, IsNeverTooMuch};
 ghost use Rattle.saa_core.specs.Slots.{OwesAnswered, wake_told};
 ghost use Rattle.saa_core.specs.Beginning.{BeginOwes, alone, mode_of};
 ghost use Rattle.saa_sync.specs.Waits.{begun, has_joined, registration_of, slot_woken};
@@ -151,6 +151,7 @@ impl<P: Primitive> Inside<P> {
         ensures acts { Acts (P.core self.old.core) (P.core self.new.core) ticket.old ticket.new
             (λ s name. polled s name how) result }
         ensures ticket { Polled ticket.old ticket.new how (fault_of result) }
+        ensures kept { HasAnswer ticket.old result }
         ensures owed { (P.core self.new.core).slots.owed ≡ (P.core self.old.core).slots.owed }
     {
         self.core.poll_number(ticket, how)
@@ -338,6 +339,7 @@ impl<R: Wait + Drop, P: Primitive> Shell<R, P> {
     /// Polls a ticket: as sync it waits for the answer, else it answers `NotReady` where that isn't there yet.
     pub(crate) fn take(&self, ticket: &mut Ticket, how: How) -> Result<u8, Error>
         ensures polled { Polled ticket.old ticket.new how (fault_of result) }
+        ensures answered { HasAnswer ticket.old result }
         ensures waited { how ≡ Sync → is_not_ready (fault_of result) ≡ false }
     {
         let answer = self.lock().poll(ticket, how);
@@ -358,6 +360,7 @@ impl<R: Wait + Drop, P: Primitive> Shell<R, P> {
         cx: &mut Context<'_>,
     ) -> Poll<Result<u8, Error>>
         ensures ready { IfReady result (λ answer. Polled ticket.old ticket.new Async (fault_of answer)) }
+        ensures answered { IfReady result (λ answer. HasAnswer ticket.old answer) }
         ensures waited { IfReady result (λ answer. is_not_ready (fault_of answer) ≡ false) }
         ensures pending { OnPending result (ticket.new ≡ ticket.old) }
         ensures armed { OnPending result (IsArmed cx.new) }
@@ -473,6 +476,7 @@ impl<R: Wait + Drop, P: Primitive> Shell<R, P> {
     // A ticket without a seat has its answer, or is refused, so it waits for nothing.
     fn wait(&self, ticket: &mut Ticket) -> Result<u8, Error>
         ensures polled { Polled ticket.old ticket.new Sync (fault_of result) }
+        ensures answered { HasAnswer ticket.old result }
         ensures waited { is_not_ready (fault_of result) ≡ false }
         ensures lost { mode_of ticket.old ≡ Some true → IfErr result (λ error. error ≡ NotRegistered) }
     {

@@ -6,6 +6,7 @@
 ghost use Rattle.std.specs.Prelude.{◌≡◌, ◌||◌, false};
 ghost use Rattle.saa_core.specs.Tickets.{Polled, is_busy, is_not_ready, is_yes, slot_of};
 ghost use Rattle.saa_core_spec.specs.declared.polling.How.TheVariants.{Sync};
+ghost use Rattle.saa_sync.specs.Waits.{IsTold};
 
 use crate::pager::{How, Pager, SyncResult, Ticket};
 pub use crate::seat::{PATIENCE, Patience};
@@ -24,6 +25,7 @@ pub fn slot_of<S: SyncResult>(pager: &Pager<'_, S>) -> Option<u16>
 /// One poll of a pager in this way, which its own calls choose by their names.
 pub fn poll_as<S: SyncResult>(pager: &mut Pager<'_, S>, how: How) -> S::Result
     ensures polled { Polled pager.old pager.new how (S.fault result) }
+    ensures told { IsTold S.reading pager.old result }
     ensures waited { how ≡ Sync → is_not_ready (S.fault result) ≡ false }
 {
     pager.poll(how)

@@ -142,7 +142,7 @@ pub(crate) fn poll_turn<'a, R: Wait + Drop>(
     asked: &mut Asked<'a, Leave<R>, Turn>,
     cx: &mut Context<'_>,
 ) -> Poll<Result<(), Full>>
-    ensures heard { OnPending result (Covers cx.new (λ source. source ≡ asked.new.shell.now.source.id)) }
+    ensures heard { OnPending result (Covers cx.new (λ source. source ≡ asked.new.source)) }
     ensures kept { Keeps cx.old cx.new }
 {
     match asked.poll(cx) {

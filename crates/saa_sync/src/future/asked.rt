@@ -20,6 +20,7 @@ use saa_core::bench::Primitive;
 use saa_core::future::Asking;
 pub use saa_core::future::Progress;
 use saa_core::ticket::Full;
+use std::marker::Model;
 use std::sync::Wait;
 
 /// What a named future asks of a core, and how its answers read.
@@ -43,16 +44,25 @@ pub trait Question {
 /// Its output is the answer, or `Full` where it would have to wait and the room is full. While the answer isn't there
 /// it stays pending, and its task is woken once it is; of several tasks that polled it the last is woken. A poll after
 /// the end asks to be polled again, and changes nothing. Dropping it drops what it is registered for, as a pager's drop
-/// does: a waiter leaves the line, and what was granted and not told yet is given back.
+/// does: a waiter leaves the line, and what was granted and not told yet is given back. Contracts see what it asks, its
+/// ticket, whether it has ended, and the source that its task waits for.
 pub struct Asked<'s, R: Wait + Drop, Q: Question> {
     shell: &'s Shell<R, Q::Core>,
     asking: Asking<Q::Core>,
 }
 
+impl<'s, R: Wait + Drop, Q: Question> Model for Asked<'s, R, Q> {
+    ghost use Rattle.saa_sync.specs.Futures.{FutureState};
+
+    ghost Value = { FutureState };
+
+    ghost view = { λ future. record { asking = future.asking; source = future.shell.now.source.id } };
+}
+
 impl<'s, R: Wait + Drop, Q: Question> Asked<'s, R, Q> {
     /// A future that asks this at a shell, and isn't registered yet; for the calls of a form.
     pub fn new(shell: &'s Shell<R, Q::Core>, ask: <Q::Core as Primitive>::Ask) -> Self
-        ensures shell { result.shell ≡ shell.entry }
+        ensures source { result.source ≡ shell.now.source.id }
         ensures request { result.asking.request ≡ Q.Core.request ask }
         ensures idle { result.asking.ticket ≡ Unregistered }
         ensures fresh { result.asking.has_ended ≡ false }
@@ -92,7 +102,7 @@ impl<'s, R: Wait + Drop, Q: Question> Asked<'s, R, Q> {
             (registered (alone (Q.Core.core core.old)) 0 self.old.asking.request false).reply }
         ensures owed { is_busy self.old.asking.ticket ≡ true → (Q.Core.core core.new).slots.owed ≡ (Q.Core.core core.old).slots.owed }
         ensures asking { self.new.asking.request ≡ self.old.asking.request }
-        ensures shell { self.new.shell ≡ self.old.shell }
+        ensures source { self.new.source ≡ self.old.source }
     {
         self.asking.poll_on(core).map(|answer| Q::read(answer))
     }
@@ -106,7 +116,7 @@ impl<'s, R: Wait + Drop, Q: Question> Asked<'s, R, Q> {
         ensures wakes { is_busy self.old.asking.ticket ≡ true
             → OwesAnswered (Q.Core.core core.old).slots (Q.Core.core core.new).slots }
         ensures asking { self.new.asking.request ≡ self.old.asking.request }
-        ensures shell { self.new.shell ≡ self.old.shell }
+        ensures source { self.new.source ≡ self.old.source }
     {
         self.asking.cancel_on(core);
     }
@@ -114,9 +124,9 @@ impl<'s, R: Wait + Drop, Q: Question> Asked<'s, R, Q> {
     // One poll for a task, and whether it joined the line by that.
     fn advance(&mut self, cx: &mut Context<'_>) -> (Poll<Result<Q::Output, Full>>, bool)
         ensures armed { OnPending result.0 (IsArmed cx.new) }
-        ensures heard { OnPending result.0 (Hears cx.new self.old.shell.now.source.id) }
+        ensures heard { OnPending result.0 (Hears cx.new self.old.source) }
         ensures kept { Keeps cx.old cx.new }
-        ensures shell { self.new.shell ≡ self.old.shell }
+        ensures source { self.new.source ≡ self.old.source }
         ensures ended { IfReady result.0 (λ answer. self.new.asking.has_ended ≡ true) }
         ensures after_the_end { self.old.asking.has_ended ≡ true → self.new.asking ≡ self.old.asking }
         ensures pending { OnPending result.0 (self.new.asking.has_ended ≡ self.old.asking.has_ended) }
@@ -143,7 +153,7 @@ impl<R: Wait + Drop, Q: Question> Drop for Asked<'_, R, Q> {
 impl<R: Wait + Drop, Q: Question> Future for Asked<'_, R, Q> {
     type Output = Result<Q::Output, Full>;
 
-    ghost needs = { λ future source. source ≡ future.shell.now.source.id };
+    ghost needs = { λ future source. source ≡ future.source };
 
     fn poll(&mut self, cx: &mut Context<'_>) -> Poll<Result<Q::Output, Full>> {
         let (polled, _has_joined) = self.advance(cx);
@@ -158,6 +168,14 @@ pub struct AskedWith<'s, R: Wait + Drop, Q: Question, F: FnOnce() + Drop> {
     asked: Asked<'s, R, Q>,
     // Until it ran.
     begin_wait: Option<F>,
+}
+
+impl<'s, R: Wait + Drop, Q: Question, F: FnOnce() + Drop> Model for AskedWith<'s, R, Q, F> {
+    ghost use Rattle.saa_sync.specs.Futures.{FutureWithState};
+
+    ghost Value = { FutureWithState F };
+
+    ghost view = { λ future. record { asked = future.asked; begin_wait = future.begin_wait } };
 }
 
 impl<'s, R: Wait + Drop, Q: Question, F: FnOnce() + Drop> AskedWith<'s, R, Q, F> {
@@ -199,7 +217,7 @@ impl<'s, R: Wait + Drop, Q: Question, F: FnOnce() + Drop> AskedWith<'s, R, Q, F>
         ensures owed { is_busy self.old.asked.asking.ticket ≡ true
             → (Q.Core.core core.new).slots.owed ≡ (Q.Core.core core.old).slots.owed }
         ensures asking { self.new.asked.asking.request ≡ self.old.asked.asking.request }
-        ensures shell { self.new.asked.shell ≡ self.old.asked.shell }
+        ensures source { self.new.asked.source ≡ self.old.asked.source }
         ensures callback { self.new.begin_wait ≡ self.old.begin_wait }
     {
         self.asked.poll_on(core)
@@ -214,7 +232,7 @@ impl<'s, R: Wait + Drop, Q: Question, F: FnOnce() + Drop> AskedWith<'s, R, Q, F>
         ensures wakes { is_busy self.old.asked.asking.ticket ≡ true
             → OwesAnswered (Q.Core.core core.old).slots (Q.Core.core core.new).slots }
         ensures asking { self.new.asked.asking.request ≡ self.old.asked.asking.request }
-        ensures shell { self.new.asked.shell ≡ self.old.asked.shell }
+        ensures source { self.new.asked.source ≡ self.old.asked.source }
         ensures callback { self.new.begin_wait ≡ self.old.begin_wait }
     {
         self.asked.cancel_on(core);
@@ -234,7 +252,7 @@ impl<R: Wait + Drop, Q: Question, F: FnOnce() + Drop> Future for AskedWith<'_, R
 
     ghost can_poll = { λ future. IfSome future.begin_wait (λ begin_wait. F.pre begin_wait) };
 
-    ghost needs = { λ future source. source ≡ future.asked.shell.now.source.id };
+    ghost needs = { λ future source. source ≡ future.asked.source };
 
     fn poll(&mut self, cx: &mut Context<'_>) -> Poll<Result<Q::Output, Full>> {
         let (polled, has_joined) = self.asked.advance(cx);

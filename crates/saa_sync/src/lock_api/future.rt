@@ -43,7 +43,7 @@ pub fn lock_async<R: Wait + Drop, T>(mutex: &Mutex<R, T>) -> MutexFuture<'_, R, 
 impl<'a, R: Wait + Drop, T> Future for MutexFuture<'a, R, T> {
     type Output = Result<MutexGuard<'a, R, T>, Full>;
 
-    ghost needs = { λ future source. source ≡ future.turn.shell.now.source.id };
+    ghost needs = { λ future source. source ≡ future.turn.source };
 
     ghost gives = { λ future answer. IfOk answer (λ guard. guard.turn.lock.now ≡ future.guarded.now.turn) };
 
@@ -84,7 +84,7 @@ pub fn write_async<R: Wait + Drop, T>(rwlock: &RwLock<R, T>) -> WriteFuture<'_, 
 impl<'a, R: Wait + Drop, T> Future for WriteFuture<'a, R, T> {
     type Output = Result<RwLockWriteGuard<'a, R, T>, Full>;
 
-    ghost needs = { λ future source. source ≡ future.turn.shell.now.source.id };
+    ghost needs = { λ future source. source ≡ future.turn.source };
 
     ghost gives = { λ future answer. IfOk answer (λ guard. guard.turn.lock.now ≡ future.guarded.now.turn) };
 
@@ -125,7 +125,7 @@ pub fn read_async<R: Wait + Drop, T>(rwlock: &RwLock<R, T>) -> ReadFuture<'_, R,
 impl<'a, R: Wait + Drop, T> Future for ReadFuture<'a, R, T> {
     type Output = Result<RwLockReadGuard<'a, R, T>, Full>;
 
-    ghost needs = { λ future source. source ≡ future.turn.shell.now.source.id };
+    ghost needs = { λ future source. source ≡ future.turn.source };
 
     ghost gives = { λ future answer. IfOk answer (λ guard. guard.turn.lock.now ≡ future.guarded.now.turn) };
 
