@@ -35,17 +35,17 @@ pub use Rattle.saa_core.specs.Tickets
 pub use Rattle.saa_core.specs.Beginning
 pub use Rattle.saa_sync.specs.Guards
 pub use Rattle.saa_sync.specs.Waits
-pub use Rattle.saa_sync.specs.Futures
+pub use Rattle.saa_sync.specs.Futures as NamedFutures
 pub use Rattle.saa_sync.specs.BarrierAnswers
 pub use Rattle.saa_sync.specs.GateAnswers
 pub use Rattle.saa_sync.specs.LockAnswers
 pub use Rattle.saa_sync.specs.SemaphoreAnswers
 pub use Rattle.saa_word_steps.specs.Needs
 pub use Rattle.saa_word_steps.specs.Lazy
-pub use Rattle.saa_word_steps.specs.Steps
+pub use Rattle.saa_word_steps.specs.Steps as WordSteps
 pub use Rattle.saa_word_proofs.specs.Blocking
 pub use Rattle.saa_word_proofs.specs.Calls
-pub use Rattle.saa_word_proofs.specs.History
+pub use Rattle.saa_word_proofs.specs.History as TraceHistory
 pub use Rattle.saa_word_proofs.specs.Promises
 pub use Rattle.saa_word_proofs.specs.Registering
 pub use Rattle.saa_word.specs.Kinds

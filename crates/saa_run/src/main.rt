@@ -6,6 +6,8 @@
 //! `docs/LANGUAGES.md` has the languages.
 #![tactic(auto)]
 
+#[cfg(test)]
+mod answer_tests;
 mod arguments;
 #[cfg(test)]
 mod cancel_rows;
@@ -29,8 +31,10 @@ use crate::run::Wanted;
 use saa_run_text::run::no_memory;
 use std::alloc::Global;
 use std::env::{self, Env};
-use std::io::{self, BufReader, ErrorKind, Write};
+use std::io::{self, BufReader, ErrorKind, Read, Write};
 use std::process::ExitCode;
+use std::sync::Wait;
+use std::thread::Threads;
 
 /// What the arguments ask for; nothing where memory for them was refused.
 ///
@@ -49,19 +53,27 @@ fn asked<E: Env>(environment: &E, alloc: Global) -> Option<Wanted> {
     }
 }
 
-/// Runs the script on standard input.
-fn run_script<W: Write>(rt: &HostRuntime, writer: &mut W) -> u8 {
-    match BufReader::new(rt.alloc(), rt.reader()) {
-        Ok(mut reader) => run::script(rt.alloc(), &mut reader, writer),
-        Err(_) => no_memory(writer),
-    }
-}
-
-/// Runs the schedule on standard input.
-fn run_machine<W: Write>(rt: &HostRuntime, writer: &mut W) -> u8 {
-    match BufReader::new(rt.alloc(), rt.reader()) {
-        Ok(mut reader) => run::machine(rt.alloc(), &mut reader, writer),
-        Err(_) => no_memory(writer),
+/// Does what is wanted, and answers the status; its input is opened only where it is read.
+fn answer<R, T, E, F, W>(rt: &R, alloc: Global, wanted: Wanted, input: F, writer: &mut W) -> u8
+where
+    R: Threads + Wait + Sync,
+    T: Read + Drop,
+    E: Drop,
+    F: FnOnce() -> Result<T, E> + Drop,
+    W: Write,
+    requires { F.pre input }
+{
+    match wanted {
+        Wanted::Script => match input() {
+            Ok(mut reader) => run::script(alloc, &mut reader, writer),
+            Err(_) => no_memory(writer),
+        },
+        Wanted::Machine => match input() {
+            Ok(mut reader) => run::machine(alloc, &mut reader, writer),
+            Err(_) => no_memory(writer),
+        },
+        Wanted::Threads(count @ 1..=32) => run::threads(rt, alloc, count, writer),
+        Wanted::Threads(_) | Wanted::Usage => run::usage(writer),
     }
 }
 
@@ -69,12 +81,10 @@ fn main(rt: HostRuntime) -> ExitCode {
     let mut writer = io::writer(&rt);
     let status = match asked(&rt, rt.alloc()) {
         None => no_memory(&mut writer),
-        Some(Wanted::Script) => run_script(&rt, &mut writer),
-        Some(Wanted::Threads(count @ 1..=32)) => {
-            run::threads(&rt, rt.alloc(), count, &mut writer)
+        Some(wanted) => {
+            let input = || BufReader::new(rt.alloc(), rt.reader());
+            answer(&rt, rt.alloc(), wanted, input, &mut writer)
         }
-        Some(Wanted::Machine) => run_machine(&rt, &mut writer),
-        Some(Wanted::Threads(_) | Wanted::Usage) => run::usage(&mut writer),
     };
     ExitCode::from(status)
 }

@@ -46,20 +46,32 @@ pub struct Counts {
 
 /// Somebody who watches the workers; for tests.
 pub(crate) trait Watch {
-    /// The worker of this number, counted from 0, is about to wait at the barrier for the first time.
+    /// Whether the worker of this number, counted from 0, may be started; where not, it is as if no thread could be had.
+    fn may_start(&self, worker: u8) -> bool;
+
+    /// The worker of this number has started, and hasn't waited for anything yet.
     fn begin(&self, worker: u8);
 
     /// A worker has permits of this semaphore, and is about to give them back.
     fn hold<R: Wait + Drop>(&self, permits: &Semaphore<R>);
+
+    /// All workers are done, and this is the journal that they have written.
+    fn read<J: Journal>(&self, journal: &Journalled<SemaphoreCore, J>);
 }
 
 /// Nobody watches.
 struct Nobody;
 
 impl Watch for Nobody {
+    fn may_start(&self, _worker: u8) -> bool {
+        true
+    }
+
     fn begin(&self, _worker: u8) {}
 
     fn hold<R: Wait + Drop>(&self, _permits: &Semaphore<R>) {}
+
+    fn read<J: Journal>(&self, _journal: &Journalled<SemaphoreCore, J>) {}
 }
 
 /// A worker that hasn't started.
@@ -93,10 +105,10 @@ impl<'r, J: Journal, R: Wait> Place<'r, J, R> {
     // All that one worker does. It ends at a sealed gate, and where the journal gets no memory: then it isn't done.
     fn work<W: Watch>(&self, worker: Worker<J>, watch: &W) {
         let Worker { number, share } = worker;
+        watch.begin(number);
         let Ok(Ok(_open)) = self.gate.enter_sync() else {
             return;
         };
-        watch.begin(number);
         let leaders = self.meet();
         self.share_permits(watch);
         // Last, so that nobody waits for a worker that gets no memory here.
@@ -147,7 +159,8 @@ fn start_all<J: Journal + Send + Sync, R: Threads + Wait + Sync, W: Watch + Sync
 ) -> bool {
     thread::scope(thread::scope_env(), place.rt, |scope| {
         for worker in workers {
-            if scope.spawn(move || place.work(worker, watch)).is_err() {
+            let may_start = watch.may_start(worker.number);
+            if !may_start || scope.spawn(move || place.work(worker, watch)).is_err() {
                 let _ = place.gate.seal();
                 return false;
             }
@@ -235,7 +248,9 @@ fn run_over<J: Journal + Send + Sync, R: Threads + Wait + Sync, W: Watch + Sync>
         return Err(AllocError);
     }
     let available = place.permits.available_permits(Ordering::SeqCst);
-    let (leaders, journal) = gather(alloc, place.journal.into_inner(), place.done.into_inner())?;
+    let journal = place.journal.into_inner();
+    watch.read(&journal);
+    let (leaders, journal) = gather(alloc, journal, place.done.into_inner())?;
     Ok(Counts {
         leaders,
         available,

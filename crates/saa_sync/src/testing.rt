@@ -50,3 +50,15 @@ pub fn hold<'s, S: SyncResult>(pager: &mut Pager<'s, S>, ticket: Ticket, primiti
 {
     pager.hold(ticket, primitive);
 }
+
+/// Makes one step of the core under the mutex, and leaves whoever it answers unwoken: their wakes stay pending until the next call.
+pub fn call_untold<R: Wait + Drop, P: Primitive, A, F: FnOnce(&mut P) -> A + Drop>(
+    shell: &Shell<R, P>,
+    step: F,
+) -> A
+    requires { F.IsAlwaysCallable step }
+    ensures { (lent : _) × (left : _) × F.post step lent result left }
+{
+    let mut inside = shell.lock();
+    step(&mut inside.core)
+}

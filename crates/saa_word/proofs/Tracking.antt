@@ -16,7 +16,7 @@ use Rattle.saa_word_steps.specs.declared.place.Stage.TheVariants.{Quiet}
 use Rattle.saa_word_steps.specs.declared.place.Registration.{Registration}
 use Rattle.saa_word_steps.specs.Needs.{Needs, permit_needs}
 use Rattle.saa_word_steps.specs.Lazy.{Lazy, IsRun, after_event, opening}
-use Rattle.saa_word_proofs.proofs.Conservation.{opening-granted, run-balanced, run-never, run-pending, run-permits}
+use Rattle.saa_word_proofs.proofs.ConservationLemmas.{opening-granted, run-balanced, run-never, run-pending, run-permits}
 use Rattle.saa_word_proofs.specs.Registering.{AreRegistered, IsLeft, IsStartedAs, begun_as, left_behind, starting_answer}
 use Rattle.saa_word_proofs.proofs.SoloLemmas.Paths.{left-next}
 use Rattle.saa_word_proofs.proofs.SoloLemmas.Registered.{started-as}

@@ -1,4 +1,4 @@
 pub mod SoloLemmas
-pub mod Conservation
+pub mod ConservationLemmas
 pub mod StepBoundLemmas
 pub mod RefinementLemmas

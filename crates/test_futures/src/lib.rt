@@ -17,6 +17,12 @@ mod pagers;
 #[cfg(test)]
 mod places;
 #[cfg(test)]
+mod rooms;
+#[cfg(test)]
+mod values;
+#[cfg(test)]
+mod wakers;
+#[cfg(test)]
 mod wakes;
 
 #[cfg(test)]

@@ -5,8 +5,12 @@
 #![tactic(auto)]
 
 #[cfg(test)]
+mod blocks;
+#[cfg(test)]
 mod mutexes;
 pub mod pair;
+#[cfg(test)]
+mod rooms;
 #[cfg(test)]
 mod rwlocks;
 #[cfg(test)]

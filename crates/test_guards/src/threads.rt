@@ -145,11 +145,12 @@ fn ask_behind<R: Wait + Drop>(rt: &impl Wait, mutex: &Mutex<R, u64>, task: &Mock
     unreachable!()
 }
 
-// Waits until the mutex is held, and then writes a digit.
+// Waits until the mutex is held, and then writes a digit. Who looks whether somebody waits fills the room for a moment, so who
+// finds it full asks again.
 fn write_once_held<R: Wait + Drop>(rt: &impl Wait, mutex: &Mutex<R, u64>, digit: u64) -> bool {
     for _ in rt.forever() {
-        if mutex.try_lock().is_none() {
-            return write_digit(mutex, digit);
+        if mutex.try_lock().is_none() && write_digit(mutex, digit) {
+            return true;
         }
         yield_now();
     }

@@ -12,7 +12,13 @@ mod gates;
 #[cfg(test)]
 mod locks;
 #[cfg(test)]
+mod orderings;
+#[cfg(test)]
 mod pagers;
+#[cfg(test)]
+mod permits;
+#[cfg(test)]
+mod prints;
 #[cfg(test)]
 mod semaphores;
 #[cfg(test)]

@@ -1,7 +1,9 @@
-//! That the workers run at the same time, and what they count.
+//! That the workers run at the same time, what each of them does, and what they count.
 
 use crate::workers::{Counts, Watch, run, run_with};
-use saa::semaphore::Semaphore;
+use saa::bench::{CommandOf, ReplyOf};
+use saa::journal::{Journal, Journalled};
+use saa::semaphore::{Semaphore, SemaphoreAnswer, SemaphoreCall, SemaphoreCore};
 use std::io;
 use std::process::Abort;
 use std::sync::Wait;
@@ -13,6 +15,9 @@ use std::thread::yield_now;
 const PATIENCE: u16 = 10_000;
 
 const YIELDS: u16 = 1_000;
+
+// For how many turns who keeps all permits waits until somebody waits for some.
+const KEPT: u16 = 1_000;
 
 // Gives way for a while.
 fn turn() {
@@ -29,6 +34,10 @@ struct Pair<'r, R: Abort> {
 }
 
 impl<R: Abort> Watch for Pair<'_, R> {
+    fn may_start(&self, _worker: u8) -> bool {
+        true
+    }
+
     fn begin(&self, worker: u8) {
         match worker {
             0 => {
@@ -46,24 +55,93 @@ impl<R: Abort> Watch for Pair<'_, R> {
     }
 
     fn hold<S: Wait + Drop>(&self, _permits: &Semaphore<S>) {}
+
+    fn read<J: Journal>(&self, _journal: &Journalled<SemaphoreCore, J>) {}
 }
 
-// How often a worker has begun, and how often one has been seen with two of 63 permits.
+// Which workers have begun, each by a bit of its own; how often one has held permits, and how often those were two of 63 at
+// that; and which calls of the journal were as they must be.
 #[derive(Drop)]
 struct Tally {
+    // The number of workers that can be started.
+    allowed: u8,
     begun: AtomicU64,
-    held: AtomicU64,
+    holds: AtomicU64,
+    alone: AtomicU64,
+    tries: AtomicU64,
+    granted: AtomicU64,
+    // Whether somebody has kept all permits once.
+    has_kept: AtomicBool,
+}
+
+impl Tally {
+    fn new(allowed: u8, keeps: bool) -> Tally {
+        Tally {
+            allowed,
+            begun: AtomicU64::new(0),
+            holds: AtomicU64::new(0),
+            alone: AtomicU64::new(0),
+            tries: AtomicU64::new(0),
+            granted: AtomicU64::new(0),
+            has_kept: AtomicBool::new(!keeps),
+        }
+    }
+}
+
+// Keeps all permits until somebody waits for some, or for a second or so.
+fn keep_all<S: Wait + Drop>(permits: &Semaphore<S>) {
+    if permits.acquire_many_sync(61) != Ok(true) {
+        return;
+    }
+    for _turn in 0..KEPT {
+        if !permits.try_acquire_many(0) {
+            break;
+        }
+        turn();
+    }
+    permits.release_many(61);
 }
 
 impl Watch for Tally {
-    fn begin(&self, _worker: u8) {
-        let _ = self.begun.fetch_add(1, Ordering::SeqCst);
+    fn may_start(&self, worker: u8) -> bool {
+        worker < self.allowed
+    }
+
+    // No two workers have the same bit, or the sum isn't that of all bits.
+    fn begin(&self, worker: u8) {
+        let _ = self
+            .begun
+            .fetch_add(1u64.wrapping_shl(u32::from(worker)), Ordering::SeqCst);
     }
 
     fn hold<S: Wait + Drop>(&self, permits: &Semaphore<S>) {
+        let _ = self.holds.fetch_add(1, Ordering::SeqCst);
         if permits.available_permits(Ordering::SeqCst) == 61 {
-            let _ = self.held.fetch_add(1, Ordering::SeqCst);
+            let _ = self.alone.fetch_add(1, Ordering::SeqCst);
         }
+        if !self.has_kept.swap(true, Ordering::SeqCst) {
+            keep_all(permits);
+        }
+    }
+
+    fn read<J: Journal>(&self, journal: &Journalled<SemaphoreCore, J>) {
+        for (command, reply) in journal.history() {
+            let is_try = *command == CommandOf::Call(SemaphoreCall::TryAcquireMany(1));
+            let is_granted = *reply == ReplyOf::Answered(SemaphoreAnswer::Bool(true));
+            let _ = self.tries.fetch_add(u64::from(is_try), Ordering::SeqCst);
+            let _ = self
+                .granted
+                .fetch_add(u64::from(is_granted), Ordering::SeqCst);
+        }
+    }
+}
+
+// What so many workers count.
+fn counted(workers: usize) -> Counts {
+    Counts {
+        leaders: 4,
+        available: 63,
+        journal: workers.saturating_mul(50),
     }
 }
 
@@ -75,47 +153,56 @@ fn two_at_once(rt: HostRuntime) -> io::Result<()> {
     };
     let counts = run_with(&rt, rt.alloc(), 2, &pair)?;
     assert!(rt; pair.has_one_begun.load(Ordering::SeqCst));
-    assert_eq!(rt;
-        counts,
-        Counts {
-            leaders: 4,
-            available: 63,
-            journal: 100
-        }
-    );
+    assert_eq!(rt; counts, counted(2));
     Ok(())
 }
 
+// Alone it has always two of all permits, and each of its journalled calls is granted.
 #[test]
 fn one_alone(rt: HostRuntime) -> io::Result<()> {
-    let tally = Tally {
-        begun: AtomicU64::new(0),
-        held: AtomicU64::new(0),
-    };
-    let counts = run_with(&rt, rt.alloc(), 1, &tally)?;
-    assert_eq!(rt;
-        counts,
-        Counts {
-            leaders: 4,
-            available: 63,
-            journal: 50
-        }
-    );
+    let tally = Tally::new(1, false);
+    assert_eq!(rt; run_with(&rt, rt.alloc(), 1, &tally)?, counted(1));
     assert_eq!(rt; tally.begun.load(Ordering::SeqCst), 1);
-    assert_eq!(rt; tally.held.load(Ordering::SeqCst), 100);
+    assert_eq!(rt; tally.holds.load(Ordering::SeqCst), 100);
+    assert_eq!(rt; tally.alone.load(Ordering::SeqCst), 100);
+    assert_eq!(rt; tally.tries.load(Ordering::SeqCst), 50);
+    assert_eq!(rt; tally.granted.load(Ordering::SeqCst), 50);
     Ok(())
 }
 
+// One keeps all permits for a while: the other waits for them, and misses none of its turns.
+#[test]
+fn who_finds_no_permits_waits(rt: HostRuntime) -> io::Result<()> {
+    let tally = Tally::new(2, true);
+    assert_eq!(rt; run_with(&rt, rt.alloc(), 2, &tally)?, counted(2));
+    assert_eq!(rt; tally.begun.load(Ordering::SeqCst), 3);
+    assert_eq!(rt; tally.holds.load(Ordering::SeqCst), 200);
+    Ok(())
+}
+
+// Each has a number of its own, and together they take all 63 permits of the journal's semaphore.
 #[test]
 fn thirty_two(rt: HostRuntime) -> io::Result<()> {
-    let counts = run(&rt, rt.alloc(), 32)?;
-    assert_eq!(rt;
-        counts,
-        Counts {
-            leaders: 4,
-            available: 63,
-            journal: 1_600
-        }
-    );
+    assert_eq!(rt; run(&rt, rt.alloc(), 32)?, counted(32));
+    let tally = Tally::new(32, true);
+    assert_eq!(rt; run_with(&rt, rt.alloc(), 32, &tally)?, counted(32));
+    assert_eq!(rt; tally.begun.load(Ordering::SeqCst), u64::from(u32::MAX));
+    assert_eq!(rt; tally.holds.load(Ordering::SeqCst), 3_200);
+    assert_eq!(rt; tally.tries.load(Ordering::SeqCst), 1_600);
+    assert_eq!(rt; tally.granted.load(Ordering::SeqCst), 63);
+    Ok(())
+}
+
+// Where one can't be started, those that were have begun, end at the sealed gate, and do nothing else.
+#[test]
+fn one_that_cannot_be_started_ends_all(rt: HostRuntime) -> io::Result<()> {
+    for allowed in [0, 1, 2] {
+        let tally = Tally::new(allowed, false);
+        assert!(rt; run_with(&rt, rt.alloc(), 3, &tally).is_err());
+        let bits = 1u64.wrapping_shl(u32::from(allowed)).saturating_sub(1);
+        assert_eq!(rt; tally.begun.load(Ordering::SeqCst), bits);
+        assert_eq!(rt; tally.holds.load(Ordering::SeqCst), 0);
+        assert_eq!(rt; tally.tries.load(Ordering::SeqCst), 0);
+    }
     Ok(())
 }

@@ -1,0 +1,72 @@
+//! That what is wanted is what is done: a text of either language is a bad one to the other.
+
+use crate::answer;
+use crate::run::Wanted;
+use std::alloc::{AllocError, Global};
+use std::sync::Wait;
+use std::thread::Threads;
+
+const SCRIPT: &str = "semaphore 63 1\ntry 60\navailable\n";
+
+const SCHEDULE: &str = "semaphore 0 1\nstart 0 try 1\nend 0\n";
+
+// What is wanted of an input, what is written then, and the status.
+const ANSWERS: [(Wanted, &str, &str, u8); 6] = [
+    (Wanted::Script, SCRIPT, "true\n3\n", 0),
+    (Wanted::Script, SCHEDULE, "bad line 2\n", 2),
+    (Wanted::Machine, SCHEDULE, "going\ndone true\n", 0),
+    (Wanted::Machine, SCRIPT, "bad line 2\n", 2),
+    (
+        Wanted::Threads(2),
+        SCRIPT,
+        "leaders 4\navailable 63\njournal 100\n",
+        0,
+    ),
+    (
+        Wanted::Usage,
+        SCRIPT,
+        "usage: saa-run script | machine | threads N\n",
+        2,
+    ),
+];
+
+// What is written of an input, and the status.
+fn answered<R: Threads + Wait + Sync>(
+    rt: &R,
+    alloc: Global,
+    wanted: Wanted,
+    input: &'static str,
+) -> (Vec<u8>, u8) {
+    let mut writer = Vec::new(alloc);
+    let source = || Ok::<&[u8], AllocError>(input.as_bytes());
+    let status = answer(rt, alloc, wanted, source, &mut writer);
+    (writer, status)
+}
+
+#[test]
+fn what_is_wanted_is_done(rt: HostRuntime) {
+    for (wanted, input, output, status) in ANSWERS {
+        let (written, told) = answered(&rt, rt.alloc(), wanted, input);
+        assert_eq!(rt; written.as_slice(), output.as_bytes(), "of {wanted:?}");
+        assert_eq!(rt; told, status, "of {wanted:?}");
+    }
+}
+
+// An input that can't be opened for want of memory is told as that, and isn't asked for where nothing is read.
+#[test]
+fn no_memory_to_read_is_told(rt: HostRuntime) {
+    for (wanted, status) in [
+        (Wanted::Script, 3),
+        (Wanted::Machine, 3),
+        (Wanted::Threads(1), 0),
+        (Wanted::Usage, 2),
+    ] {
+        let mut writer = Vec::new(rt.alloc());
+        let source = || Err::<&[u8], AllocError>(AllocError);
+        assert_eq!(rt;
+            answer(&rt, rt.alloc(), wanted, source, &mut writer),
+            status,
+            "of {wanted:?}"
+        );
+    }
+}
