@@ -139,10 +139,10 @@ impl<'r, R: Wait> Pool<'r, R> {
         }
     }
 
-    /// Refuses everybody from now on, those who wait among them. Connections that are out come back as their guards go.
+    /// Refuses everybody from now on, waiters among them. Connections that are out come back as their guards go.
     pub fn shut_down(&self) {
         self.shelf.lock(self.rt).is_shut = true;
-        // One of those who wait is let in, is refused, and lets in the next.
+        // One waiter is let in, is refused, and lets in the next.
         let _ = self.permits.release();
     }
 

@@ -123,7 +123,7 @@ impl<R: Wait + Drop + Copy, T: Drop> Queue<R, T> {
     /// `Full`: as many tasks wait as the queue was made for; nothing is changed.
     pub fn close(&self) -> Result<(), Full> {
         self.items.lock()?.is_closed = true;
-        // One of those who wait is let in at each end, and lets in the next.
+        // One waiter is let in at each end, and lets in the next.
         let _ = self.free.release();
         let _ = self.filled.release();
         Ok(())

@@ -18,7 +18,7 @@ impl<R: Wait + Drop + Sync> Turn for Semaphore<R> {
     }
 }
 
-/// The plain counter: permits under a `Mutex`, and a `Condvar` for those who wait.
+/// The plain counter: permits under a `Mutex`, and a `Condvar` for the waiters.
 #[derive(Drop)]
 pub struct Counter<R: Wait + Drop> {
     rt: R,

@@ -19,7 +19,7 @@ struct Round {
     number: u64,
 }
 
-/// A plain barrier: a count of arrivals under a `Mutex`, and a `Condvar` for those who wait.
+/// A plain barrier: a count of arrivals under a `Mutex`, and a `Condvar` for the waiters.
 #[derive(Drop)]
 pub struct PlainBarrier<R: Wait + Drop> {
     rt: R,
@@ -82,7 +82,7 @@ impl<R: Wait + Drop + Sync> Passage for Gate<R> {
     }
 }
 
-/// A plain gate: a count of those who wait under a `Mutex`, and a `Condvar` for them.
+/// A plain gate: a count of the waiters under a `Mutex`, and a `Condvar` for them.
 #[derive(Drop)]
 pub struct PlainGate<R: Wait + Drop> {
     rt: R,

@@ -41,7 +41,7 @@ pub use Rattle.saa_sync.specs.GateAnswers
 pub use Rattle.saa_sync.specs.LockAnswers
 pub use Rattle.saa_sync.specs.SemaphoreAnswers
 pub use Rattle.saa_word_steps.specs.Needs
-pub use Rattle.saa_word_steps.specs.Lazy
+pub use Rattle.saa_word_steps.specs.AbstractState
 pub use Rattle.saa_word_steps.specs.Steps as WordSteps
 pub use Rattle.saa_word_proofs.specs.Blocking
 pub use Rattle.saa_word_proofs.specs.Calls

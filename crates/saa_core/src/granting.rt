@@ -239,6 +239,19 @@ impl<N: Needs> Granting<N> {
         self.line.next_answered()
     }
 
+    /// This is held from now on, and those who wait are granted, oldest first, while they fit. It isn't a poisoned lock.
+    ///
+    /// Costs O(how many are granted).
+    pub fn settle_with(&mut self, needs: N)
+        requires unpoisoned { ¬ (N.held needs ≡ OfLock Poisoned) }
+        ensures granted { self.new ≡ core_settled (record self.old { held = N.held needs }) }
+        ensures wakes { OwesAnswered self.old.slots self.new.slots }
+        ensures settled { IsCoreSettled self.new }
+    {
+        self.needs = needs;
+        settle(&mut self.needs, &mut self.line);
+    }
+
     /// All who wait are answered with a value, and this is held from now on. Costs O(how many wait).
     pub fn answer_all(&mut self, needs: N, value: u8)
         ensures answered { self.new ≡ record { held = N.held needs; slots = all_slots_answered value self.old.slots } }

@@ -5,16 +5,15 @@
 //! bench as it stands. Each thread has a share, which counts its own calls; the shares together count the history, so a
 //! thread that asks for all of them back knows that nothing is missing.
 
-ghost use Rattle.std.specs.Prelude.{◌≡◌, ℕ, ◌↔◌, ◌+◌, ◌<◌, ◌++◌, ◌∷◌, [], All, IfErr, IfOk, IfSome, IsSome, length, replicate, sum_by, vec_capacity, vec_len, ◌≤◌};
+ghost use Rattle.std.specs.Prelude.{◌≡◌, ℕ, ◌↔◌, ◌+◌, ◌<◌, ◌++◌, ◌∷◌, [], All, IfErr, IfOk, IfSome, IsSome, length, replicate, sum_by, ◌≤◌};
 ghost use Rattle.saa_core_spec.specs.Object.{Object};
 ghost use Rattle.saa_core_spec.specs.Run.{IsWithin, done};
 ghost use Rattle.saa_core.specs.declared.ticket.Registration.TheVariants.{Unregistered};
 ghost use Rattle.saa_core.specs.Tickets.{object_of};
-ghost use Rattle.saa_core.specs.History.{Replays};
 
 use crate::bench::{Bench, Command, Primitive, Reply};
 use std::alloc::{AllocError, Global};
-use std::marker::Brand;
+use std::marker::{Brand, Model};
 use std::sync::ledger::{self, Blank, Book, Ledger};
 
 /// Which journal a share is of, and what its history replays from.
@@ -42,12 +41,23 @@ pub struct JournalMemory;
 /// The right to call one journal, with the count of the calls that were made by it.
 ///
 /// It fits only the journal that dealt it, which is checked as a program is proved. It can't be copied.
+///
+/// Contracts see how many calls were made by it.
 #[derive(Drop)]
 pub struct Share<J: Journal> {
     calls: usize,
     token: ledger::Share<J>,
-    ghost one_part: { token.parts ≡ 1 },
-    ghost counted: { token.amount ≡ calls },
+}
+
+impl<J: Journal> Model for Share<J> {
+    ghost use Rattle.std.specs.Prelude.{◌≡◌};
+    ghost use Rattle.saa_core.specs.Journals.{ShareState};
+
+    ghost Value = { ShareState };
+
+    ghost view = { λ share. record { calls = share.calls } };
+
+    ghost invariant = { λ share. (share.token.parts ≡ 1) × (share.token.amount ≡ share.calls) };
 }
 
 impl<J: Journal> Share<J> {
@@ -72,16 +82,25 @@ impl<J: Journal> Share<J> {
 }
 
 /// A bench with its history, and the book of the shares that were dealt.
+///
+/// Contracts see the bench, the history, and for how many commands the history has memory.
 #[derive(Drop)]
 pub struct Journalled<P: Primitive, J: Journal> {
     bench: Bench<P>,
     history: Vec<(Command<P>, Reply<P>)>,
     book: Book<J>,
     dealt: u16,
-    ghost replays: { Replays P.request P.step P.value J.opening history.items bench },
-    ghost written: { book.total ≡ length history.items },
-    ghost all: { dealt ≡ J.dealt },
-    ghost some: { 0 < dealt },
+}
+
+impl<P: Primitive, J: Journal> Model for Journalled<P, J> {
+    ghost use Rattle.std.specs.Prelude.{length, vec_capacity};
+    ghost use Rattle.saa_core.specs.Journals.{IsJournal, JournalState};
+
+    ghost Value = { JournalState P.Call P.Ask P.Answer P.Value };
+
+    ghost view = { λ journal. record { bench = journal.bench; history = journal.history.items; reserved = vec_capacity journal.history } };
+
+    ghost invariant = { λ journal. IsJournal P.request P.step P.value J.opening J.dealt journal.bench journal.history.items journal.book.total journal.dealt };
 }
 
 impl<P: Primitive, J: Journal> Journalled<P, J> {
@@ -103,7 +122,7 @@ impl<P: Primitive, J: Journal> Journalled<P, J> {
         requires some { 0 < shares }
         requires opening { object_of (P.core core) (replicate pagers Unregistered) ≡ J.opening }
         ensures bench { IfOk result (λ made. made.0.bench ≡ J.opening) }
-        ensures history { IfOk result (λ made. made.0.history.items ≡ []) }
+        ensures history { IfOk result (λ made. made.0.history ≡ []) }
         ensures shares { IfOk result (λ made. length made.1.items ≡ shares) }
         ensures unused { IfOk result (λ made. All (λ share. share.calls ≡ 0) made.1.items) }
     {
@@ -140,12 +159,12 @@ impl<P: Primitive, J: Journal> Journalled<P, J> {
     ) -> Result<Reply<P>, JournalMemory>
         requires { IsWithin (length self.old.bench.book) command.now }
         ensures acts { IfOk result (λ reply. done P.request P.step P.value command.now self.old.bench ≡ record { state = self.new.bench; reply = reply }) }
-        ensures written { IfOk result (λ reply. self.new.history.items ≡ self.old.history.items ++ (command.now, reply) ∷ []) }
+        ensures written { IfOk result (λ reply. self.new.history ≡ self.old.history ++ (command.now, reply) ∷ []) }
         ensures counted { IfOk result (λ reply. share.new.calls ≡ share.old.calls + 1) }
         ensures refused { IfErr result (λ refused. self.new.bench ≡ self.old.bench) }
-        ensures unwritten { IfErr result (λ refused. self.new.history.items ≡ self.old.history.items) }
+        ensures unwritten { IfErr result (λ refused. self.new.history ≡ self.old.history) }
         ensures uncounted { IfErr result (λ refused. share.new.calls ≡ share.old.calls) }
-        ensures no_room { IfErr result (λ refused. vec_capacity self.old.history ≤ vec_len self.old.history) }
+        ensures no_room { IfErr result (λ refused. self.old.reserved ≤ length self.old.history) }
         ensures pagers { length self.new.bench.book ≡ length self.old.bench.book }
     {
         let Journalled {
@@ -165,7 +184,7 @@ impl<P: Primitive, J: Journal> Journalled<P, J> {
 
     /// Every command that was done, with its reply, in order.
     pub fn history(&self) -> &[(Command<P>, Reply<P>)]
-        ensures { result.now ≡ self.now.history.items }
+        ensures { result.now ≡ self.now.history }
     {
         &self.history
     }
@@ -176,24 +195,36 @@ impl<P: Primitive, J: Journal> Journalled<P, J> {
     pub fn gather(&mut self, shares: Vec<Share<J>>) -> Option<usize>
         requires one_each { J.dealt ≡ J.parts }
         ensures all { IsSome result ↔ (length shares.items ≡ J.parts) }
-        ensures number { IfSome result (λ number. number ≡ length self.old.history.items) }
+        ensures number { IfSome result (λ number. number ≡ length self.old.history) }
         ensures counted { IfSome result (λ number. number ≡ sum_by (λ share. share.calls) shares.items) }
         ensures bench { self.new.bench ≡ self.old.bench }
-        ensures history { self.new.history.items ≡ self.old.history.items }
+        ensures history { self.new.history ≡ self.old.history }
     {
         if shares.len() != usize::from(self.dealt) {
             return None;
         }
-        let mut shares = shares;
-        let Share { calls, token } = shares.pop()?;
-        let mut all = token;
-        let mut number = calls;
-        while let Some(Share { calls, token }) = shares.pop() {
-            all.merge(token);
-            self.book.audit(&mut all);
-            number += calls;
-        }
-        self.book.audit(&mut all);
-        Some(number)
+        merge(&mut self.book, shares)
     }
+}
+
+// What all shares that were dealt count together, each of which ends by this; `None` only where there are none.
+fn merge<J: Journal>(book: &mut Book<J>, shares: Vec<Share<J>>) -> Option<usize>
+    requires all { length shares.items ≡ J.parts }
+    requires fits { book.old.total ≤ 18446744073709551615 }
+    ensures some { IsSome result ↔ (0 < length shares.items) }
+    ensures number { IfSome result (λ number. number ≡ book.old.total) }
+    ensures counted { IfSome result (λ number. number ≡ sum_by (λ share. share.calls) shares.items) }
+    ensures book { book.new.total ≡ book.old.total }
+{
+    let mut shares = shares;
+    let Share { calls, token } = shares.pop()?;
+    let mut all = token;
+    let mut number = calls;
+    while let Some(Share { calls, token }) = shares.pop() {
+        all.merge(token);
+        book.audit(&mut all);
+        number += calls;
+    }
+    book.audit(&mut all);
+    Some(number)
 }

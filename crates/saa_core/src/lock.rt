@@ -12,7 +12,7 @@ ghost use Rattle.saa_core.specs.Owners.{lock_state};
 ghost use Rattle.saa_core_spec.specs.Asking.{tried, registered};
 ghost use Rattle.saa_core_spec.specs.Polling.{polled, given_back, read_as};
 ghost use Rattle.saa_core_spec.specs.Values.{lock_value, poisoned_value};
-ghost use Rattle.saa_core_spec.specs.Lock.{mode_request, is_free, is_locked, is_shared, is_poisoned, poisoned_of, cleared_of, try_error, new_lock};
+ghost use Rattle.saa_core_spec.specs.Lock.{mode_request, is_free, is_locked, is_shared, is_poisoned, downgraded_of, poisoned_of, cleared_of, try_error, new_lock};
 ghost use Rattle.saa_core.specs.Slots.{OwesAnswered, empty_slots, held_slots, room_of, wake_told, all_slots_answered};
 ghost use Rattle.saa_core.specs.declared.ticket.Registration.TheVariants.{Unregistered};
 ghost use Rattle.saa_core_words.specs.Words.{count_bits, lock_count, word_number, word_of};
@@ -182,6 +182,25 @@ impl LockCore {
     {
         let _shared = self.is_shared();
         self.core.take_back(Request::Shared)
+    }
+
+    /// Makes the one owner a sharer, and grants those who wait, oldest first, while they fit beside it.
+    ///
+    /// Nobody has the lock alone in between. `false` comes exactly where the lock isn't one owner's alone, and changes
+    /// nothing. Nobody is asked whose lock it lowers. Costs O(how many are granted). Rule: docs/DEFINITIONS.md, "Settling".
+    pub fn downgrade(&mut self) -> bool
+        ensures calls { Calls self.old self.new (λ s. downgraded_of s (is_locked s.held)) result }
+        ensures answer { result ≡ is_locked self.old.held }
+        ensures refused { OnFalse result (self.new ≡ self.old) }
+        ensures wakes { OwesAnswered self.old.slots self.new.slots }
+        ensures settled { IsCoreSettled self.new }
+    {
+        let _waiting = self.core.waiting();
+        if self.is_locked() {
+            self.core.settle_with(Owners::new(Owner::Shared(1)));
+            return true;
+        }
+        false
     }
 
     /// Poisons the lock that one owner has alone: all who wait are answered that it is poisoned, wait modes too.
@@ -551,6 +570,7 @@ impl Primitive for LockCore {
             LockCall::TryShare => LockAnswer::Tried(self.try_share()),
             LockCall::ReleaseLock => LockAnswer::Bool(self.release_lock()),
             LockCall::ReleaseShare => LockAnswer::Bool(self.release_share()),
+            LockCall::Downgrade => LockAnswer::Bool(self.downgrade()),
             LockCall::PoisonLock => LockAnswer::Bool(self.poison_lock()),
             LockCall::ClearPoison => LockAnswer::Bool(self.clear_poison()),
             LockCall::IsFree => LockAnswer::Bool(self.is_free()),

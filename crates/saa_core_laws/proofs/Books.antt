@@ -10,7 +10,7 @@ use Rattle.saa_core_spec.specs.declared.request.Request.TheVariants.{Exclusive a
 use Rattle.saa_core_spec.specs.declared.semaphore.SemaphoreCall.{SemaphoreCall}
 use Rattle.saa_core_spec.specs.declared.semaphore.SemaphoreCall.TheVariants.{TryAcquireMany, ReleaseMany, AvailablePermits, IsOpen, IsClosed}
 use Rattle.saa_core_spec.specs.declared.lock.LockCall.{LockCall}
-use Rattle.saa_core_spec.specs.declared.lock.LockCall.TheVariants.{TryLock, TryShare, ReleaseLock, ReleaseShare, PoisonLock, ClearPoison, IsFree, IsLocked, IsShared, IsPoisoned}
+use Rattle.saa_core_spec.specs.declared.lock.LockCall.TheVariants.{TryLock, TryShare, ReleaseLock, ReleaseShare, Downgrade, PoisonLock, ClearPoison, IsFree, IsLocked, IsShared, IsPoisoned}
 use Rattle.saa_core_spec.specs.declared.gate.GateCall.{GateCall}
 use Rattle.saa_core_spec.specs.declared.gate.GateCall.TheVariants.{State as AskState, Reset, Permit, Reject, Open as DoOpen, Seal}
 use Rattle.saa_core_spec.specs.declared.barrier.BarrierCall.{BarrierCall}
@@ -22,7 +22,7 @@ use Rattle.saa_core_spec.specs.Asking.{is_idle, is_granted_at_once, tried, grant
 use Rattle.saa_core_spec.specs.Polling.{is_for_nothing, given_back_of, given_back, left_of, undone_of}
 use Rattle.saa_core_spec.specs.Values.{granted_value, poisoned_value, leader_value, passed_value, opened_value, sealed_value, permitted_value, rejected_value, spurious_value}
 use Rattle.saa_core_spec.specs.Semaphore.{semaphore_step}
-use Rattle.saa_core_spec.specs.Lock.{lock_step, is_locked, is_poisoned, poisoned_of, cleared_of}
+use Rattle.saa_core_spec.specs.Lock.{lock_step, is_locked, is_poisoned, downgraded_of, poisoned_of, cleared_of}
 use Rattle.saa_core_spec.specs.Gate.{gate_step, gate_state, let_through, reset_of}
 use Rattle.saa_core_spec.specs.Barrier.{barrier_step}
 use Rattle.saa_core_laws.specs.Registrations.{is_answered}
@@ -170,6 +170,11 @@ KeepsBook-semaphore_step AvailablePermits s = KeepsBook-same s.book
 KeepsBook-semaphore_step IsOpen s = KeepsBook-same s.book
 KeepsBook-semaphore_step IsClosed s = KeepsBook-same s.book
 
+-- a downgrade
+pub KeepsBook-downgraded_of : (s : Object) (is_own : Bool) → KeepsBook s.book (downgraded_of s is_own).state.book
+KeepsBook-downgraded_of s true = KeepsBook-settled (record s { held = OfLock (Shared 1) })
+KeepsBook-downgraded_of s false = KeepsBook-same s.book
+
 -- poison
 pub KeepsBook-poisoned_of : (s : Object) (is_own : Bool) → KeepsBook s.book (poisoned_of s is_own).state.book
 KeepsBook-poisoned_of s true = KeepsBook-answered_in poisoned_value s.line s.book
@@ -186,6 +191,7 @@ KeepsBook-lock_step TryLock s = KeepsBook-tried s AskExclusive
 KeepsBook-lock_step TryShare s = KeepsBook-tried s AskShared
 KeepsBook-lock_step ReleaseLock s = KeepsBook-given_back s AskExclusive
 KeepsBook-lock_step ReleaseShare s = KeepsBook-given_back s AskShared
+KeepsBook-lock_step Downgrade s = KeepsBook-downgraded_of s (is_locked s.held)
 KeepsBook-lock_step PoisonLock s = KeepsBook-poisoned_of s (is_locked s.held)
 KeepsBook-lock_step ClearPoison s = KeepsBook-cleared_of s (is_poisoned s.held)
 KeepsBook-lock_step IsFree s = KeepsBook-same s.book

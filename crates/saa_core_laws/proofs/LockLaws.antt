@@ -6,20 +6,20 @@ use Rattle.saa_core_spec.specs.declared.request.Request.TheVariants.{Exclusive a
 use Rattle.saa_core_spec.specs.declared.lock.Mode.{Mode}
 use Rattle.saa_core_spec.specs.declared.lock.Mode.TheVariants.{Exclusive as ModeExclusive, Shared as ModeShared, WaitExclusive, WaitShared}
 use Rattle.saa_core_spec.specs.declared.lock.LockCall.{LockCall}
-use Rattle.saa_core_spec.specs.declared.lock.LockCall.TheVariants.{TryLock, TryShare, ReleaseLock, ReleaseShare, PoisonLock, ClearPoison, IsFree, IsLocked, IsShared, IsPoisoned}
+use Rattle.saa_core_spec.specs.declared.lock.LockCall.TheVariants.{TryLock, TryShare, ReleaseLock, ReleaseShare, Downgrade, PoisonLock, ClearPoison, IsFree, IsLocked, IsShared, IsPoisoned}
 use Rattle.saa_core_spec.specs.declared.lock.LockAnswer.{LockAnswer}
 use Rattle.saa_core_spec.specs.declared.run.CommandOf.{CommandOf}
 use Rattle.saa_core_spec.specs.Held.{Held, OfSemaphore, OfLock, OfGate, OfBarrier, LockState, Free, Exclusive, Shared, Poisoned, IsLockState, max_shared_owners, fits, plus, less, lock_fits, lock_plus, lock_less, held_lock}
 use Rattle.saa_core_spec.specs.Object.{Object}
 use Rattle.saa_core_spec.specs.Settling.{fitting_front}
 use Rattle.saa_core_spec.specs.Values.{lock_value, poisoned_value}
-use Rattle.saa_core_spec.specs.Lock.{lock_step, mode_request, new_lock, is_locked, is_poisoned, poisoned_of, cleared_of}
+use Rattle.saa_core_spec.specs.Lock.{lock_step, mode_request, new_lock, is_locked, is_poisoned, downgraded_of, poisoned_of, cleared_of}
 use Rattle.saa_core_spec.specs.Run.{IsWithin, state_after}
 use Rattle.saa_core_laws.specs.Laws.{IsLockInOrder}
 use Rattle.saa_core_laws.proofs.Fronts.{StandsSettled-from_front}
-use Rattle.saa_core_laws.proofs.Kept.{IsInOrder-kept, IsKept-newly_made, IsKept-held, IsKept-all_answered}
+use Rattle.saa_core_laws.proofs.Kept.{IsInOrder-kept, IsKept-newly_made, IsKept-held, IsKept-settled, IsKept-all_answered}
 use Rattle.saa_core_laws.proofs.Commands.{IsRight, KeepsRight, IsRight-state_after}
-use Rattle.saa_core_laws.proofs.Grants.{Grants, KeepsFine, nobody-fits, IsRight-given_back, IsRight-tried, IsRightAnswer-answered, Grants-waits, IsRight-left_of, IsRight-undone_of}
+use Rattle.saa_core_laws.proofs.Grants.{Grants, Grants-settled, KeepsFine, nobody-fits, IsRight-given_back, IsRight-tried, IsRightAnswer-answered, Grants-waits, IsRight-left_of, IsRight-undone_of}
 
 -- a lock in a state that a lock can be in
 abbrev pub IsFineLock : Held → Type 0
@@ -126,6 +126,15 @@ held-poisoned (OfSemaphore bound out) e = cc
 held-poisoned (OfGate gate) e = cc
 held-poisoned (OfBarrier size) e = cc
 
+-- a downgrade settles the lock of one sharer
+pub IsRight-downgraded_of : (names : ℕ) (s : Object) (is_own : Bool) → IsRight (Grants IsFineLock (OfLock Free)) names s
+    → IsRight (Grants IsFineLock (OfLock Free)) names (downgraded_of s is_own).state
+IsRight-downgraded_of names s false right = right
+IsRight-downgraded_of names s true right = record {
+  kept = IsKept-settled names (record s { held = OfLock (Shared 1) }) (IsKept-held names s (OfLock (Shared 1)) right.kept);
+  kind = Grants-settled IsFineLock (OfLock Free) names KeepsFine-lock (record s { held = OfLock (Shared 1) }) (omega arith, omega arith) right.kind.asks (λ poison. cc);
+}
+
 -- poison answers all who wait
 pub IsRight-poisoned_of : (names : ℕ) (s : Object) (is_own : Bool) → IsRight (Grants IsFineLock (OfLock Free)) names s
     → IsRight (Grants IsFineLock (OfLock Free)) names (poisoned_of s is_own).state
@@ -154,6 +163,7 @@ IsRight-lock_step names TryLock s right = IsRight-tried IsFineLock (OfLock Free)
 IsRight-lock_step names TryShare s right = IsRight-tried IsFineLock (OfLock Free) names KeepsFine-lock s AskShared right
 IsRight-lock_step names ReleaseLock s right = IsRight-given_back IsFineLock (OfLock Free) names KeepsFine-lock s AskExclusive right
 IsRight-lock_step names ReleaseShare s right = IsRight-given_back IsFineLock (OfLock Free) names KeepsFine-lock s AskShared right
+IsRight-lock_step names Downgrade s right = IsRight-downgraded_of names s (is_locked s.held) right
 IsRight-lock_step names PoisonLock s right = IsRight-poisoned_of names s (is_locked s.held) right
 IsRight-lock_step names ClearPoison s right = IsRight-cleared_of names s (is_poisoned s.held) (held-poisoned s.held) right
 IsRight-lock_step names IsFree s right = right

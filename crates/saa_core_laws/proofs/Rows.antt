@@ -17,7 +17,7 @@ use Rattle.saa_core_spec.specs.declared.lock.Mode.{Mode}
 use Rattle.saa_core_spec.specs.declared.lock.Mode.TheVariants.{Exclusive, Shared, WaitExclusive, WaitShared}
 use Rattle.saa_core_spec.specs.declared.lock.TryLockError.TheVariants.{WouldBlock}
 use Rattle.saa_core_spec.specs.declared.lock.LockCall.{LockCall}
-use Rattle.saa_core_spec.specs.declared.lock.LockCall.TheVariants.{TryLock, TryShare, ReleaseLock, ReleaseShare, PoisonLock, ClearPoison, IsLocked, IsPoisoned}
+use Rattle.saa_core_spec.specs.declared.lock.LockCall.TheVariants.{TryLock, TryShare, ReleaseLock, ReleaseShare, Downgrade, PoisonLock, ClearPoison, IsLocked, IsPoisoned}
 use Rattle.saa_core_spec.specs.declared.lock.LockAnswer.{LockAnswer}
 use Rattle.saa_core_spec.specs.declared.lock.LockAnswer.TheVariants.{Bool as LockBool, Tried}
 use Rattle.saa_core_spec.specs.declared.gate.State.{State}
@@ -298,6 +298,31 @@ pub at_most_62_owners_share : LockTells usual_room (
     ∷ [])
 unfolding settled
 at_most_62_owners_share = refl
+
+-- An owner becomes a sharer: those who wait for a share in front are granted beside it, and nobody gets in between. A
+-- second downgrade finds no owner. The owner that waits goes first once both shares are back, and the share behind it last.
+pub an_owner_becomes_a_sharer : LockTells usual_room (
+    (Call TryLock, taken)
+    ∷ (reg 1 Shared, stands)
+    ∷ (reg 2 WaitShared, stands)
+    ∷ (reg 3 Exclusive, stands)
+    ∷ (reg 4 Shared, stands)
+    ∷ (Call Downgrade, lock_says true)
+    ∷ (Call Downgrade, lock_says false)
+    ∷ (PollSync 1, polled_as true)
+    ∷ (PollSync 2, polled_as true)
+    ∷ (PollSync 3, not_ready)
+    ∷ (PollSync 4, not_ready)
+    ∷ (Call ReleaseShare, lock_says true)
+    ∷ (PollSync 3, not_ready)
+    ∷ (Call ReleaseShare, lock_says true)
+    ∷ (PollSync 3, polled_as true)
+    ∷ (PollSync 4, not_ready)
+    ∷ (Call ReleaseLock, lock_says true)
+    ∷ (PollSync 4, polled_as true)
+    ∷ [])
+unfolding settled
+an_owner_becomes_a_sharer = refl
 
 -- A waiter that poison answered gives nothing back when it is dropped: the later owner keeps the lock.
 pub a_dropped_poisoned_answer_gives_nothing_back : LockTells usual_room (

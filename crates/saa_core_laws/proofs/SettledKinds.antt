@@ -7,20 +7,20 @@ use Rattle.saa_core_spec.specs.declared.semaphore.SemaphoreCall.{SemaphoreCall}
 use Rattle.saa_core_spec.specs.declared.semaphore.SemaphoreCall.TheVariants.{TryAcquireMany, ReleaseMany, AvailablePermits, IsOpen, IsClosed}
 use Rattle.saa_core_spec.specs.declared.lock.Mode.{Mode}
 use Rattle.saa_core_spec.specs.declared.lock.LockCall.{LockCall}
-use Rattle.saa_core_spec.specs.declared.lock.LockCall.TheVariants.{TryLock, TryShare, ReleaseLock, ReleaseShare, PoisonLock, ClearPoison, IsFree, IsLocked, IsShared, IsPoisoned}
+use Rattle.saa_core_spec.specs.declared.lock.LockCall.TheVariants.{TryLock, TryShare, ReleaseLock, ReleaseShare, Downgrade, PoisonLock, ClearPoison, IsFree, IsLocked, IsShared, IsPoisoned}
 use Rattle.saa_core_spec.specs.declared.run.CommandOf.{CommandOf}
-use Rattle.saa_core_spec.specs.Held.{Held, OfSemaphore, OfLock, OfGate, OfBarrier, LockState, Free, Poisoned, fits, plus, less, lock_less, held_lock}
+use Rattle.saa_core_spec.specs.Held.{Held, OfSemaphore, OfLock, OfGate, OfBarrier, LockState, Free, Shared, Poisoned, fits, plus, less, lock_less, held_lock}
 use Rattle.saa_core_spec.specs.Object.{Object}
 use Rattle.saa_core_spec.specs.Settling.{fitting_front}
 use Rattle.saa_core_spec.specs.Values.{semaphore_value, lock_value}
 use Rattle.saa_core_spec.specs.Semaphore.{semaphore_step}
-use Rattle.saa_core_spec.specs.Lock.{lock_step, mode_request, is_locked, is_poisoned, poisoned_of, cleared_of}
+use Rattle.saa_core_spec.specs.Lock.{lock_step, mode_request, is_locked, is_poisoned, downgraded_of, poisoned_of, cleared_of}
 use Rattle.saa_core_spec.specs.Run.{done, state_after}
 use Rattle.saa_core_laws.specs.RunLaws.{IsSettledSemaphore, IsSettledLock}
 use Rattle.saa_core_laws.proofs.Fronts.{StandsSettled-from_front, fitting_front-stands}
 use Rattle.saa_core_laws.proofs.Grants.{KeepsFine}
 use Rattle.saa_core_laws.proofs.LockLaws.{held-poisoned}
-use Rattle.saa_core_laws.proofs.Settled.{Stands, Stands-tried, Stands-given_back, Stands-done, Stands-run}
+use Rattle.saa_core_laws.proofs.Settled.{Stands, Stands-settled, Stands-tried, Stands-given_back, Stands-done, Stands-run}
 use Rattle.std.specs.Prelude.{Option, None}
 
 -- a semaphore of this bound, whatever is out
@@ -111,6 +111,13 @@ Stands-semaphore_step most AvailablePermits s stands = stands
 Stands-semaphore_step most IsOpen s stands = stands
 Stands-semaphore_step most IsClosed s stands = stands
 
+-- a downgrade settles the lock of one sharer
+pub Stands-downgraded_of : (s : Object) (is_own : Bool) → Stands IsAnyLock s.held s.line
+    → Stands IsAnyLock (downgraded_of s is_own).state.held (downgraded_of s is_own).state.line
+Stands-downgraded_of s false stands = stands
+Stands-downgraded_of s true stands =
+    Stands-settled IsAnyLock KeepsFine-any_lock (record s { held = OfLock (Shared 1) }) tt (λ poison. cc)
+
 -- poison leaves nobody waiting
 pub Stands-poisoned_of : (s : Object) (is_own : Bool) → Stands IsAnyLock s.held s.line
     → Stands IsAnyLock (poisoned_of s is_own).state.held (poisoned_of s is_own).state.line
@@ -132,6 +139,7 @@ Stands-lock_step TryLock s stands = Stands-tried IsAnyLock KeepsFine-any_lock s 
 Stands-lock_step TryShare s stands = Stands-tried IsAnyLock KeepsFine-any_lock s AskShared stands
 Stands-lock_step ReleaseLock s stands = Stands-given_back IsAnyLock KeepsFine-any_lock s AskExclusive stands
 Stands-lock_step ReleaseShare s stands = Stands-given_back IsAnyLock KeepsFine-any_lock s AskShared stands
+Stands-lock_step Downgrade s stands = Stands-downgraded_of s (is_locked s.held) stands
 Stands-lock_step PoisonLock s stands = Stands-poisoned_of s (is_locked s.held) stands
 Stands-lock_step ClearPoison s stands = Stands-cleared_of s (is_poisoned s.held) (held-poisoned s.held) stands
 Stands-lock_step IsFree s stands = stands

@@ -10,7 +10,7 @@ use Rattle.saa_core_spec.specs.declared.polling.Error.{Error}
 use Rattle.saa_core_spec.specs.declared.semaphore.SemaphoreCall.{SemaphoreCall}
 use Rattle.saa_core_spec.specs.declared.semaphore.SemaphoreCall.TheVariants.{TryAcquireMany, ReleaseMany, AvailablePermits, IsOpen, IsClosed}
 use Rattle.saa_core_spec.specs.declared.lock.LockCall.{LockCall}
-use Rattle.saa_core_spec.specs.declared.lock.LockCall.TheVariants.{TryLock, TryShare, ReleaseLock, ReleaseShare, PoisonLock, ClearPoison, IsFree, IsLocked, IsShared, IsPoisoned}
+use Rattle.saa_core_spec.specs.declared.lock.LockCall.TheVariants.{TryLock, TryShare, ReleaseLock, ReleaseShare, Downgrade, PoisonLock, ClearPoison, IsFree, IsLocked, IsShared, IsPoisoned}
 use Rattle.saa_core_spec.specs.declared.run.CommandOf.{CommandOf}
 use Rattle.saa_core_spec.specs.declared.run.CommandOf.TheVariants.{Call, Register, TryPoll, PollSync, PollAsync, Drop}
 use Rattle.saa_core_spec.specs.Held.{Held, OfSemaphore, OfLock, OfGate, OfBarrier, Free, Exclusive, Shared, Poisoned, plus, less}
@@ -20,7 +20,7 @@ use Rattle.saa_core_spec.specs.Asking.{is_granted_at_once, tried, granted_at_onc
 use Rattle.saa_core_spec.specs.Polling.{polled_of, is_for_nothing, given_back_of, given_back, left_of, undone_of, dropped_of}
 use Rattle.saa_core_spec.specs.Values.{granted_value, poisoned_value}
 use Rattle.saa_core_spec.specs.Semaphore.{semaphore_step}
-use Rattle.saa_core_spec.specs.Lock.{lock_step, is_locked, is_poisoned, poisoned_of, cleared_of}
+use Rattle.saa_core_spec.specs.Lock.{lock_step, is_locked, is_poisoned, downgraded_of, poisoned_of, cleared_of}
 use Rattle.saa_core_spec.specs.Run.{done}
 use Rattle.saa_core_spec.proofs.Counts.{times-take_drop, times-without_same, times-without_other, one_if-same}
 use Rattle.saa_core_laws.specs.Laws.{is_waiting}
@@ -278,6 +278,11 @@ KeepsTurns-semaphore_step AvailablePermits s once = KeepsTurns-same s s refl
 KeepsTurns-semaphore_step IsOpen s once = KeepsTurns-same s s refl
 KeepsTurns-semaphore_step IsClosed s once = KeepsTurns-same s s refl
 
+-- a downgrade
+pub KeepsTurns-downgraded_of : (s : Object) (is_own : Bool) → StandOnce s.line → KeepsTurns s (downgraded_of s is_own).state
+KeepsTurns-downgraded_of s true once = KeepsTurns-settled s (record s { held = OfLock (Shared 1) }) once refl
+KeepsTurns-downgraded_of s false once = KeepsTurns-same s s refl
+
 -- poison
 pub KeepsTurns-poisoned_of : (s : Object) (is_own : Bool) → KeepsTurns s (poisoned_of s is_own).state
 KeepsTurns-poisoned_of s true = KeepsTurns-nobody s (poisoned_of s true).state refl
@@ -294,6 +299,7 @@ KeepsTurns-lock_step TryLock s once = KeepsTurns-same s (tried s AskExclusive).s
 KeepsTurns-lock_step TryShare s once = KeepsTurns-same s (tried s AskShared).state (line-tried s AskShared)
 KeepsTurns-lock_step ReleaseLock s once = KeepsTurns-given_back s s AskExclusive once refl
 KeepsTurns-lock_step ReleaseShare s once = KeepsTurns-given_back s s AskShared once refl
+KeepsTurns-lock_step Downgrade s once = KeepsTurns-downgraded_of s (is_locked s.held) once
 KeepsTurns-lock_step PoisonLock s once = KeepsTurns-poisoned_of s (is_locked s.held)
 KeepsTurns-lock_step ClearPoison s once = KeepsTurns-same s (cleared_of s (is_poisoned s.held)).state (line-cleared_of s (is_poisoned s.held))
 KeepsTurns-lock_step IsFree s once = KeepsTurns-same s s refl

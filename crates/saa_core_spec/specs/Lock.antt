@@ -7,12 +7,12 @@ use Rattle.saa_core_spec.specs.declared.lock.Mode.TheVariants.{Exclusive as Mode
 use Rattle.saa_core_spec.specs.declared.lock.TryLockError.{TryLockError}
 use Rattle.saa_core_spec.specs.declared.lock.TryLockError.TheVariants.{Poisoned as IsPoisonedError, WouldBlock}
 use Rattle.saa_core_spec.specs.declared.lock.LockCall.{LockCall}
-use Rattle.saa_core_spec.specs.declared.lock.LockCall.TheVariants.{TryLock, TryShare, ReleaseLock, ReleaseShare, PoisonLock, ClearPoison, IsFree, IsLocked, IsShared, IsPoisoned}
+use Rattle.saa_core_spec.specs.declared.lock.LockCall.TheVariants.{TryLock, TryShare, ReleaseLock, ReleaseShare, Downgrade, PoisonLock, ClearPoison, IsFree, IsLocked, IsShared, IsPoisoned}
 use Rattle.saa_core_spec.specs.declared.lock.LockAnswer.{LockAnswer}
 use Rattle.saa_core_spec.specs.declared.lock.LockAnswer.TheVariants.{Bool as SaysBool, Tried}
 use Rattle.saa_core_spec.specs.Held.{Held, OfLock, Free, Exclusive, Shared, Poisoned}
 use Rattle.saa_core_spec.specs.Object.{Object, After, newly_made}
-use Rattle.saa_core_spec.specs.Settling.{all_answered}
+use Rattle.saa_core_spec.specs.Settling.{settled, all_answered}
 use Rattle.saa_core_spec.specs.Asking.{tried}
 use Rattle.saa_core_spec.specs.Polling.{given_back}
 use Rattle.saa_core_spec.specs.Values.{poisoned_value}
@@ -62,6 +62,11 @@ says_tried after is_poison = record { state = after.state; reply = Tried (try_an
 abbrev pub says_bool : After Bool → After LockAnswer
 says_bool after = record { state = after.state; reply = SaysBool after.reply }
 
+-- only the lock of one owner is downgraded: that owner has the one share of it then, and it settles
+abbrev pub downgraded_of : Object → Bool → After Bool
+downgraded_of s true = record { state = settled (record s { held = OfLock (Shared 1) }); reply = true }
+downgraded_of s false = record { state = s; reply = false }
+
 -- poison comes only to the lock of one owner: all who wait are answered Poisoned, wait modes too
 abbrev pub poisoned_of : Object → Bool → After Bool
 poisoned_of s true = record { state = all_answered poisoned_value (record s { held = OfLock Poisoned }); reply = true }
@@ -78,6 +83,7 @@ lock_step TryLock s = says_tried (tried s AskExclusive) (is_poisoned s.held)
 lock_step TryShare s = says_tried (tried s AskShared) (is_poisoned s.held)
 lock_step ReleaseLock s = says_bool (given_back s AskExclusive)
 lock_step ReleaseShare s = says_bool (given_back s AskShared)
+lock_step Downgrade s = says_bool (downgraded_of s (is_locked s.held))
 lock_step PoisonLock s = says_bool (poisoned_of s (is_locked s.held))
 lock_step ClearPoison s = says_bool (cleared_of s (is_poisoned s.held))
 lock_step IsFree s = record { state = s; reply = SaysBool (is_free s.held) }

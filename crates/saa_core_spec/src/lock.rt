@@ -33,6 +33,8 @@ pub enum LockCall {
     ReleaseLock,
     /// Gives one share back.
     ReleaseShare,
+    /// Makes one owner a sharer, and lets nobody in between.
+    Downgrade,
     /// Poisons the lock that one owner has.
     PoisonLock,
     /// Makes a poisoned lock free.

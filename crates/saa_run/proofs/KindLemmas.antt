@@ -7,7 +7,7 @@ use Rattle.saa_core_spec.specs.declared.semaphore.SemaphoreCall.TheVariants.{Try
 use Rattle.saa_core_spec.specs.declared.lock.Mode.{Mode}
 use Rattle.saa_core_spec.specs.declared.lock.Mode.TheVariants.{Exclusive, Shared, WaitExclusive, WaitShared}
 use Rattle.saa_core_spec.specs.declared.lock.LockCall.{LockCall}
-use Rattle.saa_core_spec.specs.declared.lock.LockCall.TheVariants.{TryLock, TryShare, ReleaseLock, ReleaseShare, PoisonLock, ClearPoison, IsFree, IsLocked, IsShared, IsPoisoned}
+use Rattle.saa_core_spec.specs.declared.lock.LockCall.TheVariants.{TryLock, TryShare, ReleaseLock, ReleaseShare, Downgrade, PoisonLock, ClearPoison, IsFree, IsLocked, IsShared, IsPoisoned}
 use Rattle.saa_core_spec.specs.declared.gate.GateCall.{GateCall}
 use Rattle.saa_core_spec.specs.declared.gate.GateCall.TheVariants.{State, Reset, Permit, Reject, Open, Seal}
 use Rattle.saa_core_spec.specs.declared.barrier.BarrierCall.{BarrierCall}
@@ -82,6 +82,7 @@ lock_call_said TryLock = refl
 lock_call_said TryShare = refl
 lock_call_said ReleaseLock = refl
 lock_call_said ReleaseShare = refl
+lock_call_said Downgrade = refl
 lock_call_said PoisonLock = refl
 lock_call_said ClearPoison = refl
 lock_call_said IsFree = refl
@@ -94,6 +95,7 @@ lock_call_is_word TryLock = IsWord-literal (codes "try_lock") refl refl
 lock_call_is_word TryShare = IsWord-literal (codes "try_share") refl refl
 lock_call_is_word ReleaseLock = IsWord-literal (codes "release_lock") refl refl
 lock_call_is_word ReleaseShare = IsWord-literal (codes "release_share") refl refl
+lock_call_is_word Downgrade = IsWord-literal (codes "downgrade") refl refl
 lock_call_is_word PoisonLock = IsWord-literal (codes "poison_lock") refl refl
 lock_call_is_word ClearPoison = IsWord-literal (codes "clear_poison") refl refl
 lock_call_is_word IsFree = IsWord-literal (codes "is_free") refl refl
@@ -115,7 +117,7 @@ lock_mode_is_word WaitShared = IsWord-literal (codes "wait_shared") refl refl
 
 pub lock_fits : Fits lock_readings lock_spellings
 lock_fits = record {
-  lone_found = ((refl, tt), ((refl, tt), ((refl, tt), ((refl, tt), ((refl, tt), ((refl, tt), ((refl, tt), ((refl, tt), ((refl, tt), ((refl, tt), tt))))))))));
+  lone_found = ((refl, tt), ((refl, tt), ((refl, tt), ((refl, tt), ((refl, tt), ((refl, tt), ((refl, tt), ((refl, tt), ((refl, tt), ((refl, tt), ((refl, tt), tt)))))))))));
   counted_found = tt;
   ask_found = lock_ask_found;
   call_said = λ call small. lock_call_said call;

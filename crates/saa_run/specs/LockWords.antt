@@ -7,7 +7,7 @@ use Rattle.saa_core_spec.specs.declared.lock.Mode.TheVariants.{Exclusive, Shared
 use Rattle.saa_core_spec.specs.declared.lock.TryLockError.{TryLockError}
 use Rattle.saa_core_spec.specs.declared.lock.TryLockError.TheVariants.{Poisoned, WouldBlock}
 use Rattle.saa_core_spec.specs.declared.lock.LockCall.{LockCall}
-use Rattle.saa_core_spec.specs.declared.lock.LockCall.TheVariants.{TryLock, TryShare, ReleaseLock, ReleaseShare, PoisonLock, ClearPoison, IsFree, IsLocked, IsShared, IsPoisoned}
+use Rattle.saa_core_spec.specs.declared.lock.LockCall.TheVariants.{TryLock, TryShare, ReleaseLock, ReleaseShare, Downgrade, PoisonLock, ClearPoison, IsFree, IsLocked, IsShared, IsPoisoned}
 use Rattle.saa_core_spec.specs.declared.lock.LockAnswer.{LockAnswer}
 use Rattle.saa_core_spec.specs.declared.lock.LockAnswer.TheVariants.{Bool as SaysBool, Tried}
 use Rattle.saa_core_spec.specs.Object.{Object, After}
@@ -37,6 +37,7 @@ lock_readings = record {
       (codes "try_share", TryShare) ∷
       (codes "release_lock", ReleaseLock) ∷
       (codes "release_share", ReleaseShare) ∷
+      (codes "downgrade", Downgrade) ∷
       (codes "poison_lock", PoisonLock) ∷
       (codes "clear_poison", ClearPoison) ∷
       (codes "is_free", IsFree) ∷
@@ -53,6 +54,7 @@ lock_call_word TryLock = codes "try_lock"
 lock_call_word TryShare = codes "try_share"
 lock_call_word ReleaseLock = codes "release_lock"
 lock_call_word ReleaseShare = codes "release_share"
+lock_call_word Downgrade = codes "downgrade"
 lock_call_word PoisonLock = codes "poison_lock"
 lock_call_word ClearPoison = codes "clear_poison"
 lock_call_word IsFree = codes "is_free"

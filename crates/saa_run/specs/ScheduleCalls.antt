@@ -3,9 +3,9 @@ use Rattle.std.specs.Prelude.{ℕ, Bool, List, [], ◌∷◌, Option, Some, None
 use Rattle.std.specs.Option.{option_map}
 use Rattle.std.specs.Str.{bytes_eq}
 use Rattle.saa_core_spec.specs.declared.lock.LockCall.{LockCall}
-use Rattle.saa_core_spec.specs.declared.lock.LockCall.TheVariants.{TryLock, TryShare, ReleaseLock, ReleaseShare, PoisonLock, ClearPoison, IsFree, IsLocked, IsShared, IsPoisoned}
+use Rattle.saa_core_spec.specs.declared.lock.LockCall.TheVariants.{TryLock, TryShare, ReleaseLock, ReleaseShare, Downgrade, PoisonLock, ClearPoison, IsFree, IsLocked, IsShared, IsPoisoned}
 use Rattle.saa_word_steps.specs.declared.call.WordCall.{WordCall}
-use Rattle.saa_word_steps.specs.declared.call.WordCall.TheVariants.{Try, Register, Release, Available, TryLock as TriesLock, TryShare as TriesShare, RegisterMode, ReleaseLock as ReleasesLock, ReleaseShare as ReleasesShare, PoisonLock as PoisonsLock, ClearPoison as ClearsPoison, IsFree as AsksFree, IsLocked as AsksLocked, IsShared as AsksShared, IsPoisoned as AsksPoisoned, TryPoll, Poll, Cancel}
+use Rattle.saa_word_steps.specs.declared.call.WordCall.TheVariants.{Try, Register, Release, Available, TryLock as TriesLock, TryShare as TriesShare, RegisterMode, ReleaseLock as ReleasesLock, ReleaseShare as ReleasesShare, Downgrade as Downgrades, PoisonLock as PoisonsLock, ClearPoison as ClearsPoison, IsFree as AsksFree, IsLocked as AsksLocked, IsShared as AsksShared, IsPoisoned as AsksPoisoned, TryPoll, Poll, Cancel}
 use Rattle.saa_run_text.specs.Fields.{number_of}
 use Rattle.saa_run_text.specs.Fields.{either, meaning_in}
 use Rattle.saa_run.specs.Language.{ask_in, lone_call_in}
@@ -17,6 +17,7 @@ in_steps TryLock = TriesLock
 in_steps TryShare = TriesShare
 in_steps ReleaseLock = ReleasesLock
 in_steps ReleaseShare = ReleasesShare
+in_steps Downgrade = Downgrades
 in_steps PoisonLock = PoisonsLock
 in_steps ClearPoison = ClearsPoison
 in_steps IsFree = AsksFree

@@ -4,7 +4,7 @@
 use crate::tests::Row;
 
 /// Each story, what is written of it, and the status.
-pub(crate) const KIND_ROWS: [Row; 33] = [
+pub(crate) const KIND_ROWS: [Row; 36] = [
     // A reader, one who only waits and a writer pass in the order of asking, and poison ends a wait:
     // examples/readers_and_a_writer.script.
     Row {
@@ -16,6 +16,24 @@ pub(crate) const KIND_ROWS: [Row; 33] = [
     Row {
         input: "lock 4\ntry_share\ntry_share\ntry_share\ntry_share\ntry_share\ntry_share\ntry_share\ntry_share\ntry_share\ntry_share\ntry_share\ntry_share\ntry_share\ntry_share\ntry_share\ntry_share\ntry_share\ntry_share\ntry_share\ntry_share\ntry_share\ntry_share\ntry_share\ntry_share\ntry_share\ntry_share\ntry_share\ntry_share\ntry_share\ntry_share\ntry_share\ntry_share\ntry_share\ntry_share\ntry_share\ntry_share\ntry_share\ntry_share\ntry_share\ntry_share\ntry_share\ntry_share\ntry_share\ntry_share\ntry_share\ntry_share\ntry_share\ntry_share\ntry_share\ntry_share\ntry_share\ntry_share\ntry_share\ntry_share\ntry_share\ntry_share\ntry_share\ntry_share\ntry_share\ntry_share\ntry_share\ntry_share\ntry_share\nreg 1 wait_shared sync\nrelease_share\npoll_sync 1\ntry_share\n",
         output: "ok\nok\nok\nok\nok\nok\nok\nok\nok\nok\nok\nok\nok\nok\nok\nok\nok\nok\nok\nok\nok\nok\nok\nok\nok\nok\nok\nok\nok\nok\nok\nok\nok\nok\nok\nok\nok\nok\nok\nok\nok\nok\nok\nok\nok\nok\nok\nok\nok\nok\nok\nok\nok\nok\nok\nok\nok\nok\nok\nok\nok\nok\nwould_block\ntrue\ntrue\ntrue\nok\n",
+        status: 0,
+    },
+    // An owner becomes a sharer: the share and the wait in front of the next owner are answered, and those behind it wait.
+    Row {
+        input: "lock 4\ntry_lock\nreg 1 shared sync\nreg 2 wait_shared sync\nreg 3 exclusive sync\nreg 4 shared sync\ndowngrade\ndowngrade\npoll_sync 1\npoll_sync 2\npoll_sync 3\npoll_sync 4\nrelease_share\npoll_sync 3\nrelease_share\npoll_sync 3\npoll_sync 4\nrelease_lock\npoll_sync 4\n",
+        output: "ok\ntrue\ntrue\ntrue\ntrue\ntrue\nfalse\ntrue\ntrue\nnot_ready\nnot_ready\ntrue\nnot_ready\ntrue\ntrue\nnot_ready\ntrue\ntrue\n",
+        status: 0,
+    },
+    // Of 70 who want a share 61 share beside the owner that was, and one more once it is gone.
+    Row {
+        input: "lock 70\ntry_lock\nreg 1 shared sync\nreg 2 shared sync\nreg 3 shared sync\nreg 4 shared sync\nreg 5 shared sync\nreg 6 shared sync\nreg 7 shared sync\nreg 8 shared sync\nreg 9 shared sync\nreg 10 shared sync\nreg 11 shared sync\nreg 12 shared sync\nreg 13 shared sync\nreg 14 shared sync\nreg 15 shared sync\nreg 16 shared sync\nreg 17 shared sync\nreg 18 shared sync\nreg 19 shared sync\nreg 20 shared sync\nreg 21 shared sync\nreg 22 shared sync\nreg 23 shared sync\nreg 24 shared sync\nreg 25 shared sync\nreg 26 shared sync\nreg 27 shared sync\nreg 28 shared sync\nreg 29 shared sync\nreg 30 shared sync\nreg 31 shared sync\nreg 32 shared sync\nreg 33 shared sync\nreg 34 shared sync\nreg 35 shared sync\nreg 36 shared sync\nreg 37 shared sync\nreg 38 shared sync\nreg 39 shared sync\nreg 40 shared sync\nreg 41 shared sync\nreg 42 shared sync\nreg 43 shared sync\nreg 44 shared sync\nreg 45 shared sync\nreg 46 shared sync\nreg 47 shared sync\nreg 48 shared sync\nreg 49 shared sync\nreg 50 shared sync\nreg 51 shared sync\nreg 52 shared sync\nreg 53 shared sync\nreg 54 shared sync\nreg 55 shared sync\nreg 56 shared sync\nreg 57 shared sync\nreg 58 shared sync\nreg 59 shared sync\nreg 60 shared sync\nreg 61 shared sync\nreg 62 shared sync\nreg 63 shared sync\nreg 64 shared sync\nreg 65 shared sync\nreg 66 shared sync\nreg 67 shared sync\nreg 68 shared sync\nreg 69 shared sync\nreg 70 shared sync\ndowngrade\npoll_sync 61\npoll_sync 62\nrelease_share\npoll_sync 62\n",
+        output: "ok\ntrue\ntrue\ntrue\ntrue\ntrue\ntrue\ntrue\ntrue\ntrue\ntrue\ntrue\ntrue\ntrue\ntrue\ntrue\ntrue\ntrue\ntrue\ntrue\ntrue\ntrue\ntrue\ntrue\ntrue\ntrue\ntrue\ntrue\ntrue\ntrue\ntrue\ntrue\ntrue\ntrue\ntrue\ntrue\ntrue\ntrue\ntrue\ntrue\ntrue\ntrue\ntrue\ntrue\ntrue\ntrue\ntrue\ntrue\ntrue\ntrue\ntrue\ntrue\ntrue\ntrue\ntrue\ntrue\ntrue\ntrue\ntrue\ntrue\ntrue\ntrue\ntrue\ntrue\ntrue\ntrue\ntrue\ntrue\ntrue\ntrue\ntrue\ntrue\ntrue\nnot_ready\ntrue\ntrue\n",
+        status: 0,
+    },
+    // Nothing is lowered but the lock of one owner.
+    Row {
+        input: "lock 1\ndowngrade\nis_free\ntry_share\ndowngrade\nrelease_share\ntry_lock\npoison_lock\ndowngrade\nis_poisoned\n",
+        output: "false\ntrue\nok\nfalse\ntrue\nok\ntrue\nfalse\ntrue\n",
         status: 0,
     },
     // A Poisoned answer that is dropped gives nothing back.

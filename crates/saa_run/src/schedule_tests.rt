@@ -10,7 +10,7 @@ use std::alloc::{AllocError, Global};
 use std::test::Fail;
 
 /// Good lines of each kind, each reply, and numbers at their limits.
-const SCHEDULES: [Row; 19] = [
+const SCHEDULES: [Row; 20] = [
     // Two give something back while a third waits: the one who walks grants for both.
     Row {
         input: "semaphore 0 3\nstart 1 try 63\nend 1\nstart 0 reg 10\nend 0\nstart 1 release 5\nuntil 1 publish\nword\nstart 2 release 5\nend 2\nword\nend 1\nword\nstart 0 try_poll\nend 0\n",
@@ -46,6 +46,12 @@ const SCHEDULES: [Row; 19] = [
     Row {
         input: "lock 3\nstart 0 try_lock\nend 0\nstart 1 reg shared\nend 1\nstart 1 cancel\nuntil 1 tail\nword\nstart 0 poison_lock\nend 0\nend 1\nword\nend 0\nword\n",
         output: "going\ndone ok\ngoing\ndone true\ngoing\nat tail\n63 1 0 2\ngoing\nwaits\ndone\n63 0 0 0\ndone true\n0 0 1 0\n",
+        status: 0,
+    },
+    // An owner becomes a sharer while somebody waits: the flag is taken with the first exchange, and the share in front is granted.
+    Row {
+        input: "lock 3\nstart 0 try_lock\nend 0\nstart 1 reg shared\nend 1\nstart 2 reg exclusive\nend 2\nstart 0 downgrade\nuntil 0 publish\nword\nend 0\nword\nstart 1 try_poll\nend 1\nstart 2 try_poll\nend 2\n",
+        output: "going\ndone ok\ngoing\ndone true\ngoing\ndone true\ngoing\nat publish\n1 1 0 3\ndone true\n2 0 0 3\ngoing\ndone true\ngoing\ndone not_ready\n",
         status: 0,
     },
     // A place stops with the flag set, and a cancel waits for it.
@@ -169,7 +175,7 @@ const BAD_FIRST: [&str; 39] = [
 ];
 
 /// Lines that are bad behind a semaphore's first line with two places.
-const BAD_LINES: [&str; 79] = [
+const BAD_LINES: [&str; 80] = [
     "",
     "words",
     "Word",
@@ -233,6 +239,7 @@ const BAD_LINES: [&str; 79] = [
     "start 0 try_share",
     "start 0 release_lock",
     "start 0 release_share",
+    "start 0 downgrade",
     "start 0 poison_lock",
     "start 0 clear_poison",
     "start 0 is_free",

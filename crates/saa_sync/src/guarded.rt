@@ -6,7 +6,7 @@
 ghost use Rattle.std.specs.Prelude.{◌≡◌, IfOk, IfSome, IsOk};
 
 use crate::lock::Lock;
-use crate::turn::{Alone, Leave, Shared};
+use crate::turn::{Alone, Leave, Lowered, Shared};
 use saa_core::ticket::Full;
 use std::alloc::{AllocError, Global};
 use std::sync::{RwLock, RwLockReadGuard, RwLockWriteGuard, Wait};
@@ -80,6 +80,21 @@ impl<R: Wait + Drop, T> Guarded<R, T> {
     {
         let turn = Shared::take(&self.turn, &self.rt)?;
         Ok((turn, self.value.read(&self.rt)))
+    }
+
+    // Makes the turn alone a share, and the value to write a value to read.
+    //
+    // The value comes first: while the turn is still one owner's alone nobody else asks for the value, so this waits for
+    // nobody, and nobody writes in between. Were the turn lowered first, those who are let in beside it would have to wait
+    // for the writer's guard.
+    pub(crate) fn lower<'a>(
+        &'a self,
+        turn: Alone<'a, R>,
+        value: RwLockWriteGuard<'a, T>,
+    ) -> (Shared<'a, R>, RwLockReadGuard<'a, T>)
+        ensures { result.0.lock ≡ turn.entry.lock }
+    {
+        turn.lower(Lowered::from_writer(value, &self.value, &self.rt))
     }
 
     // The turn alone that a future was granted, and the value to write.

@@ -7,7 +7,7 @@ ghost use Rattle.std.specs.Prelude.{◌≡◌, ◌⊎◌, ◌||◌, ◌==◌, tr
 ghost use Rattle.std.specs.Bool.{OnFalse};
 ghost use Rattle.saa_core_spec.specs.declared.request.Request.TheVariants.{Exclusive as AskExclusive, Shared as AskShared};
 ghost use Rattle.saa_core_spec.specs.Polling.{given_back};
-ghost use Rattle.saa_core_spec.specs.Lock.{is_free, is_locked, is_shared, is_poisoned, poisoned_of, cleared_of};
+ghost use Rattle.saa_core_spec.specs.Lock.{is_free, is_locked, is_shared, is_poisoned, downgraded_of, poisoned_of, cleared_of};
 ghost use Rattle.saa_core.specs.Slots.{OwesAnswered};
 ghost use Rattle.saa_core.specs.declared.ticket.Registration.TheVariants.{Unregistered};
 ghost use Rattle.saa_core.specs.Tickets.{Calls, is_busy, is_yes};
@@ -124,6 +124,14 @@ impl<R: Wait + Drop> Lock<R> {
     #[inline(always)]
     pub fn release_share(&self) -> bool {
         self.shell.step(end_share)
+    }
+
+    /// Makes the one owner a sharer, grants those who wait, oldest first, while they fit beside it, and wakes exactly those.
+    ///
+    /// Nobody has the lock alone in between. `false` comes exactly where the lock isn't one owner's alone, and changes
+    /// nothing. Nobody is asked whose lock it lowers.
+    pub fn downgrade(&self) -> bool {
+        self.shell.step(lower)
     }
 
     /// Poisons the lock that one owner has alone: all who wait are answered that it is poisoned, and woken.
@@ -375,6 +383,16 @@ fn end_share(core: &mut LockCore) -> bool
     ensures wakes { OwesAnswered core.old.slots core.new.slots }
 {
     core.release_share()
+}
+
+// A downgrade, on the core that is lent.
+fn lower(core: &mut LockCore) -> bool
+    ensures calls { Calls core.old core.new (λ s. downgraded_of s (is_locked s.held)) result }
+    ensures answer { result ≡ is_locked core.old.held }
+    ensures refused { OnFalse result (core.new ≡ core.old) }
+    ensures wakes { OwesAnswered core.old.slots core.new.slots }
+{
+    core.downgrade()
 }
 
 // Poison, on the core that is lent.

@@ -34,14 +34,14 @@ const ASLEEP: u64 = 2;
 
 /// Where the holder of a slot waits.
 #[derive(Drop)]
-pub(crate) struct Seat {
+pub struct Seat {
     state: AtomicU64,
     bell: Condvar,
 }
 
 impl Seat {
     /// A seat at which nobody waits.
-    pub(crate) fn new() -> Seat {
+    pub fn new() -> Seat {
         Seat {
             state: AtomicU64::new(AWAKE),
             bell: Condvar::new(),
@@ -49,7 +49,7 @@ impl Seat {
     }
 
     /// A new holder may wait here from now on. Called under the lock under which the slot is given out.
-    pub(crate) fn reset(&self) {
+    pub fn reset(&self) {
         self.state.store(AWAKE, Ordering::SeqCst);
     }
 
@@ -57,14 +57,14 @@ impl Seat {
     ///
     /// A seat that is rung already may have a sleeper too: one that went to sleep as a late ring for the slot's last
     /// holder came, and so missed its bell.
-    pub(crate) fn ring(&self) {
+    pub fn ring(&self) {
         if self.state.swap(RUNG, Ordering::SeqCst) != AWAKE {
             self.bell.notify_all();
         }
     }
 
     /// Looks, and then yields, until the seat is rung, or so often that it is time to sleep.
-    pub(crate) fn linger(&self, patience: Patience) {
+    pub fn linger(&self, patience: Patience) {
         for _turn in 0..patience.looks {
             if self.is_rung() {
                 return;
@@ -83,25 +83,18 @@ impl Seat {
     ///
     /// A slot is answered under the lock that is handed in, and its seat is rung after that. So a holder that found no
     /// answer under this lock is seen to sleep by whoever rings for it.
-    pub(crate) fn sleep<'g, T>(
-        &self,
-        rt: &impl Wait,
-        inside: MutexGuard<'g, T>,
-    ) -> MutexGuard<'g, T> {
+    pub fn sleep<'g, T>(&self, rt: &impl Wait, inside: MutexGuard<'g, T>) -> MutexGuard<'g, T> {
         self.state.store(ASLEEP, Ordering::SeqCst);
         self.bell.wait(rt, inside)
     }
 
     /// Whether the slot may have been answered since its holder joined.
-    pub(crate) fn is_rung(&self) -> bool {
+    pub fn is_rung(&self) -> bool {
         self.state.load(Ordering::SeqCst) == RUNG
     }
 
     /// Whether the holder sleeps. Who asks under the lock knows that it has let go of the lock.
-    pub(crate) fn is_asleep(&self) -> bool {
+    pub fn is_asleep(&self) -> bool {
         self.state.load(Ordering::SeqCst) == ASLEEP
     }
 }
-
-#[cfg(test)]
-mod tests;

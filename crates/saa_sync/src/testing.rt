@@ -9,7 +9,7 @@ ghost use Rattle.saa_core_spec.specs.declared.polling.How.TheVariants.{Sync};
 ghost use Rattle.saa_sync.specs.Waits.{IsTold};
 
 use crate::pager::{How, Pager, SyncResult, Ticket};
-pub use crate::seat::{PATIENCE, Patience};
+pub use crate::seat::{PATIENCE, Patience, Seat};
 pub use crate::shell::Shell;
 use saa_core::bench::Primitive;
 use saa_core::ticket::Full;

@@ -1,7 +1,8 @@
 //! The turn at a lock, of one owner alone or shared, and that it ends behind the value's guard.
 //!
 //! No turn can be dropped, so each that is taken is passed on; and `pass_on` asks for a `PutDown`, which only giving up a
-//! guard of the value makes. That a turn is really the lock's, and is given back to it, is shown by tests.
+//! guard of the value makes. `lower` asks for a `Lowered` in the same way, which only giving up a writer's guard makes.
+//! That a turn is really the lock's, and is given back to it, is shown by tests.
 
 ghost use Rattle.std.specs.Prelude.{◌≡◌, IfOk, IfSome};
 ghost use Rattle.futures.specs.Task.{Covers, Keeps};
@@ -13,7 +14,7 @@ use futures::Future;
 use futures::task::{Context, Poll};
 use saa_core::ticket::Full;
 use std::marker::PhantomData;
-use std::sync::{RwLockReadGuard, RwLockWriteGuard, Wait};
+use std::sync::{RwLock, RwLockReadGuard, RwLockWriteGuard, Wait};
 
 /// The leave to wait that an `R` gives, for a lock that is kept beside the `R` itself.
 #[derive(Drop)]
@@ -46,6 +47,25 @@ impl PutDown {
     pub(crate) fn by_writer<T>(value: RwLockWriteGuard<'_, T>) -> Self {
         drop(value);
         PutDown { by: PhantomData }
+    }
+}
+
+/// A guard of the value that was changed from a writer's to a reader's; only that makes one, and only `lower` opens it.
+pub(crate) struct Lowered<'a, T> {
+    reader: RwLockReadGuard<'a, T>,
+}
+
+impl<'a, T> Lowered<'a, T> {
+    // Gives up a writer's guard of the value, and takes a reader's.
+    pub(crate) fn from_writer<R: Wait>(
+        writer: RwLockWriteGuard<'_, T>,
+        value: &'a RwLock<T>,
+        rt: &R,
+    ) -> Self {
+        drop(writer);
+        Lowered {
+            reader: value.read(rt),
+        }
     }
 }
 
@@ -84,6 +104,15 @@ impl<'a, R: Wait + Drop> Alone<'a, R> {
         ensures { result.lock ≡ lock.entry }
     {
         Alone { lock }
+    }
+
+    // Makes the turn a share, beside which others may have shares; and gives the value to read with it.
+    pub(crate) fn lower<T>(self, value: Lowered<'a, T>) -> (Shared<'a, R>, RwLockReadGuard<'a, T>)
+        ensures { result.0.lock ≡ self.entry.lock }
+    {
+        let (Alone { lock }, Lowered { reader }) = (self, value);
+        lock.downgrade();
+        (Shared { lock }, reader)
     }
 
     // Gives the turn back, to whoever is next.

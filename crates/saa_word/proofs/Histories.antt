@@ -1,13 +1,10 @@
 -- A list of moves simulates: each move does, and their events are one run.
-use Rattle.std.proofs.Common.{◌≡◌, ℕ, ◌∷◌, ◌++◌, List, [], length, suc, refl, sym, subst, ◌∙◌, ap, arith, append-nil, append_assoc}
+use Rattle.std.proofs.Common.{◌≡◌, ◌∷◌, ◌++◌, List, [], length, suc, refl, sym, subst, ◌∙◌, ap, arith, append-nil, append_assoc}
 use Rattle.std.specs.Prelude.{All}
-use Rattle.saa_word_steps.specs.declared.event.Event.{Event}
 use Rattle.saa_word_steps.specs.declared.rules.Rules.{Rules}
-use Rattle.saa_word_steps.specs.declared.rules.Rules.TheVariants.{Permits}
-use Rattle.saa_word_steps.specs.Lazy.{IsRun, opening}
+use Rattle.saa_word_steps.specs.AbstractState.{IsRun, opening}
 use Rattle.saa_word_steps.specs.Steps.{needs_of}
 use Rattle.saa_word_proofs.specs.StepRefinement.{of_place}
-use Rattle.saa_word_proofs.specs.History.{LeadsTo}
 use Rattle.saa_word_proofs.specs.Promises.{Observes}
 use Rattle.saa_word_proofs.proofs.RefinementLemmas.Promises.{says-so}
 use Rattle.saa_word.specs.declared.moves.Move.{Move}
@@ -36,15 +33,15 @@ all-simulate state (move ∷ moves) trace are tracks =
 
 -- the events of all moves are one run
 all-run : (state : State) (moves : List Move) (trace : Trace) (all : AllSimulate state moves trace)
-    → IsRun (needs_of state.rules) trace.lazy (events_of state moves trace all) (last_trace state moves trace all).lazy
+    → IsRun (needs_of state.rules) trace.state (events_of state moves trace all) (last_trace state moves trace all).state
 all-run state [] trace all = refl
 all-run state (move ∷ moves) trace all =
-    run-append (needs_of state.rules) trace.lazy all.0.last (last_trace state (move ∷ moves) trace all).lazy (of_place (mover move) all.0.events)
+    run-append (needs_of state.rules) trace.state all.0.last (last_trace state (move ∷ moves) trace all).state (of_place (mover move) all.0.events)
     (events_of (gone state move).machine moves (trace_after state move (gone state move) trace all.0.events all.0.last) all.1)
     all.0.run
     (subst (λ (r : Rules). IsRun (needs_of r) all.0.last
     (events_of (gone state move).machine moves (trace_after state move (gone state move) trace all.0.events all.0.last) all.1)
-    (last_trace state (move ∷ moves) trace all).lazy) (gone-rules state move)
+    (last_trace state (move ∷ moves) trace all).state) (gone-rules state move)
     (all-run (gone state move).machine moves (trace_after state move (gone state move) trace all.0.events all.0.last) all.1))
 
 -- they go on with the history
@@ -86,20 +83,20 @@ simulates-all state moves trace are tracks =
     let last : Trace = last_trace state moves trace all in
     let machine : State = (ran state moves).machine in
     let now : Tracks machine last = all-tracks state moves trace tracks all in
-    let run : IsRun (needs_of state.rules) (opening trace.withheld) (trace.history ++ events_of state moves trace all) last.lazy =
-    run-append (needs_of state.rules) (opening trace.withheld) trace.lazy last.lazy trace.history (events_of state moves trace all) tracks.run
+    let run : IsRun (needs_of state.rules) (opening trace.withheld) (trace.history ++ events_of state moves trace all) last.state =
+    run-append (needs_of state.rules) (opening trace.withheld) trace.state last.state trace.history (events_of state moves trace all) tracks.run
     (all-run state moves trace all) in
-    let shown : Observes (needs_of state.rules) (length state.places) (row_of machine) last.lazy =
-    subst (λ (r : Rules). Observes (needs_of r) (length state.places) (row_of machine) last.lazy) (ran-rules state moves)
-    (subst (λ n. Observes (needs_of machine.rules) n (row_of machine) last.lazy) (ran-places state moves)
-    (says-so (needs_of machine.rules) (length machine.places) (row_of machine) (place_of machine) last.lazy now.refines)) in
+    let shown : Observes (needs_of state.rules) (length state.places) (row_of machine) last.state =
+    subst (λ (r : Rules). Observes (needs_of r) (length state.places) (row_of machine) last.state) (ran-rules state moves)
+    (subst (λ n. Observes (needs_of machine.rules) n (row_of machine) last.state) (ran-places state moves)
+    (says-so (needs_of machine.rules) (length machine.places) (row_of machine) (place_of machine) last.state now.refines)) in
     let conserved : Conserves machine last = conserves machine last now.run in
     record {
       each = all;
       run = all-run state moves trace all;
       history = all-history state moves trace all;
       withheld = all-withheld state moves trace all;
-      leads = record { last = last.lazy; run = run; shown = shown };
+      leads = record { last = last.state; run = run; shown = shown };
       conserved = λ bound rules. conserved bound (ran-rules state moves ∙ rules);
       tracks = now;
     }

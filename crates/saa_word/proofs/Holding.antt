@@ -1,10 +1,10 @@
 -- Who holds the flag behind a move.
-use Rattle.std.proofs.Common.{◌≡◌, ◌≢◌, ℕ, zero, suc, ◌+◌, Bool, true, false, not, ◌==◌, refl, sym, ap, ◌∙◌, arith, inl, inr}
+use Rattle.std.proofs.Common.{◌≡◌, ℕ, zero, suc, ◌+◌, Bool, true, false, not, ◌==◌, refl, sym, ap, ◌∙◌, arith, inl, inr}
 use Rattle.std.proofs.lemmas.Bool.{cases_Bool}
 use Rattle.saa_core_spec.proofs.Counts.{number_same, same_number}
 use Rattle.saa_word_steps.specs.declared.place.Place.{Place}
 use Rattle.saa_word_steps.specs.Needs.{Needs}
-use Rattle.saa_word_steps.specs.Lazy.{Lazy}
+use Rattle.saa_word_steps.specs.AbstractState.{AbstractState}
 use Rattle.saa_word_proofs.specs.Refinement.{is_holder, main_of, Refines}
 use Rattle.saa_word.specs.Simulation.{holder_after}
 
@@ -56,10 +56,10 @@ is-taken was now me agree none now_some =
     ]
 
 -- Where one place alone moved
-pub held-after : (needs : Needs) (places many : ℕ) (row other : ℕ → ℕ) (standing after : ℕ → Place) (lazy last : Lazy) (me : ℕ)
-    → (s : Refines needs places row standing lazy) (t : Refines needs many other after last) → ((place : ℕ) → place == me ≡ false → after place ≡ standing place)
+pub held-after : (needs : Needs) (places many : ℕ) (row other : ℕ → ℕ) (standing after : ℕ → Place) (abstract last : AbstractState) (me : ℕ)
+    → (s : Refines needs places row standing abstract) (t : Refines needs many other after last) → ((place : ℕ) → place == me ≡ false → after place ≡ standing place)
     → t.holder ≡ holder_after s.holder me (main_of row) (main_of other)
-held-after needs places many row other standing after lazy last me s t apart =
+held-after needs places many row other standing after abstract last me s t apart =
     let agree : (place : ℕ) → place == me ≡ false → (s.holder == place + 1) ≡ (t.holder == place + 1) = λ place differs.
     sym (s.stages.one place) ∙ ap (λ (p : Place). is_holder p.stage) (sym (apart place differs)) ∙ t.stages.one place in
     elim (cases_Bool (main_of other).is_flagged) [
@@ -73,9 +73,9 @@ held-after needs places many row other standing after lazy last me s t apart =
     ]
 
 -- and where none did
-pub held-same : (needs : Needs) (places : ℕ) (row : ℕ → ℕ) (standing : ℕ → Place) (lazy : Lazy) (me : ℕ) (s : Refines needs places row standing lazy)
+pub held-same : (needs : Needs) (places : ℕ) (row : ℕ → ℕ) (standing : ℕ → Place) (abstract : AbstractState) (me : ℕ) (s : Refines needs places row standing abstract)
     → holder_after s.holder me (main_of row) (main_of row) ≡ s.holder
-held-same needs places row standing lazy me s =
+held-same needs places row standing abstract me s =
     elim (cases_Bool (main_of row).is_flagged) [
       | inl set ↦ rw set refl
       | inr clear ↦ rw clear (sym (same_number s.holder 0 (not-false (s.holder == 0) (sym s.main.flag ∙ clear))))

@@ -15,8 +15,8 @@ use Rattle.saa_word_steps.specs.declared.place.Next.{Next}
 use Rattle.saa_word_steps.specs.declared.place.Stage.{Stage}
 use Rattle.saa_word_steps.specs.declared.place.Stage.TheVariants.{Quiet, ReadLoad, AskLoad, AskExchange, Prepare, Join, ReleaseLoad, ReleaseExchange, BackLoad, BackStore, Forward, CutToClose, CutToGoRound, Close, Empty, GoRound, ShowLoad, ShowStore, Take, FlagLoad, FlagExchange, LookLoad, LookStore, Unlink, DropTail, PoisonLoad, PoisonExchange, Clear}
 use Rattle.saa_word_steps.specs.Needs.{Needs}
-use Rattle.saa_word_steps.specs.Lazy.{Lazy, opening}
-use Rattle.saa_word_steps.specs.Steps.{is_taken, needs_of, next_of, operation_of, started, word_at, written_by}
+use Rattle.saa_word_steps.specs.AbstractState.{AbstractState, opening}
+use Rattle.saa_word_steps.specs.Steps.{is_taken, needs_of, next_of, started, word_at, written_by}
 use Rattle.saa_word_proofs.specs.Refinement.{Refines, updated}
 use Rattle.saa_word_proofs.specs.StepRefinement.{StepRefines, place_after}
 use Rattle.saa_word_proofs.specs.Promises.{idle_place, opening_row}
@@ -86,50 +86,50 @@ pub other-place : (standing : ℕ → Place) (me other : ℕ) (place : Place) �
 other-place standing me other place differs = rw differs refl
 
 -- the words and places of a machine, where one of each was written
-pub stands-set : (needs : Needs) (row : List ℕ) (places : List Place) (at number me : ℕ) (place : Place) (lazy : Lazy) → at < length row → me < length places
-    → Refines needs (length places) (updated (λ (n : ℕ). get_or row n 0) at number) (updated (place_in places) me place) lazy
-    → Refines needs (length (set places me place)) (λ (n : ℕ). get_or (set row at number) n 0) (place_in (set places me place)) lazy
-stands-set needs row places at number me place lazy inside here s =
-    subst (λ (n : ℕ). Refines needs n (λ (n : ℕ). get_or (set row at number) n 0) (place_in (set places me place)) lazy) (sym (length-set places me place))
-    (subst (λ (r : ℕ → ℕ). Refines needs (length places) r (place_in (set places me place)) lazy) (sym (set-updated row at number 0 inside))
-    (subst (λ (f : ℕ → Place). Refines needs (length places) (updated (λ (n : ℕ). get_or row n 0) at number) f lazy) (sym (set-updated places me place idle_place here)) s))
+pub stands-set : (needs : Needs) (row : List ℕ) (places : List Place) (at number me : ℕ) (place : Place) (abstract : AbstractState) → at < length row → me < length places
+    → Refines needs (length places) (updated (λ (n : ℕ). get_or row n 0) at number) (updated (place_in places) me place) abstract
+    → Refines needs (length (set places me place)) (λ (n : ℕ). get_or (set row at number) n 0) (place_in (set places me place)) abstract
+stands-set needs row places at number me place abstract inside here s =
+    subst (λ (n : ℕ). Refines needs n (λ (n : ℕ). get_or (set row at number) n 0) (place_in (set places me place)) abstract) (sym (length-set places me place))
+    (subst (λ (r : ℕ → ℕ). Refines needs (length places) r (place_in (set places me place)) abstract) (sym (set-updated row at number 0 inside))
+    (subst (λ (f : ℕ → Place). Refines needs (length places) (updated (λ (n : ℕ). get_or row n 0) at number) f abstract) (sym (set-updated places me place idle_place here)) s))
 
 -- the same where a place alone was
-pub stands-placed : (needs : Needs) (row : List ℕ) (places : List Place) (me : ℕ) (place : Place) (lazy : Lazy) → me < length places
-    → Refines needs (length places) (λ (n : ℕ). get_or row n 0) (updated (place_in places) me place) lazy
-    → Refines needs (length (set places me place)) (λ (n : ℕ). get_or row n 0) (place_in (set places me place)) lazy
-stands-placed needs row places me place lazy here s =
-    subst (λ (n : ℕ). Refines needs n (λ (n : ℕ). get_or row n 0) (place_in (set places me place)) lazy) (sym (length-set places me place))
-    (subst (λ (f : ℕ → Place). Refines needs (length places) (λ (n : ℕ). get_or row n 0) f lazy) (sym (set-updated places me place idle_place here)) s)
+pub stands-placed : (needs : Needs) (row : List ℕ) (places : List Place) (me : ℕ) (place : Place) (abstract : AbstractState) → me < length places
+    → Refines needs (length places) (λ (n : ℕ). get_or row n 0) (updated (place_in places) me place) abstract
+    → Refines needs (length (set places me place)) (λ (n : ℕ). get_or row n 0) (place_in (set places me place)) abstract
+stands-placed needs row places me place abstract here s =
+    subst (λ (n : ℕ). Refines needs n (λ (n : ℕ). get_or row n 0) (place_in (set places me place)) abstract) (sym (length-set places me place))
+    (subst (λ (f : ℕ → Place). Refines needs (length places) (λ (n : ℕ). get_or row n 0) f abstract) (sym (set-updated places me place idle_place here)) s)
 
 -- what a place in a call does next
-pub stepped-by : (state : State) (lazy : Lazy) (me : ℕ) → (needs_of state.rules).top < 2 ^ count_bits → length state.places < 2 ^ 16 → me < length state.places → RefinesAs state lazy
-    → StepRefines (needs_of state.rules) (length state.places) (row_of state) (place_of state) lazy me (place_of state me).stage
-stepped-by state lazy me wide few here s =
-    step (needs_of state.rules) (rules-lawful state.rules) wide (length state.places) (row_of state) (place_of state) lazy me few here s (place_of state me).stage refl
+pub stepped-by : (state : State) (abstract : AbstractState) (me : ℕ) → (needs_of state.rules).top < 2 ^ count_bits → length state.places < 2 ^ 16 → me < length state.places → RefinesAs state abstract
+    → StepRefines (needs_of state.rules) (length state.places) (row_of state) (place_of state) abstract me (place_of state me).stage
+stepped-by state abstract me wide few here s =
+    step (needs_of state.rules) (rules-lawful state.rules) wide (length state.places) (row_of state) (place_of state) abstract me few here s (place_of state me).stage refl
 
 -- its word is one of the row
 pub inside-by : (state : State) (me : ℕ) → IsMachine state → me < length state.places → word_at (operation_at state me) < length state.row
 inside-by state me is here =
-    let stepped = stepped-by state is.trace.lazy me is.tracks.sized.wide is.tracks.sized.few here is.tracks.refines in
+    let stepped = stepped-by state is.trace.state me is.tracks.sized.wide is.tracks.sized.few here is.tracks.refines in
     omega (arith, stepped.inside, is.tracks.sized.words)
 
 -- so a machine at which a place made its step stands together with the object behind the events of that step
-pub work-stands : (state : State) (lazy : Lazy) (me : ℕ) → (needs_of state.rules).top < 2 ^ count_bits → length state.places < 2 ^ 16 → length state.row ≡ 1 + 2 * length state.places
-    → (here : me < length state.places) → (s : RefinesAs state lazy) → (stepped : StepRefines (needs_of state.rules) (length state.places) (row_of state) (place_of state) lazy me (place_of state me).stage)
+pub work-stands : (state : State) (abstract : AbstractState) (me : ℕ) → (needs_of state.rules).top < 2 ^ count_bits → length state.places < 2 ^ 16 → length state.row ≡ 1 + 2 * length state.places
+    → (here : me < length state.places) → (s : RefinesAs state abstract) → (stepped : StepRefines (needs_of state.rules) (length state.places) (row_of state) (place_of state) abstract me (place_of state me).stage)
     → RefinesAs (worked_at state me).machine stepped.last
-work-stands state lazy me wide few words here s stepped =
+work-stands state abstract me wide few words here s stepped =
     stands-set (needs_of state.rules) state.row state.places (word_at (operation_at state me)) (written_by (operation_at state me) (found_by state (operation_at state me))) me
     (place_after (place_of state me) (next_of (needs_of state.rules) me (place_of state me) (place_of state me).stage (found_by state (operation_at state me)))) stepped.last
     (omega (arith, stepped.inside, words)) here stepped.stands
 
 -- a machine at which one place begins a call, or is done with one at once
-pub start-stands : (state : State) (lazy : Lazy) (me : ℕ) (call : WordCall) → (needs_of state.rules).top < 2 ^ count_bits → me < length state.places → RefinesAs state lazy
+pub start-stands : (state : State) (abstract : AbstractState) (me : ℕ) (call : WordCall) → (needs_of state.rules).top < 2 ^ count_bits → me < length state.places → RefinesAs state abstract
     → is_quiet (place_of state me).stage ≡ true → is_taken (is_lock state) call ≡ true
-    → RefinesAs (record state { places = slice_set state.places me (place_after (place_of state me) (started (needs_of state.rules) (place_of state me) call)) }) lazy
-start-stands state lazy me call wide here s quiet taken =
-    stands-placed (needs_of state.rules) state.row state.places me (place_after (place_of state me) (started (needs_of state.rules) (place_of state me) call)) lazy here
-    (starts (needs_of state.rules) wide (length state.places) (row_of state) (place_of state) lazy me call here s (quiet-stage (place_of state me).stage quiet) taken)
+    → RefinesAs (record state { places = slice_set state.places me (place_after (place_of state me) (started (needs_of state.rules) (place_of state me) call)) }) abstract
+start-stands state abstract me call wide here s quiet taken =
+    stands-placed (needs_of state.rules) state.row state.places me (place_after (place_of state me) (started (needs_of state.rules) (place_of state me) call)) abstract here
+    (starts (needs_of state.rules) wide (length state.places) (row_of state) (place_of state) abstract me call here s (quiet-stage (place_of state me).stage quiet) taken)
 
 -- a place that goes on leaves the sizes as they are
 pub start-sized : (state : State) (me : ℕ) (place : Place) → IsSized state → IsSized (record state { places = slice_set state.places me place })

@@ -1,20 +1,16 @@
 -- What a machine always is, is kept by each move: some trace tracks it.
-use Rattle.std.proofs.Common.{◌≡◌, ℕ, ◌*◌, ◌<◌, ◌≤◌, ◌^◌, ◌∷◌, true, false, List, length, replicate, refl, sym, subst, ◌∙◌, ap, inl, inr}
-use Rattle.std.proofs.lemmas.Bool.{cases_Bool}
-use Rattle.std.specs.Prelude.{slice_index, slice_set}
+use Rattle.std.proofs.Common.{◌≡◌, ℕ, ◌*◌, ◌<◌, ◌≤◌, ◌^◌, ◌∷◌, true, false, List, length, replicate, sym, subst}
+use Rattle.std.specs.Prelude.{slice_set}
 use Rattle.saa_core_words.specs.Words.{count_bits}
 use Rattle.saa_word_steps.specs.declared.call.WordCall.{WordCall}
 use Rattle.saa_word_steps.specs.declared.place.Place.{Place}
 use Rattle.saa_word_steps.specs.declared.rules.Rules.{Rules}
 use Rattle.saa_word_steps.specs.Steps.{is_taken, needs_of, started}
-use Rattle.saa_word_proofs.specs.Refinement.{Refines}
 use Rattle.saa_word_proofs.specs.StepRefinement.{place_after}
 use Rattle.saa_word_proofs.specs.Promises.{idle_place}
-use Rattle.saa_word_proofs.specs.StepBound.{AreWithin}
-use Rattle.saa_word.specs.declared.moves.Move.TheVariants.{Go}
-use Rattle.saa_word.specs.Machine.{State, is_lock, place_of, row_of}
+use Rattle.saa_word.specs.Machine.{State, is_lock, place_of}
 use Rattle.saa_word.specs.Moves.{is_quiet, worked_at}
-use Rattle.saa_word.specs.Trace.{IsMachine, Trace, Tracks, beginning}
+use Rattle.saa_word.specs.Trace.{IsMachine, beginning}
 use Rattle.saa_word.proofs.Tracking.{begun, made-tracks, went}
 
 pub started-machine : (state : State) (me : ℕ) (call : WordCall) → IsMachine state → me < length state.places

@@ -7,7 +7,7 @@ use Rattle.saa_word_steps.specs.declared.call.WordCall.TheVariants.{Poll}
 use Rattle.saa_word_steps.specs.declared.place.Place.{Place}
 use Rattle.saa_word_steps.specs.declared.place.Next.{Next}
 use Rattle.saa_word_steps.specs.declared.operation.Operation.{Operation}
-use Rattle.saa_word_steps.specs.Lazy.{is_in}
+use Rattle.saa_word_steps.specs.AbstractState.{is_in}
 use Rattle.saa_word_steps.specs.Steps.{is_taken, needs_of, next_of, started, word_at, written_by}
 use Rattle.saa_word_proofs.specs.Refinement.{updated}
 use Rattle.saa_word_proofs.specs.StepRefinement.{place_after, row_after}
@@ -50,7 +50,7 @@ goes-alone state trace me tracks here busy =
     let operation : Operation = operation_at state me in
     let found : ℕ = found_by state operation in
     let next : Next = next_of (needs_of state.rules) me (place_of state me) (place_of state me).stage found in
-    let inside = stepped-by state trace.lazy me tracks.sized.wide tracks.sized.few here tracks.refines in
+    let inside = stepped-by state trace.state me tracks.sized.wide tracks.sized.few here tracks.refines in
     rw busy (
       moment-same (row_of (worked_at state me).machine) (row_after (row_of state) operation) (place_of (worked_at state me).machine)
           (updated (place_of state) me (place_after (place_of state me) next))
@@ -60,15 +60,15 @@ goes-alone state trace me tracks here busy =
     )
 
 pub ends-alone : (state : State) (trace : Trace) (me : ℕ) (call : WordCall) → Tracks state trace → IsResting state → me < length state.places
-    → is_taken (is_lock state) call ≡ true → (call ≡ Poll → is_in me trace.lazy.line ≡ false)
-    → Ends (needs_of state.rules) (length state.places) me call (moment_of state) (8 * length trace.lazy.line + 24)
+    → is_taken (is_lock state) call ≡ true → (call ≡ Poll → is_in me trace.state.line ≡ false)
+    → Ends (needs_of state.rules) (length state.places) me call (moment_of state) (8 * length trace.state.line + 24)
 ends-alone state trace me call tracks rests here taken absent =
-    ends (needs_of state.rules) (rules-lawful state.rules) tracks.sized.wide (length state.places) (row_of state) (place_of state) trace.lazy me call
+    ends (needs_of state.rules) (rules-lawful state.rules) tracks.sized.wide (length state.places) (row_of state) (place_of state) trace.state me call
     (omega (arith, tracks.sized.few)) here tracks.refines rests taken absent
 
 pub agrees-alone : (state : State) (trace : Trace) (me : ℕ) (is_sync : Bool) (call : WordCall) (s : Object) (steps : ℕ) (answer : Answer) (last : Moment)
     → Tracks state trace → IsResting state → me < length state.places → is_taken (is_lock state) call ≡ true
-    → Mirrors (needs_of state.rules) (length state.places) (place_of state) trace.lazy s
+    → Mirrors (needs_of state.rules) (length state.places) (place_of state) trace.state s
     → IsCalledAlone (needs_of state.rules) (length state.places) me call steps (moment_of state) answer last
     → Agrees (needs_of state.rules) (length state.places) me is_sync call s answer last
 agrees-alone state trace me is_sync call s steps answer last tracks rests here taken mirrors called =
@@ -77,7 +77,7 @@ agrees-alone state trace me is_sync call s steps answer last tracks rests here t
       small = tracks.sized.wide;
       room = omega (arith, tracks.sized.few);
       here = here;
-      lazy = trace.lazy;
+      state = trace.state;
       stands = tracks.refines;
       quiet = rests;
       mirrors = mirrors;

@@ -10,8 +10,8 @@ use Rattle.saa_word_steps.specs.declared.rules.Rules.{Rules}
 use Rattle.saa_word_steps.specs.declared.event.Event.{Event}
 use Rattle.saa_word_steps.specs.declared.place.Registration.{Registration}
 use Rattle.saa_word_steps.specs.Needs.{Needs}
-use Rattle.saa_word_steps.specs.Lazy.{Lazy, held_by, is_in}
-use Rattle.saa_word_steps.proofs.LazyRuns.{waits-some}
+use Rattle.saa_word_steps.specs.AbstractState.{AbstractState, held_by, is_in}
+use Rattle.saa_word_steps.proofs.AbstractRuns.{waits-some}
 use Rattle.saa_core_spec.specs.Object.{one_if}
 use Rattle.saa_word_steps.specs.declared.place.Registration.TheVariants.{Idle, Once, Slot}
 use Rattle.saa_word_steps.specs.declared.place.Taking.TheVariants.{Awaits}
@@ -152,7 +152,7 @@ called-ran state trace me call goes answer last tracks rests here taken called =
     by-start (suc more) (IsDone place said) is called = (let wrong : suc more ≡ 0 = called.0 in absurd (cc))
 
 pub solo : (state : State) (trace : Trace) (me : ℕ) (call : WordCall) → Tracks state trace → IsResting state → me < length state.places
-    → is_taken (is_lock state) call ≡ true → (call ≡ Poll → is_in me trace.lazy.line ≡ false) → IsSolo state trace me call
+    → is_taken (is_lock state) call ≡ true → (call ≡ Poll → is_in me trace.state.line ≡ false) → IsSolo state trace me call
 solo state trace me call tracks rests here taken absent =
     let e = ends-alone state trace me call tracks rests here taken absent in
     let both = called-ran state trace me call e.steps e.answer e.last tracks rests here taken e.called in
@@ -166,8 +166,8 @@ solo state trace me call tracks rests here taken absent =
           (agrees-alone state trace me is_sync call s e.steps e.answer e.last tracks rests here taken mirrors e.called);
     }
 
-pub quiet : (state : State) (trace : Trace) → Tracks state trace → IsResting state → IsAtRest (needs_of state.rules) (row_of state) trace.lazy
-quiet state trace tracks rests = at-rest (needs_of state.rules) (length state.places) (row_of state) (place_of state) trace.lazy tracks.refines rests
+pub quiet : (state : State) (trace : Trace) → Tracks state trace → IsResting state → IsAtRest (needs_of state.rules) (row_of state) trace.state
+quiet state trace tracks rests = at-rest (needs_of state.rules) (length state.places) (row_of state) (place_of state) trace.state tracks.refines rests
 
 -- A poll of a place in the line waits
 
@@ -176,19 +176,19 @@ polls-going place Idle slot = absurd (cc)
 polls-going place (Once value request) slot = absurd (cc)
 polls-going place (Slot request) slot = refl
 
-in-slot : (lazy : Lazy) (me : ℕ) (slot : Bool) → held_by me lazy ≡ one_if slot → is_in me lazy.line ≡ true → slot ≡ true
-in-slot lazy me true held there = refl
-in-slot lazy me false held there =
-    let none : held_by me lazy ≡ 0 = held in absurd (omega (arith, none, waits-some me lazy.line there))
+in-slot : (abstract : AbstractState) (me : ℕ) (slot : Bool) → held_by me abstract ≡ one_if slot → is_in me abstract.line ≡ true → slot ≡ true
+in-slot abstract me true held there = refl
+in-slot abstract me false held there =
+    let none : held_by me abstract ≡ 0 = held in absurd (omega (arith, none, waits-some me abstract.line there))
 
-pub poll-waits : (state : State) (trace : Trace) (me : ℕ) → Tracks state trace → IsResting state → me < length state.places → is_in me trace.lazy.line ≡ true
+pub poll-waits : (state : State) (trace : Trace) (me : ℕ) → Tracks state trace → IsResting state → me < length state.places → is_in me trace.state.line ≡ true
     → (ran state (Start me Poll ∷ (Go me ∷ []))).steps ≡ Going ∷ (Waits ∷ [])
 poll-waits state trace me tracks rests here there =
     let needs : Needs = needs_of state.rules in
-    let waiting = left-waiting needs (length state.places) me (moment_of state) trace.lazy tracks.refines here there in
+    let waiting = left-waiting needs (length state.places) me (moment_of state) trace.state tracks.refines here there in
     let begins = begins-alone state me Poll here (ap is_quiet (rests me)) in
     let slot : is_slot (place_of state me).registration ≡ true =
-    in-slot trace.lazy me (is_slot (place_of state me).registration) (tracks.refines.seats.held me) there in
+    in-slot trace.state me (is_slot (place_of state me).registration) (tracks.refines.seats.held me) there in
     let step : (gone state (Start me Poll)).step ≡ Going = begins.1 ∙ polls-going (place_of state me) (place_of state me).registration slot in
     let machine : State = (gone state (Start me Poll)).machine in
     let one = simulates state (Start me Poll) trace (here, refl) tracks in

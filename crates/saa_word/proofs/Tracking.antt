@@ -15,7 +15,7 @@ use Rattle.saa_word_steps.specs.declared.place.Next.TheVariants.{Going as GoesOn
 use Rattle.saa_word_steps.specs.declared.place.Stage.TheVariants.{Quiet}
 use Rattle.saa_word_steps.specs.declared.place.Registration.{Registration}
 use Rattle.saa_word_steps.specs.Needs.{Needs, permit_needs}
-use Rattle.saa_word_steps.specs.Lazy.{Lazy, IsRun, after_event, opening}
+use Rattle.saa_word_steps.specs.AbstractState.{AbstractState, IsRun, after_event, opening}
 use Rattle.saa_word_proofs.proofs.ConservationLemmas.{opening-granted, run-balanced, run-never, run-pending, run-permits}
 use Rattle.saa_word_proofs.specs.Registering.{AreRegistered, IsLeft, IsStartedAs, begun_as, left_behind, starting_answer}
 use Rattle.saa_word_proofs.proofs.SoloLemmas.Paths.{left-next}
@@ -50,23 +50,23 @@ use Rattle.saa_word.proofs.Keeping.{opened-sized, opened-stands, other-place, qu
 use Rattle.saa_word.proofs.Waits.{not-quiet, waiting}
 
 -- two runs are one
-pub run-append : (needs : Needs) (lazy middle last : Lazy) (front rest : List (ℕ × Event)) → IsRun needs lazy front middle → IsRun needs middle rest last
-    → IsRun needs lazy (front ++ rest) last
-run-append needs lazy middle last [] rest one other = subst (λ (z : Lazy). IsRun needs z rest last) (sym one) other
-run-append needs lazy middle last (event ∷ front) rest one other =
-    (one.0, run-append needs (after_event needs lazy event.0 event.1) middle last front rest one.1 other)
+pub run-append : (needs : Needs) (abstract middle last : AbstractState) (front rest : List (ℕ × Event)) → IsRun needs abstract front middle → IsRun needs middle rest last
+    → IsRun needs abstract (front ++ rest) last
+run-append needs abstract middle last [] rest one other = subst (λ (z : AbstractState). IsRun needs z rest last) (sym one) other
+run-append needs abstract middle last (event ∷ front) rest one other =
+    (one.0, run-append needs (after_event needs abstract event.0 event.1) middle last front rest one.1 other)
 
 -- Permits are conserved along every run
-pub conserves : (state : State) (trace : Trace) → IsRun (needs_of state.rules) (opening trace.withheld) trace.history trace.lazy → Conserves state trace
+pub conserves : (state : State) (trace : Trace) → IsRun (needs_of state.rules) (opening trace.withheld) trace.history trace.state → Conserves state trace
 conserves state trace run bound rules =
     let needs : Needs = permit_needs bound in
-    let same : IsRun needs (opening trace.withheld) trace.history trace.lazy =
-    subst (λ (r : Rules). IsRun (needs_of r) (opening trace.withheld) trace.history trace.lazy) rules run in
-    let none = run-never needs refl (opening trace.withheld) trace.history trace.lazy same in
+    let same : IsRun needs (opening trace.withheld) trace.history trace.state =
+    subst (λ (r : Rules). IsRun (needs_of r) (opening trace.withheld) trace.history trace.state) rules run in
+    let none = run-never needs refl (opening trace.withheld) trace.history trace.state same in
     record {
-      balanced = run-balanced bound trace.withheld trace.history trace.lazy none same;
-      pending = λ place. (run-pending needs trace.withheld trace.history trace.lazy none same).pending place;
-      events = run-permits needs refl (opening trace.withheld) trace.history trace.lazy refl (opening-granted trace.withheld) same;
+      balanced = run-balanced bound trace.withheld trace.history trace.state none same;
+      pending = λ place. (run-pending needs trace.withheld trace.history trace.state none same).pending place;
+      events = run-permits needs refl (opening trace.withheld) trace.history trace.state refl (opening-granted trace.withheld) same;
     }
 
 -- the call that a place is in behind its step
@@ -194,13 +194,13 @@ went state trace me here tracks busy =
     let operation : Operation = operation_at state me in
     let found : ℕ = found_by state operation in
     let next : Next = next_of needs me place place.stage found in
-    let silent = silent-step needs (rules-lawful state.rules) tracks.sized.wide (length state.places) (row_of state) (place_of state) trace.lazy me
+    let silent = silent-step needs (rules-lawful state.rules) tracks.sized.wide (length state.places) (row_of state) (place_of state) trace.state me
     tracks.sized.few here tracks.refines in
     let stepped = silent.0 in
     let events : List Event = stepped.events in
     let machine : State = (worked_at state me).machine in
     let refines : RefinesAs machine stepped.last =
-    work-stands state trace.lazy me tracks.sized.wide tracks.sized.few tracks.sized.words here tracks.refines stepped in
+    work-stands state trace.state me tracks.sized.wide tracks.sized.few tracks.sized.words here tracks.refines stepped in
     let left = step-left needs (trace.calls me) me place found (named events) (tracks.calls me) busy stepped.names in
     let goes = in-next needs (trace.registered me) (trace.calls me) me place (named events) next (tracks.calls me) busy
     (λ u is. subst (λ (l : List Event). IsUnderNext needs u.call u.registered place.back place.stage (u.events ++ l) next) (sym stepped.names)
@@ -211,7 +211,7 @@ went state trace me here tracks busy =
     let place_is : place_of machine ≡ updated (place_of state) me (place_after place next) =
     set-updated state.places me (place_after place next) idle_place here in
     let count : IsCounted needs (length state.places) (row_of state) (place_of state) me trace.made place.stage =
-    counted-within needs (rules-lawful state.rules) tracks.sized.wide (length state.places) (row_of state) (place_of state) trace.lazy me trace.made tracks.refines
+    counted-within needs (rules-lawful state.rules) tracks.sized.wide (length state.places) (row_of state) (place_of state) trace.state me trace.made tracks.refines
     (not-quiet place.stage busy) tracks.within in
     let made : ℕ → ℕ = made_after trace.made (Go me) (step_of next) (row_of machine 0 == row_of state 0) in
     let made_is : counted trace.made me next (row_after (row_of state) operation 0 == row_of state 0) ≡ made =
@@ -226,7 +226,7 @@ went state trace me here tracks busy =
     let apart : (other : ℕ) → other == me ≡ false → place_of machine other ≡ place_of state other =
     λ other differs. ap (λ (f : ℕ → Place). f other) place_is ∙ other-place (place_of state) me other (place_after place next) differs in
     let run : IsRun needs (opening trace.withheld) (trace.history ++ of_place me events) stepped.last =
-    run-append needs (opening trace.withheld) trace.lazy stepped.last trace.history (of_place me events) tracks.run stepped.run in
+    run-append needs (opening trace.withheld) trace.state stepped.last trace.history (of_place me events) tracks.run stepped.run in
     let shown : Observes needs (length state.places) (row_of machine) stepped.last =
     subst (λ n. Observes needs n (row_of machine) stepped.last) (length-set state.places me (place_after place next))
     (says-so needs (length machine.places) (row_of machine) (place_of machine) stepped.last refines) in
@@ -236,8 +236,8 @@ went state trace me here tracks busy =
     (left_behind (named events) (asked_in (trace.calls me)) (trace.registered me)) here tracks.registered
     (left-after place.registration (left_behind (named events) (asked_in (trace.calls me)) place.registration) place next refl left
     ∙ ap (left_behind (named events) (asked_in (trace.calls me))) (tracks.registered me)) in
-    let shown_before : Observes needs (length state.places) (row_of state) trace.lazy =
-    says-so needs (length state.places) (row_of state) (place_of state) trace.lazy tracks.refines in
+    let shown_before : Observes needs (length state.places) (row_of state) trace.state =
+    says-so needs (length state.places) (row_of state) (place_of state) trace.state tracks.refines in
     (record {
       events = events;
       last = stepped.last;
@@ -255,10 +255,10 @@ went state trace me here tracks busy =
         refines = refines;
         registered = registered;
         held = λ other. refines.seats.held other ∙ ap (λ (r : Registration). one_if (is_slot r)) (registered other);
-        asks = run-registered needs trace.lazy stepped.last me events (asked_in (trace.calls me)) trace.registered (trace.registered me) stepped.run
+        asks = run-registered needs trace.state stepped.last me events (asked_in (trace.calls me)) trace.registered (trace.registered me) stepped.run
             shown_before.once (λ poisoned. (tracks.refines.main.barren poisoned).1)
-            (subst (λ (f : ℕ → Registration). AreRegistered f trace.lazy.line) (sym (updated-same trace.registered me (trace.registered me) refl)) tracks.asks);
-        holder = held-after needs (length state.places) (length machine.places) (row_of state) (row_of machine) (place_of state) (place_of machine) trace.lazy stepped.last me
+            (subst (λ (f : ℕ → Registration). AreRegistered f trace.state.line) (sym (updated-same trace.registered me (trace.registered me) refl)) tracks.asks);
+        holder = held-after needs (length state.places) (length machine.places) (row_of state) (row_of machine) (place_of state) (place_of machine) trace.state stepped.last me
             tracks.refines refines apart
             ∙ ap (λ (h : ℕ). holder_after h me (main_of (row_of state)) (main_of (row_of machine))) tracks.holder;
         calls = calls-next needs state.places trace.calls me (place_after place next)
@@ -289,7 +289,7 @@ begun state trace me call here taken tracks quiet =
     let after : State = record state { places = set state.places me behind } in
     let none : place.stage ≡ Quiet = quiet-stage place.stage quiet in
     let starts : IsBegun needs call place.registration next = call-begun needs place call none in
-    let refines : RefinesAs after trace.lazy = start-stands state trace.lazy me call tracks.sized.wide here tracks.refines quiet taken in
+    let refines : RefinesAs after trace.state = start-stands state trace.state me call tracks.sized.wide here tracks.refines quiet taken in
     let place_is : place_of after ≡ updated (place_of state) me behind = set-updated state.places me behind idle_place here in
     let made : ℕ → ℕ = made_after trace.made (Start me call) (step_of next) (row_of state 0 == row_of state 0) in
     let within_here : AreWithin (length state.places) (row_of state) (place_of after) made =
@@ -306,11 +306,11 @@ begun state trace me call here taken tracks quiet =
     let answered = started-as needs place call none in
     let apart : (other : ℕ) → other == me ≡ false → place_of after other ≡ place_of state other =
     λ other differs. ap (λ (f : ℕ → Place). f other) place_is ∙ other-place (place_of state) me other behind differs in
-    let run : IsRun needs (opening trace.withheld) (trace.history ++ []) trace.lazy =
-    subst (λ (h : List (ℕ × Event)). IsRun needs (opening trace.withheld) h trace.lazy) (sym (append-nil trace.history)) tracks.run in
-    let shown : Observes needs (length state.places) (row_of state) trace.lazy =
-    subst (λ n. Observes needs n (row_of state) trace.lazy) (length-set state.places me behind)
-    (says-so needs (length after.places) (row_of state) (place_of after) trace.lazy refines) in
+    let run : IsRun needs (opening trace.withheld) (trace.history ++ []) trace.state =
+    subst (λ (h : List (ℕ × Event)). IsRun needs (opening trace.withheld) h trace.state) (sym (append-nil trace.history)) tracks.run in
+    let shown : Observes needs (length state.places) (row_of state) trace.state =
+    subst (λ n. Observes needs n (row_of state) trace.state) (length-set state.places me behind)
+    (says-so needs (length after.places) (row_of state) (place_of after) trace.state refines) in
     let registered : (other : ℕ) → (place_of after other).registration
     ≡ updated trace.registered me (registered_after (trace.calls me) (Start me call) [] (step_of next) (trace.registered me)) other =
     registered-next state.places trace.registered me behind
@@ -319,7 +319,7 @@ begun state trace me call here taken tracks quiet =
     ∙ ap (begun_as call) (tracks.registered me) ∙ sym (begun-registered (trace.calls me) me call [] (trace.registered me) next)) in
     (record {
       events = [];
-      last = trace.lazy;
+      last = trace.state;
       run = refl;
       silent = refl;
       answers = start-right needs (trace.registered me) (trace.calls me) me call place next (tracks.calls me) none
@@ -327,8 +327,8 @@ begun state trace me call here taken tracks quiet =
           ∙ ap (λ (r : Registration). started_step (starting_answer needs call r)) (tracks.registered me));
       waits = tt;
       words = shown;
-      leads = record { last = trace.lazy; run = run; shown = shown };
-      conserved = conserves state (trace_after state (Start me call) (followed state me next) trace [] trace.lazy) run;
+      leads = record { last = trace.state; run = run; shown = shown };
+      conserved = conserves state (trace_after state (Start me call) (followed state me next) trace [] trace.state) run;
       few = λ one. omega (arith, within_here one);
       tracks = record {
         sized = start-sized state me behind tracks.sized;
@@ -336,10 +336,10 @@ begun state trace me call here taken tracks quiet =
         refines = refines;
         registered = registered;
         held = λ other. refines.seats.held other ∙ ap (λ (r : Registration). one_if (is_slot r)) (registered other);
-        asks = subst (λ (r : Registration). AreRegistered (updated trace.registered me r) trace.lazy.line)
+        asks = subst (λ (r : Registration). AreRegistered (updated trace.registered me r) trace.state.line)
             (sym (begun-registered (trace.calls me) me call [] (trace.registered me) next))
-            (begun-registered-line trace.lazy trace.registered me call (tracks.held me) tracks.asks);
-        holder = held-after needs (length state.places) (length after.places) (row_of state) (row_of state) (place_of state) (place_of after) trace.lazy trace.lazy me
+            (begun-registered-line trace.state trace.registered me call (tracks.held me) tracks.asks);
+        holder = held-after needs (length state.places) (length after.places) (row_of state) (row_of state) (place_of state) (place_of after) trace.state trace.state me
             tracks.refines refines apart
             ∙ ap (λ (h : ℕ). holder_after h me (main_of (row_of state)) (main_of (row_of state))) tracks.holder;
         calls = calls-next needs state.places trace.calls me behind (call_after (trace.registered me) (trace.calls me) (Start me call) [] (step_of next)) here tracks.calls
@@ -367,23 +367,23 @@ pub idled : (state : State) (trace : Trace) (move : Move) (step : Step)
 idled state trace move step calls registered made silent right waits tracks =
     record {
       events = [];
-      last = trace.lazy;
+      last = trace.state;
       run = refl;
       silent = silent;
       answers = right;
       waits = waits;
       words = shown;
-      leads = record { last = trace.lazy; run = run; shown = shown };
-      conserved = conserves state (trace_after state move (record { step = step; machine = state }) trace [] trace.lazy) run;
+      leads = record { last = trace.state; run = run; shown = shown };
+      conserved = conserves state (trace_after state move (record { step = step; machine = state }) trace [] trace.state) run;
       few = λ one. subst (λ (m : ℕ → ℕ). m one ≤ 16 * length state.places + 48) (sym made_is) (omega (arith, tracks.within one));
       tracks = subst (λ (t : Trace). Tracks state t) (sym trace_is) tracks;
     }
   where
-    shown : Observes (needs_of state.rules) (length state.places) (row_of state) trace.lazy
-    shown = says-so (needs_of state.rules) (length state.places) (row_of state) (place_of state) trace.lazy tracks.refines
+    shown : Observes (needs_of state.rules) (length state.places) (row_of state) trace.state
+    shown = says-so (needs_of state.rules) (length state.places) (row_of state) (place_of state) trace.state tracks.refines
 
-    run : IsRun (needs_of state.rules) (opening trace.withheld) (trace.history ++ []) trace.lazy
-    run = subst (λ (h : List (ℕ × Event)). IsRun (needs_of state.rules) (opening trace.withheld) h trace.lazy) (sym (append-nil trace.history)) tracks.run
+    run : IsRun (needs_of state.rules) (opening trace.withheld) (trace.history ++ []) trace.state
+    run = subst (λ (h : List (ℕ × Event)). IsRun (needs_of state.rules) (opening trace.withheld) h trace.state) (sym (append-nil trace.history)) tracks.run
 
     made_is : made_after trace.made move step (row_of state 0 == row_of state 0) ≡ trace.made
     made_is = all-same (made_after trace.made move step (row_of state 0 == row_of state 0)) trace.made (λ place.
@@ -407,13 +407,13 @@ idled state trace move step calls registered made silent right waits tracks =
     holder_is : holder_after trace.holder (mover move) (main_of (row_of state)) (main_of (row_of state)) ≡ trace.holder
     holder_is =
         ap (λ (h : ℕ). holder_after h (mover move) (main_of (row_of state)) (main_of (row_of state))) (sym tracks.holder)
-        ∙ held-same (needs_of state.rules) (length state.places) (row_of state) (place_of state) trace.lazy (mover move) tracks.refines ∙ tracks.holder
+        ∙ held-same (needs_of state.rules) (length state.places) (row_of state) (place_of state) trace.state (mover move) tracks.refines ∙ tracks.holder
 
-    trace_is : trace_after state move (record { step = step; machine = state }) trace [] trace.lazy ≡ trace
+    trace_is : trace_after state move (record { step = step; machine = state }) trace [] trace.state ≡ trace
     trace_is = λ i. record {
       withheld = trace.withheld;
       history = append-nil trace.history i;
-      lazy = trace.lazy;
+      state = trace.state;
       registered = registered_is i;
       holder = holder_is i;
       calls = calls_is i;

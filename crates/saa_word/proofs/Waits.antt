@@ -15,7 +15,7 @@ use Rattle.saa_word_steps.specs.declared.place.Registration.{Registration}
 use Rattle.saa_core_words.specs.declared.word.Word.{Word}
 use Rattle.saa_word_steps.specs.Needs.{Needs}
 use Rattle.saa_word_steps.specs.declared.event.Event.{Event}
-use Rattle.saa_word_steps.specs.Lazy.{Lazy}
+use Rattle.saa_word_steps.specs.AbstractState.{AbstractState}
 use Rattle.saa_core_spec.proofs.Counts.{number_same}
 use Rattle.saa_word_steps.specs.Steps.{needs_of, next_of, operation_of, word_at, written_by}
 use Rattle.saa_word_proofs.specs.Refinement.{IsAlone, IsLeaving, is_holder, is_slot, main_of}
@@ -24,7 +24,7 @@ use Rattle.saa_word_proofs.specs.Calls.{IsLeavingLine, IsUnder, taken_by}
 use Rattle.saa_word_proofs.specs.Blocking.{IsBlockedAt}
 use Rattle.saa_word_proofs.specs.Promises.{idle_place}
 use Rattle.saa_word_proofs.proofs.RefinementLemmas.Lists.{updated-at}
-use Rattle.saa_word_steps.specs.declared.call.WordCall.TheVariants.{Try, Register, Release, Available, TryLock, TryShare, RegisterMode, ReleaseLock, ReleaseShare, PoisonLock, ClearPoison, IsFree, IsLocked, IsShared, IsPoisoned, TryPoll, Poll, Cancel}
+use Rattle.saa_word_steps.specs.declared.call.WordCall.TheVariants.{Try, Register, Release, Available, TryLock, TryShare, RegisterMode, ReleaseLock, ReleaseShare, Downgrade, PoisonLock, ClearPoison, IsFree, IsLocked, IsShared, IsPoisoned, TryPoll, Poll, Cancel}
 use Rattle.saa_word_proofs.proofs.RefinementLemmas.Polls.{only-stalls}
 use Rattle.std.proofs.lemmas.List.{set-get_or}
 use Rattle.saa_word.specs.Machine.{State, place_of, row_of}
@@ -48,6 +48,7 @@ awaits-polls TryShare is = absurd (cc)
 awaits-polls (RegisterMode mode) is = absurd (cc)
 awaits-polls ReleaseLock is = absurd (cc)
 awaits-polls ReleaseShare is = absurd (cc)
+awaits-polls Downgrade is = absurd (cc)
 awaits-polls PoisonLock is = absurd (cc)
 awaits-polls ClearPoison is = absurd (cc)
 awaits-polls IsFree is = absurd (cc)
@@ -77,7 +78,7 @@ record Moment (trace : Trace) (me : ℕ) (seen : Word) (registration : Registrat
 
 -- the call of a place that waits at its stage is blocked
 held-up : (needs : Needs) (trace : Trace) (places me : ℕ) (seen : Word) (registration : Registration) (m : Moment trace me seen registration) (call : WordCall) (registered : Registration) (back : Back) (stage : Stage) (events : List Event)
-    → IsUnder needs call registered back stage events → IsAlone needs registration back stage → IsBlockedAt trace.lazy me seen stage
+    → IsUnder needs call registered back stage events → IsAlone needs registration back stage → IsBlockedAt trace.state me seen stage
     → IsBlocked trace places me seen (word_at (operation_of needs places me stage)) call
 held-up needs trace places me seen registration m call registered back Quiet events under alone stalled = absurd stalled
 held-up needs trace places me seen registration m call registered back (ReadLoad reading) events under alone stalled = absurd stalled
@@ -120,7 +121,7 @@ held-up needs trace places me seen registration m call registered back (PoisonEx
 
 -- and it is in a call
 held-in : (needs : Needs) (trace : Trace) (places me : ℕ) (seen : Word) (underway : Option Underway) (place : Place) → Moment trace me seen place.registration
-    → IsIn needs underway place → is_quiet place.stage ≡ false → IsAlone needs place.registration place.back place.stage → IsBlockedAt trace.lazy me seen place.stage
+    → IsIn needs underway place → is_quiet place.stage ≡ false → IsAlone needs place.registration place.back place.stage → IsBlockedAt trace.state me seen place.stage
     → (u : Underway) × (underway ≡ Some u) × IsBlocked trace places me seen (word_at (operation_of needs places me place.stage)) u.call
 held-in needs trace places me seen None place m is busy alone stalled = absurd (not-quiet place.stage busy is)
 held-in needs trace places me seen (Some underway) place m is busy alone stalled = (
@@ -130,22 +131,22 @@ held-in needs trace places me seen (Some underway) place m is busy alone stalled
 )
 
 -- nobody holds the flag where it waits
-waits-free : (lazy : Lazy) (me : ℕ) (seen : Word) (stage : Stage) → IsBlockedAt lazy me seen stage → is_holder stage ≡ false
-waits-free lazy me seen Quiet stalled = refl
-waits-free lazy me seen (ReadLoad reading) stalled = refl
-waits-free lazy me seen (AskLoad ask) stalled = refl
-waits-free lazy me seen (AskExchange ask old) stalled = refl
-waits-free lazy me seen (Prepare request old) stalled = refl
-waits-free lazy me seen (Join request old) stalled = refl
-waits-free lazy me seen (ReleaseLoad given) stalled = refl
-waits-free lazy me seen (ReleaseExchange given old) stalled = refl
-waits-free lazy me seen (Take taking) stalled = refl
-waits-free lazy me seen FlagLoad stalled = refl
-waits-free lazy me seen (FlagExchange old) stalled = refl
-waits-free lazy me seen PoisonLoad stalled = refl
-waits-free lazy me seen (PoisonExchange old) stalled = refl
-waits-free lazy me seen Clear stalled = refl
-waits-free lazy me seen stage stalled = absurd stalled
+waits-free : (abstract : AbstractState) (me : ℕ) (seen : Word) (stage : Stage) → IsBlockedAt abstract me seen stage → is_holder stage ≡ false
+waits-free abstract me seen Quiet stalled = refl
+waits-free abstract me seen (ReadLoad reading) stalled = refl
+waits-free abstract me seen (AskLoad ask) stalled = refl
+waits-free abstract me seen (AskExchange ask old) stalled = refl
+waits-free abstract me seen (Prepare request old) stalled = refl
+waits-free abstract me seen (Join request old) stalled = refl
+waits-free abstract me seen (ReleaseLoad given) stalled = refl
+waits-free abstract me seen (ReleaseExchange given old) stalled = refl
+waits-free abstract me seen (Take taking) stalled = refl
+waits-free abstract me seen FlagLoad stalled = refl
+waits-free abstract me seen (FlagExchange old) stalled = refl
+waits-free abstract me seen PoisonLoad stalled = refl
+waits-free abstract me seen (PoisonExchange old) stalled = refl
+waits-free abstract me seen Clear stalled = refl
+waits-free abstract me seen stage stalled = absurd stalled
 
 pub waiting : (state : State) (trace : Trace) (me : ℕ) → me < length state.places → Tracks state trace → is_quiet (place_of state me).stage ≡ false
     → next_of (needs_of state.rules) me (place_of state me) (place_of state me).stage (found_by state (operation_at state me)) ≡ HasToWait
@@ -154,10 +155,10 @@ waiting state trace me here tracks busy waits =
     let operation : Operation = operation_at state me in
     let s = tracks.refines in
     let only =
-    only-stalls (needs_of state.rules) (length state.places) (row_of state) (place_of state) trace.lazy me here s (place_of state me).stage refl waits in
+    only-stalls (needs_of state.rules) (length state.places) (row_of state) (place_of state) trace.state me here s (place_of state me).stage refl waits in
     let written : written_by operation (found_by state operation) ≡ get_or state.row (word_at operation) 0 =
     sym (updated-at (row_of state) (word_at operation) (written_by operation (found_by state operation))) ∙ ap (λ (r : ℕ → ℕ). r (word_at operation)) only.1 in
-    let apart : s.holder == me + 1 ≡ false = sym (s.stages.one me) ∙ waits-free trace.lazy me (main_of (row_of state)) (place_of state me).stage only.0 in
+    let apart : s.holder == me + 1 ≡ false = sym (s.stages.one me) ∙ waits-free trace.state me (main_of (row_of state)) (place_of state me).stage only.0 in
     let free : trace.holder ≢ me + 1 = λ mine.
     let wrong : true ≡ false = sym (number_same (me + 1)) ∙ ap (λ (n : ℕ). n == me + 1) (sym (tracks.holder ∙ mine)) ∙ apart in absurd (cc) in
     let some : (main_of (row_of state)).is_flagged ≡ true → trace.holder ≢ 0 = λ set none.

@@ -4,7 +4,7 @@ use Rattle.std.specs.Prelude.{◌≡◌, ℕ, ◌+◌, ◌*◌, ◌<◌, ◌^◌
 use Rattle.saa_core_words.specs.Words.{count_bits}
 use Rattle.saa_word_steps.specs.declared.rules.Rules.{Rules}
 use Rattle.saa_word_steps.specs.declared.place.Place.{Place}
-use Rattle.saa_word_steps.specs.Lazy.{Lazy}
+use Rattle.saa_word_steps.specs.AbstractState.{AbstractState}
 use Rattle.saa_word_steps.specs.Steps.{needs_of}
 use Rattle.saa_word_proofs.specs.Refinement.{Refines}
 use Rattle.saa_word_proofs.specs.Promises.{idle_place}
@@ -35,12 +35,12 @@ opened rules count places = record {
 abbrev pub is_lock : State → Bool
 is_lock state = (needs_of state.rules).is_lock
 
--- the row as a function of the index, and a machine that stands together with a abstract state
+-- the row as a function of the index, and a machine that stands together with an abstract state
 abbrev pub row_of : State → ℕ → ℕ
 row_of state index = slice_index state.row index
 
-abbrev pub RefinesAs : State → Lazy → Type 0
-RefinesAs state lazy = Refines (needs_of state.rules) (length state.places) (row_of state) (place_of state) lazy
+abbrev pub RefinesAs : State → AbstractState → Type 0
+RefinesAs state abstract = Refines (needs_of state.rules) (length state.places) (row_of state) (place_of state) abstract
 
 -- a machine is of few places, each with its words
 pub record IsSized (state : State) : Type 0 where

@@ -1,5 +1,5 @@
 -- How each move of a machine goes on with every trace that tracks it.
-use Rattle.std.specs.Prelude.{◌≡◌, ◌≢◌, ℕ, ◌⊎◌, ◌+◌, ◌*◌, ◌≤◌, ◌==◌, ◌||◌, Bool, true, false, List, [], ◌∷◌, ◌++◌, Option, Some, None, is_some, length, if◌then◌else◌}
+use Rattle.std.specs.Prelude.{◌≡◌, ◌≢◌, ℕ, ◌⊎◌, ◌+◌, ◌*◌, ◌≤◌, ◌==◌, ◌||◌, Bool, true, List, [], ◌∷◌, ◌++◌, Option, Some, None, is_some, length, if◌then◌else◌}
 use Rattle.saa_core_spec.specs.Object.{one_if}
 use Rattle.saa_word_steps.specs.declared.call.Answer.{Answer}
 use Rattle.saa_word_steps.specs.declared.call.WordCall.{WordCall}
@@ -9,7 +9,7 @@ use Rattle.saa_word_steps.specs.declared.place.Ask.{Ask}
 use Rattle.saa_word_steps.specs.declared.place.Registration.{Registration}
 use Rattle.saa_word_steps.specs.declared.rules.Rules.TheVariants.{Permits}
 use Rattle.saa_word_steps.specs.Needs.{Needs, permit_needs}
-use Rattle.saa_word_steps.specs.Lazy.{Lazy, IsRun, is_in, waits_times}
+use Rattle.saa_word_steps.specs.AbstractState.{AbstractState, IsRun, is_in, waits_times}
 use Rattle.saa_word_steps.specs.Steps.{needs_of, word_at}
 use Rattle.saa_core_words.specs.declared.word.Word.{Word}
 use Rattle.saa_word_proofs.specs.Refinement.{is_slot, main_of, updated}
@@ -24,7 +24,7 @@ use Rattle.saa_word.specs.declared.moves.Move.{Move}
 use Rattle.saa_word.specs.declared.moves.Move.TheVariants.{Start, Go}
 use Rattle.saa_word.specs.declared.moves.Step.{Step}
 use Rattle.saa_word.specs.declared.moves.Step.TheVariants.{Idle, Busy, Going, Waits, Done}
-use Rattle.saa_word.specs.Machine.{State, place_of, row_of}
+use Rattle.saa_word.specs.Machine.{State, row_of}
 use Rattle.saa_word.specs.Moves.{Moved, gone, operation_at, ran}
 use Rattle.saa_word.specs.Trace.{Trace, Tracks, Underway}
 
@@ -44,7 +44,7 @@ registered_after underway (Start me call) events Busy was = was
 registered_after underway (Start me call) events step was = begun_as call was
 registered_after underway (Go me) events step was = left_behind events (asked_in underway) was
 
--- who holds the flag behind a move: nobody while it is clear, whoever held it while it stays set, and the mover where the move set it
+-- the flag's holder behind a move: nobody while it is clear, the holder so far while it stays set, and the mover where the move set it
 abbrev pub holder_after : ℕ → ℕ → Word → Word → ℕ
 holder_after holder me before after = if after.is_flagged then (if before.is_flagged then holder else me + 1) else 0
 
@@ -68,11 +68,11 @@ made_after made move step same place =
     if place == mover move then mine_after (made place) move step else (if same then made place else 0)
 
 -- the trace behind a move that was these events and left this abstract state
-abbrev pub trace_after : State → Move → Moved → Trace → List Event → Lazy → Trace
+abbrev pub trace_after : State → Move → Moved → Trace → List Event → AbstractState → Trace
 trace_after state move moved trace events last = record {
   withheld = trace.withheld;
   history = trace.history ++ of_place (mover move) events;
-  lazy = last;
+  state = last;
   registered = updated trace.registered (mover move)
       (registered_after (trace.calls (mover move)) move (named events) moved.step (trace.registered (mover move)));
   holder = holder_after trace.holder (mover move) (main_of (row_of state)) (main_of (row_of moved.machine));
@@ -113,9 +113,9 @@ IsHeldByAnother trace me = (trace.holder ≢ 0) × (trace.holder ≢ me + 1)
 -- place is in the line, or its answer is due; a cancel does so where its answer is due, or it reads the main word while it is registered in
 -- the line and another place holds the flag; and poison reads the main word, finds one owner, and another place holds the flag
 abbrev pub IsBlocked : Trace → ℕ → ℕ → Word → (read : ℕ) → WordCall → Type 0
-IsBlocked trace places me seen read Poll = (read ≡ places + me + 1) × ((is_in me trace.lazy.line || is_some (trace.lazy.due me)) ≡ true)
+IsBlocked trace places me seen read Poll = (read ≡ places + me + 1) × ((is_in me trace.state.line || is_some (trace.state.due me)) ≡ true)
 IsBlocked trace places me seen read Cancel =
-    ((read ≡ places + me + 1) × (is_some (trace.lazy.due me) ≡ true))
+    ((read ≡ places + me + 1) × (is_some (trace.state.due me) ≡ true))
     ⊎ ((read ≡ 0) × (seen.is_flagged ≡ true) × IsHeldByAnother trace me × (is_slot (trace.registered me) ≡ true))
 IsBlocked trace places me seen read PoisonLock = (read ≡ 0) × IsOwnedAndFlagged seen × IsHeldByAnother trace me
 IsBlocked trace places me seen read _ = ⊥
@@ -136,9 +136,9 @@ WaitsRightly state after trace _ _ = Unit {0}
 -- taken. Each place whose answer is due or shown has one such grant, and no other has any. No ask finds a semaphore poisoned, and each answer
 -- that is taken is a grant
 pub record IsConserved (needs : Needs) (trace : Trace) : Type 0 where
-  pub balanced : ConservesPermits needs trace.withheld trace.lazy (tally_of needs trace.withheld trace.history)
+  pub balanced : ConservesPermits needs trace.withheld trace.state (tally_of needs trace.withheld trace.history)
   pub pending : (place : ℕ) → waits_times place (tally_of needs trace.withheld trace.history).pending
-      ≡ one_if (is_some (trace.lazy.due place)) + one_if (is_some (trace.lazy.shown place))
+      ≡ one_if (is_some (trace.state.due place)) + one_if (is_some (trace.state.shown place))
   pub events : AreOfPermits trace.history
 
 -- the permits of a semaphore are
@@ -150,8 +150,8 @@ Conserves state trace = (bound : ℕ) → state.rules ≡ Permits bound → IsCo
 -- many steps; and the trace behind the events tracks the machine
 pub record Simulates (state : State) (move : Move) (moved : Moved) (trace : Trace) : Type 0 where
   pub events : List Event
-  pub last : Lazy
-  pub run : IsRun (needs_of state.rules) trace.lazy (of_place (mover move) events) last
+  pub last : AbstractState
+  pub run : IsRun (needs_of state.rules) trace.state (of_place (mover move) events) last
   pub silent : IsSilent move moved.step events
   pub answers : IsRight (needs_of state.rules) (trace.registered (mover move)) (trace.calls (mover move)) move (named events) moved.step
   pub waits : WaitsRightly state moved.machine trace move moved.step
@@ -185,7 +185,7 @@ events_of state (move ∷ moves) trace all =
 -- tracks the machine, all events so far lead to its words, and permits are conserved
 pub record SimulatesAll (state : State) (moves : List Move) (trace : Trace) : Type 0 where
   pub each : AllSimulate state moves trace
-  pub run : IsRun (needs_of state.rules) trace.lazy (events_of state moves trace each) (last_trace state moves trace each).lazy
+  pub run : IsRun (needs_of state.rules) trace.state (events_of state moves trace each) (last_trace state moves trace each).state
   pub history : (last_trace state moves trace each).history ≡ trace.history ++ events_of state moves trace each
   pub withheld : (last_trace state moves trace each).withheld ≡ trace.withheld
   pub leads : LeadsTo (needs_of state.rules) (length state.places) trace.withheld (trace.history ++ events_of state moves trace each)

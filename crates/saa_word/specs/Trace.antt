@@ -8,7 +8,7 @@ use Rattle.saa_word_steps.specs.declared.place.Registration.{Registration}
 use Rattle.saa_word_steps.specs.declared.place.Registration.TheVariants.{Idle}
 use Rattle.saa_word_steps.specs.declared.place.Stage.TheVariants.{Quiet}
 use Rattle.saa_word_steps.specs.Needs.{Needs}
-use Rattle.saa_word_steps.specs.Lazy.{Lazy, IsRun, held_by, opening}
+use Rattle.saa_word_steps.specs.AbstractState.{AbstractState, IsRun, held_by, opening}
 use Rattle.saa_word_steps.specs.Steps.{needs_of}
 use Rattle.saa_word_proofs.specs.Calls.{IsUnder}
 use Rattle.saa_word_proofs.specs.Refinement.{is_slot}
@@ -23,12 +23,12 @@ pub record Underway : Type 0 where
   pub events : List Event
 
 -- How much was held at the opening, and every event since, each with its place; the abstract state behind them; what each place is
--- registered as; who holds the flag, as a link, which is 0 for nobody; the call that each place is in; and how many steps each place has
+-- registered as; the flag's holder, as a link, which is 0 for nobody; the call that each place is in; and how many steps each place has
 -- made since its call began, or since another place last changed the main word, whichever is later, those that wait aside
 pub record Trace : Type 0 where
   pub withheld : ℕ
   pub history : List (ℕ × Event)
-  pub lazy : Lazy
+  pub state : AbstractState
   pub registered : ℕ → Registration
   pub holder : ℕ
   pub calls : ℕ → Option Underway
@@ -39,7 +39,7 @@ abbrev pub beginning : ℕ → Trace
 beginning count = record {
   withheld = count;
   history = [];
-  lazy = opening count;
+  state = opening count;
   registered = λ place. Idle;
   holder = 0;
   calls = λ place. None;
@@ -56,11 +56,11 @@ IsIn needs (Some underway) place = IsUnder needs underway.call underway.register
 -- in the call that it says; and what each place has made and what it has left are at most 16 steps for each place and 48 more
 pub record Tracks (state : State) (trace : Trace) : Type 0 where
   pub sized : IsSized state
-  pub run : IsRun (needs_of state.rules) (opening trace.withheld) trace.history trace.lazy
-  pub refines : RefinesAs state trace.lazy
+  pub run : IsRun (needs_of state.rules) (opening trace.withheld) trace.history trace.state
+  pub refines : RefinesAs state trace.state
   pub registered : (place : ℕ) → (place_of state place).registration ≡ trace.registered place
-  pub held : (place : ℕ) → held_by place trace.lazy ≡ one_if (is_slot (trace.registered place))
-  pub asks : AreRegistered trace.registered trace.lazy.line
+  pub held : (place : ℕ) → held_by place trace.state ≡ one_if (is_slot (trace.registered place))
+  pub asks : AreRegistered trace.registered trace.state.line
   pub holder : refines.holder ≡ trace.holder
   pub calls : (place : ℕ) → IsIn (needs_of state.rules) (trace.calls place) (place_of state place)
   pub within : AreWithin (length state.places) (row_of state) (place_of state) trace.made

@@ -24,7 +24,7 @@ pub enum Kind {
     Show,
     /// It takes the own answer.
     Take,
-    /// It looks at the main word to set the flag, or sets it, to give a registration up.
+    /// It looks at the main word to set the flag, or sets it, to cancel.
     Flag,
     /// It reads or writes a line word, as the one who looks for itself in the line and leaves it.
     Unlink,

@@ -6,7 +6,7 @@ use Rattle.saa_word_steps.specs.declared.call.Answer.{Answer}
 use Rattle.saa_word_steps.specs.declared.call.WordCall.{WordCall}
 use Rattle.saa_word_steps.specs.declared.rules.Rules.{Rules}
 use Rattle.saa_word_steps.specs.Needs.{Needs}
-use Rattle.saa_word_steps.specs.Lazy.{Lazy}
+use Rattle.saa_word_steps.specs.AbstractState.{AbstractState}
 use Rattle.saa_word_steps.specs.Steps.{needs_of}
 use Rattle.saa_word_proofs.specs.Refinement.{Refines}
 use Rattle.saa_word_proofs.specs.Alone.{Moment, IsQuiet}
@@ -18,16 +18,16 @@ pub record Begins (rules : Rules) (places me : ℕ) (now : Moment) (s : Object) 
   pub small : (needs_of rules).top < 2 ^ count_bits
   pub room : places < 65536
   pub here : me < places
-  pub lazy : Lazy
-  pub stands : Refines (needs_of rules) places now.row now.standing lazy
+  pub state : AbstractState
+  pub stands : Refines (needs_of rules) places now.row now.standing state
   pub quiet : IsQuiet now.standing
-  pub mirrors : Mirrors (needs_of rules) places now.standing lazy s
+  pub mirrors : Mirrors (needs_of rules) places now.standing state s
 
 -- At the end no place is in a call; the answer is the reply of the sequential object, and what that leaves stands for what
 -- the call has left
 pub record Agrees (needs : Needs) (places me : ℕ) (is_sync : Bool) (call : WordCall) (s : Object) (answer : Answer) (last : Moment) : Type 0 where
-  pub lazy : Lazy
-  pub stands : Refines needs places last.row last.standing lazy
+  pub state : AbstractState
+  pub stands : Refines needs places last.row last.standing state
   pub quiet : IsQuiet last.standing
-  pub mirrors : Mirrors needs places last.standing lazy (called needs.is_lock me is_sync call s).state
+  pub mirrors : Mirrors needs places last.standing state (called needs.is_lock me is_sync call s).state
   pub same : answer ≡ (called needs.is_lock me is_sync call s).reply

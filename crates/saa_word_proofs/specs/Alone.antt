@@ -7,7 +7,7 @@ use Rattle.saa_word_steps.specs.declared.place.Stage.TheVariants.{Quiet}
 use Rattle.saa_word_steps.specs.declared.call.Answer.{Answer}
 use Rattle.saa_word_steps.specs.declared.call.WordCall.{WordCall}
 use Rattle.saa_word_steps.specs.Needs.{Needs}
-use Rattle.saa_word_steps.specs.Lazy.{Lazy, IsSettledAt}
+use Rattle.saa_word_steps.specs.AbstractState.{AbstractState, IsSettledAt}
 use Rattle.saa_word_steps.specs.Steps.{word_at, operation_of, next_of, started}
 use Rattle.saa_word_proofs.specs.Refinement.{main_of, line_of, IsBehind, updated}
 use Rattle.saa_word_proofs.specs.StepRefinement.{place_after, row_after}
@@ -16,13 +16,13 @@ use Rattle.saa_word_proofs.specs.StepRefinement.{place_after, row_after}
 abbrev pub IsQuiet : (ℕ → Place) → Type 0
 IsQuiet standing = (place : ℕ) → (standing place).stage ≡ Quiet
 
--- The flag is clear, no answer is due, the object isn't open, its line is settled, and the line words link all who wait
-pub record IsAtRest (needs : Needs) (row : ℕ → ℕ) (lazy : Lazy) : Type 0 where
+-- The flag is clear, no answer is due, the object isn't open, its line is settled, and the line words link all waiters
+pub record IsAtRest (needs : Needs) (row : ℕ → ℕ) (state : AbstractState) : Type 0 where
   pub clear : (main_of row).is_flagged ≡ false
-  pub paid : (place : ℕ) → lazy.due place ≡ None
-  pub closed : lazy.unclosed ≡ false
-  pub settled : IsSettledAt needs lazy.count lazy.line
-  pub linked : IsBehind (line_of row) 0 lazy.line
+  pub paid : (place : ℕ) → state.due place ≡ None
+  pub closed : state.unclosed ≡ false
+  pub settled : IsSettledAt needs state.count state.line
+  pub linked : IsBehind (line_of row) 0 state.line
 
 -- the row of words and the places at a moment
 pub record Moment : Type 0 where

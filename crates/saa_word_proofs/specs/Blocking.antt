@@ -6,7 +6,7 @@ use Rattle.saa_core_words.specs.Words.{lock_count}
 use Rattle.saa_word_steps.specs.declared.place.Stage.{Stage}
 use Rattle.saa_word_steps.specs.declared.place.Stage.TheVariants.{Take, FlagLoad, FlagExchange, PoisonLoad, PoisonExchange}
 use Rattle.saa_word_steps.specs.declared.place.Taking.TheVariants.{Awaits, Gives}
-use Rattle.saa_word_steps.specs.Lazy.{Lazy, is_in}
+use Rattle.saa_word_steps.specs.AbstractState.{AbstractState, is_in}
 
 -- the main word is that of a lock that one owner has, while somebody works on the line
 abbrev pub IsOwnedAndFlagged : Word → Type 0
@@ -14,11 +14,11 @@ IsOwnedAndFlagged seen = (seen.count ≡ lock_count Exclusive) × (seen.is_poiso
 
 -- a place waits at a stage: a poll of who is in the line or due, a cancel of who is due, a cancel that finds the flag set, and poison that
 -- finds one owner and the flag set
-abbrev pub IsBlockedAt : Lazy → ℕ → Word → Stage → Type 0
-IsBlockedAt lazy me seen (Take Awaits) = (is_in me lazy.line || is_some (lazy.due me)) ≡ true
-IsBlockedAt lazy me seen (Take (Gives request)) = is_some (lazy.due me) ≡ true
-IsBlockedAt lazy me seen FlagLoad = seen.is_flagged ≡ true
-IsBlockedAt lazy me seen (FlagExchange old) = seen.is_flagged ≡ true
-IsBlockedAt lazy me seen PoisonLoad = IsOwnedAndFlagged seen
-IsBlockedAt lazy me seen (PoisonExchange old) = IsOwnedAndFlagged seen
-IsBlockedAt lazy me seen _ = ⊥
+abbrev pub IsBlockedAt : AbstractState → ℕ → Word → Stage → Type 0
+IsBlockedAt state me seen (Take Awaits) = (is_in me state.line || is_some (state.due me)) ≡ true
+IsBlockedAt state me seen (Take (Gives request)) = is_some (state.due me) ≡ true
+IsBlockedAt state me seen FlagLoad = seen.is_flagged ≡ true
+IsBlockedAt state me seen (FlagExchange old) = seen.is_flagged ≡ true
+IsBlockedAt state me seen PoisonLoad = IsOwnedAndFlagged seen
+IsBlockedAt state me seen (PoisonExchange old) = IsOwnedAndFlagged seen
+IsBlockedAt state me seen _ = ⊥

@@ -4,10 +4,12 @@ use Rattle.saa_core_spec.specs.Lock.{try_answer}
 use Rattle.saa_core_spec.specs.Values.{granted_value}
 use Rattle.saa_core_spec.specs.declared.polling.Error.TheVariants.{NotReady as NotYet}
 use Rattle.saa_word_steps.specs.declared.call.WordCall.{WordCall}
-use Rattle.saa_word_steps.specs.declared.call.WordCall.TheVariants.{Try, Register, Release, Available, TryLock, TryShare, RegisterMode, ReleaseLock, ReleaseShare, PoisonLock, ClearPoison, IsFree, IsLocked, IsShared, IsPoisoned, TryPoll, Poll, Cancel}
+use Rattle.saa_word_steps.specs.declared.call.WordCall.TheVariants.{Try, Register, Release, Available, TryLock, TryShare, RegisterMode, ReleaseLock, ReleaseShare, Downgrade, PoisonLock, ClearPoison, IsFree, IsLocked, IsShared, IsPoisoned, TryPoll, Poll, Cancel}
 use Rattle.saa_word_steps.specs.declared.call.Answer.{Answer}
 use Rattle.saa_word_steps.specs.declared.call.Answer.TheVariants.{Bool as Says, Tried, Taken, Unit as Ended}
 use Rattle.saa_word_steps.specs.declared.place.Ask.{Ask}
+use Rattle.saa_word_steps.specs.declared.place.Given.{Given}
+use Rattle.saa_word_steps.specs.declared.place.Given.TheVariants.{Asked, AllButAShare}
 use Rattle.saa_word_steps.specs.declared.place.Back.{Back}
 use Rattle.saa_word_steps.specs.declared.place.Back.TheVariants.{Tells, Ends, Takes}
 use Rattle.saa_word_steps.specs.declared.place.Reading.{Reading}
@@ -23,7 +25,7 @@ use Rattle.saa_word_steps.specs.declared.place.Next.TheVariants.{Going, Waits, D
 use Rattle.saa_word_steps.specs.Needs.{Needs}
 use Rattle.saa_word_steps.specs.Steps.{mode_number, read_as, tried_answer}
 use Rattle.saa_word_steps.specs.declared.event.Event.{Event}
-use Rattle.saa_word_steps.specs.declared.event.Event.TheVariants.{Got, Refused, AskedPoisoned, Joined, Left, Gave, GaveNothing, Poisoned, NotPoisoned, Cleared, NotCleared, NotReady, Took, Read}
+use Rattle.saa_word_steps.specs.declared.event.Event.TheVariants.{Got, Refused, AskedPoisoned, Joined, Left, Gave, GaveNothing, Lowered, NotLowered, Poisoned, NotPoisoned, Cleared, NotCleared, NotReady, Took, Read}
 
 -- what a call asks for, gives back and reads
 abbrev pub asked_by : WordCall → Option Ask
@@ -34,10 +36,11 @@ asked_by TryShare = Some (record { request = 1; joins = false })
 asked_by (RegisterMode mode) = Some (record { request = mode_number mode; joins = true })
 asked_by _ = None
 
-abbrev pub given_by : WordCall → Option ℕ
-given_by (Release count) = Some count
-given_by ReleaseLock = Some 0
-given_by ReleaseShare = Some 1
+abbrev pub given_by : WordCall → Option Given
+given_by (Release count) = Some (Asked count)
+given_by ReleaseLock = Some (Asked 0)
+given_by ReleaseShare = Some (Asked 1)
+given_by Downgrade = Some AllButAShare
 given_by _ = None
 
 abbrev pub read_by : WordCall → Option Reading
@@ -56,10 +59,12 @@ ask_named needs ask (Joined request) = if (request == ask.request) && ask.joins 
 ask_named needs ask AskedPoisoned = Some (if ask.joins then Says true else Tried (try_answer false true))
 ask_named needs ask _ = None
 
--- the answer that an event names for a release, a reading call and a poll
-abbrev pub release_named : ℕ → Event → Option Answer
-release_named given (Gave request) = if request == given then Some (Says true) else None
-release_named given (GaveNothing request) = if request == given then Some (Says false) else None
+-- the answer that an event names for a release or a downgrade, a reading call and a poll
+abbrev pub release_named : Given → Event → Option Answer
+release_named (Asked given) (Gave request) = if request == given then Some (Says true) else None
+release_named (Asked given) (GaveNothing request) = if request == given then Some (Says false) else None
+release_named AllButAShare Lowered = Some (Says true)
+release_named AllButAShare NotLowered = Some (Says false)
 release_named given _ = None
 
 abbrev pub read_named : Needs → Reading → Event → Option Answer
@@ -86,13 +91,14 @@ clear_named _ = None
 abbrev pub answer_named : Needs → WordCall → Event → Option Answer
 answer_named needs (Try count) event = ask_named needs (record { request = count; joins = false }) event
 answer_named needs (Register count) event = ask_named needs (record { request = count; joins = true }) event
-answer_named needs (Release count) event = release_named count event
+answer_named needs (Release count) event = release_named (Asked count) event
 answer_named needs Available event = read_named needs ReadsAvailable event
 answer_named needs TryLock event = ask_named needs (record { request = 0; joins = false }) event
 answer_named needs TryShare event = ask_named needs (record { request = 1; joins = false }) event
 answer_named needs (RegisterMode mode) event = ask_named needs (record { request = mode_number mode; joins = true }) event
-answer_named needs ReleaseLock event = release_named 0 event
-answer_named needs ReleaseShare event = release_named 1 event
+answer_named needs ReleaseLock event = release_named (Asked 0) event
+answer_named needs ReleaseShare event = release_named (Asked 1) event
+answer_named needs Downgrade event = release_named AllButAShare event
 answer_named needs PoisonLock event = poison_named event
 answer_named needs ClearPoison event = clear_named event
 answer_named needs IsFree event = read_named needs ReadsFree event
@@ -133,18 +139,18 @@ taken_by Poll = Some Awaits
 taken_by _ = None
 
 -- a cancel that gives back what its registration was granted has named that it took its answer, where it waited for that
-abbrev pub IsGivingUp : Needs → Registration → ℕ → List Event → Type 0
-IsGivingUp needs (Slot request) given events = (given ≡ request) × (needs.takes request ≢ 0) × (events ≡ Took granted_value ∷ [])
-IsGivingUp needs (Once value request) given events = (given ≡ request) × (is_taken_up needs request value ≡ true) × (events ≡ [])
+abbrev pub IsGivingUp : Needs → Registration → Given → List Event → Type 0
+IsGivingUp needs (Slot request) given events = (given ≡ Asked request) × (needs.takes request ≢ 0) × (events ≡ Took granted_value ∷ [])
+IsGivingUp needs (Once value request) given events = (given ≡ Asked request) × (is_taken_up needs request value ≡ true) × (events ≡ [])
 IsGivingUp needs _ given events = ⊥
 
--- a call that gives something back, by what it does once it is done with the line
-abbrev pub IsReleasing : Needs → WordCall → Registration → Back → ℕ → List Event → Type 0
+-- a call that gives something back, all but a share too, by what it does once it is done with the line
+abbrev pub IsReleasing : Needs → WordCall → Registration → Back → Given → List Event → Type 0
 IsReleasing needs call registered Tells given events = (given_by call ≡ Some given) × (events ≡ [])
 IsReleasing needs call registered Ends given events = (call ≡ Cancel) × IsGivingUp needs registered given events
 IsReleasing needs call registered (Takes request) given events = ⊥
 
--- whoever works on the line or shows answers has given something back, or poisoned the lock, or left the line; or it takes its own answer
+-- a place that works on the line or shows answers has given something back, or poisoned the lock, or left the line; or it takes its own answer
 -- next, and has named nothing
 abbrev pub IsWorking : Needs → WordCall → Registration → Back → List Event → Type 0
 IsWorking needs call registered Tells events = (event : Event) × (events ≡ event ∷ []) × (answer_named needs call event ≡ Some (Says true)) × (call ≢ Cancel)

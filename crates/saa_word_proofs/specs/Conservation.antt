@@ -3,8 +3,8 @@ use Rattle.std.specs.Prelude.{◌≡◌, ℕ, ◌+◌, ◌==◌, Bool, true, fal
 use Rattle.saa_core_spec.specs.Values.{granted_value}
 use Rattle.saa_word_steps.specs.Needs.{Needs}
 use Rattle.saa_word_steps.specs.declared.event.Event.{Event}
-use Rattle.saa_word_steps.specs.declared.event.Event.TheVariants.{Got, AskedPoisoned, Gave, Granted, Poisoned, Cleared, Took}
-use Rattle.saa_word_steps.specs.Lazy.{Lazy, after_event, opening, line_without, takes_of}
+use Rattle.saa_word_steps.specs.declared.event.Event.TheVariants.{Got, AskedPoisoned, Gave, Lowered, Granted, Poisoned, Cleared, Took}
+use Rattle.saa_word_steps.specs.AbstractState.{AbstractState, after_event, opening, line_without, takes_of}
 
 -- What asks that were granted at once took, and what grants took whose answers were taken; what was given back; and the grants that
 -- aren't taken yet: each place that was granted, with the number of what it asked, oldest first
@@ -23,27 +23,27 @@ line_of_place place [] = []
 line_of_place place (asker ∷ rest) = if asker.0 == place then (asker ∷ line_of_place place rest) else line_of_place place rest
 
 -- the tally behind an event of a place, which happens to the object in this state
-abbrev pub after_counting : Needs → Lazy → Tally → ℕ → Event → Tally
-after_counting needs lazy tally place (Got request) = record tally { got = tally.got + needs.takes request }
-after_counting needs lazy tally place (Gave request) = record tally { given = tally.given + needs.takes request }
-after_counting needs lazy tally place (Granted askers) = record tally { pending = tally.pending ++ take askers lazy.line }
-after_counting needs lazy tally place (Took value) =
+abbrev pub after_counting : Needs → AbstractState → Tally → ℕ → Event → Tally
+after_counting needs state tally place (Got request) = record tally { got = tally.got + needs.takes request }
+after_counting needs state tally place (Gave request) = record tally { given = tally.given + needs.takes request }
+after_counting needs state tally place (Granted askers) = record tally { pending = tally.pending ++ take askers state.line }
+after_counting needs state tally place (Took value) =
     record tally { got = tally.got + takes_of needs (line_of_place place tally.pending); pending = line_without place tally.pending }
-after_counting needs lazy tally place _ = tally
+after_counting needs state tally place _ = tally
 
 -- the tally behind a list of events, from a state of the object and a tally on
-abbrev pub tallied : Needs → Lazy → Tally → List (ℕ × Event) → Tally
-tallied needs lazy tally [] = tally
-tallied needs lazy tally (event ∷ events) =
-    tallied needs (after_event needs lazy event.0 event.1) (after_counting needs lazy tally event.0 event.1) events
+abbrev pub tallied : Needs → AbstractState → Tally → List (ℕ × Event) → Tally
+tallied needs state tally [] = tally
+tallied needs state tally (event ∷ events) =
+    tallied needs (after_event needs state event.0 event.1) (after_counting needs state tally event.0 event.1) events
 
 -- the tally of a list of events from the moment on when so much is held and nobody waits
 abbrev pub tally_of : Needs → ℕ → List (ℕ × Event) → Tally
 tally_of needs withheld events = tallied needs (opening withheld) nothing_yet events
 
 -- what is held and what was given back are what was withheld, what was got, and what is granted and not taken yet
-abbrev pub ConservesPermits : Needs → ℕ → Lazy → Tally → Type 0
-ConservesPermits needs withheld lazy tally = lazy.count + tally.given ≡ withheld + tally.got + takes_of needs tally.pending
+abbrev pub ConservesPermits : Needs → ℕ → AbstractState → Tally → Type 0
+ConservesPermits needs withheld state tally = state.count + tally.given ≡ withheld + tally.got + takes_of needs tally.pending
 
 -- whether an event poisons the object
 abbrev pub poisons : Event → Bool
@@ -55,11 +55,12 @@ abbrev pub NonePoisons : List (ℕ × Event) → Type 0
 NonePoisons [] = Unit {0}
 NonePoisons (event ∷ events) = (poisons event.1 ≡ false) × NonePoisons events
 
--- whether an event may be one of a semaphore: it isn't poisoned, no ask finds it poisoned, and an answer says that the place was granted
+-- whether an event may be one of a semaphore: it isn't poisoned, no ask finds it poisoned, none becomes a share, and an answer says that the place was granted
 abbrev pub is_of_permits : Event → Bool
 is_of_permits Poisoned = false
 is_of_permits AskedPoisoned = false
 is_of_permits Cleared = false
+is_of_permits Lowered = false
 is_of_permits (Took value) = value == granted_value
 is_of_permits _ = true
 

@@ -2,7 +2,7 @@
 use Rattle.std.specs.Prelude.{◌≡◌, ℕ, Bool, false, ◌||◌, ◌==◌, if◌then◌else◌, List, [], ◌∷◌, ◌++◌}
 use Rattle.saa_word_steps.specs.declared.event.Event.{Event}
 use Rattle.saa_word_steps.specs.Needs.{Needs}
-use Rattle.saa_word_steps.specs.Lazy.{Lazy, IsRun, opening}
+use Rattle.saa_word_steps.specs.AbstractState.{AbstractState, IsRun, opening}
 use Rattle.saa_word_proofs.specs.Promises.{Observes}
 
 -- A place's part of a history: its events, in their order
@@ -27,6 +27,6 @@ BeginsWith history seen = (rest : List (ℕ × Event)) × (history ≡ seen ++ r
 -- A history leads to these words of so many places: from the moment on when so much is held and nobody waits, each of its events is enabled
 -- where it comes, and the words show what the last one leaves
 pub record LeadsTo (needs : Needs) (places withheld : ℕ) (history : List (ℕ × Event)) (row : ℕ → ℕ) : Type 0 where
-  pub last : Lazy
+  pub last : AbstractState
   pub run : IsRun needs (opening withheld) history last
   pub shown : Observes needs places row last

@@ -12,7 +12,7 @@ use Rattle.saa_core_spec.specs.declared.semaphore.SemaphoreAnswer.{SemaphoreAnsw
 use Rattle.saa_core_spec.specs.declared.semaphore.SemaphoreAnswer.TheVariants.{Bool as SaysBool, Number as SaysNumber}
 use Rattle.saa_core_spec.specs.declared.lock.Mode.{Mode}
 use Rattle.saa_core_spec.specs.declared.lock.LockCall.{LockCall}
-use Rattle.saa_core_spec.specs.declared.lock.LockCall.TheVariants.{TryLock as TriesLock, TryShare as TriesShare, ReleaseLock as ReleasesLock, ReleaseShare as ReleasesShare, PoisonLock as PoisonsLock, ClearPoison as ClearsPoison, IsFree as AsksFree, IsLocked as AsksLocked, IsShared as AsksShared, IsPoisoned as AsksPoisoned}
+use Rattle.saa_core_spec.specs.declared.lock.LockCall.TheVariants.{TryLock as TriesLock, TryShare as TriesShare, ReleaseLock as ReleasesLock, ReleaseShare as ReleasesShare, Downgrade as Downgrades, PoisonLock as PoisonsLock, ClearPoison as ClearsPoison, IsFree as AsksFree, IsLocked as AsksLocked, IsShared as AsksShared, IsPoisoned as AsksPoisoned}
 use Rattle.saa_core_spec.specs.declared.lock.LockAnswer.{LockAnswer}
 use Rattle.saa_core_spec.specs.declared.lock.LockAnswer.TheVariants.{Bool as LockBool, Tried as LockTried}
 use Rattle.saa_core_spec.specs.Held.{Held, OfLock, Poisoned}
@@ -28,16 +28,16 @@ use Rattle.saa_word_steps.specs.declared.place.Registration.TheVariants.{Idle as
 use Rattle.saa_word_steps.specs.declared.call.Answer.{Answer}
 use Rattle.saa_word_steps.specs.declared.call.Answer.TheVariants.{Bool as Says, Number, Tried, Taken, Unit as SaysNothing}
 use Rattle.saa_word_steps.specs.declared.call.WordCall.{WordCall}
-use Rattle.saa_word_steps.specs.declared.call.WordCall.TheVariants.{Try, Register, Release, Available, TryLock, TryShare, RegisterMode, ReleaseLock, ReleaseShare, PoisonLock, ClearPoison, IsFree, IsLocked, IsShared, IsPoisoned, Cancel}
+use Rattle.saa_word_steps.specs.declared.call.WordCall.TheVariants.{Try, Register, Release, Available, TryLock, TryShare, RegisterMode, ReleaseLock, ReleaseShare, Downgrade, PoisonLock, ClearPoison, IsFree, IsLocked, IsShared, IsPoisoned, Cancel}
 use Rattle.saa_word_steps.specs.Needs.{Needs}
-use Rattle.saa_word_steps.specs.Lazy.{Lazy}
+use Rattle.saa_word_steps.specs.AbstractState.{AbstractState}
 
 -- a line with the requests themselves in place of their numbers
 abbrev pub waiters : Needs → List (ℕ × ℕ) → List Waiter
 waiters needs [] = []
 waiters needs (asker ∷ rest) = (asker.0, needs.read asker.1) ∷ waiters needs rest
 
--- the entry of a place by what it is registered as and the answer that is shown to it: who joined the line waits until there is one
+-- the entry of a place by what it is registered as and the answer that is shown to it: a place that joined the line waits until there is one
 abbrev pub entry_of : Needs → Registration → Option ℕ → (is_sync : Bool) → Entry
 entry_of needs IsIdle shown is_sync = Idle
 entry_of needs (Once value request) shown is_sync = Answered value (needs.read request) is_sync false
@@ -45,17 +45,17 @@ entry_of needs (Slot request) None is_sync = Waiting (needs.read request) is_syn
 entry_of needs (Slot request) (Some value) is_sync = Answered value (needs.read request) is_sync true
 
 -- what the abstract state holds: what it counts, where it isn't poisoned
-abbrev pub held_at : Needs → Lazy → Held
-held_at needs lazy = if lazy.poisoned then OfLock Poisoned else needs.held lazy.count
+abbrev pub held_at : Needs → AbstractState → Held
+held_at needs state = if state.poisoned then OfLock Poisoned else needs.held state.count
 
--- The sequential object holds what the lazy one does, has the same line, and an entry for each place, registered as sync or async.
+-- The sequential object holds what the state one does, has the same line, and an entry for each place, registered as sync or async.
 -- It has room for all places
-pub record Mirrors (needs : Needs) (places : ℕ) (standing : ℕ → Place) (lazy : Lazy) (s : Object) : Type 0 where
-  pub held : s.held ≡ held_at needs lazy
-  pub line : s.line ≡ waiters needs lazy.line
+pub record Mirrors (needs : Needs) (places : ℕ) (standing : ℕ → Place) (state : AbstractState) (s : Object) : Type 0 where
+  pub held : s.held ≡ held_at needs state
+  pub line : s.line ≡ waiters needs state.line
   pub names : length s.book ≡ places
   pub entries : (place : ℕ) → place < places
-      → (is_sync : Bool) × (entry_at s.book place ≡ entry_of needs (standing place).registration (lazy.shown place) is_sync)
+      → (is_sync : Bool) × (entry_at s.book place ≡ entry_of needs (standing place).registration (state.shown place) is_sync)
   pub room : s.room ≡ places
   pub alone : s.outside ≡ 0
 
@@ -75,6 +75,7 @@ lock_command me is_sync TryShare = Call TriesShare
 lock_command me is_sync (RegisterMode mode) = Registers me mode is_sync
 lock_command me is_sync ReleaseLock = Call ReleasesLock
 lock_command me is_sync ReleaseShare = Call ReleasesShare
+lock_command me is_sync Downgrade = Call Downgrades
 lock_command me is_sync PoisonLock = Call PoisonsLock
 lock_command me is_sync ClearPoison = Call ClearsPoison
 lock_command me is_sync IsFree = Call AsksFree

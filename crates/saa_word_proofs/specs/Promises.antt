@@ -8,7 +8,7 @@ use Rattle.saa_word_steps.specs.declared.place.Stage.TheVariants.{Quiet}
 use Rattle.saa_word_steps.specs.declared.place.Back.TheVariants.{Tells}
 use Rattle.saa_word_steps.specs.Needs.{Needs}
 use Rattle.saa_word_steps.specs.Steps.{poisoned_word}
-use Rattle.saa_word_steps.specs.Lazy.{Lazy, IsSettledAt, held_by}
+use Rattle.saa_word_steps.specs.AbstractState.{AbstractState, IsSettledAt, held_by}
 use Rattle.saa_word_proofs.specs.Refinement.{main_of, line_of}
 
 -- a place in no call, that is registered as nothing
@@ -38,15 +38,15 @@ AreAsking words (asker ∷ rest) = ((words asker.0).request ≡ asker.1) × AreA
 -- who waits what it asks. The main word has no bits beyond those of the tail, and that of a poisoned lock is one number. While the flag is
 -- clear the places met along older neighbours from the tail are the line, newest first, the state isn't open, and its line is settled. No
 -- more is held than there ever is, and no place waits twice, or waits and has an answer
-pub record Observes (needs : Needs) (places : ℕ) (row : ℕ → ℕ) (lazy : Lazy) : Type 0 where
-  pub count : (main_of row).count ≡ lazy.count
-  pub poisoned : (main_of row).is_poisoned ≡ lazy.poisoned
+pub record Observes (needs : Needs) (places : ℕ) (row : ℕ → ℕ) (state : AbstractState) : Type 0 where
+  pub count : (main_of row).count ≡ state.count
+  pub poisoned : (main_of row).is_poisoned ≡ state.poisoned
   pub whole : row 0 < 2 ^ 24
-  pub exact : lazy.poisoned ≡ true → row 0 ≡ word_number count_bits poisoned_word
-  pub requests : AreAsking (line_of row) lazy.line
-  pub shown : (place : ℕ) → place < places → row (places + place + 1) ≡ answer_number (lazy.shown place)
-  pub line : (main_of row).is_flagged ≡ false → IsMet (line_of row) (main_of row).tail (newest_first lazy.line)
-  pub closed : (main_of row).is_flagged ≡ false → lazy.unclosed ≡ false
-  pub settled : (main_of row).is_flagged ≡ false → IsSettledAt needs lazy.count lazy.line
-  pub bounded : lazy.count ≤ needs.top
-  pub once : (place : ℕ) → held_by place lazy ≤ 1
+  pub exact : state.poisoned ≡ true → row 0 ≡ word_number count_bits poisoned_word
+  pub requests : AreAsking (line_of row) state.line
+  pub shown : (place : ℕ) → place < places → row (places + place + 1) ≡ answer_number (state.shown place)
+  pub line : (main_of row).is_flagged ≡ false → IsMet (line_of row) (main_of row).tail (newest_first state.line)
+  pub closed : (main_of row).is_flagged ≡ false → state.unclosed ≡ false
+  pub settled : (main_of row).is_flagged ≡ false → IsSettledAt needs state.count state.line
+  pub bounded : state.count ≤ needs.top
+  pub once : (place : ℕ) → held_by place state ≤ 1

@@ -18,9 +18,9 @@ use Rattle.saa_word_steps.specs.declared.place.Taking.TheVariants.{Gives}
 use Rattle.saa_word_steps.specs.declared.place.Afterwards.TheVariants.{Again}
 use Rattle.saa_word_steps.specs.declared.place.Stage.{Stage}
 use Rattle.saa_word_steps.specs.declared.place.Stage.TheVariants.{Quiet, AskLoad, AskExchange, Prepare, Join, ReleaseLoad, ReleaseExchange, BackLoad, BackStore, Forward, CutToClose, CutToGoRound, Close, Empty, GoRound, ShowLoad, ShowStore, Take, FlagLoad, FlagExchange, LookLoad, LookStore, Unlink, DropTail, PoisonLoad, PoisonExchange}
-use Rattle.saa_word_steps.specs.Needs.{Needs, fits_count, left_count}
-use Rattle.saa_word_steps.specs.Lazy.{Lazy, IsFront, IsSettledAt, is_empty, is_in, waits_times, takes_of, held_by}
-use Rattle.saa_word_steps.specs.Steps.{IsRanged}
+use Rattle.saa_word_steps.specs.Needs.{Needs, fits_count}
+use Rattle.saa_word_steps.specs.AbstractState.{AbstractState, IsFront, IsSettledAt, is_empty, is_in, waits_times, takes_of, held_by}
+use Rattle.saa_word_steps.specs.Steps.{IsRanged, left_from}
 
 -- a function with another value at one number
 abbrev pub updated : {A : Type 0} → (ℕ → A) → ℕ → A → ℕ → A
@@ -33,12 +33,12 @@ main_of row = word_of count_bits (row 0)
 abbrev pub line_of : (ℕ → ℕ) → ℕ → LineWord
 line_of row place = line_word_of (row (place + 1))
 
--- the link to the newest of a line, and to whoever is before where nobody stands in it
+-- the link to the newest of a line, and that to its older neighbour where the line is empty
 abbrev pub newest : ℕ → List (ℕ × ℕ) → ℕ
 newest older [] = older
 newest older (asker ∷ rest) = newest (asker.0 + 1) rest
 
--- the link to the oldest of a line; 0 where nobody stands in it
+-- the link to the oldest of a line; 0 where that is empty
 abbrev pub oldest : List (ℕ × ℕ) → ℕ
 oldest [] = 0
 oldest (asker ∷ rest) = asker.0 + 1
@@ -87,12 +87,12 @@ abbrev pub takes_back : Back → Bool
 takes_back (Takes request) = true
 takes_back _ = false
 
--- who takes its own answer once it is done with the line is registered in it
+-- a place that takes its own answer once it is done with the line is registered in it
 abbrev pub IsReturning : Registration → Back → Type 0
 IsReturning registration (Takes request) = registration ≡ Slot request
 IsReturning registration _ = Unit {0}
 
--- who gives its registration up is registered in the line, and takes its own answer where it isn't found there
+-- a cancel is of a place that is registered in the line, and takes its own answer where it isn't found there
 abbrev pub IsLeaving : Registration → Back → Type 0
 IsLeaving registration (Takes request) = registration ≡ Slot request
 IsLeaving registration _ = ⊥
@@ -108,7 +108,7 @@ IsAlone needs registration back (Join request seen) =
     (request < 65536) × (is_slot registration ≡ false) × (seen.tail < 65536) × (waits_behind needs seen request ≡ true) × (seen.is_poisoned ≡ false)
 IsAlone needs registration back (ReleaseLoad given) = takes_back back ≡ false
 IsAlone needs registration back (ReleaseExchange given seen) =
-    (seen.tail < 65536) × ((left : ℕ) × (left_count needs seen.count given ≡ Some left)) × (seen.is_poisoned ≡ false) × (takes_back back ≡ false)
+    (seen.tail < 65536) × ((left : ℕ) × (left_from needs seen.count given ≡ Some left)) × (seen.is_poisoned ≡ false) × (takes_back back ≡ false)
 IsAlone needs registration back (BackLoad seen current newer) = IsReturning registration back
 IsAlone needs registration back (BackStore seen current newer line) = IsReturning registration back
 IsAlone needs registration back (Forward seen current count) = IsReturning registration back
@@ -148,12 +148,12 @@ gives_up back (ShowStore current next value afterwards) = takes_back back
 gives_up back (Take (Gives request)) = true
 gives_up back _ = false
 
--- who is about to join has written its own line word
+-- a place that is about to join has written its own line word
 abbrev pub IsOwn : LineWord → Stage → Type 0
 IsOwn word (Join request seen) = (word.request ≡ request) × (word.older ≡ seen.tail)
 IsOwn word _ = Unit {0}
 
--- whose answers a place has to show, oldest first, and of which value: it shows the newest of them next
+-- the places whose answers a place has to show, oldest first, and of which value: it shows the newest of them next
 abbrev pub IsShowing : List (ℕ × ℕ) → ℕ → Stage → Type 0
 IsShowing owed worth (ShowLoad current value afterwards) = (newest 0 owed ≡ current) × (is_empty owed ≡ false) × (value ≡ worth)
 IsShowing owed worth (ShowStore current next value afterwards) =
@@ -161,7 +161,7 @@ IsShowing owed worth (ShowStore current next value afterwards) =
 IsShowing owed worth _ = owed ≡ []
 
 -- The line as the holder of the flag sees it: those of the front, who are granted or still to be passed, those behind them, up to
--- the tail that it saw, and those who joined since. No more is held than it saw
+-- the tail that it saw, and the waiters who joined since. No more is held than it saw
 pub record Work (held : ℕ) (line : List (ℕ × ℕ)) (seen : Word) : Type 0 where
   pub front : List (ℕ × ℕ)
   pub behind : List (ℕ × ℕ)
@@ -183,7 +183,7 @@ abbrev pub IsBack : (ℕ → LineWord) → List (ℕ × ℕ) → List (ℕ × �
 IsBack words front behind current newer =
     (current ≡ newest 0 front) × (is_empty front ≡ false) × (newer ≡ oldest behind) × IsAhead words behind
 
--- the holder has looked for itself among those behind the front, and stands neither there nor among those who joined since
+-- the holder has looked for itself among those behind the front, and is neither there nor among the waiters who joined since
 abbrev pub IsPassed : ℕ → List (ℕ × ℕ) → List (ℕ × ℕ) → Type 0
 IsPassed me behind joined = (is_in me behind ≡ false) × (is_in me joined ≡ false)
 
@@ -235,18 +235,18 @@ IsHolding needs words me held line cut _ = ⊥
 -- The main word says what is held and who is the newest, and its flag whether somebody holds it: the link of that place, or 0.
 -- Where nobody holds it the object isn't open, and where it isn't open its line is settled. Only a lock is poisoned, and then nothing is
 -- held and nobody waits
-pub record IsMain (needs : Needs) (number : ℕ) (lazy : Lazy) (holder : ℕ) : Type 0 where
+pub record IsMain (needs : Needs) (number : ℕ) (state : AbstractState) (holder : ℕ) : Type 0 where
   pub whole : number < 16777216
-  pub count : (word_of count_bits number).count ≡ lazy.count
-  pub tail : (word_of count_bits number).tail ≡ newest 0 lazy.line
+  pub count : (word_of count_bits number).count ≡ state.count
+  pub tail : (word_of count_bits number).tail ≡ newest 0 state.line
   pub flag : (word_of count_bits number).is_flagged ≡ not (holder == 0)
-  pub poison : (word_of count_bits number).is_poisoned ≡ lazy.poisoned
-  pub barren : lazy.poisoned ≡ true → (lazy.count ≡ 0) × (lazy.line ≡ []) × (needs.is_lock ≡ true)
-  pub bounded : lazy.count ≤ needs.top
-  pub closed : (holder == 0) ≡ true → lazy.unclosed ≡ false
-  pub settled : lazy.unclosed ≡ false → IsSettledAt needs lazy.count lazy.line
+  pub poison : (word_of count_bits number).is_poisoned ≡ state.poisoned
+  pub barren : state.poisoned ≡ true → (state.count ≡ 0) × (state.line ≡ []) × (needs.is_lock ≡ true)
+  pub bounded : state.count ≤ needs.top
+  pub closed : (holder == 0) ≡ true → state.unclosed ≡ false
+  pub settled : state.unclosed ≡ false → IsSettledAt needs state.count state.line
 
--- the line words link the line, in two parts where those who are granted are cut off from those who stay
+-- the line words link the line, in two parts where those that are granted are cut off from those that stay
 pub record IsLine (words : ℕ → LineWord) (line cut uncut : List (ℕ × ℕ)) : Type 0 where
   pub parts : line ≡ cut ++ uncut
   pub granted : IsBehind words 0 cut
@@ -254,8 +254,8 @@ pub record IsLine (words : ℕ → LineWord) (line cut uncut : List (ℕ × ℕ)
   pub some : is_empty uncut ≡ true → cut ≡ []
 
 -- a place is held by the object exactly where it is registered in the line; there are no others
-pub record AreSeats (places : ℕ) (standing : ℕ → Place) (lazy : Lazy) : Type 0 where
-  pub held : (place : ℕ) → held_by place lazy ≡ one_if (is_slot (standing place).registration)
+pub record AreSeats (places : ℕ) (standing : ℕ → Place) (state : AbstractState) : Type 0 where
+  pub held : (place : ℕ) → held_by place state ≡ one_if (is_slot (standing place).registration)
   pub within : (place : ℕ) → is_slot (standing place).registration ≡ true → place < places
   pub beyond : (place : ℕ) → places ≤ place → (standing place).stage ≡ Quiet
 
@@ -284,7 +284,7 @@ pub record AreStages (needs : Needs) (words : ℕ → LineWord) (standing : ℕ 
   pub holding : (place : ℕ) → holder ≡ place + 1 → IsHolding needs words place held line cut (standing place).stage
 
 -- So many places, a row of words and the abstract state stand together
-pub record Refines (needs : Needs) (places : ℕ) (row : ℕ → ℕ) (standing : ℕ → Place) (lazy : Lazy) : Type 0 where
+pub record Refines (needs : Needs) (places : ℕ) (row : ℕ → ℕ) (standing : ℕ → Place) (state : AbstractState) : Type 0 where
   pub holder : ℕ
   pub cut : List (ℕ × ℕ)
   pub uncut : List (ℕ × ℕ)
@@ -292,9 +292,9 @@ pub record Refines (needs : Needs) (places : ℕ) (row : ℕ → ℕ) (standing 
   pub shower : ℕ → ℕ
   pub worth : ℕ → ℕ
   pub free : (holder == 0) ≡ true → cut ≡ []
-  pub main : IsMain needs (row 0) lazy holder
-  pub line : IsLine (line_of row) lazy.line cut uncut
-  pub seats : AreSeats places standing lazy
-  pub answers : AreAnswers places row lazy.shown
-  pub debts : AreDebts (line_of row) lazy.due owed shower worth
-  pub stages : AreStages needs (line_of row) standing lazy.count lazy.line cut holder owed worth
+  pub main : IsMain needs (row 0) state holder
+  pub line : IsLine (line_of row) state.line cut uncut
+  pub seats : AreSeats places standing state
+  pub answers : AreAnswers places row state.shown
+  pub debts : AreDebts (line_of row) state.due owed shower worth
+  pub stages : AreStages needs (line_of row) standing state.count state.line cut holder owed worth

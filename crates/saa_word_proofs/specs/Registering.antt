@@ -1,6 +1,6 @@
 -- What a place is registered as behind the start of a call and behind each event, and what a call answers at its start: all read off the
 -- call, the events and what the place was registered as.
-use Rattle.std.specs.Prelude.{◌≡◌, ℕ, ◌+◌, ◌<◌, Bool, true, false, if◌then◌else◌, nat_lt, ◌==◌, List, [], ◌∷◌, Option, Some, None, Ok, Err}
+use Rattle.std.specs.Prelude.{◌≡◌, ℕ, ◌+◌, ◌<◌, true, false, if◌then◌else◌, nat_lt, ◌==◌, List, [], ◌∷◌, Option, Some, None, Ok, Err}
 use Rattle.saa_core_spec.specs.Values.{granted_value, poisoned_value}
 use Rattle.saa_core_spec.specs.declared.polling.Error.TheVariants.{NotRegistered}
 use Rattle.saa_word_steps.specs.declared.place.Ask.{Ask}
@@ -35,7 +35,7 @@ abbrev pub left_behind : List Event → Option Ask → Registration → Registra
 left_behind [] asks was = was
 left_behind (event ∷ rest) asks was = left_behind rest asks (left_by event asks was)
 
--- a place is registered so where its call goes on or is done, and as before where it waits; whoever is done is at rest
+-- a place is registered so where its call goes on or is done, and as before where it waits; a place that is done is at rest
 abbrev pub IsLeft : Registration → Registration → Next → Type 0
 IsLeft was now (Going place) = place.registration ≡ now
 IsLeft was now Waits = was ≡ now

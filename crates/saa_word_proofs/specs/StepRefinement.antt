@@ -4,6 +4,8 @@ use Rattle.saa_core_spec.specs.Held.{Exclusive}
 use Rattle.saa_core_words.specs.declared.word.Word.{Word}
 use Rattle.saa_core_words.specs.Words.{count_bits, word_number, word_of, answer_of, lock_count}
 use Rattle.saa_word_steps.specs.declared.place.Place.{Place}
+use Rattle.saa_word_steps.specs.declared.place.Given.{Given}
+use Rattle.saa_word_steps.specs.declared.place.Given.TheVariants.{Asked, AllButAShare}
 use Rattle.saa_word_steps.specs.declared.place.Taking.{Taking}
 use Rattle.saa_word_steps.specs.declared.place.Taking.TheVariants.{Tries, Awaits, Gives}
 use Rattle.saa_word_steps.specs.declared.place.Stage.{Stage}
@@ -11,11 +13,11 @@ use Rattle.saa_word_steps.specs.declared.place.Stage.TheVariants.{ReadLoad, AskL
 use Rattle.saa_word_steps.specs.declared.place.Next.{Next}
 use Rattle.saa_word_steps.specs.declared.place.Next.TheVariants.{Going, Waits, Done}
 use Rattle.saa_word_steps.specs.declared.operation.Operation.{Operation}
-use Rattle.saa_word_steps.specs.Needs.{Needs, left_count}
+use Rattle.saa_word_steps.specs.Needs.{Needs}
 use Rattle.saa_word_steps.specs.declared.event.Event.{Event}
-use Rattle.saa_word_steps.specs.declared.event.Event.TheVariants.{Got, Refused, AskedPoisoned, Joined, Left, Gave, GaveNothing, NotReady, Granted, Closed, Poisoned, NotPoisoned, Cleared, NotCleared, Showed, Took, Read}
-use Rattle.saa_word_steps.specs.Lazy.{Lazy, IsRun}
-use Rattle.saa_word_steps.specs.Steps.{word_at, written_by, operation_of, next_of, poisoned_word}
+use Rattle.saa_word_steps.specs.declared.event.Event.TheVariants.{Got, Refused, AskedPoisoned, Joined, Left, Gave, GaveNothing, Lowered, NotLowered, NotReady, Granted, Closed, Poisoned, NotPoisoned, Cleared, NotCleared, Showed, Took, Read}
+use Rattle.saa_word_steps.specs.AbstractState.{AbstractState, IsRun}
+use Rattle.saa_word_steps.specs.Steps.{left_from, word_at, written_by, operation_of, next_of, poisoned_word}
 use Rattle.saa_word_proofs.specs.Refinement.{Refines, updated, waits_behind}
 
 -- the events of one place
@@ -49,13 +51,22 @@ decided_events needs request joins seen =
     then (if joins then [] else Refused request ∷ [])
     else (if needs.takes request == 0 then Got request ∷ [] else []))
 
--- the same of a release
-abbrev pub left_events : ℕ → Option ℕ → List Event
-left_events request None = GaveNothing request ∷ []
-left_events request (Some left) = []
+-- the event of a place that gives this back, and of one that doesn't hold it
+abbrev pub gave : Given → Event
+gave (Asked request) = Gave request
+gave AllButAShare = Lowered
 
-abbrev pub given_events : Needs → ℕ → Word → List Event
-given_events needs request seen = if seen.is_poisoned then GaveNothing request ∷ [] else left_events request (left_count needs seen.count request)
+abbrev pub gave_not : Given → Event
+gave_not (Asked request) = GaveNothing request
+gave_not AllButAShare = NotLowered
+
+-- what an answer names where a place is to give something back, by what is left of it and by the main word that it saw
+abbrev pub left_events : Given → Option ℕ → List Event
+left_events what None = gave_not what ∷ []
+left_events what (Some left) = []
+
+abbrev pub given_events : Needs → Given → Word → List Event
+given_events needs what seen = if seen.is_poisoned then gave_not what ∷ [] else left_events what (left_from needs seen.count what)
 
 -- the same of a place that takes its answer
 abbrev pub taken_events : Taking → Option ℕ → List Event
@@ -78,7 +89,7 @@ named_at needs (Join request seen) found =
     if found == word_number count_bits seen then Joined request ∷ [] else decided_events needs request true (word_of count_bits found)
 named_at needs (ReleaseLoad given) found = given_events needs given (word_of count_bits found)
 named_at needs (ReleaseExchange given seen) found =
-    if found == word_number count_bits seen then Gave given ∷ [] else given_events needs given (word_of count_bits found)
+    if found == word_number count_bits seen then gave given ∷ [] else given_events needs given (word_of count_bits found)
 named_at needs (Take taking) found = taken_events taking (answer_of (found % 65536))
 named_at needs (Unlink seen newer line older) found = Left ∷ []
 named_at needs (DropTail seen older) found = if found == word_number count_bits seen then Left ∷ [] else []
@@ -100,10 +111,10 @@ row_after row operation = updated row (word_at operation) (written_by operation 
 
 -- A place makes the operation of its stage and goes on with the number that it found: these events happen, in which what an answer
 -- names is said by stage and number, and words, places and object stand together again
-pub record StepRefines (needs : Needs) (places : ℕ) (row : ℕ → ℕ) (standing : ℕ → Place) (lazy : Lazy) (me : ℕ) (stage : Stage) : Type 0 where
+pub record StepRefines (needs : Needs) (places : ℕ) (row : ℕ → ℕ) (standing : ℕ → Place) (state : AbstractState) (me : ℕ) (stage : Stage) : Type 0 where
   pub events : List Event
-  pub last : Lazy
-  pub run : IsRun needs lazy (of_place me events) last
+  pub last : AbstractState
+  pub run : IsRun needs state (of_place me events) last
   pub names : named events ≡ named_at needs stage (row (word_at (operation_of needs places me stage)))
   pub calm : needs.is_lock ≡ false → never_poisons events ≡ true
   pub inside : word_at (operation_of needs places me stage) < places + places + 1

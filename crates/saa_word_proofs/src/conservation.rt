@@ -4,7 +4,7 @@ ghost use Rattle.std.specs.Prelude.{◌≡◌, ℕ, ◌+◌, List, Some, is_some
 ghost use Rattle.saa_core_spec.specs.Object.{one_if};
 ghost use Rattle.saa_word_steps.specs.Needs.{permit_needs};
 ghost use Rattle.saa_word_steps.specs.declared.event.Event.{Event};
-ghost use Rattle.saa_word_steps.specs.Lazy.{Lazy, IsRun, opening, waits_times};
+ghost use Rattle.saa_word_steps.specs.AbstractState.{AbstractState, IsRun, opening, waits_times};
 ghost use Rattle.saa_word_proofs.specs.Conservation.{AreOfPermits, ConservesPermits, tally_of};
 
 /// After every list of events that are enabled where they come, from the moment when so many permits of a semaphore are withheld
@@ -16,16 +16,16 @@ ghost use Rattle.saa_word_proofs.specs.Conservation.{AreOfPermits, ConservesPerm
 ///
 /// No event of a semaphore poisons it, finds it poisoned or clears it, and each answer that is taken says that the place is granted.
 pub fn conservation()
-    ensures balanced { (bound withheld : ℕ) (events : List (ℕ × Event)) (last : Lazy)
+    ensures balanced { (bound withheld : ℕ) (events : List (ℕ × Event)) (last : AbstractState)
         → IsRun (permit_needs bound) (opening withheld) events last
         → ConservesPermits (permit_needs bound) withheld last (tally_of (permit_needs bound) withheld events) }
-    ensures each_once { (bound withheld : ℕ) (events : List (ℕ × Event)) (last : Lazy)
+    ensures each_once { (bound withheld : ℕ) (events : List (ℕ × Event)) (last : AbstractState)
         → IsRun (permit_needs bound) (opening withheld) events last → (place : ℕ)
         → waits_times place (tally_of (permit_needs bound) withheld events).pending
         ≡ one_if (is_some (last.due place)) + one_if (is_some (last.shown place)) }
-    ensures granted { (bound withheld : ℕ) (events : List (ℕ × Event)) (last : Lazy)
+    ensures granted { (bound withheld : ℕ) (events : List (ℕ × Event)) (last : AbstractState)
         → IsRun (permit_needs bound) (opening withheld) events last → (place value : ℕ)
         → (last.due place ≡ Some value → value ≡ 0) × (last.shown place ≡ Some value → value ≡ 0) }
-    ensures of_permits { (bound withheld : ℕ) (events : List (ℕ × Event)) (last : Lazy)
+    ensures of_permits { (bound withheld : ℕ) (events : List (ℕ × Event)) (last : AbstractState)
         → IsRun (permit_needs bound) (opening withheld) events last → AreOfPermits events }
 {}

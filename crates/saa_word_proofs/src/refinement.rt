@@ -7,7 +7,7 @@ ghost use Rattle.saa_word_steps.specs.declared.place.Place.{Place};
 ghost use Rattle.saa_word_steps.specs.declared.place.Registration.{Registration};
 ghost use Rattle.saa_word_steps.specs.Needs.{Needs, AreNeeds};
 ghost use Rattle.saa_word_steps.specs.declared.event.Event.{Event};
-ghost use Rattle.saa_word_steps.specs.Lazy.{Lazy, opening};
+ghost use Rattle.saa_word_steps.specs.AbstractState.{AbstractState, opening};
 ghost use Rattle.saa_word_steps.specs.Steps.{is_taken, next_of, operation_of, started, word_at};
 ghost use Rattle.saa_word_steps.specs.declared.place.Stage.TheVariants.{Quiet};
 ghost use Rattle.saa_word_steps.specs.declared.place.Next.TheVariants.{Waits};
@@ -22,8 +22,8 @@ ghost use Rattle.saa_word_proofs.specs.Promises.{Observes, idle_place, opening_r
 /// state behind these events again. The index of the word that it uses is within the row. A step that waits is no event.
 pub fn steps()
     ensures { (needs : Needs) → AreNeeds needs → needs.top < 2 ^ count_bits
-        → (places : ℕ) (row : ℕ → ℕ) (standing : ℕ → Place) (lazy : Lazy) (me : ℕ) → places < 65536 → me < places
-        → Refines needs places row standing lazy → (made : StepRefines needs places row standing lazy me (standing me).stage)
+        → (places : ℕ) (row : ℕ → ℕ) (standing : ℕ → Place) (state : AbstractState) (me : ℕ) → places < 65536 → me < places
+        → Refines needs places row standing state → (made : StepRefines needs places row standing state me (standing me).stage)
         × (next_of needs me (standing me) (standing me).stage (row (word_at (operation_of needs places me (standing me).stage))) ≡ Waits → made.events ≡ []) }
 {}
 
@@ -44,17 +44,17 @@ pub fn opens()
 
 /// A call that starts at a place in none uses no word and is no event: words and places refine it still. It has named nothing.
 pub fn starts()
-    ensures stands { (needs : Needs) → needs.top < 2 ^ count_bits → (places : ℕ) (row : ℕ → ℕ) (standing : ℕ → Place) (lazy : Lazy) (me : ℕ) (call : WordCall)
-        → me < places → Refines needs places row standing lazy → (standing me).stage ≡ Quiet → is_taken needs.is_lock call ≡ true
-        → Refines needs places row (updated standing me (place_after (standing me) (started needs (standing me) call))) lazy }
+    ensures stands { (needs : Needs) → needs.top < 2 ^ count_bits → (places : ℕ) (row : ℕ → ℕ) (standing : ℕ → Place) (state : AbstractState) (me : ℕ) (call : WordCall)
+        → me < places → Refines needs places row standing state → (standing me).stage ≡ Quiet → is_taken needs.is_lock call ≡ true
+        → Refines needs places row (updated standing me (place_after (standing me) (started needs (standing me) call))) state }
     ensures begun { (needs : Needs) (place : Place) (call : WordCall) → place.stage ≡ Quiet
         → IsBegun needs call place.registration (started needs place call) }
 {}
 
 /// The words say what the object is, at every moment.
 pub fn words()
-    ensures { (needs : Needs) (places : ℕ) (row : ℕ → ℕ) (standing : ℕ → Place) (lazy : Lazy)
-        → Refines needs places row standing lazy → Observes needs places row lazy }
+    ensures { (needs : Needs) (places : ℕ) (row : ℕ → ℕ) (standing : ℕ → Place) (state : AbstractState)
+        → Refines needs places row standing state → Observes needs places row state }
 {}
 
 /// What a place has seen of a history is a beginning of it, and has all events of the place.

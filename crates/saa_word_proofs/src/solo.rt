@@ -12,7 +12,7 @@ ghost use Rattle.saa_word_steps.specs.declared.place.Place.{Place};
 ghost use Rattle.saa_word_steps.specs.declared.rules.Rules.{Rules};
 ghost use Rattle.saa_word_steps.specs.declared.place.Registration.TheVariants.{Idle};
 ghost use Rattle.saa_word_steps.specs.Needs.{Needs, AreNeeds};
-ghost use Rattle.saa_word_steps.specs.Lazy.{IsRun, Lazy, held_by, opening, is_in};
+ghost use Rattle.saa_word_steps.specs.AbstractState.{IsRun, AbstractState, held_by, opening, is_in};
 ghost use Rattle.saa_word_steps.specs.declared.place.Ask.{Ask};
 ghost use Rattle.saa_word_steps.specs.Steps.{is_taken, needs_of, next_of, started};
 ghost use Rattle.saa_word_steps.specs.declared.event.Event.{Event};
@@ -29,10 +29,10 @@ ghost use Rattle.saa_word_proofs.specs.Mirrors.{Mirrors, called};
 ghost use Rattle.saa_word_proofs.specs.Agrees.{Begins, Agrees};
 
 /// While no place is in a call the flag is clear, no answer is due, the object isn't open, its line is settled, and the line words
-/// link all who wait.
+/// link all waiters.
 pub fn quiet()
-    ensures { (needs : Needs) (places : ℕ) (row : ℕ → ℕ) (standing : ℕ → Place) (lazy : Lazy)
-        → Refines needs places row standing lazy → IsQuiet standing → IsAtRest needs row lazy }
+    ensures { (needs : Needs) (places : ℕ) (row : ℕ → ℕ) (standing : ℕ → Place) (state : AbstractState)
+        → Refines needs places row standing state → IsQuiet standing → IsAtRest needs row state }
 {}
 
 /// A call that moves alone, from a moment when no place is in a call, is the call of the sequential semaphore or lock.
@@ -49,32 +49,32 @@ pub fn alone()
     ensures calls { (rules : Rules) (places me : ℕ) (is_sync : Bool) (call : WordCall) (now : Moment) (s : Object) (steps : ℕ) (answer : Answer) (last : Moment)
         → Begins rules places me now s → is_taken (needs_of rules).is_lock call ≡ true → IsCalledAlone (needs_of rules) places me call steps now answer last
         → Agrees (needs_of rules) places me is_sync call s answer last }
-    ensures waits { (needs : Needs) (places me : ℕ) (now : Moment) (lazy : Lazy)
-        → Refines needs places now.row now.standing lazy → me < places → is_in me lazy.line ≡ true → IsLeftWaiting needs places me Poll now }
-    ensures only { (rules : Rules) (places me : ℕ) (call : WordCall) (steps : ℕ) (now : Moment) (lazy : Lazy)
+    ensures waits { (needs : Needs) (places me : ℕ) (now : Moment) (state : AbstractState)
+        → Refines needs places now.row now.standing state → me < places → is_in me state.line ≡ true → IsLeftWaiting needs places me Poll now }
+    ensures only { (rules : Rules) (places me : ℕ) (call : WordCall) (steps : ℕ) (now : Moment) (state : AbstractState)
         → (needs_of rules).top < 2 ^ count_bits → places < 65536
-        → Refines (needs_of rules) places now.row now.standing lazy → IsQuiet now.standing → me < places → is_taken (needs_of rules).is_lock call ≡ true
-        → IsKeptWaiting (needs_of rules) places me call steps now → (call ≡ Poll) × (is_in me lazy.line ≡ true) }
-    ensures unready { (needs : Needs) (places me : ℕ) (is_sync : Bool) (now : Moment) (lazy : Lazy) (s : Object)
-        → Refines needs places now.row now.standing lazy → Mirrors needs places now.standing lazy s → me < places → is_in me lazy.line ≡ true
+        → Refines (needs_of rules) places now.row now.standing state → IsQuiet now.standing → me < places → is_taken (needs_of rules).is_lock call ≡ true
+        → IsKeptWaiting (needs_of rules) places me call steps now → (call ≡ Poll) × (is_in me state.line ≡ true) }
+    ensures unready { (needs : Needs) (places me : ℕ) (is_sync : Bool) (now : Moment) (state : AbstractState) (s : Object)
+        → Refines needs places now.row now.standing state → Mirrors needs places now.standing state s → me < places → is_in me state.line ≡ true
         → ((called needs.is_lock me is_sync Poll s).reply ≡ Taken (Err NotReady)) × ((called needs.is_lock me is_sync Poll s).state ≡ s) }
-    ensures exists { (needs : Needs) (places : ℕ) (standing : ℕ → Place) (lazy : Lazy)
-        → (s : Object) × Mirrors needs places standing lazy s }
+    ensures exists { (needs : Needs) (places : ℕ) (standing : ℕ → Place) (state : AbstractState)
+        → (s : Object) × Mirrors needs places standing state s }
     ensures opening { (needs : Needs) (withheld places : ℕ) (standing : ℕ → Place) → ((place : ℕ) → (standing place).registration ≡ Idle)
         → Mirrors needs places standing (opening withheld) (newly_made (needs.held withheld) places places) }
 {}
 
-/// A call that starts while no place is in one, and that moves alone, is done within 8 steps for each who waits and 24 more; but for a
+/// A call that starts while no place is in one, and that moves alone, is done within 8 steps for each waiter and 24 more; but for a
 /// poll of a place that waits.
 pub fn ends()
     ensures { (needs : Needs) → AreNeeds needs → needs.top < 2 ^ count_bits
-        → (places : ℕ) (row : ℕ → ℕ) (standing : ℕ → Place) (lazy : Lazy) (me : ℕ) (call : WordCall) → places < 65536 → me < places
-        → Refines needs places row standing lazy → IsQuiet standing → is_taken needs.is_lock call ≡ true → (call ≡ Poll → is_in me lazy.line ≡ false)
-        → Ends needs places me call (record { row = row; standing = standing }) (8 * length lazy.line + 24) }
+        → (places : ℕ) (row : ℕ → ℕ) (standing : ℕ → Place) (state : AbstractState) (me : ℕ) (call : WordCall) → places < 65536 → me < places
+        → Refines needs places row standing state → IsQuiet standing → is_taken needs.is_lock call ≡ true → (call ≡ Poll → is_in me state.line ≡ false)
+        → Ends needs places me call (record { row = row; standing = standing }) (8 * length state.line + 24) }
 {}
 
 /// What a place is registered as behind the start of a call and behind each of its steps: it is read off the call, the events that the
-/// step names and what the place was registered as. Whoever is done is in no call; whoever waits is registered as before. Who is in the line
+/// step names and what the place was registered as. A place that is done is in no call; one that waits is registered as before. Who is in the line
 /// stays registered there with what it asks.
 pub fn registrations()
     ensures started { (needs : Needs) (place : Place) (call : WordCall) → place.stage ≡ Quiet
@@ -83,9 +83,9 @@ pub fn registrations()
         → IsUnder needs call registered place.back place.stage events
         → IsLeft place.registration (left_behind (named_at needs place.stage found) (asked_by call) place.registration)
         (next_of needs me place place.stage found) }
-    ensures line { (needs : Needs) (lazy last : Lazy) (me : ℕ) (events : List Event) (asks : Option Ask) (registered : ℕ → Registration) (was : Registration)
-        → IsRun needs lazy (of_place me events) last → ((other : ℕ) → held_by other lazy ≤ 1) → (lazy.poisoned ≡ true → lazy.line ≡ [])
-        → AreRegistered (updated registered me was) lazy.line → AreRegistered (updated registered me (left_behind (named events) asks was)) last.line }
+    ensures line { (needs : Needs) (state last : AbstractState) (me : ℕ) (events : List Event) (asks : Option Ask) (registered : ℕ → Registration) (was : Registration)
+        → IsRun needs state (of_place me events) last → ((other : ℕ) → held_by other state ≤ 1) → (state.poisoned ≡ true → state.line ≡ [])
+        → AreRegistered (updated registered me was) state.line → AreRegistered (updated registered me (left_behind (named events) asks was)) last.line }
 {}
 
 /// The next operation of a place is on a word of the row, and what it remembers is within the bits of a count: behind the start of each call,
@@ -93,6 +93,6 @@ pub fn registrations()
 pub fn ready()
     ensures first { (needs : Needs) (places me : ℕ) (place : Place) (call : WordCall) → me < places → IsReadyNext needs places me (started needs place call) }
     ensures next { (needs : Needs) → AreNeeds needs → needs.top < 2 ^ count_bits
-        → (places : ℕ) (row : ℕ → ℕ) (standing : ℕ → Place) (lazy : Lazy) (me : ℕ) → places < 65536 → me < places
-        → Refines needs places row standing lazy → IsReadyNext needs places me (Going (standing me)) }
+        → (places : ℕ) (row : ℕ → ℕ) (standing : ℕ → Place) (state : AbstractState) (me : ℕ) → places < 65536 → me < places
+        → Refines needs places row standing state → IsReadyNext needs places me (Going (standing me)) }
 {}

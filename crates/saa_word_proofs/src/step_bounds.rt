@@ -7,7 +7,7 @@ ghost use Rattle.saa_word_steps.specs.declared.place.Back.{Back};
 ghost use Rattle.saa_word_steps.specs.declared.place.Stage.{Stage};
 ghost use Rattle.saa_word_steps.specs.declared.place.Stage.TheVariants.{Quiet};
 ghost use Rattle.saa_word_steps.specs.Needs.{Needs, AreNeeds};
-ghost use Rattle.saa_word_steps.specs.Lazy.{Lazy};
+ghost use Rattle.saa_word_steps.specs.AbstractState.{AbstractState};
 ghost use Rattle.saa_word_proofs.specs.Refinement.{Refines};
 ghost use Rattle.saa_word_proofs.specs.StepBound.{step_bound, IsLowered, IsKept, AreWithin, IsCounted};
 
@@ -19,10 +19,10 @@ ghost use Rattle.saa_word_proofs.specs.StepBound.{step_bound, IsLowered, IsKept,
 pub fn step_bounds()
     ensures bounded { (places : ℕ) (row : ℕ → ℕ) (back : Back) (stage : Stage) → step_bound places row back stage ≤ 16 * places + 13 }
     ensures lowered { (needs : Needs) → AreNeeds needs → needs.top < 2 ^ count_bits
-        → (places : ℕ) (row : ℕ → ℕ) (standing : ℕ → Place) (lazy : Lazy) (me : ℕ) → Refines needs places row standing lazy
+        → (places : ℕ) (row : ℕ → ℕ) (standing : ℕ → Place) (state : AbstractState) (me : ℕ) → Refines needs places row standing state
         → (standing me).stage ≢ Quiet → IsLowered needs places row standing me (standing me).stage }
-    ensures kept { (needs : Needs) (places : ℕ) (row : ℕ → ℕ) (standing : ℕ → Place) (lazy : Lazy) (me other : ℕ)
-        → Refines needs places row standing lazy → other ≢ me → IsKept needs places row standing me other }
+    ensures kept { (needs : Needs) (places : ℕ) (row : ℕ → ℕ) (standing : ℕ → Place) (state : AbstractState) (me other : ℕ)
+        → Refines needs places row standing state → other ≢ me → IsKept needs places row standing me other }
 {}
 
 /// Between two changes of the main word by other places, a place makes at most 16 steps for each place and 48 more.
@@ -32,6 +32,6 @@ pub fn step_bounds()
 /// made none is within it, whatever stands in the words, since its step bound is.
 pub fn counts()
     ensures { (needs : Needs) → AreNeeds needs → needs.top < 2 ^ count_bits
-        → (places : ℕ) (row : ℕ → ℕ) (standing : ℕ → Place) (lazy : Lazy) (me : ℕ) (made : ℕ → ℕ) → Refines needs places row standing lazy
+        → (places : ℕ) (row : ℕ → ℕ) (standing : ℕ → Place) (state : AbstractState) (me : ℕ) (made : ℕ → ℕ) → Refines needs places row standing state
         → (standing me).stage ≢ Quiet → AreWithin places row standing made → IsCounted needs places row standing me made (standing me).stage }
 {}

@@ -4,7 +4,7 @@ ghost use Rattle.std.specs.Prelude.{◌≡◌, ℕ, ◌<◌};
 ghost use Rattle.saa_word_steps.specs.declared.place.Place.{Place};
 ghost use Rattle.saa_word_steps.specs.declared.place.Next.TheVariants.{Waits};
 ghost use Rattle.saa_word_steps.specs.Needs.{Needs};
-ghost use Rattle.saa_word_steps.specs.Lazy.{Lazy};
+ghost use Rattle.saa_word_steps.specs.AbstractState.{AbstractState};
 ghost use Rattle.saa_word_steps.specs.Steps.{word_at, operation_of, next_of};
 ghost use Rattle.saa_word_proofs.specs.Refinement.{Refines, main_of};
 ghost use Rattle.saa_word_proofs.specs.StepRefinement.{row_after};
@@ -14,9 +14,9 @@ ghost use Rattle.saa_word_proofs.specs.Blocking.{IsBlockedAt};
 /// an answer that is to be shown, or finds the flag set; and where poison finds one owner and the flag set. The row of words is left as it
 /// is.
 pub fn waits()
-    ensures { (needs : Needs) (places : ℕ) (row : ℕ → ℕ) (standing : ℕ → Place) (lazy : Lazy) (me : ℕ) → me < places
-        → Refines needs places row standing lazy
+    ensures { (needs : Needs) (places : ℕ) (row : ℕ → ℕ) (standing : ℕ → Place) (state : AbstractState) (me : ℕ) → me < places
+        → Refines needs places row standing state
         → next_of needs me (standing me) (standing me).stage (row (word_at (operation_of needs places me (standing me).stage))) ≡ Waits
-        → IsBlockedAt lazy me (main_of row) (standing me).stage
+        → IsBlockedAt state me (main_of row) (standing me).stage
         × (row_after row (operation_of needs places me (standing me).stage) ≡ row) }
 {}

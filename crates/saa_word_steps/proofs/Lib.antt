@@ -1,3 +1,4 @@
-pub mod LazyRuns
+pub mod AbstractRuns
 pub mod LockNeeds
+pub mod Giving
 pub mod Ranges

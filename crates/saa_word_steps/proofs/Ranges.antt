@@ -8,6 +8,7 @@ use Rattle.saa_word_steps.specs.declared.place.Place.{Place}
 use Rattle.saa_word_steps.specs.declared.place.Ask.{Ask}
 use Rattle.saa_word_steps.specs.declared.place.Afterwards.{Afterwards}
 use Rattle.saa_word_steps.specs.declared.place.Afterwards.TheVariants.{Ends, Again}
+use Rattle.saa_word_steps.specs.declared.place.Given.{Given}
 use Rattle.saa_word_steps.specs.declared.place.Back.{Back}
 use Rattle.saa_word_steps.specs.declared.place.Back.TheVariants.{Tells, Ends as EndsCall, Takes}
 use Rattle.saa_word_steps.specs.declared.place.Taking.{Taking}
@@ -15,9 +16,10 @@ use Rattle.saa_word_steps.specs.declared.place.Taking.TheVariants.{Tries, Awaits
 use Rattle.saa_word_steps.specs.declared.place.Stage.{Stage}
 use Rattle.saa_word_steps.specs.declared.place.Stage.TheVariants.{Quiet, ReadLoad, AskLoad, AskExchange, Prepare, Join, ReleaseLoad, ReleaseExchange, BackLoad, BackStore, Forward, CutToClose, CutToGoRound, Close, Empty, GoRound, ShowLoad, ShowStore, Take, FlagLoad, FlagExchange, LookLoad, LookStore, Unlink, DropTail, PoisonLoad, PoisonExchange, Clear}
 use Rattle.saa_word_steps.specs.declared.operation.Operation.TheVariants.{Add}
-use Rattle.saa_word_steps.specs.Needs.{Needs, AreNeeds, fits_count, left_count}
-use Rattle.saa_word_steps.specs.Lazy.{count_or}
-use Rattle.saa_word_steps.specs.Steps.{IsSmall, IsRanged, IsRangedNext, finished, granted, found_poisoned, gave_nothing, decided, given, given_to, shown_all, dropped, taken_answer, looked_at, closing, flagging, looked_for, poisoning, next_of, written_by}
+use Rattle.saa_word_steps.specs.Needs.{Needs, AreNeeds, fits_count}
+use Rattle.saa_word_steps.specs.AbstractState.{count_or}
+use Rattle.saa_word_steps.proofs.Giving.{left-shrinks}
+use Rattle.saa_word_steps.specs.Steps.{IsSmall, IsRanged, IsRangedNext, left_from, finished, granted, found_poisoned, gave_nothing, decided, given, given_to, shown_all, dropped, taken_answer, looked_at, closing, flagging, looked_for, poisoning, next_of, written_by}
 
 -- a word that is read from a number is small
 pub word-small : (number : ℕ) → IsSmall (word_of count_bits number)
@@ -73,25 +75,25 @@ decided-ranged needs place ask seen small =
           ]
     ]
 
-left-small-by : (needs : Needs) → AreNeeds needs → (count request : ℕ) (left : Option ℕ) → left_count needs count request ≡ left → count_or count left ≤ count
-left-small-by needs lawful count request None is = omega arith
-left-small-by needs lawful count request (Some left) is = lawful.shrinks count request left is
+left-small-by : (needs : Needs) → AreNeeds needs → (count : ℕ) (what : Given) (left : Option ℕ) → left_from needs count what ≡ left → count_or count left ≤ count
+left-small-by needs lawful count what None is = omega arith
+left-small-by needs lawful count what (Some left) is = left-shrinks needs lawful count what left is
 
 -- what is left is no more than what was held
-left-small : (needs : Needs) → AreNeeds needs → (count request : ℕ) → count_or count (left_count needs count request) ≤ count
-left-small needs lawful count request = left-small-by needs lawful count request (left_count needs count request) refl
+left-small : (needs : Needs) → AreNeeds needs → (count : ℕ) (what : Given) → count_or count (left_from needs count what) ≤ count
+left-small needs lawful count what = left-small-by needs lawful count what (left_from needs count what) refl
 
-given-to-ranged : (needs : Needs) (place : Place) (request : ℕ) (seen : Word) (left : Option ℕ) → IsSmall seen → IsRangedNext needs (given_to place request seen left)
-given-to-ranged needs place request seen None small = nothing-ranged needs place place.back
-given-to-ranged needs place request seen (Some left) small = small
+given-to-ranged : (needs : Needs) (place : Place) (what : Given) (seen : Word) (left : Option ℕ) → IsSmall seen → IsRangedNext needs (given_to place what seen left)
+given-to-ranged needs place what seen None small = nothing-ranged needs place place.back
+given-to-ranged needs place what seen (Some left) small = small
 
-given-by : (needs : Needs) (place : Place) (request : ℕ) (seen : Word) → IsSmall seen → (poisoned : Bool)
-    → IsRangedNext needs (if poisoned then gave_nothing place place.back else given_to place request seen (left_count needs seen.count request))
-given-by needs place request seen small true = nothing-ranged needs place place.back
-given-by needs place request seen small false = given-to-ranged needs place request seen (left_count needs seen.count request) small
+given-by : (needs : Needs) (place : Place) (what : Given) (seen : Word) → IsSmall seen → (poisoned : Bool)
+    → IsRangedNext needs (if poisoned then gave_nothing place place.back else given_to place what seen (left_from needs seen.count what))
+given-by needs place what seen small true = nothing-ranged needs place place.back
+given-by needs place what seen small false = given-to-ranged needs place what seen (left_from needs seen.count what) small
 
-given-ranged : (needs : Needs) (place : Place) (request : ℕ) (seen : Word) → IsSmall seen → IsRangedNext needs (given needs place request seen)
-given-ranged needs place request seen small = given-by needs place request seen small seen.is_poisoned
+given-ranged : (needs : Needs) (place : Place) (what : Given) (seen : Word) → IsSmall seen → IsRangedNext needs (given needs place what seen)
+given-ranged needs place what seen small = given-by needs place what seen small seen.is_poisoned
 
 shown-ranged : (needs : Needs) (place : Place) (afterwards : Afterwards) (current next value : ℕ) → IsRanged needs (ShowStore current next value afterwards) → IsRangedNext needs (shown_all place afterwards)
 shown-ranged needs place Ends current next value ranged = finished-ranged needs place place.back
@@ -199,17 +201,17 @@ next-ranged needs lawful wide me place (Join request seen) found was ranged =
       | inl same ↦ rw same tt
       | inr other ↦ rw other (decided-ranged needs place (record { request = request; joins = true }) (word_of count_bits found) (word-small found))
     ]
-next-ranged needs lawful wide me place (ReleaseLoad request) found was ranged =
-    given-ranged needs place request (word_of count_bits found) (word-small found)
-next-ranged needs lawful wide me place (ReleaseExchange request seen) found was ranged =
+next-ranged needs lawful wide me place (ReleaseLoad what) found was ranged =
+    given-ranged needs place what (word_of count_bits found) (word-small found)
+next-ranged needs lawful wide me place (ReleaseExchange what seen) found was ranged =
     elim (cases_Bool (found == word_number count_bits seen)) [
       | inl same ↦
           elim (cases_Bool (not (seen.tail == 0) && not seen.is_flagged)) [
-            | inl works ↦ rw (same, works) (omega (arith, ranged, left-small needs lawful seen.count request))
+            | inl works ↦ rw (same, works) (omega (arith, ranged, left-small needs lawful seen.count what))
             | inr ends ↦ rw (same, ends) (finished-ranged needs place place.back)
           ]
       | inr other ↦
-          rw other (given-ranged needs place request (word_of count_bits found) (word-small found))
+          rw other (given-ranged needs place what (word_of count_bits found) (word-small found))
     ]
 next-ranged needs lawful wide me place (BackLoad seen current newer) found was ranged = ranged
 next-ranged needs lawful wide me place (BackStore seen current newer line) found was ranged =

@@ -1,3 +1,3 @@
 pub mod Needs
-pub mod Lazy
+pub mod AbstractState
 pub mod Steps

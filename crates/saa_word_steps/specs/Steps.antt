@@ -1,9 +1,9 @@
 -- What a place is about to do, and how it goes on with the number that it finds: a clause for each stage. Internal: nobody has to believe
 -- this table, which says what the code does, branch for branch. What a reader has to believe is the abstract state with its events
--- (`specs/Lazy.antt`), and what a move simulates; a line that is changed together with its code is refused there.
+-- (`specs/AbstractState.antt`), and what a move simulates; a line that is changed together with its code is refused there.
 use Rattle.std.specs.Prelude.{◌≡◌, ℕ, ◌+◌, ◌-◌, ◌%◌, ◌^◌, ◌<◌, Bool, true, false, not, ◌&&◌, ◌||◌, ◌==◌, if◌then◌else◌, nat_lt, Option, Some, None, Ok, Err}
 use Rattle.saa_core_spec.specs.declared.lock.Mode.{Mode}
-use Rattle.saa_core_spec.specs.Held.{Free, Exclusive, request_number}
+use Rattle.saa_core_spec.specs.Held.{Free, Exclusive, Shared, request_number}
 use Rattle.saa_core_spec.specs.Lock.{mode_request, try_answer}
 use Rattle.saa_core_spec.specs.Values.{granted_value, poisoned_value}
 use Rattle.saa_core_spec.specs.declared.polling.Error.TheVariants.{NotRegistered, NotReady}
@@ -18,6 +18,8 @@ use Rattle.saa_word_steps.specs.declared.place.Registration.{Registration}
 use Rattle.saa_word_steps.specs.declared.place.Registration.TheVariants.{Idle, Once, Slot}
 use Rattle.saa_word_steps.specs.declared.place.Afterwards.{Afterwards}
 use Rattle.saa_word_steps.specs.declared.place.Afterwards.TheVariants.{Ends, Again}
+use Rattle.saa_word_steps.specs.declared.place.Given.{Given}
+use Rattle.saa_word_steps.specs.declared.place.Given.TheVariants.{Asked, AllButAShare}
 use Rattle.saa_word_steps.specs.declared.place.Back.{Back}
 use Rattle.saa_word_steps.specs.declared.place.Back.TheVariants.{Tells, Ends as EndsCall, Takes}
 use Rattle.saa_word_steps.specs.declared.place.Reading.{Reading}
@@ -29,13 +31,13 @@ use Rattle.saa_word_steps.specs.declared.place.Stage.TheVariants.{Quiet, ReadLoa
 use Rattle.saa_word_steps.specs.declared.call.Answer.{Answer}
 use Rattle.saa_word_steps.specs.declared.call.Answer.TheVariants.{Bool as Says, Number, Tried, Taken, Unit as Ended}
 use Rattle.saa_word_steps.specs.declared.call.WordCall.{WordCall}
-use Rattle.saa_word_steps.specs.declared.call.WordCall.TheVariants.{Try, Register, Release, Available, TryLock, TryShare, RegisterMode, ReleaseLock, ReleaseShare, PoisonLock, ClearPoison, IsFree, IsLocked, IsShared, IsPoisoned, TryPoll, Poll, Cancel}
+use Rattle.saa_word_steps.specs.declared.call.WordCall.TheVariants.{Try, Register, Release, Available, TryLock, TryShare, RegisterMode, ReleaseLock, ReleaseShare, Downgrade, PoisonLock, ClearPoison, IsFree, IsLocked, IsShared, IsPoisoned, TryPoll, Poll, Cancel}
 use Rattle.saa_word_steps.specs.declared.place.Next.{Next}
 use Rattle.saa_word_steps.specs.declared.place.Next.TheVariants.{Going, Waits, Done}
 use Rattle.saa_word_steps.specs.declared.operation.Operation.{Operation}
 use Rattle.saa_word_steps.specs.declared.operation.Operation.TheVariants.{Load, Exchange, Add, Store, Swap}
 use Rattle.saa_word_steps.specs.Needs.{Needs, permit_needs, lock_needs, fits_count, left_count}
-use Rattle.saa_word_steps.specs.Lazy.{count_or}
+use Rattle.saa_word_steps.specs.AbstractState.{count_or}
 
 -- the needs of these rules
 abbrev pub needs_of : Rules → Needs
@@ -70,7 +72,7 @@ IsRanged needs (ShowLoad current value (Again seen)) = IsSmall seen
 IsRanged needs (ShowStore current next value (Again seen)) = IsSmall seen
 IsRanged needs _ = Unit {0}
 
--- a stage of who works on the line or shows answers
+-- a stage of a place that works on the line or shows answers
 abbrev pub IsWork : Stage → Type 0
 IsWork (BackLoad seen current newer) = Unit {0}
 IsWork (BackStore seen current newer line) = Unit {0}
@@ -84,7 +86,7 @@ IsWork (ShowLoad current value afterwards) = Unit {0}
 IsWork (ShowStore current next value afterwards) = Unit {0}
 IsWork _ = ⊥
 
--- a stage of who gives a registration up and looks for itself in the line
+-- a stage of a cancel that looks for itself in the line
 abbrev pub IsLeave : Stage → Type 0
 IsLeave FlagLoad = Unit {0}
 IsLeave (FlagExchange seen) = Unit {0}
@@ -94,17 +96,22 @@ IsLeave (Unlink seen newer line older) = Unit {0}
 IsLeave (DropTail seen older) = Unit {0}
 IsLeave _ = ⊥
 
--- a stage of who poisons a lock or clears poison
+-- a stage of a place that poisons a lock or clears poison
 abbrev pub IsPoison : Stage → Type 0
 IsPoison PoisonLoad = Unit {0}
 IsPoison (PoisonExchange seen) = Unit {0}
 IsPoison Clear = Unit {0}
 IsPoison _ = ⊥
 
+-- the count that is left once this is given back, where it is held
+abbrev pub left_from : Needs → ℕ → Given → Option ℕ
+left_from needs count (Asked request) = left_count needs count request
+left_from needs count AllButAShare = if needs.is_lock && (count == lock_count Exclusive) then Some (lock_count (Shared 1)) else None
+
 -- the main word once something is given back: the flag is set where somebody waits
-abbrev pub released : Needs → Word → ℕ → Word
+abbrev pub released : Needs → Word → Given → Word
 released needs seen given = record {
-  count = count_or seen.count (left_count needs seen.count given);
+  count = count_or seen.count (left_from needs seen.count given);
   is_flagged = seen.is_flagged || not (seen.tail == 0);
   is_poisoned = false;
   tail = seen.tail;
@@ -194,7 +201,7 @@ finished place (Takes request) = going place (Take (Gives request))
 abbrev pub tried_answer : Needs → Bool → Answer
 tried_answer needs is_granted = if needs.is_lock then Tried (try_answer is_granted false) else Says is_granted
 
--- who asked is granted at once
+-- an ask is granted at once
 abbrev pub granted : Needs → Place → Ask → Next
 granted needs place ask =
     if ask.joins
@@ -225,15 +232,15 @@ gave_nothing place EndsCall = done place Ended
 gave_nothing place (Takes request) = done place Ended
 
 -- how a release goes on with the main word that it saw
-abbrev pub given_to : Place → ℕ → Word → Option ℕ → Next
-given_to place given seen None = gave_nothing place place.back
-given_to place given seen (Some left) = going place (ReleaseExchange given seen)
+abbrev pub given_to : Place → Given → Word → Option ℕ → Next
+given_to place what seen None = gave_nothing place place.back
+given_to place what seen (Some left) = going place (ReleaseExchange what seen)
 
-abbrev pub given : Needs → Place → ℕ → Word → Next
-given needs place request seen =
-    if seen.is_poisoned then gave_nothing place place.back else given_to place request seen (left_count needs seen.count request)
+abbrev pub given : Needs → Place → Given → Word → Next
+given needs place what seen =
+    if seen.is_poisoned then gave_nothing place place.back else given_to place what seen (left_from needs seen.count what)
 
--- whoever holds the flag walks from the tail of the word that it saw
+-- the flag's holder walks from the tail of the word that it saw
 abbrev pub walking : Place → Word → Next
 walking place seen = going place (BackLoad seen seen.tail 0)
 
@@ -246,7 +253,7 @@ shown_all place (Again seen) = walking place seen
 abbrev pub dropped : Needs → Place → ℕ → ℕ → Next
 dropped needs place request value =
     if value == granted_value && not (needs.takes request == 0)
-    then Going (record place { registration = Idle; stage = ReleaseLoad request; back = EndsCall })
+    then Going (record place { registration = Idle; stage = ReleaseLoad (Asked request); back = EndsCall })
     else Done (record place { registration = Idle; stage = Quiet }) Ended
 
 -- the answer that is taken; where none is there a poll that waits and a cancel stay as they are
@@ -269,7 +276,7 @@ looked_at needs place seen current count line =
     then going place (Close seen count 0)
     else going place (CutToClose seen current count line))
 
--- how whoever closes the line goes on: it shows what it granted, or tries again where only the tail differs, and else goes round
+-- how the flag's holder goes on that closes the line: it shows what it granted, or tries again where only the tail differs, and else goes round
 abbrev pub closing : Place → Word → ℕ → ℕ → ℕ → Next
 closing place seen count top found =
     if found == word_number count_bits seen
@@ -278,7 +285,7 @@ closing place seen count top found =
     then going place (Close (word_of count_bits found) count top)
     else going place (GoRound seen count top))
 
--- how a cancel goes on with the main word that it saw: it waits for whoever holds the flag, goes on to its answer where nobody waits,
+-- how a cancel goes on with the main word that it saw: it waits for the flag's holder, goes on to its answer where nobody waits,
 -- and else is to set the flag
 abbrev pub flagging : Place → Word → Next
 flagging place seen =
@@ -288,7 +295,7 @@ flagging place seen =
 abbrev pub no_line : LineWord
 no_line = record { request = 0; older = 0; newer = 0 }
 
--- whoever set the flag looks for itself from the tail of the word that it saw
+-- a cancel that set the flag looks for itself from the tail of the word that it saw
 abbrev pub looking : Place → Word → Next
 looking place seen = going place (LookLoad seen seen.tail 0 no_line)
 
@@ -331,13 +338,13 @@ next_of needs me place (Join request seen) found =
     if found == word_number count_bits seen
     then Done (record place { registration = Slot request; stage = Quiet }) (Says true)
     else decided needs place (record { request = request; joins = true }) (word_of count_bits found)
-next_of needs me place (ReleaseLoad request) found = given needs place request (word_of count_bits found)
-next_of needs me place (ReleaseExchange request seen) found =
+next_of needs me place (ReleaseLoad what) found = given needs place what (word_of count_bits found)
+next_of needs me place (ReleaseExchange what seen) found =
     if found == word_number count_bits seen
     then (if not (seen.tail == 0) && not seen.is_flagged
-    then walking place (released needs seen request)
+    then walking place (released needs seen what)
     else finished place place.back)
-    else given needs place request (word_of count_bits found)
+    else given needs place what (word_of count_bits found)
 next_of needs me place (BackLoad seen current newer) found = going place (BackStore seen current newer (line_word_of found))
 next_of needs me place (BackStore seen current newer line) found =
     if line.older == 0 then going place (Forward seen current seen.count) else going place (BackLoad seen line.older current)
@@ -395,13 +402,13 @@ abbrev pub is_idle : Registration → Bool
 is_idle Idle = true
 is_idle _ = false
 
--- a poll as it starts: only who joined the line has a word to look at
+-- a poll as it starts: only a place that joined the line has a word to look at
 abbrev pub polled_as : Place → Taking → Registration → Next
 polled_as place taking Idle = Done place (Taken (Err NotRegistered))
 polled_as place taking (Once value request) = Done (record place { registration = Idle }) (Taken (Ok (value == granted_value)))
 polled_as place taking (Slot request) = going place (Take taking)
 
--- a cancel as it starts: only who joined the line has a word to look at
+-- a cancel as it starts: only a place that joined the line has a word to look at
 abbrev pub cancelled_as : Needs → Place → Registration → Next
 cancelled_as needs place Idle = Done place Ended
 cancelled_as needs place (Once value request) = dropped needs place request value
@@ -415,8 +422,8 @@ abbrev pub registered_as : Place → ℕ → Next
 registered_as place request =
     if is_idle place.registration then going place (AskLoad (record { request = request; joins = true })) else Done place (Says false)
 
-abbrev pub released_as : Place → ℕ → Next
-released_as place request = Going (record place { stage = ReleaseLoad request; back = Tells })
+abbrev pub released_as : Place → Given → Next
+released_as place what = Going (record place { stage = ReleaseLoad what; back = Tells })
 
 -- the number of a mode
 abbrev pub mode_number : Mode → ℕ
@@ -427,13 +434,14 @@ abbrev pub started : Needs → Place → WordCall → Next
 started needs place (Try count) = if nat_lt needs.top count then Done place (Says false) else tried_as place count
 started needs place (Register count) = if nat_lt needs.top count then Done place (Says false) else registered_as place count
 started needs place (Release count) =
-    if nat_lt needs.top count then Done place (Says false) else (if count == 0 then Done place (Says true) else released_as place count)
+    if nat_lt needs.top count then Done place (Says false) else (if count == 0 then Done place (Says true) else released_as place (Asked count))
 started needs place Available = going place (ReadLoad ReadsAvailable)
 started needs place TryLock = tried_as place 0
 started needs place TryShare = tried_as place 1
 started needs place (RegisterMode mode) = registered_as place (mode_number mode)
-started needs place ReleaseLock = released_as place 0
-started needs place ReleaseShare = released_as place 1
+started needs place ReleaseLock = released_as place (Asked 0)
+started needs place ReleaseShare = released_as place (Asked 1)
+started needs place Downgrade = released_as place AllButAShare
 started needs place PoisonLock = Going (record place { stage = PoisonLoad; back = Tells })
 started needs place ClearPoison = going place Clear
 started needs place IsFree = going place (ReadLoad ReadsFree)

@@ -24,7 +24,9 @@ pub enum WordCall {
     ReleaseLock,
     /// Of a lock: gives one share back.
     ReleaseShare,
-    /// Of a lock: poisons the lock that one owner has; all who wait are answered that it is poisoned.
+    /// Of a lock: makes its one owner a sharer, and lets nobody in between.
+    Downgrade,
+    /// Of a lock: poisons the lock that one owner has; all waiters are answered that it is poisoned.
     PoisonLock,
     /// Of a lock: makes a poisoned lock free.
     ClearPoison,
@@ -40,14 +42,14 @@ pub enum WordCall {
     TryPoll,
     /// Takes the answer of a registration, and waits for it where it must.
     Poll,
-    /// Gives a registration up: leaves the line, or gives back what was granted.
+    /// Cancels a registration: leaves the line, or gives back what was granted.
     Cancel,
 }
 
 /// What a call answers.
 #[derive(Clone, Copy, Debug, Eq, PartialEq)]
 pub enum Answer {
-    /// Of a try of a semaphore, and of a registration, a release, poison and clear: whether it did so. Of the four that read a lock:
+    /// Of a try of a semaphore, and of a registration, a release, a downgrade, poison and clear: whether it did so. Of the four that read a lock:
     /// whether it is so.
     Bool(bool),
     /// Of `Available`.

@@ -2,7 +2,7 @@
 
 /// An event. Each belongs to the place whose step it is.
 ///
-/// `specs/Lazy.antt` says where an event is enabled, and what it changes. Requests are numbers, and so are values of answers.
+/// `specs/AbstractState.antt` says where an event is enabled, and what it changes. Requests are numbers, and so are values of answers.
 #[derive(Clone, Copy, Debug, Eq, PartialEq)]
 pub enum Event {
     /// An ask is granted at once.
@@ -15,6 +15,10 @@ pub enum Event {
     Gave(u16),
     /// Something that isn't held is given back.
     GaveNothing(u16),
+    /// One owner has a share from now on.
+    Lowered,
+    /// No one owner has the lock, so nothing is lowered.
+    NotLowered,
     /// An ask finds the lock poisoned.
     AskedPoisoned,
     /// A place leaves the line.

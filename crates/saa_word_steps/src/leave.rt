@@ -1,4 +1,4 @@
-//! How a place goes on that gives its registration up: it sets the flag, looks for itself from the tail on, and leaves the line.
+//! How a cancel goes on: it sets the flag, looks for itself from the tail on, and leaves the line.
 
 ghost use Rattle.std.specs.Prelude.{◌≡◌, ◌==◌, if◌then◌else◌};
 ghost use Rattle.saa_core_words.specs.Words.{count_bits, word_number, word_of};
@@ -14,7 +14,7 @@ use saa_core_words::line_word::LineWord;
 use saa_core_words::word::Word;
 
 impl Place {
-    /// How a place goes on that gives its registration up.
+    /// How a cancel goes on.
     pub(crate) fn resume_leave(self, rules: Rules, me: u16, found: u64) -> Next
         requires ranged { IsRanged (needs_of rules) self.stage }
         requires leaves { IsLeave self.stage }
@@ -117,7 +117,7 @@ impl Place {
 
     // It goes on to the place right before; or it didn't find itself, and works on the line as any holder.
     //
-    // Why this order: whoever isn't in the line was granted, and it publishes before it takes its answer; it holds the flag, and would
+    // Why this order: a place that isn't in the line was granted, and it publishes before it takes its answer; it holds the flag, and would
     // wait with it for an answer that comes in its own time.
     fn looked_past(self, seen: Word, current: u16, newer: u16, line: LineWord) -> Next
         ensures { result ≡ if line.older == 0 then going self (Forward seen current seen.count) else going self (LookLoad seen line.older current (record line { newer = newer })) }

@@ -5,7 +5,7 @@ ghost use Rattle.saa_word_steps.specs.declared.operation.Operation.TheVariants.{
 ghost use Rattle.saa_word_steps.specs.Steps.{needs_of, operation_of, exchanged, flagged_word, dropped_word, poisoned_word, released, settled_word, IsRanged, IsSmall};
 ghost use Rattle.saa_core_words.specs.Words.{count_bits, line_number};
 
-use crate::place::Stage;
+use crate::place::{Given, Stage};
 use crate::rules::Rules;
 use saa_core_words::answer_word;
 use saa_core_words::line_word::LineWord;
@@ -140,12 +140,12 @@ fn store(link: u16, line: LineWord) -> Operation
 }
 
 /// The main word once something is given back, where that is held.
-pub(crate) fn released(rules: Rules, seen: Word, given: u16) -> Word
+pub(crate) fn released(rules: Rules, seen: Word, given: Given) -> Word
     requires { IsSmall seen }
     ensures released { result ≡ released (needs_of rules) seen given }
     ensures small { IsSmall result }
 {
-    let count = match rules.less(seen.count, given) {
+    let count = match rules.left(seen.count, given) {
         Some(left) => left,
         None => seen.count,
     };

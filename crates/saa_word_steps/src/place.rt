@@ -29,7 +29,16 @@ pub struct Ask {
     pub joins: bool,
 }
 
-/// How whoever shows answers goes on behind the last.
+/// What a place gives back.
+#[derive(Clone, Copy, Debug, Eq, PartialEq)]
+pub enum Given {
+    /// What a request took, by the request's number.
+    Asked(u16),
+    /// All that one owner of a lock has but a share.
+    AllButAShare,
+}
+
+/// How a place that shows answers goes on behind the last.
 #[derive(Clone, Copy, Debug, Eq, PartialEq)]
 pub enum Afterwards {
     /// It is done with the line.
@@ -45,7 +54,7 @@ pub enum Back {
     Tells,
     /// It answers that it gave its registration up.
     Ends,
-    /// It takes its own answer, of a registration that asked this, to give it up: it didn't find itself in the line.
+    /// It takes its own answer, of a registration that asked this, and cancels that: it didn't find itself in the line.
     Takes(u16),
 }
 
@@ -71,7 +80,7 @@ pub enum Taking {
     Tries,
     /// It polls, and waits for it.
     Awaits,
-    /// It waits for it to give it up, of a registration that asked this.
+    /// It waits for it to cancel it, of a registration that asked this.
     Gives(u16),
 }
 
@@ -105,11 +114,11 @@ pub enum Stage {
     },
     /// It loads the main word to give something back.
     ReleaseLoad {
-        given: u16,
+        given: Given,
     },
     /// It exchanges the word that it saw for one with the count lowered.
     ReleaseExchange {
-        given: u16,
+        given: Given,
         seen: Word,
     },
     /// It holds the flag, and loads a line word on its way from the tail to the oldest.
@@ -118,7 +127,7 @@ pub enum Stage {
         current: u16,
         newer: u16,
     },
-    /// It writes there who stands right behind.
+    /// It writes there the newer neighbour.
     BackStore {
         seen: Word,
         current: u16,
@@ -181,7 +190,7 @@ pub enum Stage {
     Take {
         taking: Taking,
     },
-    /// It loads the main word to set the flag, since it gives its registration up.
+    /// It loads the main word to set the flag, since it cancels.
     FlagLoad,
     /// It exchanges the word that it saw for one with the flag set.
     FlagExchange {
@@ -194,21 +203,21 @@ pub enum Stage {
         newer: u16,
         previous: LineWord,
     },
-    /// It writes there who stands right behind.
+    /// It writes there the newer neighbour.
     LookStore {
         seen: Word,
         current: u16,
         newer: u16,
         line: LineWord,
     },
-    /// It found itself, and links who stands right behind to who stands right before.
+    /// It found itself, and links its newer neighbour to its older one.
     Unlink {
         seen: Word,
         newer: u16,
         line: LineWord,
         older: u16,
     },
-    /// It found itself as the tail, and exchanges the word that it saw for one whose tail stands right before.
+    /// It found itself as the tail, and exchanges the word that it saw for one whose tail is its older neighbour.
     DropTail {
         seen: Word,
         older: u16,

@@ -9,7 +9,9 @@ ghost use Rattle.saa_word_steps.specs.Steps.{needs_of, next_of, IsRanged, IsSmal
 
 use crate::call::{Answer, Error, TryLockError};
 use crate::operation::released;
-use crate::place::{Afterwards, Ask, Back, Next, Place, Reading, Registration, Stage, Taking};
+use crate::place::{
+    Afterwards, Ask, Back, Given, Next, Place, Reading, Registration, Stage, Taking,
+};
 use crate::rules::{ALONE, Rules};
 use saa_core_words::answer_word;
 use saa_core_words::line_word::LineWord;
@@ -37,8 +39,8 @@ impl Place {
                 }
                 self.decide(rules, ask, Word::unpack(found))
             }
-            // Why this order: once it is the tail, the flag's holder reads its line word; joined before that is written, it would hide all who
-            // joined before it.
+            // Why this order: once it is the tail, the flag's holder reads its line word; joined before that is written, it would hide all waiters
+            // before it.
             Stage::Prepare { request, seen } => self.going(Stage::Join { request, seen }),
             Stage::Join { request, seen } => self.joined(rules, me, request, seen, found),
             Stage::ReleaseLoad { given } => self.give(rules, given, Word::unpack(found)),
@@ -89,7 +91,7 @@ impl Place {
                 current,
                 count,
             } => self.look_at(rules, seen, current, count, LineWord::unpack(found)),
-            // Why this order: the cut comes before the grants are published; else those who stay would still be linked to those who are
+            // Why this order: the cut comes before the grants are published; else the waiters who stay would still be linked to those that are
             // granted, and the next walk would grant these twice.
             Stage::CutToClose {
                 seen,
@@ -226,8 +228,8 @@ impl Place {
 
     // It joined the line, or the word that was found decides anew.
     //
-    // Why this order: the exchange succeeds only on the word whose tail the line word names; written over another tail, it would pass all who
-    // joined since.
+    // Why this order: the exchange succeeds only on the word whose tail the line word names; written over another tail, it would pass all
+    // waiters who joined since.
     fn joined(self, rules: Rules, me: u16, request: u16, seen: Word, found: u64) -> Next
         requires { IsSmall seen }
         ensures { result ≡ next_of (needs_of rules) me self (Join request seen) found }
@@ -245,13 +247,13 @@ impl Place {
     }
 
     // How a release goes on with the main word that it saw.
-    fn give(self, rules: Rules, request: u16, seen: Word) -> Next
-        ensures { result ≡ given (needs_of rules) self request seen }
+    fn give(self, rules: Rules, what: Given, seen: Word) -> Next
+        ensures { result ≡ given (needs_of rules) self what seen }
     {
-        if seen.is_poisoned || rules.less(seen.count, request).is_none() {
+        if seen.is_poisoned || rules.left(seen.count, what).is_none() {
             return self.gave_nothing();
         }
-        let given = request;
+        let given = what;
         self.going(Stage::ReleaseExchange { given, seen })
     }
 
@@ -266,17 +268,17 @@ impl Place {
     }
 
     // It gave back, and holds the flag where somebody waits whom nobody else works for; or the word that was found decides anew.
-    fn given(self, rules: Rules, me: u16, request: u16, seen: Word, found: u64) -> Next
+    fn given(self, rules: Rules, me: u16, what: Given, seen: Word, found: u64) -> Next
         requires { IsSmall seen }
-        ensures { result ≡ next_of (needs_of rules) me self (ReleaseExchange request seen) found }
+        ensures { result ≡ next_of (needs_of rules) me self (ReleaseExchange what seen) found }
     {
         if found != seen.pack() {
-            return self.give(rules, request, Word::unpack(found));
+            return self.give(rules, what, Word::unpack(found));
         }
         if seen.tail == 0 || seen.is_flagged {
             return self.finish();
         }
-        self.walk(released(rules, seen, request))
+        self.walk(released(rules, seen, what))
     }
 
     // It walks from the tail of the word that it saw.
@@ -368,7 +370,7 @@ impl Place {
         self.going(Stage::GoRound { seen, count, top })
     }
 
-    // It granted all who waited; or the last one isn't granted, and it goes round.
+    // It granted all waiters; or the last one isn't granted, and it goes round.
     //
     // Why this order: the line is emptied by the exchange that clears the flag; a place that joined meanwhile makes it fail, and has the
     // last one as its older neighbour, so that one is granted by a later walk.
@@ -467,7 +469,7 @@ impl Place {
     {
         let registration = Registration::Idle;
         if value == GRANTED && rules.takes(request) != 0 {
-            let given = request;
+            let given = Given::Asked(request);
             return Next::Going(Place {
                 registration,
                 stage: Stage::ReleaseLoad { given },

@@ -2,7 +2,9 @@
 
 ghost use Rattle.std.specs.Prelude.{◌≡◌, ◌+◌, ◌-◌, ◌≤◌, true, IfSome};
 ghost use Rattle.saa_word_steps.specs.Needs.{fits_count, left_count};
-ghost use Rattle.saa_word_steps.specs.Steps.{needs_of};
+ghost use Rattle.saa_word_steps.specs.Steps.{left_from, needs_of};
+
+use crate::place::Given;
 
 /// The count of a lock that one owner has alone.
 pub(crate) const ALONE: u16 = 63;
@@ -97,6 +99,22 @@ impl Rules {
                 SHARED if count != 0 && count != ALONE => Some(count - 1),
                 _ => None,
             },
+        }
+    }
+
+    /// The count once this is given back; `None` where that isn't held.
+    pub fn left(self, count: u16, given: Given) -> Option<u16>
+        ensures left { result ≡ left_from (needs_of self) count given }
+        ensures shrinks { IfSome result (λ left. left ≤ count) }
+    {
+        match given {
+            Given::Asked(request) => self.less(count, request),
+            Given::AllButAShare => {
+                if self.is_lock() && count == ALONE {
+                    return Some(1);
+                }
+                None
+            }
         }
     }
 }

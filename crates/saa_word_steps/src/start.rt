@@ -5,7 +5,7 @@ ghost use Rattle.saa_word_steps.specs.Steps.{needs_of, cancelled_as, going, mode
 ghost use Rattle.saa_word_steps.specs.declared.place.Stage.TheVariants.{ReadLoad};
 
 use crate::call::{Answer, Error, Mode, WordCall};
-use crate::place::{Ask, Back, Next, Place, Reading, Registration, Stage, Taking};
+use crate::place::{Ask, Back, Given, Next, Place, Reading, Registration, Stage, Taking};
 use crate::rules::Rules;
 use saa_core_spec::request::Request;
 use saa_core_words::requests;
@@ -27,12 +27,13 @@ impl Place {
             WordCall::Try(count) => self.start_try(count as u16),
             WordCall::Register(count) => self.start_registration(count as u16),
             WordCall::Release(0) => Next::Done(self, Answer::Bool(true)),
-            WordCall::Release(count) => self.start_release(count as u16),
+            WordCall::Release(count) => self.start_release(Given::Asked(count as u16)),
             WordCall::TryLock => self.start_try(EXCLUSIVE),
             WordCall::TryShare => self.start_try(SHARED),
             WordCall::RegisterMode(mode) => self.start_registration(number(mode)),
-            WordCall::ReleaseLock => self.start_release(EXCLUSIVE),
-            WordCall::ReleaseShare => self.start_release(SHARED),
+            WordCall::ReleaseLock => self.start_release(Given::Asked(EXCLUSIVE)),
+            WordCall::ReleaseShare => self.start_release(Given::Asked(SHARED)),
+            WordCall::Downgrade => self.start_release(Given::AllButAShare),
             WordCall::PoisonLock => Next::Going(Place {
                 stage: Stage::PoisonLoad,
                 back: Back::Tells,
@@ -79,7 +80,7 @@ impl Place {
     }
 
     // It gives something back.
-    fn start_release(self, given: u16) -> Next
+    fn start_release(self, given: Given) -> Next
         ensures { result ≡ released_as self given }
     {
         Next::Going(Place {
@@ -89,7 +90,7 @@ impl Place {
         })
     }
 
-    // A poll: only who joined the line has a word to look at.
+    // A poll: only a place that joined the line has a word to look at.
     fn start_poll(self, taking: Taking) -> Next
         ensures { result ≡ polled_as self taking self.registration }
     {
@@ -107,7 +108,7 @@ impl Place {
         }
     }
 
-    // A cancel: only who joined the line has a word to look at.
+    // A cancel: only a place that joined the line has a word to look at.
     fn start_cancel(self, rules: Rules) -> Next
         ensures { result ≡ cancelled_as (needs_of rules) self self.registration }
     {

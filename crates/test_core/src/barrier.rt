@@ -5,6 +5,7 @@ use saa_core::barrier::{BarrierAnswer, BarrierCall, BarrierCore};
 use saa_core::bench::{Bench, Command, CommandOf, Reply, ReplyOf};
 use saa_core::ticket::{Error, Full, How, Ticket};
 use std::test::Fail;
+use test_asserts::same;
 
 /// A call of a row.
 #[derive(Clone, Copy, Debug)]
@@ -183,12 +184,12 @@ fn a_dropped_answer_is_only_consumed(rt: HostRuntime) -> Result<(), Fail> {
 
 #[test]
 fn a_core_prints_its_counts(rt: HostRuntime) -> Result<(), Fail> {
-    assert_eq!(rt; BarrierCore::MAX_TASKS, 63);
+    same!(rt; BarrierCore::MAX_TASKS, 63);
     let large = BarrierCore::with_count(rt.alloc(), 64, 0)?;
-    assert_eq!(rt; large.count(), 63);
+    same!(rt; large.count(), 63);
     let core = BarrierCore::with_count(rt.alloc(), 3, 4)?;
     let text = format!(in rt.alloc(); "{core:?}")?;
-    assert_eq!(rt; text.as_str(), "BarrierCore { count: 3, waiting: 0 }");
+    same!(rt; text.as_str(), "BarrierCore { count: 3, waiting: 0 }");
     Ok(())
 }
 
@@ -227,6 +228,6 @@ fn rounds_follow_one_another_on_a_bench(rt: HostRuntime) -> Result<(), Fail> {
     let mut bench: Bench<BarrierCore> = Bench::new(rt.alloc(), core, 4)?;
     let mut out: [Reply<BarrierCore>; 11] = [ReplyOf::Dropped; 11];
     bench.run(&COMMANDS, &mut out);
-    assert_eq!(rt; out, REPLIES);
+    same!(rt; out, REPLIES);
     Ok(())
 }

@@ -5,14 +5,15 @@ use saa_core::semaphore::{SemaphoreAnswer, SemaphoreCall, SemaphoreCore};
 use saa_core::ticket::{Error, Full, Ticket};
 use std::process::Abort;
 use std::test::Fail;
+use test_asserts::{holds, same};
 
 // Takes all permits of a core, lets one slot wait for 1 permit and one for 2, and releases one: one slot waits, and the
 // answer of the other isn't consumed.
 fn use_core(rt: &impl Abort, core: &mut SemaphoreCore) {
-    assert!(rt; core.try_acquire_many(63));
-    assert_eq!(rt; core.register(&mut Ticket::new(), 1, true), Ok(true));
-    assert_eq!(rt; core.register(&mut Ticket::new(), 2, true), Ok(true));
-    assert!(rt; core.release());
+    holds!(rt; core.try_acquire_many(63));
+    same!(rt; core.register(&mut Ticket::new(), 1, true), Ok(true));
+    same!(rt; core.register(&mut Ticket::new(), 2, true), Ok(true));
+    holds!(rt; core.release());
 }
 
 const COMMANDS: [Command<SemaphoreCore>; 10] = [
@@ -47,15 +48,12 @@ fn a_core_in_use_is_run_as_it_is(rt: HostRuntime) -> Result<(), Fail> {
     let mut core = SemaphoreCore::new(rt.alloc(), 4)?;
     use_core(&rt, &mut core);
     let mut bench: Bench<SemaphoreCore> = Bench::new(rt.alloc(), core, 3)?;
-    assert_eq!(rt; bench.pagers(), 3);
+    same!(rt; bench.pagers(), 3);
     let mut out: [Reply<SemaphoreCore>; 10] = [ReplyOf::Dropped; 10];
     bench.run(&COMMANDS, &mut out);
-    assert_eq!(rt; out, REPLIES);
-    assert!(rt; !bench.is_registered(0));
-    assert_eq!(rt;
-        bench.do_one(&CommandOf::Register(2, 0, true)),
-        ReplyOf::Registered(Ok(true))
-    );
-    assert!(rt; bench.is_registered(2));
+    same!(rt; out, REPLIES);
+    holds!(rt; !bench.is_registered(0));
+    same!(rt; bench.do_one(&CommandOf::Register(2, 0, true)), ReplyOf::Registered(Ok(true)));
+    holds!(rt; bench.is_registered(2));
     Ok(())
 }

@@ -6,6 +6,7 @@ use saa_core::gate::{Error, GateAnswer, GateCall, GateCore, State};
 use saa_core::ticket::{Full, How, Ticket};
 use saa_core_spec::polling;
 use std::test::Fail;
+use test_asserts::same;
 
 /// A call of a row.
 #[derive(Clone, Copy, Debug)]
@@ -253,7 +254,7 @@ fn a_rejected_answer_stays_as_it_is(rt: HostRuntime) -> Result<(), Fail> {
 fn a_core_prints_its_state(rt: HostRuntime) -> Result<(), Fail> {
     let core = GateCore::new(rt.alloc(), 4)?;
     let text = format!(in rt.alloc(); "{core:?}")?;
-    assert_eq!(rt; text.as_str(), "GateCore { state: Controlled, waiting: 0 }");
+    same!(rt; text.as_str(), "GateCore { state: Controlled, waiting: 0 }");
     Ok(())
 }
 
@@ -296,6 +297,6 @@ fn calls_are_run_on_a_bench(rt: HostRuntime) -> Result<(), Fail> {
     let mut bench: Bench<GateCore> = Bench::new(rt.alloc(), core, 2)?;
     let mut out: [Reply<GateCore>; 13] = [ReplyOf::Dropped; 13];
     bench.run(&COMMANDS, &mut out);
-    assert_eq!(rt; out, REPLIES);
+    same!(rt; out, REPLIES);
     Ok(())
 }

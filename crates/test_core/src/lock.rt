@@ -5,6 +5,7 @@ use saa_core::bench::{Bench, Command, CommandOf, Reply, ReplyOf};
 use saa_core::lock::{LockAnswer, LockCall, LockCore, Mode, TryLockError};
 use saa_core::ticket::{Error, Full, How, Ticket};
 use std::test::Fail;
+use test_asserts::{holds, same};
 
 /// A call of a row.
 #[derive(Clone, Copy, Debug)]
@@ -58,6 +59,8 @@ const TRY_SHARE: Call = Call::On(LockCall::TryShare);
 const RELEASE_LOCK: Call = Call::On(LockCall::ReleaseLock);
 
 const RELEASE_SHARE: Call = Call::On(LockCall::ReleaseShare);
+
+const DOWNGRADE: Call = Call::On(LockCall::Downgrade);
 
 const POISON: Call = Call::On(LockCall::PoisonLock);
 
@@ -120,6 +123,7 @@ fn say(core: &mut LockCore, call: LockCall) -> Answer {
         LockCall::TryShare => Answer::Tried(core.try_share()),
         LockCall::ReleaseLock => Answer::Bool(core.release_lock()),
         LockCall::ReleaseShare => Answer::Bool(core.release_share()),
+        LockCall::Downgrade => Answer::Bool(core.downgrade()),
         LockCall::PoisonLock => Answer::Bool(core.poison_lock()),
         LockCall::ClearPoison => Answer::Bool(core.clear_poison()),
         LockCall::IsFree => Answer::Bool(core.is_free()),
@@ -175,6 +179,88 @@ fn readers_and_a_writer_pass_in_order_and_poison_ends_all(rt: HostRuntime) -> Re
     let core = LockCore::new(rt.alloc(), 4)?;
     play(&rt, &mut Played::new(core), &IN_ORDER);
     Ok(())
+}
+
+const LOWERED: [Row; 21] = [
+    (DOWNGRADE, NO),
+    (TRY_LOCK, OWNED),
+    (Call::Of(0, Asked::Register(Mode::Shared, true)), JOINED),
+    (Call::Of(1, Asked::Register(Mode::WaitShared, true)), JOINED),
+    (Call::Of(2, EXCLUSIVE), JOINED),
+    (Call::Of(3, Asked::Register(Mode::Shared, true)), JOINED),
+    (DOWNGRADE, YES),
+    (IS_SHARED, YES),
+    (DOWNGRADE, NO),
+    (Call::Of(0, SYNC), GRANTED),
+    (Call::Of(1, SYNC), GRANTED),
+    (Call::Of(2, SYNC), NOT_READY),
+    (Call::Of(3, SYNC), NOT_READY),
+    (RELEASE_SHARE, YES),
+    (Call::Of(2, SYNC), NOT_READY),
+    (RELEASE_SHARE, YES),
+    (Call::Of(2, SYNC), GRANTED),
+    (Call::Of(3, SYNC), NOT_READY),
+    (RELEASE_LOCK, YES),
+    (Call::Of(3, SYNC), GRANTED),
+    (IS_SHARED, YES),
+];
+
+#[test]
+fn an_owner_becomes_a_sharer_and_those_in_front_share_beside_it(
+    rt: HostRuntime,
+) -> Result<(), Fail> {
+    let core = LockCore::new(rt.alloc(), 4)?;
+    play(&rt, &mut Played::new(core), &LOWERED);
+    Ok(())
+}
+
+const LOWERED_POISON: [Row; 5] = [
+    (TRY_LOCK, OWNED),
+    (POISON, YES),
+    (DOWNGRADE, NO),
+    (IS_POISONED, YES),
+    (CLEAR, YES),
+];
+
+#[test]
+fn a_poisoned_lock_is_not_downgraded(rt: HostRuntime) -> Result<(), Fail> {
+    let core = LockCore::new(rt.alloc(), 4)?;
+    play(&rt, &mut Played::new(core), &LOWERED_POISON);
+    Ok(())
+}
+
+#[test]
+fn sixty_one_of_seventy_share_with_the_owner_that_was(rt: HostRuntime) -> Result<(), Fail> {
+    let mut core = LockCore::new(rt.alloc(), 70)?;
+    same!(rt; core.try_lock(), Ok(()));
+    let mut tickets = Vec::new(rt.alloc());
+    for asked in 1..=70 {
+        let mut ticket = Ticket::new();
+        assert_eq!(rt;
+            core.register(&mut ticket, Mode::Shared, true),
+            Ok(true),
+            "{asked}"
+        );
+        tickets.push(ticket)?;
+    }
+    holds!(rt; core.downgrade());
+    for who in 0..61 {
+        assert_eq!(rt;
+            poll_at(&mut core, &mut tickets, who),
+            Some(Ok(true)),
+            "{who}"
+        );
+    }
+    same!(rt; poll_at(&mut core, &mut tickets, 61), Some(Err(Error::NotReady)));
+    holds!(rt; core.release_share());
+    same!(rt; poll_at(&mut core, &mut tickets, 61), Some(Ok(true)));
+    same!(rt; poll_at(&mut core, &mut tickets, 62), Some(Err(Error::NotReady)));
+    Ok(())
+}
+
+// Polls one of the tickets as sync; `None` where there is none of the number.
+fn poll_at(core: &mut LockCore, tickets: &mut [Ticket], who: usize) -> Option<Result<bool, Error>> {
+    Some(core.poll(tickets.get_mut(who)?, How::Sync))
 }
 
 const NO_MORE: [Row; 5] = [
@@ -324,21 +410,15 @@ fn the_word_shows_the_owners_poison_and_the_newest_who_waits(rt: HostRuntime) ->
 #[test]
 fn a_lock_shows_its_state(rt: HostRuntime) -> Result<(), Fail> {
     let mut core = LockCore::new(rt.alloc(), 4)?;
-    assert_eq!(rt; core.try_share(), Ok(()));
-    assert_eq!(rt;
-        format!(in rt.alloc(); "{core:?}")?.as_str(),
-        "LockCore { locked: false, share_count: 1, poisoned: false, waiting: 0 }"
-    );
+    same!(rt; core.try_share(), Ok(()));
+    same!(rt; format!(in rt.alloc(); "{core:?}")?.as_str(), "LockCore { locked: false, share_count: 1, poisoned: false, waiting: 0 }");
     let mut one = Ticket::new();
-    assert_eq!(rt; core.register(&mut one, Mode::Exclusive, true), Ok(true));
-    assert_eq!(rt;
-        format!(in rt.alloc(); "{core:?}")?.as_str(),
-        "LockCore { locked: false, share_count: 1, poisoned: false, waiting: 1 }"
-    );
+    same!(rt; core.register(&mut one, Mode::Exclusive, true), Ok(true));
+    same!(rt; format!(in rt.alloc(); "{core:?}")?.as_str(), "LockCore { locked: false, share_count: 1, poisoned: false, waiting: 1 }");
     Ok(())
 }
 
-const COMMANDS: [Command<LockCore>; 8] = [
+const COMMANDS: [Command<LockCore>; 12] = [
     CommandOf::Call(LockCall::TryLock),
     CommandOf::Register(0, Mode::Shared, true),
     CommandOf::Register(1, Mode::Shared, true),
@@ -347,9 +427,13 @@ const COMMANDS: [Command<LockCore>; 8] = [
     CommandOf::PollSync(0),
     CommandOf::Register(1, Mode::Exclusive, false),
     CommandOf::Drop(1),
+    CommandOf::Call(LockCall::Downgrade),
+    CommandOf::Call(LockCall::ReleaseShare),
+    CommandOf::Call(LockCall::TryLock),
+    CommandOf::Call(LockCall::Downgrade),
 ];
 
-const REPLIES: [Reply<LockCore>; 8] = [
+const REPLIES: [Reply<LockCore>; 12] = [
     ReplyOf::Answered(LockAnswer::Tried(Ok(()))),
     ReplyOf::Registered(Ok(true)),
     ReplyOf::Registered(Err(Full)),
@@ -358,15 +442,19 @@ const REPLIES: [Reply<LockCore>; 8] = [
     ReplyOf::Polled(Ok(true)),
     ReplyOf::Registered(Ok(true)),
     ReplyOf::Dropped,
+    ReplyOf::Answered(LockAnswer::Bool(false)),
+    ReplyOf::Answered(LockAnswer::Bool(true)),
+    ReplyOf::Answered(LockAnswer::Tried(Ok(()))),
+    ReplyOf::Answered(LockAnswer::Bool(true)),
 ];
 
 #[test]
 fn a_bench_of_a_lock_runs_its_commands(rt: HostRuntime) -> Result<(), Fail> {
     let core = LockCore::new(rt.alloc(), 1)?;
     let mut bench: Bench<LockCore> = Bench::new(rt.alloc(), core, 2)?;
-    assert_eq!(rt; bench.pagers(), 2);
-    let mut out: [Reply<LockCore>; 8] = [ReplyOf::Dropped; 8];
+    same!(rt; bench.pagers(), 2);
+    let mut out: [Reply<LockCore>; 12] = [ReplyOf::Dropped; 12];
     bench.run(&COMMANDS, &mut out);
-    assert_eq!(rt; out, REPLIES);
+    same!(rt; out, REPLIES);
     Ok(())
 }

@@ -1,6 +1,7 @@
 //! The numbers of a gate's states and errors.
 
 use saa_core_spec::gate::{Error, State};
+use test_asserts::same;
 
 #[test]
 fn states_have_numbers(rt: HostRuntime) {
@@ -9,13 +10,13 @@ fn states_have_numbers(rt: HostRuntime) {
         (1, State::Sealed),
         (2, State::Open),
     ] {
-        assert_eq!(rt; u8::from(state), number);
-        assert_eq!(rt; usize::from(state), number as usize);
-        assert_eq!(rt; State::from(number), state);
-        assert_eq!(rt; State::from(number as usize), state);
+        same!(rt; u8::from(state), number);
+        same!(rt; usize::from(state), number as usize);
+        same!(rt; State::from(number), state);
+        same!(rt; State::from(number as usize), state);
     }
-    assert_eq!(rt; State::from(3u8), State::Open);
-    assert_eq!(rt; State::from(256usize), State::Open);
+    same!(rt; State::from(3u8), State::Open);
+    same!(rt; State::from(256usize), State::Open);
 }
 
 #[test]
@@ -28,11 +29,11 @@ fn errors_have_numbers(rt: HostRuntime) {
         (20, Error::WrongMode),
         (24, Error::NotReady),
     ] {
-        assert_eq!(rt; u8::from(error), number);
-        assert_eq!(rt; usize::from(error), number as usize);
-        assert_eq!(rt; Error::from(number), error);
-        assert_eq!(rt; Error::from(number as usize), error);
+        same!(rt; u8::from(error), number);
+        same!(rt; usize::from(error), number as usize);
+        same!(rt; Error::from(number), error);
+        same!(rt; Error::from(number as usize), error);
     }
-    assert_eq!(rt; Error::from(5usize), Error::NotReady);
-    assert_eq!(rt; Error::from(0u8), Error::NotReady);
+    same!(rt; Error::from(5usize), Error::NotReady);
+    same!(rt; Error::from(0u8), Error::NotReady);
 }

@@ -4,6 +4,7 @@ use crate::played::{Makes, Played, play};
 use saa_core::semaphore::SemaphoreCore;
 use saa_core::ticket::{Error, Full, How, Ticket};
 use std::test::Fail;
+use test_asserts::{holds, same};
 
 /// A call of a row.
 #[derive(Clone, Copy, Debug)]
@@ -251,7 +252,7 @@ const ODD_COUNTS: [Row; 14] = [
 
 #[test]
 fn odd_counts_change_nothing(rt: HostRuntime) -> Result<(), Fail> {
-    assert_eq!(rt; SemaphoreCore::MAX_PERMITS, 63);
+    same!(rt; SemaphoreCore::MAX_PERMITS, 63);
     let core = SemaphoreCore::with_permits(rt.alloc(), 100, 4)?;
     play(&rt, &mut Played::new(core), &ODD_COUNTS);
     Ok(())
@@ -292,28 +293,25 @@ fn a_ticket_is_nothing_to_another_core(rt: HostRuntime) -> Result<(), Fail> {
     let mut a = SemaphoreCore::new(rt.alloc(), 1)?;
     let mut b = SemaphoreCore::new(rt.alloc(), 1)?;
     let mut ticket = Ticket::new();
-    assert!(rt; a.try_acquire_many(63));
-    assert_eq!(rt; a.register(&mut ticket, 1, true), Ok(true));
-    assert_eq!(rt; b.poll(&mut ticket, How::Sync), Err(Error::NotRegistered));
-    assert_eq!(rt; a.poll(&mut ticket, How::Async), Err(Error::WrongMode));
-    assert_eq!(rt; a.poll(&mut ticket, How::Sync), Err(Error::NotReady));
+    holds!(rt; a.try_acquire_many(63));
+    same!(rt; a.register(&mut ticket, 1, true), Ok(true));
+    same!(rt; b.poll(&mut ticket, How::Sync), Err(Error::NotRegistered));
+    same!(rt; a.poll(&mut ticket, How::Async), Err(Error::WrongMode));
+    same!(rt; a.poll(&mut ticket, How::Sync), Err(Error::NotReady));
     b.cancel(&mut ticket);
-    assert!(rt; !ticket.is_registered());
-    assert!(rt; a.release());
-    assert_eq!(rt; a.available_permits(), 0);
-    assert_eq!(rt; a.register(&mut Ticket::new(), 1, true), Err(Full));
+    holds!(rt; !ticket.is_registered());
+    holds!(rt; a.release());
+    same!(rt; a.available_permits(), 0);
+    same!(rt; a.register(&mut Ticket::new(), 1, true), Err(Full));
     Ok(())
 }
 
 #[test]
 fn a_core_prints_its_counts(rt: HostRuntime) -> Result<(), Fail> {
     let mut core = SemaphoreCore::with_permits(rt.alloc(), 4, 2)?;
-    assert_eq!(rt; core.register(&mut Ticket::new(), 5, true), Ok(true));
-    assert_eq!(rt; core.register(&mut Ticket::new(), 5, false), Ok(true));
+    same!(rt; core.register(&mut Ticket::new(), 5, true), Ok(true));
+    same!(rt; core.register(&mut Ticket::new(), 5, false), Ok(true));
     let text = format!(in rt.alloc(); "{core:?}")?;
-    assert_eq!(rt;
-        text.as_str(),
-        "SemaphoreCore { available_permits: 4, waiting: 2 }"
-    );
+    same!(rt; text.as_str(), "SemaphoreCore { available_permits: 4, waiting: 2 }");
     Ok(())
 }

@@ -9,6 +9,7 @@ use saa_core_words::links::Links;
 use saa_core_words::requests::{ForModes, ForPermits, Requests, request_number};
 use saa_core_words::word::Word;
 use std::test::Fail;
+use test_asserts::same;
 
 // A main word by its parts.
 fn word(count: u16, is_flagged: bool, is_poisoned: bool, tail: u16) -> Word
@@ -24,20 +25,20 @@ fn word(count: u16, is_flagged: bool, is_poisoned: bool, tail: u16) -> Word
 
 #[test]
 fn a_main_word_is_its_bits(rt: HostRuntime) {
-    assert_eq!(rt; word(0, false, false, 0).pack(), 0);
-    assert_eq!(rt; word(63, false, false, 0).pack(), 63);
-    assert_eq!(rt; word(63, false, false, 1).pack(), 319);
-    assert_eq!(rt; word(58, true, false, 1).pack(), 378);
-    assert_eq!(rt; word(0, false, true, 0).pack(), 128);
-    assert_eq!(rt; word(1, true, true, 65_535).pack(), 16_777_153);
+    same!(rt; word(0, false, false, 0).pack(), 0);
+    same!(rt; word(63, false, false, 0).pack(), 63);
+    same!(rt; word(63, false, false, 1).pack(), 319);
+    same!(rt; word(58, true, false, 1).pack(), 378);
+    same!(rt; word(0, false, true, 0).pack(), 128);
+    same!(rt; word(1, true, true, 65_535).pack(), 16_777_153);
 }
 
 #[test]
 fn a_main_word_is_read_from_its_bits(rt: HostRuntime) {
-    assert_eq!(rt; Word::unpack(378), word(58, true, false, 1));
-    assert_eq!(rt; Word::unpack(128), word(0, false, true, 0));
-    assert_eq!(rt; Word::unpack(319), word(63, false, false, 1));
-    assert_eq!(rt; Word::unpack(u64::MAX), word(63, true, true, 65_535));
+    same!(rt; Word::unpack(378), word(58, true, false, 1));
+    same!(rt; Word::unpack(128), word(0, false, true, 0));
+    same!(rt; Word::unpack(319), word(63, false, false, 1));
+    same!(rt; Word::unpack(u64::MAX), word(63, true, true, 65_535));
 }
 
 #[test]
@@ -47,26 +48,26 @@ fn a_line_word_is_its_bits(rt: HostRuntime) {
         older: 1,
         newer: 2,
     };
-    assert_eq!(rt; word.pack(), 0x0002_0001_0003);
-    assert_eq!(rt; LineWord::unpack(0x0002_0001_0003), word);
-    assert_eq!(rt; LineWord::unpack(0xFFFF_0002_0001_0003), word);
+    same!(rt; word.pack(), 0x0002_0001_0003);
+    same!(rt; LineWord::unpack(0x0002_0001_0003), word);
+    same!(rt; LineWord::unpack(0xFFFF_0002_0001_0003), word);
 }
 
 #[test]
 fn an_answer_word_is_its_value_and_one(rt: HostRuntime) {
-    assert_eq!(rt; answer_word::pack(None), 0);
-    assert_eq!(rt; answer_word::pack(Some(0)), 1);
-    assert_eq!(rt; answer_word::pack(Some(2)), 3);
-    assert_eq!(rt; answer_word::unpack(0), None);
-    assert_eq!(rt; answer_word::unpack(1), Some(0));
-    assert_eq!(rt; answer_word::unpack(3), Some(2));
-    assert_eq!(rt; answer_word::unpack(256), Some(255));
+    same!(rt; answer_word::pack(None), 0);
+    same!(rt; answer_word::pack(Some(0)), 1);
+    same!(rt; answer_word::pack(Some(2)), 3);
+    same!(rt; answer_word::unpack(0), None);
+    same!(rt; answer_word::unpack(1), Some(0));
+    same!(rt; answer_word::unpack(3), Some(2));
+    same!(rt; answer_word::unpack(256), Some(255));
 }
 
 #[test]
 fn an_answer_word_answers_what_it_was_made_of(rt: HostRuntime) {
     for answer in [None, Some(0), Some(2), Some(255)] {
-        assert_eq!(rt; AnswerWord::new(answer).answer(), answer);
+        same!(rt; AnswerWord::new(answer).answer(), answer);
     }
 }
 
@@ -80,49 +81,49 @@ fn each_request_has_its_number(rt: HostRuntime) {
     ];
     let mut number = 0;
     for mode in modes {
-        assert_eq!(rt; request_number(mode), number);
-        assert_eq!(rt; ForModes::read(number), mode);
+        same!(rt; request_number(mode), number);
+        same!(rt; ForModes::read(number), mode);
         number += 1;
     }
     for count in [0, 1, 63, 65_535] {
-        assert_eq!(rt; request_number(Request::Permits(count)), count);
-        assert_eq!(rt; ForPermits::read(count), Request::Permits(count));
+        same!(rt; request_number(Request::Permits(count)), count);
+        same!(rt; ForPermits::read(count), Request::Permits(count));
     }
 }
 
 #[test]
 fn a_place_leaves_wherever_it_stands(rt: HostRuntime) -> Result<(), Fail> {
     let mut links = Links::<ForPermits>::with_room(rt.alloc(), 3)?;
-    assert_eq!(rt; (links.waiting(), links.tail()), (0, 0));
-    assert_eq!(rt; links.oldest(), None);
+    same!(rt; (links.waiting(), links.tail()), (0, 0));
+    same!(rt; links.oldest(), None);
 
     links.push(2, Request::Permits(5));
     links.push(0, Request::Permits(6));
     links.push(1, Request::Permits(7));
-    assert_eq!(rt; (links.waiting(), links.tail()), (3, 2));
-    assert_eq!(rt; links.oldest(), Some((2, Request::Permits(5))));
+    same!(rt; (links.waiting(), links.tail()), (3, 2));
+    same!(rt; links.oldest(), Some((2, Request::Permits(5))));
 
     // The one between, the oldest, the newest, and the last of all.
     links.remove(0);
-    assert_eq!(rt; (links.waiting(), links.tail()), (2, 2));
-    assert_eq!(rt; links.oldest(), Some((2, Request::Permits(5))));
+    same!(rt; (links.waiting(), links.tail()), (2, 2));
+    same!(rt; links.oldest(), Some((2, Request::Permits(5))));
     links.remove(2);
-    assert_eq!(rt; (links.waiting(), links.tail()), (1, 2));
-    assert_eq!(rt; links.oldest(), Some((1, Request::Permits(7))));
+    same!(rt; (links.waiting(), links.tail()), (1, 2));
+    same!(rt; links.oldest(), Some((1, Request::Permits(7))));
     links.push(2, Request::Permits(8));
-    assert_eq!(rt; (links.waiting(), links.tail()), (2, 3));
+    same!(rt; (links.waiting(), links.tail()), (2, 3));
     links.remove(2);
-    assert_eq!(rt; (links.waiting(), links.tail()), (1, 2));
+    same!(rt; (links.waiting(), links.tail()), (1, 2));
     links.remove(1);
-    assert_eq!(rt; (links.waiting(), links.tail()), (0, 0));
-    assert_eq!(rt; links.oldest(), None);
+    same!(rt; (links.waiting(), links.tail()), (0, 0));
+    same!(rt; links.oldest(), None);
 
     // The oldest is taken, and taken again.
     links.push(1, Request::Permits(9));
     links.push(0, Request::Permits(1));
-    assert_eq!(rt; links.pop(), Some((1, Request::Permits(9))));
-    assert_eq!(rt; (links.waiting(), links.tail()), (1, 1));
-    assert_eq!(rt; links.pop(), Some((0, Request::Permits(1))));
-    assert_eq!(rt; (links.pop(), links.tail()), (None, 0));
+    same!(rt; links.pop(), Some((1, Request::Permits(9))));
+    same!(rt; (links.waiting(), links.tail()), (1, 1));
+    same!(rt; links.pop(), Some((0, Request::Permits(1))));
+    same!(rt; (links.pop(), links.tail()), (None, 0));
     Ok(())
 }

@@ -11,6 +11,7 @@ use std::sync::atomic::{AtomicU64, Ordering};
 use std::test::Fail;
 use std::thread;
 use std::thread::{Threads, yield_now};
+use test_asserts::same;
 use test_support::sleepers::{
     By, End, Place, Sleepers, a_call_wakes_all_whom_it_answers, each_call_wakes_one,
 };
@@ -69,6 +70,7 @@ impl<R: Wait + Drop + Copy> Form for Tried<R> {
             LockCall::TryShare => LockAnswer::Tried(self.lock.try_share()),
             LockCall::ReleaseLock => LockAnswer::Bool(self.lock.release_lock()),
             LockCall::ReleaseShare => LockAnswer::Bool(self.lock.release_share()),
+            LockCall::Downgrade => LockAnswer::Bool(self.lock.downgrade()),
             LockCall::PoisonLock => LockAnswer::Bool(self.lock.poison_lock()),
             LockCall::ClearPoison => LockAnswer::Bool(self.lock.clear_poison()),
             LockCall::IsFree => LockAnswer::Bool(self.lock.is_free(mo)),
@@ -132,11 +134,12 @@ const MODES: [Mode; 4] = [
     Mode::WaitShared,
 ];
 
-const CALLS: [LockCall; 10] = [
+const CALLS: [LockCall; 11] = [
     LockCall::TryLock,
     LockCall::TryShare,
     LockCall::ReleaseLock,
     LockCall::ReleaseShare,
+    LockCall::Downgrade,
     LockCall::PoisonLock,
     LockCall::ClearPoison,
     LockCall::IsFree,
@@ -175,36 +178,27 @@ fn agreeing<R: Wait>(
 #[test]
 fn short_lists_agree(rt: HostRuntime) -> Result<(), Fail> {
     let moves = moves::<LockCore>(rt.alloc(), &CALLS, &[], &MODES, &WAITS)?;
-    assert_eq!(rt; moves.len(), 40);
-    assert_eq!(rt; agreeing(&rt, rt.alloc(), &moves, &[0, 1], 0)?, 6);
-    assert_eq!(rt; agreeing(&rt, rt.alloc(), &moves, &[0, 1], 1)?, 6 * 40);
-    assert_eq!(rt; agreeing(&rt, rt.alloc(), &moves, &[0, 1], 2)?, 6 * 40 * 40);
-    assert_eq!(rt;
-        agreeing(&rt, rt.alloc(), &moves, &[0, 1], 3)?,
-        6 * 40 * 40 * 40
-    );
+    same!(rt; moves.len(), 41);
+    same!(rt; agreeing(&rt, rt.alloc(), &moves, &[0, 1], 0)?, 6);
+    same!(rt; agreeing(&rt, rt.alloc(), &moves, &[0, 1], 1)?, 6 * 41);
+    same!(rt; agreeing(&rt, rt.alloc(), &moves, &[0, 1], 2)?, 6 * 41 * 41);
+    same!(rt; agreeing(&rt, rt.alloc(), &moves, &[0, 1], 3)?, 6 * 41 * 41 * 41);
     Ok(())
 }
 
 #[test]
 fn lists_of_four_agree_from_a_free_lock(rt: HostRuntime) -> Result<(), Fail> {
-    let moves = moves::<LockCore>(rt.alloc(), &CALLS[..6], &[], &MODES[..2], &[])?;
-    assert_eq!(rt; moves.len(), 24);
-    assert_eq!(rt;
-        agreeing(&rt, rt.alloc(), &moves, &[1], 4)?,
-        3 * 24 * 24 * 24 * 24
-    );
+    let moves = moves::<LockCore>(rt.alloc(), &CALLS[..7], &[], &MODES[..2], &[])?;
+    same!(rt; moves.len(), 25);
+    same!(rt; agreeing(&rt, rt.alloc(), &moves, &[1], 4)?, 3 * 25 * 25 * 25 * 25);
     Ok(())
 }
 
 #[test]
 fn lists_of_four_agree_from_a_locked_lock(rt: HostRuntime) -> Result<(), Fail> {
-    let moves = moves::<LockCore>(rt.alloc(), &CALLS[..6], &[], &MODES[..2], &[])?;
-    assert_eq!(rt; moves.len(), 24);
-    assert_eq!(rt;
-        agreeing(&rt, rt.alloc(), &moves, &[0], 4)?,
-        3 * 24 * 24 * 24 * 24
-    );
+    let moves = moves::<LockCore>(rt.alloc(), &CALLS[..7], &[], &MODES[..2], &[])?;
+    same!(rt; moves.len(), 25);
+    same!(rt; agreeing(&rt, rt.alloc(), &moves, &[0], 4)?, 3 * 25 * 25 * 25 * 25);
     Ok(())
 }
 
@@ -338,41 +332,30 @@ fn wrong_wakes<R: Wait + Threads + Sync>(
 
 #[test]
 fn sleeping_calls_wake(rt: HostRuntime) -> Result<(), Fail> {
-    assert_eq!(rt;
-        wrong_wakes(&rt, rt.alloc(), NO_PATIENCE, By::Call, &[1, 2, 3, 48])?,
-        0
-    );
+    same!(rt; wrong_wakes(&rt, rt.alloc(), NO_PATIENCE, By::Call, &[1, 2, 3, 48])?, 0);
     Ok(())
 }
 
 #[test]
 fn sleeping_plain_calls_wake(rt: HostRuntime) -> Result<(), Fail> {
-    assert_eq!(rt;
-        wrong_wakes(&rt, rt.alloc(), NO_PATIENCE, By::Plain, &[1, 2, 3, 48])?,
-        0
-    );
+    same!(rt; wrong_wakes(&rt, rt.alloc(), NO_PATIENCE, By::Plain, &[1, 2, 3, 48])?, 0);
     Ok(())
 }
 
 #[test]
 fn sleeping_polls_wake(rt: HostRuntime) -> Result<(), Fail> {
-    assert_eq!(rt;
-        wrong_wakes(&rt, rt.alloc(), NO_PATIENCE, By::Poll, &[1, 2, 3, 48, 100])?,
-        0
-    );
+    same!(rt; wrong_wakes(&rt, rt.alloc(), NO_PATIENCE, By::Poll, &[1, 2, 3, 48, 100])?, 0);
     Ok(())
 }
 
 #[test]
 fn waiting_calls_wake(rt: HostRuntime) -> Result<(), Fail> {
-    assert_eq!(rt;
-        wrong_wakes(&rt, rt.alloc(), PATIENCE, By::Call, &[1, 2, 3, 48])?,
-        0
-    );
+    same!(rt; wrong_wakes(&rt, rt.alloc(), PATIENCE, By::Call, &[1, 2, 3, 48])?, 0);
     Ok(())
 }
 
-// A lock that one owner has. The end of that answers all who want a share, up to the first who wants the lock alone.
+// A lock that one owner has. Its end answers all who want a share, up to the first who wants the lock alone; and so does
+// its downgrade.
 #[derive(Drop)]
 struct Owned<R: Wait + Drop> {
     form: Tried<R>,
@@ -397,8 +380,13 @@ impl<R: Wait + Drop + Sync> Sleepers for Owned<R> {
         self.form.give_up(ticket, is_cancelled);
     }
 
-    fn answer(&self, _is_short: bool) {
-        let _is_released = self.form.lock.release_lock();
+    // The short call is the release, the long one the downgrade.
+    fn answer(&self, is_short: bool) {
+        if is_short {
+            let _is_released = self.form.lock.release_lock();
+        } else {
+            let _is_lowered = self.form.lock.downgrade();
+        }
     }
 
     fn wait_at(&self, _place: Place, by: By, joined: &AtomicU64) -> bool {
@@ -421,11 +409,12 @@ impl<R: Wait + Drop + Sync> Sleepers for Owned<R> {
     }
 }
 
-// These numbers of sleepers who want a share of a lock that one owner has, in each way; the number where its release
-// went wrong, or 0.
+// These numbers of sleepers who want a share of a lock that one owner has, in each way; the number where its release, or
+// its downgrade, went wrong, or 0.
 fn wrong_shares<R: Wait + Threads + Sync>(
     rt: &R,
     alloc: Global,
+    is_release: bool,
     counts: &[u64],
 ) -> Result<u64, AllocError> {
     for count in counts {
@@ -433,7 +422,7 @@ fn wrong_shares<R: Wait + Threads + Sync>(
             let form = with_patience(rt, alloc, 104, NO_PATIENCE)?;
             let _locked = form.lock.try_lock();
             let owned = Owned { form };
-            let end = End::Call(true);
+            let end = End::Call(is_release);
             if !a_call_wakes_all_whom_it_answers(rt, &owned, false, *count, by, end) {
                 return Ok(*count);
             }
@@ -444,7 +433,13 @@ fn wrong_shares<R: Wait + Threads + Sync>(
 
 #[test]
 fn the_end_of_an_owner_wakes_all_who_share_then(rt: HostRuntime) -> Result<(), Fail> {
-    assert_eq!(rt; wrong_shares(&rt, rt.alloc(), &[1, 2, 3, 48])?, 0);
+    same!(rt; wrong_shares(&rt, rt.alloc(), true, &[1, 2, 3, 48])?, 0);
+    Ok(())
+}
+
+#[test]
+fn the_downgrade_of_an_owner_wakes_all_who_share_then(rt: HostRuntime) -> Result<(), Fail> {
+    same!(rt; wrong_shares(&rt, rt.alloc(), false, &[1, 2, 3, 48])?, 0);
     Ok(())
 }
 
@@ -507,7 +502,7 @@ fn poll_in_mode<R: Wait + Drop>(lock: &Lock<R>, mode: Mode) -> Result<bool, Full
 #[test]
 fn poison_wakes_all(rt: HostRuntime) -> Result<(), Fail> {
     for count in [1, 2, 3, 6, 48] {
-        assert_eq!(rt; told_of_poison(&rt, rt.alloc(), count)?, u64::from(count));
+        same!(rt; told_of_poison(&rt, rt.alloc(), count)?, u64::from(count));
     }
     Ok(())
 }

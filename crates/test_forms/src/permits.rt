@@ -1,4 +1,4 @@
-//! Permits that give themselves back when they go, and those who wait for them.
+//! Permits that give themselves back when they go, and waiters for them.
 
 use saa_core::semaphore::SemaphoreCore;
 use saa_core::ticket::Full;
@@ -10,6 +10,7 @@ use std::sync::Wait;
 use std::sync::atomic::{AtomicBool, Ordering};
 use std::test::Fail;
 use std::thread::{self, yield_now};
+use test_asserts::{holds, same};
 
 // How many permits are available.
 fn left<R: Wait + Drop>(semaphore: &Semaphore<R>) -> usize {
@@ -20,19 +21,19 @@ fn left<R: Wait + Drop>(semaphore: &Semaphore<R>) -> usize {
 fn a_permit_is_given_back_when_it_goes(rt: HostRuntime) -> Result<(), Fail> {
     let semaphore = Semaphore::with_permits(&rt, rt.alloc(), 2, 0)?;
     let one = semaphore.try_acquire_permit();
-    assert_eq!(rt; left(&semaphore), 1);
+    same!(rt; left(&semaphore), 1);
     let two = semaphore.acquire_permit();
-    assert!(rt; one.is_some() && two.is_ok());
-    assert_eq!(rt; left(&semaphore), 0);
+    holds!(rt; one.is_some() && two.is_ok());
+    same!(rt; left(&semaphore), 0);
 
     // Nothing is available, and there is no room to wait.
-    assert!(rt; semaphore.try_acquire_permit().is_none());
-    assert!(rt; matches!(semaphore.acquire_permit(), Err(Full)));
-    assert_eq!(rt; left(&semaphore), 0);
+    holds!(rt; semaphore.try_acquire_permit().is_none());
+    holds!(rt; matches!(semaphore.acquire_permit(), Err(Full)));
+    same!(rt; left(&semaphore), 0);
     drop(one);
-    assert_eq!(rt; left(&semaphore), 1);
+    same!(rt; left(&semaphore), 1);
     drop(two);
-    assert_eq!(rt; left(&semaphore), 2);
+    same!(rt; left(&semaphore), 2);
     Ok(())
 }
 
@@ -43,22 +44,22 @@ fn a_forgotten_permit_stays_out(rt: HostRuntime) -> Result<(), Fail> {
     let two = semaphore.try_acquire_permit();
 
     // There is room to wait, and a try doesn't.
-    assert!(rt; semaphore.try_acquire_permit().is_none());
+    holds!(rt; semaphore.try_acquire_permit().is_none());
     let mut pager = Pager::new();
-    assert_eq!(rt; semaphore.register_pager(&mut pager, 1, true), Ok(true));
+    same!(rt; semaphore.register_pager(&mut pager, 1, true), Ok(true));
     match (one, two) {
         (Ok(one), Some(two)) => {
             one.forget();
-            assert_eq!(rt; pager.try_poll(), Err(Error::NotReady));
+            same!(rt; pager.try_poll(), Err(Error::NotReady));
             two.forget();
         }
-        _ => assert!(rt; false),
+        _ => holds!(rt; false),
     }
-    assert_eq!(rt; pager.try_poll(), Err(Error::NotReady));
-    assert_eq!(rt; left(&semaphore), 0);
-    assert!(rt; semaphore.release());
-    assert_eq!(rt; pager.try_poll(), Ok(()));
-    assert_eq!(rt; left(&semaphore), 0);
+    same!(rt; pager.try_poll(), Err(Error::NotReady));
+    same!(rt; left(&semaphore), 0);
+    holds!(rt; semaphore.release());
+    same!(rt; pager.try_poll(), Ok(()));
+    same!(rt; left(&semaphore), 0);
     Ok(())
 }
 
@@ -66,13 +67,13 @@ fn a_forgotten_permit_stays_out(rt: HostRuntime) -> Result<(), Fail> {
 fn no_permit_passes_a_waiter(rt: HostRuntime) -> Result<(), Fail> {
     let semaphore = Semaphore::with_permits(&rt, rt.alloc(), 2, 1)?;
     let mut pager = Pager::new();
-    assert_eq!(rt; semaphore.register_pager(&mut pager, 3, false), Ok(true));
-    assert!(rt; semaphore.try_acquire_permit().is_none());
-    assert!(rt; matches!(semaphore.acquire_permit(), Err(Full)));
-    assert_eq!(rt; left(&semaphore), 2);
+    same!(rt; semaphore.register_pager(&mut pager, 3, false), Ok(true));
+    holds!(rt; semaphore.try_acquire_permit().is_none());
+    holds!(rt; matches!(semaphore.acquire_permit(), Err(Full)));
+    same!(rt; left(&semaphore), 2);
     pager.cancel();
-    assert!(rt; semaphore.try_acquire_permit().is_some());
-    assert_eq!(rt; left(&semaphore), 2);
+    holds!(rt; semaphore.try_acquire_permit().is_some());
+    same!(rt; left(&semaphore), 2);
     Ok(())
 }
 
@@ -120,8 +121,8 @@ fn a_permit_that_goes_wakes_who_sleeps(rt: HostRuntime) -> Result<(), Fail> {
         || left_beside(&semaphore, &has_ended),
         || let_go(&rt, first, &semaphore, &has_ended),
     );
-    assert!(rt; is_first);
-    assert_eq!(rt; seen, Some(0));
-    assert_eq!(rt; left(&semaphore), 1);
+    holds!(rt; is_first);
+    same!(rt; seen, Some(0));
+    same!(rt; left(&semaphore), 1);
     Ok(())
 }

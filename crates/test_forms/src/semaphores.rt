@@ -12,6 +12,7 @@ use std::sync::atomic::{AtomicU64, Ordering};
 use std::test::Fail;
 use std::thread;
 use std::thread::Threads;
+use test_asserts::{holds, same};
 use test_support::sleepers::{
     By, End, Place, Sleepers, a_call_wakes_all_whom_it_answers, each_call_wakes_one,
 };
@@ -259,52 +260,40 @@ fn agreeing<R: Wait>(
 fn short_lists_agree_from_every_size(rt: HostRuntime) -> Result<(), Fail> {
     let moves = semaphore_moves(rt.alloc(), &COUNTS, &WAITS)?;
     let sizes = [0, 1, 63, 64, 300, usize::MAX];
-    assert_eq!(rt; moves.len(), 67);
-    assert_eq!(rt; agreeing(&rt, rt.alloc(), &moves, &sizes, 0)?, 18);
-    assert_eq!(rt; agreeing(&rt, rt.alloc(), &moves, &sizes, 1)?, 18 * 67);
-    assert_eq!(rt; agreeing(&rt, rt.alloc(), &moves, &sizes, 2)?, 18 * 67 * 67);
+    same!(rt; moves.len(), 67);
+    same!(rt; agreeing(&rt, rt.alloc(), &moves, &sizes, 0)?, 18);
+    same!(rt; agreeing(&rt, rt.alloc(), &moves, &sizes, 1)?, 18 * 67);
+    same!(rt; agreeing(&rt, rt.alloc(), &moves, &sizes, 2)?, 18 * 67 * 67);
     Ok(())
 }
 
 #[test]
 fn every_list_of_three_agrees_with_all_permits(rt: HostRuntime) -> Result<(), Fail> {
     let moves = semaphore_moves(rt.alloc(), &COUNTS, &WAITS)?;
-    assert_eq!(rt;
-        agreeing(&rt, rt.alloc(), &moves, &[63], 3)?,
-        3 * 67 * 67 * 67
-    );
+    same!(rt; agreeing(&rt, rt.alloc(), &moves, &[63], 3)?, 3 * 67 * 67 * 67);
     Ok(())
 }
 
 #[test]
 fn every_list_of_three_agrees_with_one_permit(rt: HostRuntime) -> Result<(), Fail> {
     let moves = semaphore_moves(rt.alloc(), &COUNTS, &WAITS)?;
-    assert_eq!(rt;
-        agreeing(&rt, rt.alloc(), &moves, &[1], 3)?,
-        3 * 67 * 67 * 67
-    );
+    same!(rt; agreeing(&rt, rt.alloc(), &moves, &[1], 3)?, 3 * 67 * 67 * 67);
     Ok(())
 }
 
 #[test]
 fn lists_of_four_agree_with_all_permits(rt: HostRuntime) -> Result<(), Fail> {
     let moves = semaphore_moves(rt.alloc(), &[0, 1, 63], &[(1, Way::Plain)])?;
-    assert_eq!(rt; moves.len(), 34);
-    assert_eq!(rt;
-        agreeing(&rt, rt.alloc(), &moves, &[63], 4)?,
-        3 * 34 * 34 * 34 * 34
-    );
+    same!(rt; moves.len(), 34);
+    same!(rt; agreeing(&rt, rt.alloc(), &moves, &[63], 4)?, 3 * 34 * 34 * 34 * 34);
     Ok(())
 }
 
 #[test]
 fn lists_of_four_agree_with_no_permit(rt: HostRuntime) -> Result<(), Fail> {
     let moves = semaphore_moves(rt.alloc(), &[0, 1, 2], &[(1, Way::Plain)])?;
-    assert_eq!(rt; moves.len(), 34);
-    assert_eq!(rt;
-        agreeing(&rt, rt.alloc(), &moves, &[0], 4)?,
-        3 * 34 * 34 * 34 * 34
-    );
+    same!(rt; moves.len(), 34);
+    same!(rt; agreeing(&rt, rt.alloc(), &moves, &[0], 4)?, 3 * 34 * 34 * 34 * 34);
     Ok(())
 }
 
@@ -342,31 +331,31 @@ fn wrong_wakes<R: Wait + Threads + Sync>(
 
 #[test]
 fn sleeping_calls_wake(rt: HostRuntime) -> Result<(), Fail> {
-    assert_eq!(rt; wrong_wakes(&rt, rt.alloc(), NO_PATIENCE, By::Call)?, 0);
+    same!(rt; wrong_wakes(&rt, rt.alloc(), NO_PATIENCE, By::Call)?, 0);
     Ok(())
 }
 
 #[test]
 fn sleeping_calls_without_a_callback_wake(rt: HostRuntime) -> Result<(), Fail> {
-    assert_eq!(rt; wrong_wakes(&rt, rt.alloc(), NO_PATIENCE, By::Plain)?, 0);
+    same!(rt; wrong_wakes(&rt, rt.alloc(), NO_PATIENCE, By::Plain)?, 0);
     Ok(())
 }
 
 #[test]
 fn sleeping_polls_wake(rt: HostRuntime) -> Result<(), Fail> {
-    assert_eq!(rt; wrong_wakes(&rt, rt.alloc(), NO_PATIENCE, By::Poll)?, 0);
+    same!(rt; wrong_wakes(&rt, rt.alloc(), NO_PATIENCE, By::Poll)?, 0);
     Ok(())
 }
 
 #[test]
 fn waiting_calls_wake(rt: HostRuntime) -> Result<(), Fail> {
-    assert_eq!(rt; wrong_wakes(&rt, rt.alloc(), PATIENCE, By::Call)?, 0);
+    same!(rt; wrong_wakes(&rt, rt.alloc(), PATIENCE, By::Call)?, 0);
     Ok(())
 }
 
 #[test]
 fn waiting_polls_wake(rt: HostRuntime) -> Result<(), Fail> {
-    assert_eq!(rt; wrong_wakes(&rt, rt.alloc(), PATIENCE, By::Poll)?, 0);
+    same!(rt; wrong_wakes(&rt, rt.alloc(), PATIENCE, By::Poll)?, 0);
     Ok(())
 }
 
@@ -384,9 +373,9 @@ fn a_seat_is_reset_for_its_next_holder(rt: HostRuntime) -> Result<(), Fail> {
                 Ordering::SeqCst,
             );
         });
-        assert_eq!(rt; answer, Ok(()));
+        same!(rt; answer, Ok(()));
     }
-    assert_eq!(rt; rung.load(Ordering::SeqCst), 200);
+    same!(rt; rung.load(Ordering::SeqCst), 200);
     Ok(())
 }
 
@@ -396,11 +385,11 @@ fn a_seat_is_reset_for_the_next_pager(rt: HostRuntime) -> Result<(), Fail> {
     let semaphore = Semaphore::with_permits(&rt, rt.alloc(), 0, 1)?;
     for is_sync in [true, false] {
         let mut pager = Pager::new();
-        assert_eq!(rt; semaphore.register_pager(&mut pager, 1, is_sync), Ok(true));
-        assert_eq!(rt; semaphore.shell().rung(), 0);
-        assert!(rt; semaphore.release());
-        assert_eq!(rt; semaphore.shell().rung(), 1);
-        assert_eq!(rt; pager.try_poll(), Ok(()));
+        same!(rt; semaphore.register_pager(&mut pager, 1, is_sync), Ok(true));
+        same!(rt; semaphore.shell().rung(), 0);
+        holds!(rt; semaphore.release());
+        same!(rt; semaphore.shell().rung(), 1);
+        same!(rt; pager.try_poll(), Ok(()));
     }
     Ok(())
 }
@@ -447,11 +436,8 @@ fn sleepers_in_turn_all_wake(rt: HostRuntime) -> Result<(), Fail> {
             }
         }
     });
-    assert_eq!(rt;
-        taken.load(Ordering::SeqCst),
-        started.saturating_mul(ROUNDS)
-    );
-    assert_eq!(rt; semaphore.available_permits(Ordering::SeqCst), 63);
+    same!(rt; taken.load(Ordering::SeqCst), started.saturating_mul(ROUNDS));
+    same!(rt; semaphore.available_permits(Ordering::SeqCst), 63);
     Ok(())
 }
 
@@ -479,7 +465,7 @@ fn a_patient_task_hears_its_ring(rt: HostRuntime) -> Result<(), Fail> {
             form.semaphore.release()
         },
     );
-    assert!(rt; is_granted && is_released);
-    assert_eq!(rt; (form.rung(), form.asleep()), (1, 0));
+    holds!(rt; is_granted && is_released);
+    same!(rt; (form.rung(), form.asleep()), (1, 0));
     Ok(())
 }

@@ -8,13 +8,14 @@ use saa_sync::lock::Lock;
 use saa_sync::semaphore::Semaphore;
 use std::io;
 use std::sync::atomic::Ordering;
+use test_asserts::{holds, same};
 
 #[test]
 fn one_that_was_never_polled_changes_nothing(rt: HostRuntime) -> io::Result<()> {
     let semaphore = Semaphore::new(&rt, rt.alloc(), 1)?;
     drop(semaphore.acquire_many_async(5));
     drop(semaphore.acquire_async_with(|| {}));
-    assert_eq!(rt; semaphore.available_permits(Ordering::SeqCst), 63);
+    same!(rt; semaphore.available_permits(Ordering::SeqCst), 63);
     Ok(())
 }
 
@@ -25,12 +26,12 @@ fn one_that_waits_leaves_the_line(rt: HostRuntime) -> io::Result<()> {
     let mut next = semaphore.acquire_async();
     {
         let mut many = semaphore.acquire_many_async(2);
-        assert_eq!(rt; ready(one.poll(&mut many)), None);
-        assert_eq!(rt; ready(two.poll(&mut next)), None);
+        same!(rt; ready(one.poll(&mut many)), None);
+        same!(rt; ready(two.poll(&mut next)), None);
     }
-    assert!(rt; two.is_woken());
-    assert_eq!(rt; ready(two.poll(&mut next)), Some(Ok(())));
-    assert_eq!(rt; semaphore.available_permits(Ordering::SeqCst), 0);
+    holds!(rt; two.is_woken());
+    same!(rt; ready(two.poll(&mut next)), Some(Ok(())));
+    same!(rt; semaphore.available_permits(Ordering::SeqCst), 0);
     Ok(())
 }
 
@@ -41,14 +42,14 @@ fn one_that_was_granted_gives_back(rt: HostRuntime) -> io::Result<()> {
     let mut next = semaphore.acquire_many_async(3);
     {
         let mut many = semaphore.acquire_many_async(4);
-        assert_eq!(rt; ready(one.poll(&mut many)), None);
-        assert_eq!(rt; ready(two.poll(&mut next)), None);
-        assert!(rt; semaphore.release_many(4));
-        assert!(rt; one.is_woken() && !two.is_woken());
+        same!(rt; ready(one.poll(&mut many)), None);
+        same!(rt; ready(two.poll(&mut next)), None);
+        holds!(rt; semaphore.release_many(4));
+        holds!(rt; one.is_woken() && !two.is_woken());
     }
-    assert!(rt; two.is_woken());
-    assert_eq!(rt; ready(two.poll(&mut next)), Some(Ok(true)));
-    assert_eq!(rt; semaphore.available_permits(Ordering::SeqCst), 1);
+    holds!(rt; two.is_woken());
+    same!(rt; ready(two.poll(&mut next)), Some(Ok(true)));
+    same!(rt; semaphore.available_permits(Ordering::SeqCst), 1);
     Ok(())
 }
 
@@ -58,13 +59,13 @@ fn one_that_has_ended_keeps_what_it_got(rt: HostRuntime) -> io::Result<()> {
     let task = MockTask::new(&rt)?;
     {
         let mut two = semaphore.acquire_many_async(2);
-        assert_eq!(rt; ready(task.poll(&mut two)), None);
-        assert!(rt; semaphore.release_many(2));
-        assert_eq!(rt; ready(task.poll(&mut two)), Some(Ok(true)));
+        same!(rt; ready(task.poll(&mut two)), None);
+        holds!(rt; semaphore.release_many(2));
+        same!(rt; ready(task.poll(&mut two)), Some(Ok(true)));
     }
-    assert_eq!(rt; semaphore.available_permits(Ordering::SeqCst), 0);
+    same!(rt; semaphore.available_permits(Ordering::SeqCst), 0);
     let mut other = semaphore.acquire_async();
-    assert_eq!(rt; ready(task.poll(&mut other)), None);
+    same!(rt; ready(task.poll(&mut other)), None);
     Ok(())
 }
 
@@ -76,18 +77,18 @@ fn a_dropped_writer_lets_the_readers_in(rt: HostRuntime) -> io::Result<()> {
         MockTask::new(&rt)?,
         MockTask::new(&rt)?,
     );
-    assert_eq!(rt; lock.try_share(), Ok(()));
+    same!(rt; lock.try_share(), Ok(()));
     let mut reader = lock.share_async();
     let mut other = lock.share_async();
     {
         let mut writer = lock.lock_async();
-        assert_eq!(rt; ready(one.poll(&mut writer)), None);
-        assert_eq!(rt; ready(two.poll(&mut reader)), None);
-        assert_eq!(rt; ready(three.poll(&mut other)), None);
+        same!(rt; ready(one.poll(&mut writer)), None);
+        same!(rt; ready(two.poll(&mut reader)), None);
+        same!(rt; ready(three.poll(&mut other)), None);
     }
-    assert!(rt; two.is_woken() && three.is_woken());
-    assert_eq!(rt; ready(two.poll(&mut reader)), Some(Ok(true)));
-    assert_eq!(rt; ready(three.poll(&mut other)), Some(Ok(true)));
+    holds!(rt; two.is_woken() && three.is_woken());
+    same!(rt; ready(two.poll(&mut reader)), Some(Ok(true)));
+    same!(rt; ready(three.poll(&mut other)), Some(Ok(true)));
     Ok(())
 }
 
@@ -98,15 +99,12 @@ fn who_gives_up_at_a_gate_wakes_the_others(rt: HostRuntime) -> io::Result<()> {
     let mut stays = gate.enter_async();
     {
         let mut leaves = gate.enter_async();
-        assert_eq!(rt; ready(one.poll(&mut leaves)), None);
-        assert_eq!(rt; ready(two.poll(&mut stays)), None);
+        same!(rt; ready(one.poll(&mut leaves)), None);
+        same!(rt; ready(two.poll(&mut stays)), None);
     }
-    assert!(rt; two.is_woken());
-    assert_eq!(rt;
-        ready(two.poll(&mut stays)),
-        Some(Ok(Err(Error::SpuriousFailure)))
-    );
-    assert_eq!(rt; gate.permit(), Ok(0));
+    holds!(rt; two.is_woken());
+    same!(rt; ready(two.poll(&mut stays)), Some(Ok(Err(Error::SpuriousFailure))));
+    same!(rt; gate.permit(), Ok(0));
     Ok(())
 }
 
@@ -116,13 +114,13 @@ fn a_dropped_arrival_is_taken_back(rt: HostRuntime) -> io::Result<()> {
     let (one, two) = (MockTask::new(&rt)?, MockTask::new(&rt)?);
     {
         let mut leaves = barrier.wait_async();
-        assert_eq!(rt; ready(one.poll(&mut leaves)), None);
-        assert_eq!(rt; barrier.count(Ordering::SeqCst), 1);
+        same!(rt; ready(one.poll(&mut leaves)), None);
+        same!(rt; barrier.count(Ordering::SeqCst), 1);
     }
-    assert_eq!(rt; barrier.count(Ordering::SeqCst), 2);
+    same!(rt; barrier.count(Ordering::SeqCst), 2);
     let mut stays = barrier.wait_async();
-    assert_eq!(rt; ready(two.poll(&mut stays)), None);
-    assert!(rt; !two.is_woken());
+    same!(rt; ready(two.poll(&mut stays)), None);
+    holds!(rt; !two.is_woken());
     Ok(())
 }
 
@@ -132,14 +130,14 @@ fn a_slot_of_a_dropped_future_wakes_its_new_task_alone(rt: HostRuntime) -> io::R
     let (old, new) = (MockTask::new(&rt)?, MockTask::new(&rt)?);
     {
         let mut gone = semaphore.acquire_async();
-        assert_eq!(rt; ready(old.poll(&mut gone)), None);
+        same!(rt; ready(old.poll(&mut gone)), None);
     }
     old.enter(|_cx| {});
     let mut one = semaphore.acquire_async();
-    assert_eq!(rt; ready(new.poll(&mut one)), None);
-    assert!(rt; !old.is_woken());
-    assert!(rt; semaphore.release());
-    assert!(rt; !old.is_woken() && new.is_woken());
-    assert_eq!(rt; ready(new.poll(&mut one)), Some(Ok(())));
+    same!(rt; ready(new.poll(&mut one)), None);
+    holds!(rt; !old.is_woken());
+    holds!(rt; semaphore.release());
+    holds!(rt; !old.is_woken() && new.is_woken());
+    same!(rt; ready(new.poll(&mut one)), Some(Ok(())));
     Ok(())
 }

@@ -1,4 +1,4 @@
-//! Futures in a core that is lent to them: what each poll and each cancel does, step by step.
+//! Futures on a core that a test locks itself: what each poll and each cancel does, step by step.
 //!
 //! The form that makes a future has no part in it: its own core is never asked.
 
@@ -14,6 +14,7 @@ use saa_sync::lock::Lock;
 use saa_sync::semaphore::Semaphore;
 use std::io;
 use std::sync::Wait;
+use test_asserts::{holds, same};
 
 // Polls a future that hasn't ended; `None` for one that has.
 fn poll<R: Wait + Drop, Q: Question>(
@@ -30,14 +31,14 @@ fn poll<R: Wait + Drop, Q: Question>(
 fn a_future_joins_waits_and_is_done(rt: HostRuntime) -> io::Result<()> {
     let semaphore = Semaphore::new(&rt, rt.alloc(), 1)?;
     let mut core = SemaphoreCore::new(rt.alloc(), 1)?;
-    assert!(rt; core.try_acquire_many(63));
+    holds!(rt; core.try_acquire_many(63));
     let mut three = semaphore.acquire_many_async(3);
-    assert_eq!(rt; poll(&mut three, &mut core), Some(Progress::Joined));
-    assert_eq!(rt; poll(&mut three, &mut core), Some(Progress::Waits));
-    assert!(rt; core.release_many(3));
-    assert_eq!(rt; poll(&mut three, &mut core), Some(Progress::Done(true)));
-    assert_eq!(rt; core.available_permits(), 0);
-    assert_eq!(rt; poll(&mut three, &mut core), None);
+    same!(rt; poll(&mut three, &mut core), Some(Progress::Joined));
+    same!(rt; poll(&mut three, &mut core), Some(Progress::Waits));
+    holds!(rt; core.release_many(3));
+    same!(rt; poll(&mut three, &mut core), Some(Progress::Done(true)));
+    same!(rt; core.available_permits(), 0);
+    same!(rt; poll(&mut three, &mut core), None);
     Ok(())
 }
 
@@ -45,22 +46,22 @@ fn a_future_joins_waits_and_is_done(rt: HostRuntime) -> io::Result<()> {
 fn a_cancelled_writer_lets_the_readers_behind_it_in(rt: HostRuntime) -> io::Result<()> {
     let lock = Lock::new(&rt, rt.alloc(), 4)?;
     let mut core = LockCore::new(rt.alloc(), 4)?;
-    assert_eq!(rt; core.try_lock(), Ok(()));
+    same!(rt; core.try_lock(), Ok(()));
     let mut writer = lock.lock_async();
     let mut reader = lock.share_async();
     let mut other = lock.share_async();
-    assert_eq!(rt; poll(&mut writer, &mut core), Some(Progress::Joined));
-    assert_eq!(rt; poll(&mut reader, &mut core), Some(Progress::Joined));
-    assert_eq!(rt; poll(&mut other, &mut core), Some(Progress::Joined));
+    same!(rt; poll(&mut writer, &mut core), Some(Progress::Joined));
+    same!(rt; poll(&mut reader, &mut core), Some(Progress::Joined));
+    same!(rt; poll(&mut other, &mut core), Some(Progress::Joined));
     writer.cancel_on(&mut core);
-    assert!(rt; writer.has_ended());
-    assert_eq!(rt; poll(&mut reader, &mut core), Some(Progress::Waits));
-    assert!(rt; core.release_lock());
-    assert_eq!(rt; poll(&mut reader, &mut core), Some(Progress::Done(true)));
-    assert_eq!(rt; poll(&mut other, &mut core), Some(Progress::Done(true)));
-    assert!(rt; core.release_share());
-    assert!(rt; core.release_share());
-    assert!(rt; !core.release_share());
+    holds!(rt; writer.has_ended());
+    same!(rt; poll(&mut reader, &mut core), Some(Progress::Waits));
+    holds!(rt; core.release_lock());
+    same!(rt; poll(&mut reader, &mut core), Some(Progress::Done(true)));
+    same!(rt; poll(&mut other, &mut core), Some(Progress::Done(true)));
+    holds!(rt; core.release_share());
+    holds!(rt; core.release_share());
+    holds!(rt; !core.release_share());
     Ok(())
 }
 
@@ -68,13 +69,13 @@ fn a_cancelled_writer_lets_the_readers_behind_it_in(rt: HostRuntime) -> io::Resu
 fn a_cancelled_waiter_is_settled_for_at_once(rt: HostRuntime) -> io::Result<()> {
     let lock = Lock::new(&rt, rt.alloc(), 4)?;
     let mut core = LockCore::new(rt.alloc(), 4)?;
-    assert_eq!(rt; core.try_share(), Ok(()));
+    same!(rt; core.try_share(), Ok(()));
     let mut writer = lock.lock_async();
     let mut reader = lock.share_async();
-    assert_eq!(rt; poll(&mut writer, &mut core), Some(Progress::Joined));
-    assert_eq!(rt; poll(&mut reader, &mut core), Some(Progress::Joined));
+    same!(rt; poll(&mut writer, &mut core), Some(Progress::Joined));
+    same!(rt; poll(&mut reader, &mut core), Some(Progress::Joined));
     writer.cancel_on(&mut core);
-    assert_eq!(rt; poll(&mut reader, &mut core), Some(Progress::Done(true)));
+    same!(rt; poll(&mut reader, &mut core), Some(Progress::Done(true)));
     Ok(())
 }
 
@@ -82,18 +83,18 @@ fn a_cancelled_waiter_is_settled_for_at_once(rt: HostRuntime) -> io::Result<()> 
 fn a_full_room_and_a_count_above_the_bound(rt: HostRuntime) -> io::Result<()> {
     let semaphore = Semaphore::new(&rt, rt.alloc(), 0)?;
     let mut core = SemaphoreCore::new(rt.alloc(), 0)?;
-    assert!(rt; core.try_acquire_many(63));
+    holds!(rt; core.try_acquire_many(63));
     let mut one = semaphore.acquire_async();
-    assert!(rt; !one.has_ended());
-    assert_eq!(rt; poll(&mut one, &mut core), Some(Progress::Refused(Full)));
-    assert!(rt; one.has_ended());
+    holds!(rt; !one.has_ended());
+    same!(rt; poll(&mut one, &mut core), Some(Progress::Refused(Full)));
+    holds!(rt; one.has_ended());
     let mut many = semaphore.acquire_many_async(64);
-    assert_eq!(rt; poll(&mut many, &mut core), Some(Progress::Done(false)));
-    assert!(rt; many.has_ended());
+    same!(rt; poll(&mut many, &mut core), Some(Progress::Done(false)));
+    holds!(rt; many.has_ended());
     let mut largest = semaphore.acquire_many_async(usize::MAX);
-    assert_eq!(rt; poll(&mut largest, &mut core), Some(Progress::Done(false)));
+    same!(rt; poll(&mut largest, &mut core), Some(Progress::Done(false)));
     let mut none = semaphore.acquire_many_async(0);
-    assert_eq!(rt; poll(&mut none, &mut core), Some(Progress::Done(true)));
+    same!(rt; poll(&mut none, &mut core), Some(Progress::Done(true)));
     Ok(())
 }
 
@@ -101,18 +102,18 @@ fn a_full_room_and_a_count_above_the_bound(rt: HostRuntime) -> io::Result<()> {
 fn a_grant_that_nobody_was_told_goes_back(rt: HostRuntime) -> io::Result<()> {
     let semaphore = Semaphore::new(&rt, rt.alloc(), 4)?;
     let mut core = SemaphoreCore::new(rt.alloc(), 4)?;
-    assert!(rt; core.try_acquire_many(60));
+    holds!(rt; core.try_acquire_many(60));
     let mut five = semaphore.acquire_many_async(5);
     let mut one = semaphore.acquire_async();
-    assert_eq!(rt; poll(&mut five, &mut core), Some(Progress::Joined));
-    assert_eq!(rt; poll(&mut one, &mut core), Some(Progress::Joined));
-    assert!(rt; core.release_many(2));
-    assert_eq!(rt; core.available_permits(), 0);
+    same!(rt; poll(&mut five, &mut core), Some(Progress::Joined));
+    same!(rt; poll(&mut one, &mut core), Some(Progress::Joined));
+    holds!(rt; core.release_many(2));
+    same!(rt; core.available_permits(), 0);
     five.cancel_on(&mut core);
-    assert_eq!(rt; poll(&mut one, &mut core), Some(Progress::Done(())));
-    assert_eq!(rt; core.available_permits(), 4);
+    same!(rt; poll(&mut one, &mut core), Some(Progress::Done(())));
+    same!(rt; core.available_permits(), 4);
     one.cancel_on(&mut core);
-    assert_eq!(rt; core.available_permits(), 4);
+    same!(rt; core.available_permits(), 4);
     Ok(())
 }
 
@@ -120,16 +121,16 @@ fn a_grant_that_nobody_was_told_goes_back(rt: HostRuntime) -> io::Result<()> {
 fn a_future_is_registered_as_async(rt: HostRuntime) -> io::Result<()> {
     let semaphore = Semaphore::new(&rt, rt.alloc(), 2)?;
     let mut core = SemaphoreCore::new(rt.alloc(), 2)?;
-    assert!(rt; core.try_acquire_many(63));
+    holds!(rt; core.try_acquire_many(63));
     let mut ticket = Ticket::new();
-    assert_eq!(rt; core.register(&mut ticket, 1, true), Ok(true));
+    same!(rt; core.register(&mut ticket, 1, true), Ok(true));
     let mut one = semaphore.acquire_async();
-    assert_eq!(rt; poll(&mut one, &mut core), Some(Progress::Joined));
-    assert!(rt; core.release());
-    assert_eq!(rt; poll(&mut one, &mut core), Some(Progress::Waits));
-    assert_eq!(rt; core.poll(&mut ticket, How::Sync), Ok(()));
-    assert!(rt; core.release());
-    assert_eq!(rt; poll(&mut one, &mut core), Some(Progress::Done(())));
+    same!(rt; poll(&mut one, &mut core), Some(Progress::Joined));
+    holds!(rt; core.release());
+    same!(rt; poll(&mut one, &mut core), Some(Progress::Waits));
+    same!(rt; core.poll(&mut ticket, How::Sync), Ok(()));
+    holds!(rt; core.release());
+    same!(rt; poll(&mut one, &mut core), Some(Progress::Done(())));
     Ok(())
 }
 
@@ -137,13 +138,13 @@ fn a_future_is_registered_as_async(rt: HostRuntime) -> io::Result<()> {
 fn a_poisoned_lock_ends_a_future(rt: HostRuntime) -> io::Result<()> {
     let lock = Lock::new(&rt, rt.alloc(), 4)?;
     let mut core = LockCore::new(rt.alloc(), 4)?;
-    assert_eq!(rt; core.try_lock(), Ok(()));
+    same!(rt; core.try_lock(), Ok(()));
     let mut reader = lock.share_async();
-    assert_eq!(rt; poll(&mut reader, &mut core), Some(Progress::Joined));
-    assert!(rt; core.poison_lock());
-    assert_eq!(rt; poll(&mut reader, &mut core), Some(Progress::Done(false)));
+    same!(rt; poll(&mut reader, &mut core), Some(Progress::Joined));
+    holds!(rt; core.poison_lock());
+    same!(rt; poll(&mut reader, &mut core), Some(Progress::Done(false)));
     let mut late = lock.lock_async();
-    assert_eq!(rt; poll(&mut late, &mut core), Some(Progress::Done(false)));
+    same!(rt; poll(&mut late, &mut core), Some(Progress::Done(false)));
     Ok(())
 }
 
@@ -153,29 +154,20 @@ fn a_gate_answers_its_futures(rt: HostRuntime) -> io::Result<()> {
     let mut core = GateCore::new(rt.alloc(), 4)?;
     let mut first = gate.enter_async();
     let mut second = gate.enter_async();
-    assert_eq!(rt; poll(&mut first, &mut core), Some(Progress::Joined));
-    assert_eq!(rt; poll(&mut second, &mut core), Some(Progress::Joined));
-    assert_eq!(rt; core.permit(), Ok(2));
-    assert_eq!(rt;
-        poll(&mut first, &mut core),
-        Some(Progress::Done(Ok(State::Controlled)))
-    );
+    same!(rt; poll(&mut first, &mut core), Some(Progress::Joined));
+    same!(rt; poll(&mut second, &mut core), Some(Progress::Joined));
+    same!(rt; core.permit(), Ok(2));
+    same!(rt; poll(&mut first, &mut core), Some(Progress::Done(Ok(State::Controlled))));
     second.cancel_on(&mut core);
     let mut third = gate.enter_async();
     let mut fourth = gate.enter_async();
-    assert_eq!(rt; poll(&mut third, &mut core), Some(Progress::Joined));
-    assert_eq!(rt; poll(&mut fourth, &mut core), Some(Progress::Joined));
+    same!(rt; poll(&mut third, &mut core), Some(Progress::Joined));
+    same!(rt; poll(&mut fourth, &mut core), Some(Progress::Joined));
     third.cancel_on(&mut core);
-    assert_eq!(rt;
-        poll(&mut fourth, &mut core),
-        Some(Progress::Done(Err(Error::SpuriousFailure)))
-    );
-    assert_eq!(rt; core.seal(), (State::Controlled, 0));
+    same!(rt; poll(&mut fourth, &mut core), Some(Progress::Done(Err(Error::SpuriousFailure))));
+    same!(rt; core.seal(), (State::Controlled, 0));
     let mut late = gate.enter_async();
-    assert_eq!(rt;
-        poll(&mut late, &mut core),
-        Some(Progress::Done(Err(Error::Sealed)))
-    );
+    same!(rt; poll(&mut late, &mut core), Some(Progress::Done(Err(Error::Sealed))));
     Ok(())
 }
 
@@ -184,15 +176,15 @@ fn a_round_of_two_has_one_leader(rt: HostRuntime) -> io::Result<()> {
     let barrier = Barrier::with_count(&rt, rt.alloc(), 2, 4)?;
     let mut core = BarrierCore::with_count(rt.alloc(), 2, 4)?;
     let mut gone = barrier.wait_async();
-    assert_eq!(rt; poll(&mut gone, &mut core), Some(Progress::Joined));
+    same!(rt; poll(&mut gone, &mut core), Some(Progress::Joined));
     gone.cancel_on(&mut core);
-    assert_eq!(rt; core.count(), 2);
+    same!(rt; core.count(), 2);
     let mut first = barrier.wait_async();
     let mut last = barrier.wait_async();
-    assert_eq!(rt; poll(&mut first, &mut core), Some(Progress::Joined));
-    assert_eq!(rt; core.count(), 1);
-    assert_eq!(rt; poll(&mut last, &mut core), Some(Progress::Done(true)));
-    assert_eq!(rt; poll(&mut first, &mut core), Some(Progress::Done(false)));
-    assert_eq!(rt; core.count(), 2);
+    same!(rt; poll(&mut first, &mut core), Some(Progress::Joined));
+    same!(rt; core.count(), 1);
+    same!(rt; poll(&mut last, &mut core), Some(Progress::Done(true)));
+    same!(rt; poll(&mut first, &mut core), Some(Progress::Done(false)));
+    same!(rt; core.count(), 2);
     Ok(())
 }

@@ -1,4 +1,4 @@
-//! Tests of the named futures: in a core that is lent, and in tasks, which are polled by hand or by an executor.
+//! Tests of the named futures: on a core under the mutex, and in tasks, which are polled by hand or by an executor.
 //!
 //! A contract says what a poll does to the core and answers. That a poll reaches the core under the lock, that a task's
 //! waker is kept and that an answer wakes exactly the tasks that it concerns is shown here.
@@ -8,6 +8,8 @@
 mod callbacks;
 #[cfg(test)]
 mod drops;
+#[cfg(test)]
+mod faults;
 #[cfg(test)]
 mod lent;
 #[cfg(test)]

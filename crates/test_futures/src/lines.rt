@@ -12,6 +12,7 @@ use std::sync::Wait;
 use std::sync::atomic::{AtomicU64, Ordering};
 use std::thread::{Threads, yield_now};
 use std::{io, thread};
+use test_asserts::{holds, same};
 
 // How often the main thread looks whether a call that must wait has returned.
 const TURNS: u32 = 1_000;
@@ -109,9 +110,9 @@ fn a_task_between_two_sleepers_is_served_between_them(rt: HostRuntime) -> io::Re
             )
         },
     );
-    assert_eq!(rt; wrong, 0);
-    assert!(rt; is_granted);
-    assert_eq!(rt; semaphore.available_permits(Ordering::SeqCst), 0);
+    same!(rt; wrong, 0);
+    holds!(rt; is_granted);
+    same!(rt; semaphore.available_permits(Ordering::SeqCst), 0);
     Ok(())
 }
 
@@ -139,9 +140,9 @@ fn a_sleeping_executor_is_woken_from_another_thread(rt: HostRuntime) -> io::Resu
             || block_on(&rt, one),
             || give_one(&rt, &semaphore, &joined, round.saturating_add(1)),
         );
-        assert_eq!(rt; answer?, Ok(()));
+        same!(rt; answer?, Ok(()));
     }
-    assert_eq!(rt; semaphore.available_permits(Ordering::SeqCst), 0);
+    same!(rt; semaphore.available_permits(Ordering::SeqCst), 0);
     Ok(())
 }
 
@@ -191,9 +192,9 @@ fn tasks_and_threads_exclude_each_other(rt: HostRuntime) -> io::Result<()> {
             )
         },
     );
-    assert_eq!(rt; [one, two, three, four], [ROUNDS, ROUNDS, ROUNDS, ROUNDS]);
-    assert_eq!(rt; counter.load(Ordering::SeqCst), 4 * ROUNDS);
-    assert!(rt; lock.is_free(Ordering::SeqCst));
+    same!(rt; [one, two, three, four], [ROUNDS, ROUNDS, ROUNDS, ROUNDS]);
+    same!(rt; counter.load(Ordering::SeqCst), 4 * ROUNDS);
+    holds!(rt; lock.is_free(Ordering::SeqCst));
     Ok(())
 }
 
@@ -231,7 +232,7 @@ fn tasks_and_threads_meet_at_a_barrier(rt: HostRuntime) -> io::Result<()> {
             )
         },
     );
-    assert_eq!(rt; one.saturating_add(two).saturating_add(three), ROUNDS);
-    assert_eq!(rt; barrier.count(Ordering::SeqCst), 3);
+    same!(rt; one.saturating_add(two).saturating_add(three), ROUNDS);
+    same!(rt; barrier.count(Ordering::SeqCst), 3);
     Ok(())
 }

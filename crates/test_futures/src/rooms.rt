@@ -12,6 +12,7 @@ use saa_sync::semaphore::Semaphore;
 use std::alloc::{AllocError, Global};
 use std::io;
 use std::sync::Wait;
+use test_asserts::{holds, same};
 
 const ROOMS: [u16; 4] = [1, 20, 32, 300];
 
@@ -158,13 +159,10 @@ fn every_room_of_a_semaphore_is_filled(rt: HostRuntime) -> io::Result<()> {
     let task = MockTask::new(&rt)?;
     for room in ROOMS {
         let without = Semaphore::with_permits(&rt, rt.alloc(), 0, room)?;
-        assert_eq!(rt;
-            fill(rt.alloc(), &task, &without, room)?,
-            Filled::whole(room)
-        );
+        same!(rt; fill(rt.alloc(), &task, &without, room)?, Filled::whole(room));
         let taken = Semaphore::new(&rt, rt.alloc(), room)?;
-        assert!(rt; taken.try_acquire_many(63));
-        assert_eq!(rt; fill(rt.alloc(), &task, &taken, room)?, Filled::whole(room));
+        holds!(rt; taken.try_acquire_many(63));
+        same!(rt; fill(rt.alloc(), &task, &taken, room)?, Filled::whole(room));
     }
     Ok(())
 }
@@ -174,8 +172,8 @@ fn every_room_of_a_lock_is_filled(rt: HostRuntime) -> io::Result<()> {
     let task = MockTask::new(&rt)?;
     for room in ROOMS {
         let lock = Lock::new(&rt, rt.alloc(), room)?;
-        assert_eq!(rt; lock.try_lock(), Ok(()));
-        assert_eq!(rt; fill(rt.alloc(), &task, &lock, room)?, Filled::whole(room));
+        same!(rt; lock.try_lock(), Ok(()));
+        same!(rt; fill(rt.alloc(), &task, &lock, room)?, Filled::whole(room));
     }
     Ok(())
 }
@@ -185,7 +183,7 @@ fn every_room_of_a_gate_is_filled(rt: HostRuntime) -> io::Result<()> {
     let task = MockTask::new(&rt)?;
     for room in ROOMS {
         let gate = Gate::new(&rt, rt.alloc(), room)?;
-        assert_eq!(rt; fill(rt.alloc(), &task, &gate, room)?, Filled::whole(room));
+        same!(rt; fill(rt.alloc(), &task, &gate, room)?, Filled::whole(room));
     }
     Ok(())
 }
@@ -195,10 +193,7 @@ fn every_room_of_a_barrier_is_filled(rt: HostRuntime) -> io::Result<()> {
     let task = MockTask::new(&rt)?;
     for room in ROOMS {
         let barrier = Barrier::with_count(&rt, rt.alloc(), 2, room)?;
-        assert_eq!(rt;
-            fill(rt.alloc(), &task, &barrier, room)?,
-            Filled::whole(room)
-        );
+        same!(rt; fill(rt.alloc(), &task, &barrier, room)?, Filled::whole(room));
     }
     Ok(())
 }

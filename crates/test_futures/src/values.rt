@@ -1,5 +1,4 @@
-//! Every value that a primitive can answer, told by a poll of a task, of a pager in each way, and of a future; and each error
-//! of a poll, told by each way to poll.
+//! Every value that a primitive can answer, told by a poll of a task, of a pager in each way, and of a future.
 
 use crate::ready;
 use futures::task::Poll;
@@ -14,12 +13,13 @@ use saa_sync::semaphore::Semaphore;
 use saa_sync::testing::poll_as;
 use std::io;
 use std::sync::Wait;
+use test_asserts::same;
 
 // What four pagers are told: by a try, by a poll as sync, by one as async, and by the poll of a task.
 type FourTold<S> = [Option<<S as SyncResult>::Result>; 4];
 
 // A form at which four pagers and a future ask, and are answered together by a move of this kind.
-trait Tells: SyncResult {
+pub(crate) trait Tells: SyncResult {
     // A way to answer all.
     type Move: Copy;
 
@@ -73,7 +73,7 @@ where
 
 // How all who enter are answered.
 #[derive(Clone, Copy)]
-enum GateMove {
+pub(crate) enum GateMove {
     Permit,
     Reject,
     Open,
@@ -123,10 +123,7 @@ fn every_value_of_a_gate_is_told_by_each_poll(rt: HostRuntime) -> io::Result<()>
     let task = MockTask::new(&rt)?;
     for (by, answer) in GATE_MOVES {
         let gate = Gate::new(&rt, rt.alloc(), 6)?;
-        assert_eq!(rt;
-            told(&task, &gate, by),
-            all_told::<Gate<&HostRuntime>>(answer)
-        );
+        same!(rt; told(&task, &gate, by), all_told::<Gate<&HostRuntime>>(answer));
     }
     Ok(())
 }
@@ -137,10 +134,7 @@ fn every_value_of_a_gate_is_told_by_a_future(rt: HostRuntime) -> io::Result<()> 
     for (by, answer) in GATE_MOVES {
         let gate = Gate::new(&rt, rt.alloc(), 6)?;
         let mut enter = gate.enter_async();
-        assert_eq!(rt;
-            ready(told_by_future(&task, &gate, by, &mut enter)),
-            Some(Ok(answer))
-        );
+        same!(rt; ready(told_by_future(&task, &gate, by, &mut enter)), Some(Ok(answer)));
     }
     Ok(())
 }
@@ -150,7 +144,7 @@ fn every_value_of_a_gate_is_told_by_a_future(rt: HostRuntime) -> io::Result<()> 
 fn every_value_of_a_gate_is_told_by_a_call(rt: HostRuntime) -> io::Result<()> {
     for (by, answer) in GATE_MOVES {
         let gate = Gate::new(&rt, rt.alloc(), 6)?;
-        assert_eq!(rt; gate.enter_sync_with(|| gate.answer(by)), Ok(answer));
+        same!(rt; gate.enter_sync_with(|| gate.answer(by)), Ok(answer));
     }
     Ok(())
 }
@@ -165,18 +159,15 @@ fn a_gate_that_is_decided_tells_all_at_once(rt: HostRuntime) -> io::Result<()> {
     ] {
         let gate = Gate::new(&rt, rt.alloc(), 0)?;
         gate.answer(by);
-        assert_eq!(rt;
-            told(&task, &gate, by),
-            all_told::<Gate<&HostRuntime>>(answer)
-        );
-        assert_eq!(rt; ready(task.poll(&mut gate.enter_async())), Some(Ok(answer)));
-        assert_eq!(rt; gate.enter_sync(), Ok(answer));
-        assert_eq!(rt; gate.enter_sync_with(|| {}), Ok(answer));
+        same!(rt; told(&task, &gate, by), all_told::<Gate<&HostRuntime>>(answer));
+        same!(rt; ready(task.poll(&mut gate.enter_async())), Some(Ok(answer)));
+        same!(rt; gate.enter_sync(), Ok(answer));
+        same!(rt; gate.enter_sync_with(|| {}), Ok(answer));
     }
     Ok(())
 }
 
-// Whether a lock that one owner has is released or poisoned; those who wait ask for nothing but the wait.
+// Whether a lock that one owner has is released or poisoned; waiters ask for nothing but the wait.
 impl<R: Wait + Drop> Tells for Lock<R> {
     type Move = bool;
 
@@ -198,11 +189,8 @@ fn every_value_of_a_lock_is_told_by_each_poll(rt: HostRuntime) -> io::Result<()>
     let task = MockTask::new(&rt)?;
     for is_granted in [true, false] {
         let lock = Lock::new(&rt, rt.alloc(), 6)?;
-        assert_eq!(rt; lock.try_lock(), Ok(()));
-        assert_eq!(rt;
-            told(&task, &lock, is_granted),
-            all_told::<Lock<&HostRuntime>>(Ok(is_granted))
-        );
+        same!(rt; lock.try_lock(), Ok(()));
+        same!(rt; told(&task, &lock, is_granted), all_told::<Lock<&HostRuntime>>(Ok(is_granted)));
     }
     Ok(())
 }
@@ -212,19 +200,13 @@ fn every_value_of_a_lock_is_told_by_a_future(rt: HostRuntime) -> io::Result<()> 
     let task = MockTask::new(&rt)?;
     for is_granted in [true, false] {
         let lock = Lock::new(&rt, rt.alloc(), 1)?;
-        assert_eq!(rt; lock.try_lock(), Ok(()));
+        same!(rt; lock.try_lock(), Ok(()));
         let mut alone = lock.lock_async();
-        assert_eq!(rt;
-            ready(told_by_future(&task, &lock, is_granted, &mut alone)),
-            Some(Ok(is_granted))
-        );
+        same!(rt; ready(told_by_future(&task, &lock, is_granted, &mut alone)), Some(Ok(is_granted)));
         let other = Lock::new(&rt, rt.alloc(), 1)?;
-        assert_eq!(rt; other.try_lock(), Ok(()));
+        same!(rt; other.try_lock(), Ok(()));
         let mut share = other.share_async();
-        assert_eq!(rt;
-            ready(told_by_future(&task, &other, is_granted, &mut share)),
-            Some(Ok(is_granted))
-        );
+        same!(rt; ready(told_by_future(&task, &other, is_granted, &mut share)), Some(Ok(is_granted)));
     }
     Ok(())
 }
@@ -233,22 +215,13 @@ fn every_value_of_a_lock_is_told_by_a_future(rt: HostRuntime) -> io::Result<()> 
 fn every_value_of_a_lock_is_told_by_a_call(rt: HostRuntime) -> io::Result<()> {
     for is_granted in [true, false] {
         let lock = Lock::new(&rt, rt.alloc(), 1)?;
-        assert_eq!(rt; lock.try_lock(), Ok(()));
-        assert_eq!(rt;
-            lock.lock_sync_with(|| lock.answer(is_granted)),
-            Ok(is_granted)
-        );
+        same!(rt; lock.try_lock(), Ok(()));
+        same!(rt; lock.lock_sync_with(|| lock.answer(is_granted)), Ok(is_granted));
         let other = Lock::new(&rt, rt.alloc(), 1)?;
-        assert_eq!(rt; other.try_lock(), Ok(()));
-        assert_eq!(rt;
-            other.share_sync_with(|| other.answer(is_granted)),
-            Ok(is_granted)
-        );
+        same!(rt; other.try_lock(), Ok(()));
+        same!(rt; other.share_sync_with(|| other.answer(is_granted)), Ok(is_granted));
         if !is_granted {
-            assert_eq!(rt;
-                (lock.lock_sync(), lock.share_sync()),
-                (Ok(false), Ok(false))
-            );
+            same!(rt; (lock.lock_sync(), lock.share_sync()), (Ok(false), Ok(false)));
         }
     }
     Ok(())
@@ -271,20 +244,11 @@ impl<R: Wait + Drop> Tells for Semaphore<R> {
 fn a_grant_is_told_by_each_poll(rt: HostRuntime) -> io::Result<()> {
     let task = MockTask::new(&rt)?;
     let semaphore = Semaphore::with_permits(&rt, rt.alloc(), 0, 6)?;
-    assert_eq!(rt;
-        told(&task, &semaphore, ()),
-        all_told::<Semaphore<&HostRuntime>>(Ok(()))
-    );
+    same!(rt; told(&task, &semaphore, ()), all_told::<Semaphore<&HostRuntime>>(Ok(())));
     let mut one = semaphore.acquire_async();
-    assert_eq!(rt;
-        ready(told_by_future(&task, &semaphore, (), &mut one)),
-        Some(Ok(()))
-    );
+    same!(rt; ready(told_by_future(&task, &semaphore, (), &mut one)), Some(Ok(())));
     let mut many = semaphore.acquire_many_async(1);
-    assert_eq!(rt;
-        ready(told_by_future(&task, &semaphore, (), &mut many)),
-        Some(Ok(true))
-    );
+    same!(rt; ready(told_by_future(&task, &semaphore, (), &mut many)), Some(Ok(true)));
     Ok(())
 }
 
@@ -305,20 +269,11 @@ impl<R: Wait + Drop> Tells for Barrier<R> {
 fn every_value_of_a_barrier_is_told_by_each_poll(rt: HostRuntime) -> io::Result<()> {
     let task = MockTask::new(&rt)?;
     let barrier = Barrier::with_count(&rt, rt.alloc(), 5, 4)?;
-    assert_eq!(rt;
-        told(&task, &barrier, ()),
-        all_told::<Barrier<&HostRuntime>>(Ok(false))
-    );
+    same!(rt; told(&task, &barrier, ()), all_told::<Barrier<&HostRuntime>>(Ok(false)));
     let alone = Barrier::with_count(&rt, rt.alloc(), 1, 0)?;
-    assert_eq!(rt;
-        told(&task, &alone, ()),
-        all_told::<Barrier<&HostRuntime>>(Ok(true))
-    );
+    same!(rt; told(&task, &alone, ()), all_told::<Barrier<&HostRuntime>>(Ok(true)));
     let pair = Barrier::with_count(&rt, rt.alloc(), 2, 1)?;
     let mut arrival = pair.wait_async();
-    assert_eq!(rt;
-        ready(told_by_future(&task, &pair, (), &mut arrival)),
-        Some(Ok(false))
-    );
+    same!(rt; ready(told_by_future(&task, &pair, (), &mut arrival)), Some(Ok(false)));
     Ok(())
 }

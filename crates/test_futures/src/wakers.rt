@@ -18,6 +18,7 @@ use std::sync::Wait;
 use std::sync::atomic::{AtomicBool, Ordering};
 use std::thread::yield_now;
 use std::{io, thread};
+use test_asserts::{holds, same};
 
 // As many bytes as a pipe takes before a write waits.
 const PIPE: usize = 65_536;
@@ -96,10 +97,10 @@ fn a_release_wakes_with_the_lock_free(rt: HostRuntime) -> io::Result<()> {
     let mut slow = Slow::new(&rt)?;
     let has_begun = AtomicBool::new(false);
     let mut one = semaphore.acquire_async();
-    assert!(rt; !slow.poll(&mut one));
+    holds!(rt; !slow.poll(&mut one));
     slow.fill()?;
     let Some(asleep) = slow.task.sleep() else {
-        assert!(rt; false);
+        holds!(rt; false);
         return Ok(());
     };
     let (is_released, is_read) = thread::join(
@@ -111,8 +112,8 @@ fn a_release_wakes_with_the_lock_free(rt: HostRuntime) -> io::Result<()> {
         || lock_then_read(&rt, &semaphore, &has_begun, &slow.reader),
     );
     asleep.end();
-    assert!(rt; is_released && is_read);
-    assert!(rt; slow.poll(&mut one));
+    holds!(rt; is_released && is_read);
+    holds!(rt; slow.poll(&mut one));
     Ok(())
 }
 
@@ -123,10 +124,10 @@ fn a_future_drops_its_waker_with_the_lock_free(rt: HostRuntime) -> io::Result<()
     let mut slow = Slow::new(&rt)?;
     let has_begun = AtomicBool::new(false);
     let mut one = semaphore.acquire_async();
-    assert!(rt; !slow.poll(&mut one));
+    holds!(rt; !slow.poll(&mut one));
     slow.fill()?;
     let Some(asleep) = slow.task.sleep() else {
-        assert!(rt; false);
+        holds!(rt; false);
         return Ok(());
     };
     let ((), is_read) = thread::join(
@@ -138,7 +139,64 @@ fn a_future_drops_its_waker_with_the_lock_free(rt: HostRuntime) -> io::Result<()
         || lock_then_read(&rt, &semaphore, &has_begun, &slow.reader),
     );
     asleep.end();
-    assert!(rt; is_read);
+    holds!(rt; is_read);
+    Ok(())
+}
+
+// The waker of a pager that is cancelled goes out with the lock free too.
+#[test]
+fn a_cancelled_pager_drops_its_waker_with_the_lock_free(rt: HostRuntime) -> io::Result<()> {
+    let semaphore = Semaphore::with_permits(&rt, rt.alloc(), 0, 1)?;
+    let mut slow = Slow::new(&rt)?;
+    let has_begun = AtomicBool::new(false);
+    let mut pager = Pager::new();
+    same!(rt; semaphore.register_pager(&mut pager, 1, false), Ok(true));
+    holds!(rt; !slow.poll(&mut pager.poll_async()));
+    slow.fill()?;
+    let Some(asleep) = slow.task.sleep() else {
+        holds!(rt; false);
+        return Ok(());
+    };
+    let ((), is_read) = thread::join(
+        &rt,
+        || {
+            has_begun.store(true, Ordering::SeqCst);
+            let mut cancelled = pager;
+            cancelled.cancel();
+        },
+        || lock_then_read(&rt, &semaphore, &has_begun, &slow.reader),
+    );
+    asleep.end();
+    holds!(rt; is_read);
+    Ok(())
+}
+
+// So does the waker that is left at a slot whose answer another task takes.
+#[test]
+fn a_ready_poll_drops_the_waker_with_the_lock_free(rt: HostRuntime) -> io::Result<()> {
+    let semaphore = Semaphore::with_permits(&rt, rt.alloc(), 0, 1)?;
+    let mut slow = Slow::new(&rt)?;
+    let has_begun = AtomicBool::new(false);
+    let mut one = semaphore.acquire_async();
+    holds!(rt; !slow.poll(&mut one));
+    slow.fill()?;
+    let Some(asleep) = slow.task.sleep() else {
+        holds!(rt; false);
+        return Ok(());
+    };
+    holds!(rt; answer_untold(&semaphore));
+    let (told, is_read) = thread::join(
+        &rt,
+        || {
+            has_begun.store(true, Ordering::SeqCst);
+            let mut taken = one;
+            ready(MockTask::new(&rt).ok()?.poll(&mut taken))
+        },
+        || lock_then_read(&rt, &semaphore, &has_begun, &slow.reader),
+    );
+    asleep.end();
+    same!(rt; told, Some(Ok(())));
+    holds!(rt; is_read);
     Ok(())
 }
 
@@ -162,10 +220,10 @@ fn a_slot_has_no_waker_once_a_futures_answer_is_taken(rt: HostRuntime) -> io::Re
     let semaphore = Semaphore::with_permits(&rt, rt.alloc(), 0, 1)?;
     let (old, new) = (MockTask::new(&rt)?, MockTask::new(&rt)?);
     let mut one = semaphore.acquire_async();
-    assert_eq!(rt; ready(old.poll(&mut one)), None);
-    assert!(rt; answer_untold(&semaphore));
-    assert_eq!(rt; ready(old.poll(&mut one)), Some(Ok(())));
-    assert!(rt; !next_wakes(&semaphore, &old, &new));
+    same!(rt; ready(old.poll(&mut one)), None);
+    holds!(rt; answer_untold(&semaphore));
+    same!(rt; ready(old.poll(&mut one)), Some(Ok(())));
+    holds!(rt; !next_wakes(&semaphore, &old, &new));
     Ok(())
 }
 
@@ -174,11 +232,11 @@ fn a_slot_has_no_waker_once_a_pagers_answer_is_taken(rt: HostRuntime) -> io::Res
     let semaphore = Semaphore::with_permits(&rt, rt.alloc(), 0, 1)?;
     let (old, new) = (MockTask::new(&rt)?, MockTask::new(&rt)?);
     let mut pager = Pager::new();
-    assert_eq!(rt; semaphore.register_pager(&mut pager, 1, false), Ok(true));
-    assert_eq!(rt; ready(old.poll(&mut pager.poll_async())), None);
-    assert!(rt; answer_untold(&semaphore));
-    assert_eq!(rt; ready(old.poll(&mut pager.poll_async())), Some(Ok(())));
-    assert!(rt; !next_wakes(&semaphore, &old, &new));
+    same!(rt; semaphore.register_pager(&mut pager, 1, false), Ok(true));
+    same!(rt; ready(old.poll(&mut pager.poll_async())), None);
+    holds!(rt; answer_untold(&semaphore));
+    same!(rt; ready(old.poll(&mut pager.poll_async())), Some(Ok(())));
+    holds!(rt; !next_wakes(&semaphore, &old, &new));
     Ok(())
 }
 
@@ -189,11 +247,11 @@ fn a_seat_is_reset_for_the_next_future(rt: HostRuntime) -> io::Result<()> {
     let task = MockTask::new(&rt)?;
     for _turn in 0..2 {
         let mut one = semaphore.acquire_async();
-        assert_eq!(rt; ready(task.poll(&mut one)), None);
-        assert_eq!(rt; semaphore.shell().rung(), 0);
-        assert!(rt; semaphore.release());
-        assert_eq!(rt; semaphore.shell().rung(), 1);
-        assert_eq!(rt; ready(task.poll(&mut one)), Some(Ok(())));
+        same!(rt; ready(task.poll(&mut one)), None);
+        same!(rt; semaphore.shell().rung(), 0);
+        holds!(rt; semaphore.release());
+        same!(rt; semaphore.shell().rung(), 1);
+        same!(rt; ready(task.poll(&mut one)), Some(Ok(())));
     }
     Ok(())
 }
@@ -205,16 +263,16 @@ fn a_first_poll_wakes_whom_it_answers(rt: HostRuntime) -> io::Result<()> {
     let (one, two) = (MockTask::new(&rt)?, MockTask::new(&rt)?);
     for is_with in [false, true] {
         let mut first = barrier.wait_async();
-        assert_eq!(rt; ready(one.poll(&mut first)), None);
+        same!(rt; ready(one.poll(&mut first)), None);
         let led = if is_with {
             ready(two.poll(&mut barrier.wait_async_with(|| {})))
         } else {
             ready(two.poll(&mut barrier.wait_async()))
         };
-        assert_eq!(rt; led, Some(Ok(true)));
-        assert!(rt; one.is_woken());
-        assert_eq!(rt; barrier.shell().rung(), 1);
-        assert_eq!(rt; ready(one.poll(&mut first)), Some(Ok(false)));
+        same!(rt; led, Some(Ok(true)));
+        holds!(rt; one.is_woken());
+        same!(rt; barrier.shell().rung(), 1);
+        same!(rt; ready(one.poll(&mut first)), Some(Ok(false)));
     }
     Ok(())
 }

@@ -10,16 +10,17 @@ use saa_sync::lock::Lock;
 use saa_sync::semaphore::Semaphore;
 use std::io;
 use std::sync::atomic::Ordering;
+use test_asserts::{holds, same};
 
 #[test]
 fn an_answer_that_is_there_needs_no_wake(rt: HostRuntime) -> io::Result<()> {
     let semaphore = Semaphore::new(&rt, rt.alloc(), 0)?;
-    assert_eq!(rt; block_on(&rt, semaphore.acquire_many_async(11))?, Ok(true));
-    assert_eq!(rt; semaphore.available_permits(Ordering::SeqCst), 52);
-    assert_eq!(rt; block_on(&rt, semaphore.acquire_async())?, Ok(()));
-    assert_eq!(rt; block_on(&rt, semaphore.acquire_many_async(64))?, Ok(false));
-    assert_eq!(rt; block_on(&rt, semaphore.acquire_many_async(52))?, Err(Full));
-    assert_eq!(rt; semaphore.available_permits(Ordering::SeqCst), 51);
+    same!(rt; block_on(&rt, semaphore.acquire_many_async(11))?, Ok(true));
+    same!(rt; semaphore.available_permits(Ordering::SeqCst), 52);
+    same!(rt; block_on(&rt, semaphore.acquire_async())?, Ok(()));
+    same!(rt; block_on(&rt, semaphore.acquire_many_async(64))?, Ok(false));
+    same!(rt; block_on(&rt, semaphore.acquire_many_async(52))?, Err(Full));
+    same!(rt; semaphore.available_permits(Ordering::SeqCst), 51);
     Ok(())
 }
 
@@ -29,20 +30,20 @@ fn a_release_wakes_whom_it_grants(rt: HostRuntime) -> io::Result<()> {
     let (first, second) = (MockTask::new(&rt)?, MockTask::new(&rt)?);
     let mut two = semaphore.acquire_many_async(2);
     let mut one = semaphore.acquire_async();
-    assert_eq!(rt; ready(first.poll(&mut two)), None);
-    assert_eq!(rt; ready(second.poll(&mut one)), None);
-    assert!(rt; !first.is_woken() && !second.is_woken());
-    assert!(rt; semaphore.release());
-    assert!(rt; !first.is_woken() && !second.is_woken());
-    assert!(rt; semaphore.release());
-    assert!(rt; first.is_woken() && !second.is_woken());
-    assert_eq!(rt; ready(second.poll(&mut one)), None);
-    assert_eq!(rt; ready(first.poll(&mut two)), Some(Ok(true)));
-    assert!(rt; !first.is_woken() && !second.is_woken());
-    assert!(rt; semaphore.release());
-    assert!(rt; !first.is_woken() && second.is_woken());
-    assert_eq!(rt; ready(second.poll(&mut one)), Some(Ok(())));
-    assert_eq!(rt; semaphore.available_permits(Ordering::SeqCst), 0);
+    same!(rt; ready(first.poll(&mut two)), None);
+    same!(rt; ready(second.poll(&mut one)), None);
+    holds!(rt; !first.is_woken() && !second.is_woken());
+    holds!(rt; semaphore.release());
+    holds!(rt; !first.is_woken() && !second.is_woken());
+    holds!(rt; semaphore.release());
+    holds!(rt; first.is_woken() && !second.is_woken());
+    same!(rt; ready(second.poll(&mut one)), None);
+    same!(rt; ready(first.poll(&mut two)), Some(Ok(true)));
+    holds!(rt; !first.is_woken() && !second.is_woken());
+    holds!(rt; semaphore.release());
+    holds!(rt; !first.is_woken() && second.is_woken());
+    same!(rt; ready(second.poll(&mut one)), Some(Ok(())));
+    same!(rt; semaphore.available_permits(Ordering::SeqCst), 0);
     Ok(())
 }
 
@@ -56,20 +57,20 @@ fn a_release_of_many_wakes_all_whom_it_grants(rt: HostRuntime) -> io::Result<()>
         futures.push(semaphore.acquire_async())?;
     }
     for (task, future) in tasks.iter().zip(futures.iter_mut()) {
-        assert_eq!(rt; ready(task.poll(future)), None);
+        same!(rt; ready(task.poll(future)), None);
     }
     let last = MockTask::new(&rt)?;
     let mut sixth = semaphore.acquire_async();
-    assert_eq!(rt; ready(last.poll(&mut sixth)), None);
-    assert!(rt; semaphore.release_many(5));
+    same!(rt; ready(last.poll(&mut sixth)), None);
+    holds!(rt; semaphore.release_many(5));
     let woken = tasks.iter().filter(|task| task.is_woken()).count();
-    assert_eq!(rt; woken, 5);
-    assert!(rt; !last.is_woken());
+    same!(rt; woken, 5);
+    holds!(rt; !last.is_woken());
     for (task, future) in tasks.iter().zip(futures.iter_mut()) {
-        assert_eq!(rt; ready(task.poll(future)), Some(Ok(())));
+        same!(rt; ready(task.poll(future)), Some(Ok(())));
     }
-    assert_eq!(rt; ready(last.poll(&mut sixth)), None);
-    assert_eq!(rt; semaphore.available_permits(Ordering::SeqCst), 0);
+    same!(rt; ready(last.poll(&mut sixth)), None);
+    same!(rt; semaphore.available_permits(Ordering::SeqCst), 0);
     Ok(())
 }
 
@@ -78,14 +79,14 @@ fn the_newest_task_is_woken(rt: HostRuntime) -> io::Result<()> {
     let semaphore = Semaphore::with_permits(&rt, rt.alloc(), 0, 4)?;
     let (old, new) = (MockTask::new(&rt)?, MockTask::new(&rt)?);
     let mut one = semaphore.acquire_async();
-    assert_eq!(rt; ready(old.poll(&mut one)), None);
-    assert_eq!(rt; ready(new.poll(&mut one)), None);
+    same!(rt; ready(old.poll(&mut one)), None);
+    same!(rt; ready(new.poll(&mut one)), None);
     old.enter(|_cx| {});
-    assert_eq!(rt; ready(new.poll(&mut one)), None);
-    assert!(rt; !old.is_woken() && !new.is_woken());
-    assert!(rt; semaphore.release());
-    assert!(rt; !old.is_woken() && new.is_woken());
-    assert_eq!(rt; ready(new.poll(&mut one)), Some(Ok(())));
+    same!(rt; ready(new.poll(&mut one)), None);
+    holds!(rt; !old.is_woken() && !new.is_woken());
+    holds!(rt; semaphore.release());
+    holds!(rt; !old.is_woken() && new.is_woken());
+    same!(rt; ready(new.poll(&mut one)), Some(Ok(())));
     Ok(())
 }
 
@@ -94,20 +95,20 @@ fn a_poll_after_the_end_yields(rt: HostRuntime) -> io::Result<()> {
     let semaphore = Semaphore::new(&rt, rt.alloc(), 1)?;
     let task = MockTask::new(&rt)?;
     let mut one = semaphore.acquire_async();
-    assert_eq!(rt; ready(task.poll(&mut one)), Some(Ok(())));
-    assert!(rt; one.has_ended());
-    assert!(rt; !task.is_woken());
-    assert_eq!(rt; ready(task.poll(&mut one)), None);
-    assert!(rt; task.is_woken());
-    assert_eq!(rt; semaphore.available_permits(Ordering::SeqCst), 62);
-    assert!(rt; semaphore.try_acquire_many(62));
+    same!(rt; ready(task.poll(&mut one)), Some(Ok(())));
+    holds!(rt; one.has_ended());
+    holds!(rt; !task.is_woken());
+    same!(rt; ready(task.poll(&mut one)), None);
+    holds!(rt; task.is_woken());
+    same!(rt; semaphore.available_permits(Ordering::SeqCst), 62);
+    holds!(rt; semaphore.try_acquire_many(62));
     let mut many = semaphore.acquire_many_async(2);
     let mut full = semaphore.acquire_async();
-    assert_eq!(rt; ready(task.poll(&mut many)), None);
-    assert_eq!(rt; ready(task.poll(&mut full)), Some(Err(Full)));
-    assert!(rt; full.has_ended());
-    assert_eq!(rt; ready(task.poll(&mut full)), None);
-    assert!(rt; task.is_woken());
+    same!(rt; ready(task.poll(&mut many)), None);
+    same!(rt; ready(task.poll(&mut full)), Some(Err(Full)));
+    holds!(rt; full.has_ended());
+    same!(rt; ready(task.poll(&mut full)), None);
+    holds!(rt; task.is_woken());
     Ok(())
 }
 
@@ -119,28 +120,28 @@ fn a_lock_wakes_its_tasks(rt: HostRuntime) -> io::Result<()> {
         MockTask::new(&rt)?,
         MockTask::new(&rt)?,
     );
-    assert_eq!(rt; lock.try_lock(), Ok(()));
+    same!(rt; lock.try_lock(), Ok(()));
     let mut reader = lock.share_async();
     let mut other = lock.share_async();
     let mut writer = lock.lock_async();
-    assert_eq!(rt; ready(one.poll(&mut reader)), None);
-    assert_eq!(rt; ready(two.poll(&mut other)), None);
-    assert_eq!(rt; ready(three.poll(&mut writer)), None);
-    assert!(rt; lock.release_lock());
-    assert!(rt; one.is_woken() && two.is_woken() && !three.is_woken());
-    assert_eq!(rt; ready(one.poll(&mut reader)), Some(Ok(true)));
-    assert_eq!(rt; ready(two.poll(&mut other)), Some(Ok(true)));
-    assert!(rt; lock.release_share());
-    assert!(rt; !three.is_woken());
-    assert!(rt; lock.release_share());
-    assert!(rt; three.is_woken());
-    assert_eq!(rt; ready(three.poll(&mut writer)), Some(Ok(true)));
+    same!(rt; ready(one.poll(&mut reader)), None);
+    same!(rt; ready(two.poll(&mut other)), None);
+    same!(rt; ready(three.poll(&mut writer)), None);
+    holds!(rt; lock.release_lock());
+    holds!(rt; one.is_woken() && two.is_woken() && !three.is_woken());
+    same!(rt; ready(one.poll(&mut reader)), Some(Ok(true)));
+    same!(rt; ready(two.poll(&mut other)), Some(Ok(true)));
+    holds!(rt; lock.release_share());
+    holds!(rt; !three.is_woken());
+    holds!(rt; lock.release_share());
+    holds!(rt; three.is_woken());
+    same!(rt; ready(three.poll(&mut writer)), Some(Ok(true)));
     let mut late = lock.share_async();
-    assert_eq!(rt; ready(one.poll(&mut late)), None);
-    assert!(rt; lock.poison_lock());
-    assert!(rt; one.is_woken());
-    assert_eq!(rt; ready(one.poll(&mut late)), Some(Ok(false)));
-    assert!(rt; lock.is_poisoned(Ordering::SeqCst));
+    same!(rt; ready(one.poll(&mut late)), None);
+    holds!(rt; lock.poison_lock());
+    holds!(rt; one.is_woken());
+    same!(rt; ready(one.poll(&mut late)), Some(Ok(false)));
+    holds!(rt; lock.is_poisoned(Ordering::SeqCst));
     Ok(())
 }
 
@@ -150,25 +151,19 @@ fn a_gate_wakes_its_tasks(rt: HostRuntime) -> io::Result<()> {
     let (one, two) = (MockTask::new(&rt)?, MockTask::new(&rt)?);
     let mut first = gate.enter_async();
     let mut second = gate.enter_async();
-    assert_eq!(rt; ready(one.poll(&mut first)), None);
-    assert_eq!(rt; ready(two.poll(&mut second)), None);
-    assert_eq!(rt; gate.permit(), Ok(2));
-    assert!(rt; one.is_woken() && two.is_woken());
-    assert_eq!(rt;
-        ready(one.poll(&mut first)),
-        Some(Ok(Ok(State::Controlled)))
-    );
-    assert_eq!(rt;
-        ready(two.poll(&mut second)),
-        Some(Ok(Ok(State::Controlled)))
-    );
+    same!(rt; ready(one.poll(&mut first)), None);
+    same!(rt; ready(two.poll(&mut second)), None);
+    same!(rt; gate.permit(), Ok(2));
+    holds!(rt; one.is_woken() && two.is_woken());
+    same!(rt; ready(one.poll(&mut first)), Some(Ok(Ok(State::Controlled))));
+    same!(rt; ready(two.poll(&mut second)), Some(Ok(Ok(State::Controlled))));
     let mut third = gate.enter_async();
-    assert_eq!(rt; ready(one.poll(&mut third)), None);
-    assert_eq!(rt; gate.reject(), Ok(1));
-    assert!(rt; one.is_woken());
-    assert_eq!(rt; ready(one.poll(&mut third)), Some(Ok(Err(Error::Rejected))));
-    assert_eq!(rt; gate.open(), (State::Controlled, 0));
-    assert_eq!(rt; block_on(&rt, gate.enter_async())?, Ok(Ok(State::Open)));
+    same!(rt; ready(one.poll(&mut third)), None);
+    same!(rt; gate.reject(), Ok(1));
+    holds!(rt; one.is_woken());
+    same!(rt; ready(one.poll(&mut third)), Some(Ok(Err(Error::Rejected))));
+    same!(rt; gate.open(), (State::Controlled, 0));
+    same!(rt; block_on(&rt, gate.enter_async())?, Ok(Ok(State::Open)));
     Ok(())
 }
 
@@ -183,13 +178,13 @@ fn the_last_arrival_wakes_the_round(rt: HostRuntime) -> io::Result<()> {
     let mut first = barrier.wait_async();
     let mut second = barrier.wait_async();
     let mut last = barrier.wait_async();
-    assert_eq!(rt; ready(one.poll(&mut first)), None);
-    assert_eq!(rt; ready(two.poll(&mut second)), None);
-    assert!(rt; !one.is_woken() && !two.is_woken());
-    assert_eq!(rt; ready(three.poll(&mut last)), Some(Ok(true)));
-    assert!(rt; one.is_woken() && two.is_woken() && !three.is_woken());
-    assert_eq!(rt; ready(one.poll(&mut first)), Some(Ok(false)));
-    assert_eq!(rt; ready(two.poll(&mut second)), Some(Ok(false)));
-    assert_eq!(rt; barrier.count(Ordering::SeqCst), 3);
+    same!(rt; ready(one.poll(&mut first)), None);
+    same!(rt; ready(two.poll(&mut second)), None);
+    holds!(rt; !one.is_woken() && !two.is_woken());
+    same!(rt; ready(three.poll(&mut last)), Some(Ok(true)));
+    holds!(rt; one.is_woken() && two.is_woken() && !three.is_woken());
+    same!(rt; ready(one.poll(&mut first)), Some(Ok(false)));
+    same!(rt; ready(two.poll(&mut second)), Some(Ok(false)));
+    same!(rt; barrier.count(Ordering::SeqCst), 3);
     Ok(())
 }

@@ -10,6 +10,7 @@ use std::sync::Wait;
 use std::sync::atomic::{AtomicU64, Ordering};
 use std::test::Fail;
 use std::thread::Threads;
+use test_asserts::same;
 use test_support::gatherings::{Gathering, Plan, Together, all_wake_together};
 use test_support::sleepers::By;
 use test_support::twins::{Form, Move, Way, every_list, moves};
@@ -130,34 +131,25 @@ fn agreeing<R: Wait>(
 #[test]
 fn short_lists_agree(rt: HostRuntime) -> Result<(), Fail> {
     let moves = moves::<BarrierCore>(rt.alloc(), &CALLS, &[], &[()], &WAITS)?;
-    assert_eq!(rt; moves.len(), 17);
-    assert_eq!(rt; agreeing(&rt, rt.alloc(), &moves, &SIZES, 0)?, 18);
-    assert_eq!(rt; agreeing(&rt, rt.alloc(), &moves, &SIZES, 1)?, 18 * 17);
-    assert_eq!(rt; agreeing(&rt, rt.alloc(), &moves, &SIZES, 2)?, 18 * 17 * 17);
-    assert_eq!(rt;
-        agreeing(&rt, rt.alloc(), &moves, &SIZES, 3)?,
-        18 * 17 * 17 * 17
-    );
+    same!(rt; moves.len(), 17);
+    same!(rt; agreeing(&rt, rt.alloc(), &moves, &SIZES, 0)?, 18);
+    same!(rt; agreeing(&rt, rt.alloc(), &moves, &SIZES, 1)?, 18 * 17);
+    same!(rt; agreeing(&rt, rt.alloc(), &moves, &SIZES, 2)?, 18 * 17 * 17);
+    same!(rt; agreeing(&rt, rt.alloc(), &moves, &SIZES, 3)?, 18 * 17 * 17 * 17);
     Ok(())
 }
 
 #[test]
 fn lists_of_four_agree_at_small_barriers(rt: HostRuntime) -> Result<(), Fail> {
     let moves = moves::<BarrierCore>(rt.alloc(), &CALLS, &[], &[()], &WAITS)?;
-    assert_eq!(rt;
-        agreeing(&rt, rt.alloc(), &moves, &SIZES[..3], 4)?,
-        9 * 17 * 17 * 17 * 17
-    );
+    same!(rt; agreeing(&rt, rt.alloc(), &moves, &SIZES[..3], 4)?, 9 * 17 * 17 * 17 * 17);
     Ok(())
 }
 
 #[test]
 fn lists_of_four_agree_at_large_barriers(rt: HostRuntime) -> Result<(), Fail> {
     let moves = moves::<BarrierCore>(rt.alloc(), &CALLS, &[], &[()], &WAITS)?;
-    assert_eq!(rt;
-        agreeing(&rt, rt.alloc(), &moves, &SIZES[3..], 4)?,
-        9 * 17 * 17 * 17 * 17
-    );
+    same!(rt; agreeing(&rt, rt.alloc(), &moves, &SIZES[3..], 4)?, 9 * 17 * 17 * 17 * 17);
     Ok(())
 }
 
@@ -268,30 +260,30 @@ fn wrong_wakes<R: Wait + Threads + Sync>(
 
 #[test]
 fn sleeping_calls_wake(rt: HostRuntime) -> Result<(), Fail> {
-    assert_eq!(rt; wrong_wakes(&rt, rt.alloc(), NO_PATIENCE, By::Call)?, 0);
+    same!(rt; wrong_wakes(&rt, rt.alloc(), NO_PATIENCE, By::Call)?, 0);
     Ok(())
 }
 
 #[test]
 fn sleeping_plain_calls_wake(rt: HostRuntime) -> Result<(), Fail> {
-    assert_eq!(rt; wrong_wakes(&rt, rt.alloc(), NO_PATIENCE, By::Plain)?, 0);
+    same!(rt; wrong_wakes(&rt, rt.alloc(), NO_PATIENCE, By::Plain)?, 0);
     Ok(())
 }
 
 #[test]
 fn sleeping_polls_wake(rt: HostRuntime) -> Result<(), Fail> {
-    assert_eq!(rt; wrong_wakes(&rt, rt.alloc(), NO_PATIENCE, By::Poll)?, 0);
+    same!(rt; wrong_wakes(&rt, rt.alloc(), NO_PATIENCE, By::Poll)?, 0);
     Ok(())
 }
 
 #[test]
 fn waiting_calls_wake(rt: HostRuntime) -> Result<(), Fail> {
-    assert_eq!(rt; wrong_wakes(&rt, rt.alloc(), PATIENCE, By::Call)?, 0);
+    same!(rt; wrong_wakes(&rt, rt.alloc(), PATIENCE, By::Call)?, 0);
     Ok(())
 }
 
 #[test]
 fn waiting_polls_wake(rt: HostRuntime) -> Result<(), Fail> {
-    assert_eq!(rt; wrong_wakes(&rt, rt.alloc(), PATIENCE, By::Poll)?, 0);
+    same!(rt; wrong_wakes(&rt, rt.alloc(), PATIENCE, By::Poll)?, 0);
     Ok(())
 }

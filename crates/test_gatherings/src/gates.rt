@@ -10,6 +10,7 @@ use std::sync::Wait;
 use std::sync::atomic::{AtomicU64, Ordering};
 use std::test::Fail;
 use std::thread::Threads;
+use test_asserts::same;
 use test_support::gatherings::{Gathering, Plan, Together, all_wake_together};
 use test_support::sleepers::By;
 use test_support::twins::{Form, Move, Way, every_list, moves};
@@ -164,27 +165,18 @@ fn agreeing<R: Wait>(
 #[test]
 fn short_lists_agree(rt: HostRuntime) -> Result<(), Fail> {
     let moves = moves::<GateCore>(rt.alloc(), &CALLS, &[], &[()], &WAITS)?;
-    assert_eq!(rt; moves.len(), 22);
-    assert_eq!(rt; agreeing(&rt, rt.alloc(), &moves, &[0, 1, 2], 0)?, 9);
-    assert_eq!(rt; agreeing(&rt, rt.alloc(), &moves, &[0, 1, 2], 1)?, 9 * 22);
-    assert_eq!(rt;
-        agreeing(&rt, rt.alloc(), &moves, &[0, 1, 2], 2)?,
-        9 * 22 * 22
-    );
-    assert_eq!(rt;
-        agreeing(&rt, rt.alloc(), &moves, &[0, 1, 2], 3)?,
-        9 * 22 * 22 * 22
-    );
+    same!(rt; moves.len(), 22);
+    same!(rt; agreeing(&rt, rt.alloc(), &moves, &[0, 1, 2], 0)?, 9);
+    same!(rt; agreeing(&rt, rt.alloc(), &moves, &[0, 1, 2], 1)?, 9 * 22);
+    same!(rt; agreeing(&rt, rt.alloc(), &moves, &[0, 1, 2], 2)?, 9 * 22 * 22);
+    same!(rt; agreeing(&rt, rt.alloc(), &moves, &[0, 1, 2], 3)?, 9 * 22 * 22 * 22);
     Ok(())
 }
 
 #[test]
 fn lists_of_four_agree_from_a_controlled_gate(rt: HostRuntime) -> Result<(), Fail> {
     let moves = moves::<GateCore>(rt.alloc(), &CALLS, &[], &[()], &WAITS)?;
-    assert_eq!(rt;
-        agreeing(&rt, rt.alloc(), &moves, &[0], 4)?,
-        3 * 22 * 22 * 22 * 22
-    );
+    same!(rt; agreeing(&rt, rt.alloc(), &moves, &[0], 4)?, 3 * 22 * 22 * 22 * 22);
     Ok(())
 }
 
@@ -309,30 +301,30 @@ fn wrong_wakes<R: Wait + Threads + Sync>(
 
 #[test]
 fn sleeping_calls_wake(rt: HostRuntime) -> Result<(), Fail> {
-    assert_eq!(rt; wrong_wakes(&rt, rt.alloc(), NO_PATIENCE, By::Call)?, 0);
+    same!(rt; wrong_wakes(&rt, rt.alloc(), NO_PATIENCE, By::Call)?, 0);
     Ok(())
 }
 
 #[test]
 fn sleeping_plain_calls_wake(rt: HostRuntime) -> Result<(), Fail> {
-    assert_eq!(rt; wrong_wakes(&rt, rt.alloc(), NO_PATIENCE, By::Plain)?, 0);
+    same!(rt; wrong_wakes(&rt, rt.alloc(), NO_PATIENCE, By::Plain)?, 0);
     Ok(())
 }
 
 #[test]
 fn sleeping_polls_wake(rt: HostRuntime) -> Result<(), Fail> {
-    assert_eq!(rt; wrong_wakes(&rt, rt.alloc(), NO_PATIENCE, By::Poll)?, 0);
+    same!(rt; wrong_wakes(&rt, rt.alloc(), NO_PATIENCE, By::Poll)?, 0);
     Ok(())
 }
 
 #[test]
 fn waiting_calls_wake(rt: HostRuntime) -> Result<(), Fail> {
-    assert_eq!(rt; wrong_wakes(&rt, rt.alloc(), PATIENCE, By::Call)?, 0);
+    same!(rt; wrong_wakes(&rt, rt.alloc(), PATIENCE, By::Call)?, 0);
     Ok(())
 }
 
 #[test]
 fn waiting_polls_wake(rt: HostRuntime) -> Result<(), Fail> {
-    assert_eq!(rt; wrong_wakes(&rt, rt.alloc(), PATIENCE, By::Poll)?, 0);
+    same!(rt; wrong_wakes(&rt, rt.alloc(), PATIENCE, By::Poll)?, 0);
     Ok(())
 }

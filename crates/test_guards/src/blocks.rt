@@ -9,6 +9,7 @@ use std::sync::Wait;
 use std::sync::atomic::{AtomicU64, Ordering};
 use std::thread::yield_now;
 use std::{io, thread};
+use test_asserts::{holds, same};
 
 // How often the main thread gives way to a call that must wait, and how often each way is tried.
 const TURNS: u32 = 2_000;
@@ -177,19 +178,19 @@ where
 
 #[test]
 fn who_locks_is_held_back(rt: HostRuntime) -> io::Result<()> {
-    assert_eq!(rt; wrongly_seen(&rt, &LOCKS)?, None);
+    same!(rt; wrongly_seen(&rt, &LOCKS)?, None);
     Ok(())
 }
 
 #[test]
 fn who_reads_is_held_back(rt: HostRuntime) -> io::Result<()> {
-    assert_eq!(rt; wrongly_seen(&rt, &READS)?, None);
+    same!(rt; wrongly_seen(&rt, &READS)?, None);
     Ok(())
 }
 
 #[test]
 fn who_writes_is_held_back(rt: HostRuntime) -> io::Result<()> {
-    assert_eq!(rt; wrongly_seen(&rt, &WRITES)?, None);
+    same!(rt; wrongly_seen(&rt, &WRITES)?, None);
     Ok(())
 }
 
@@ -213,7 +214,7 @@ fn who_writes_waits_for_readers_too(rt: HostRuntime) -> io::Result<()> {
             || wait_once_held(&rt, &both, way, &seen),
             || hold_to_read(&rt, &both, &seen),
         );
-        assert_eq!(rt; (early, seen.load(Ordering::SeqCst)), (NOTHING, OLD));
+        same!(rt; (early, seen.load(Ordering::SeqCst)), (NOTHING, OLD));
     }
     Ok(())
 }
@@ -230,11 +231,11 @@ fn every_guard_gives_its_turn_back(rt: HostRuntime) -> io::Result<()> {
         Way::Write,
         Way::WriteTask,
     ] {
-        assert_eq!(rt; both.wait(&rt, way)?, OLD);
-        assert!(rt; both.mutex.try_lock().is_some());
-        assert!(rt; both.rwlock.try_write().is_some());
-        assert!(rt; both.rwlock.try_read().is_some());
-        assert!(rt; both.rwlock.try_write().is_some());
+        same!(rt; both.wait(&rt, way)?, OLD);
+        holds!(rt; both.mutex.try_lock().is_some());
+        holds!(rt; both.rwlock.try_write().is_some());
+        holds!(rt; both.rwlock.try_read().is_some());
+        holds!(rt; both.rwlock.try_write().is_some());
     }
     Ok(())
 }

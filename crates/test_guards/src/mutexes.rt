@@ -5,20 +5,21 @@ use futures::test::MockTask;
 use saa_core::ticket::Full;
 use saa_sync::lock_api::{Mutex, MutexGuard, lock_async};
 use std::io;
+use test_asserts::{holds, same};
 
 #[test]
 fn what_a_guard_wrote_the_next_one_shows(rt: HostRuntime) -> io::Result<()> {
     let mutex = Mutex::new(&rt, rt.alloc(), 0u64, 4)?;
     {
         let Ok(mut guard) = mutex.lock() else {
-            assert!(rt; false);
+            holds!(rt; false);
             return Ok(());
         };
         *guard = guard.saturating_add(1);
-        assert_eq!(rt; *guard, 1);
+        same!(rt; *guard, 1);
     }
     let shown = mutex.try_lock().map(|guard| *guard);
-    assert_eq!(rt; shown, Some(1));
+    same!(rt; shown, Some(1));
     Ok(())
 }
 
@@ -28,13 +29,13 @@ fn a_mutex_of_no_room(rt: HostRuntime) -> io::Result<()> {
     let task = MockTask::new(&rt)?;
     {
         let first = mutex.lock();
-        assert!(rt; first.is_ok());
-        assert!(rt; matches!(mutex.lock(), Err(Full)));
-        assert!(rt; mutex.try_lock().is_none());
+        holds!(rt; first.is_ok());
+        holds!(rt; matches!(mutex.lock(), Err(Full)));
+        holds!(rt; mutex.try_lock().is_none());
         let mut future = lock_async(&mutex);
-        assert!(rt; matches!(ready(task.poll(&mut future)), Some(Err(Full))));
+        holds!(rt; matches!(ready(task.poll(&mut future)), Some(Err(Full))));
     }
-    assert_eq!(rt; *mutex.get_mut(), 5);
+    same!(rt; *mutex.get_mut(), 5);
     Ok(())
 }
 
@@ -42,9 +43,9 @@ fn a_mutex_of_no_room(rt: HostRuntime) -> io::Result<()> {
 fn the_value_of_a_mutex_that_nobody_else_has(rt: HostRuntime) -> io::Result<()> {
     let mut mutex = Mutex::new(&rt, rt.alloc(), 5u64, 0)?;
     *mutex.get_mut() = 6;
-    assert_eq!(rt; mutex.lock().map(|guard| *guard), Ok(6));
+    same!(rt; mutex.lock().map(|guard| *guard), Ok(6));
     *mutex.get_mut() = 7;
-    assert_eq!(rt; mutex.into_inner(), 7);
+    same!(rt; mutex.into_inner(), 7);
     Ok(())
 }
 
@@ -52,12 +53,12 @@ fn the_value_of_a_mutex_that_nobody_else_has(rt: HostRuntime) -> io::Result<()> 
 fn who_unlocks_fairly_lets_the_next_in(rt: HostRuntime) -> io::Result<()> {
     let mutex = Mutex::new(&rt, rt.alloc(), 5u64, 0)?;
     let Some(mut guard) = mutex.try_lock() else {
-        assert!(rt; false);
+        holds!(rt; false);
         return Ok(());
     };
     *guard = 6;
-    assert!(rt; mutex.try_lock().is_none());
+    holds!(rt; mutex.try_lock().is_none());
     MutexGuard::unlock_fair(guard);
-    assert_eq!(rt; mutex.try_lock().map(|guard| *guard), Some(6));
+    same!(rt; mutex.try_lock().map(|guard| *guard), Some(6));
     Ok(())
 }

@@ -69,17 +69,18 @@ mod tests {
     use super::{Pair, load, read, store, write};
     use saa_sync::lock_api::{Mutex, RwLock};
     use std::io;
+    use test_asserts::same;
 
     #[test]
     fn a_pair_behind_each_lock(rt: HostRuntime) -> io::Result<()> {
         let mutex = Mutex::new(&rt, rt.alloc(), Pair::new(3), 1)?;
-        assert_eq!(rt; load(&mutex), Ok((3, 3)));
-        assert_eq!(rt; store(&mutex, 7), Ok(()));
-        assert_eq!(rt; load(&mutex), Ok((7, 7)));
+        same!(rt; load(&mutex), Ok((3, 3)));
+        same!(rt; store(&mutex, 7), Ok(()));
+        same!(rt; load(&mutex), Ok((7, 7)));
         let rwlock = RwLock::new(&rt, rt.alloc(), Pair::new(4), 1)?;
-        assert_eq!(rt; read(&rwlock), Ok((4, 4)));
-        assert_eq!(rt; write(&rwlock, 8), Ok(()));
-        assert_eq!(rt; read(&rwlock), Ok((8, 8)));
+        same!(rt; read(&rwlock), Ok((4, 4)));
+        same!(rt; write(&rwlock, 8), Ok(()));
+        same!(rt; read(&rwlock), Ok((8, 8)));
         Ok(())
     }
 }

@@ -8,6 +8,7 @@ use futures::test::MockTask;
 use saa_core::ticket::Full;
 use saa_sync::lock_api::{Mutex, RwLock, lock_async, read_async, write_async};
 use std::io;
+use test_asserts::holds;
 
 const ROOMS: [u16; 4] = [1, 20, 32, 300];
 
@@ -30,13 +31,13 @@ fn every_room_of_a_mutex_is_filled(rt: HostRuntime) -> io::Result<()> {
         let mut futures = Vec::with_capacity(rt.alloc(), usize::from(room))?;
         for _place in 0..room {
             let mut future = lock_async(&mutex);
-            assert!(rt; waits(&task, &mut future));
+            holds!(rt; waits(&task, &mut future));
             futures.push(future)?;
         }
-        assert!(rt; matches!(mutex.lock(), Err(Full)));
-        assert!(rt; matches!(ready(task.poll(&mut lock_async(&mutex))), Some(Err(Full))));
+        holds!(rt; matches!(mutex.lock(), Err(Full)));
+        holds!(rt; matches!(ready(task.poll(&mut lock_async(&mutex))), Some(Err(Full))));
         drop(held);
-        assert!(rt; task.is_woken());
+        holds!(rt; task.is_woken());
     }
     Ok(())
 }
@@ -50,16 +51,16 @@ fn every_room_of_a_reader_writer_lock_is_filled(rt: HostRuntime) -> io::Result<(
         let mut readers = Vec::with_capacity(rt.alloc(), usize::from(room))?;
         for _place in 1..room {
             let mut reader = read_async(&rwlock);
-            assert!(rt; waits(&task, &mut reader));
+            holds!(rt; waits(&task, &mut reader));
             readers.push(reader)?;
         }
         let mut last = write_async(&rwlock);
-        assert!(rt; waits(&task, &mut last));
-        assert!(rt; matches!(rwlock.read(), Err(Full)));
-        assert!(rt; matches!(rwlock.write(), Err(Full)));
-        assert!(rt; matches!(ready(task.poll(&mut read_async(&rwlock))), Some(Err(Full))));
+        holds!(rt; waits(&task, &mut last));
+        holds!(rt; matches!(rwlock.read(), Err(Full)));
+        holds!(rt; matches!(rwlock.write(), Err(Full)));
+        holds!(rt; matches!(ready(task.poll(&mut read_async(&rwlock))), Some(Err(Full))));
         drop(held);
-        assert!(rt; task.is_woken());
+        holds!(rt; task.is_woken());
     }
     Ok(())
 }

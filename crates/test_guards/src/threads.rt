@@ -4,12 +4,13 @@ use crate::ready;
 use futures::executor::block_on;
 use futures::test::MockTask;
 use saa_core::ticket::Full;
-use saa_sync::lock_api::{Mutex, RwLock, lock_async};
+use saa_sync::lock_api::{Mutex, RwLock, RwLockWriteGuard, lock_async};
 use std::alloc::AllocGlobal;
 use std::random::RandomSource;
 use std::sync::Wait;
 use std::thread::yield_now;
 use std::{io, thread};
+use test_asserts::{holds, same};
 
 // How often each thread adds 1.
 const ROUNDS: u64 = 100;
@@ -53,8 +54,8 @@ fn four_threads_that_add_lose_nothing(rt: HostRuntime) -> io::Result<()> {
         || thread::join(&rt, || add(&mutex), || add(&mutex)),
         || thread::join(&rt, || add(&mutex), || add(&mutex)),
     );
-    assert_eq!(rt; [one, two, three, four], [100, 100, 100, 100]);
-    assert_eq!(rt; mutex.into_inner(), 400);
+    same!(rt; [one, two, three, four], [100, 100, 100, 100]);
+    same!(rt; mutex.into_inner(), 400);
     Ok(())
 }
 
@@ -66,8 +67,8 @@ fn threads_and_tasks_that_add_lose_nothing(rt: HostRuntime) -> io::Result<()> {
         || thread::join(&rt, || add(&mutex), || add_as_task(&rt, &mutex)),
         || thread::join(&rt, || add_as_task(&rt, &mutex), || add(&mutex)),
     );
-    assert_eq!(rt; [one, two, three, four], [100, 100, 100, 100]);
-    assert_eq!(rt; mutex.into_inner(), 400);
+    same!(rt; [one, two, three, four], [100, 100, 100, 100]);
+    same!(rt; mutex.into_inner(), 400);
     Ok(())
 }
 
@@ -97,8 +98,39 @@ fn no_reader_sees_half_a_write(rt: HostRuntime) -> io::Result<()> {
         || thread::join(&rt, || turn_pages(&rwlock), || turn_pages(&rwlock)),
         || thread::join(&rt, || turn_pages(&rwlock), || turn_pages(&rwlock)),
     );
-    assert_eq!(rt; [one, two, three, four], [0, 0, 0, 0]);
-    assert_eq!(rt; rwlock.into_inner(), (400, 400));
+    same!(rt; [one, two, three, four], [0, 0, 0, 0]);
+    same!(rt; rwlock.into_inner(), (400, 400));
+    Ok(())
+}
+
+// Writes both numbers so often, and reads them through the guard that it downgrades to, while the others wait to write; how
+// often those weren't what it wrote.
+fn turn_pages_and_read<R: Wait + Drop>(rwlock: &RwLock<R, (u64, u64)>) -> u64 {
+    let mut others = 0u64;
+    for _round in 0..ROUNDS {
+        if let Ok(mut guard) = rwlock.write() {
+            let next = guard.0.saturating_add(1);
+            *guard = (next, guard.1);
+            yield_now();
+            *guard = (next, next);
+            let guard = RwLockWriteGuard::downgrade(guard);
+            yield_now();
+            others = others.saturating_add(u64::from(*guard != (next, next)));
+        }
+    }
+    others
+}
+
+#[test]
+fn nobody_writes_between_a_write_and_the_reading_behind_it(rt: HostRuntime) -> io::Result<()> {
+    let rwlock = RwLock::new(&rt, rt.alloc(), (0u64, 0u64), 4)?;
+    let ((one, two), (three, four)) = thread::join(
+        &rt,
+        || thread::join(&rt, || turn_pages_and_read(&rwlock), || turn_pages(&rwlock)),
+        || thread::join(&rt, || turn_pages_and_read(&rwlock), || turn_pages(&rwlock)),
+    );
+    same!(rt; [one, two, three, four], [0, 0, 0, 0]);
+    same!(rt; rwlock.into_inner(), (400, 400));
     Ok(())
 }
 
@@ -166,7 +198,7 @@ fn a_sleeper_is_served_before_the_task_behind_it(rt: HostRuntime) -> io::Result<
         || write_once_held(&rt, &mutex, 1),
         || ask_behind(&rt, &mutex, &task),
     );
-    assert!(rt; is_written && is_granted);
-    assert_eq!(rt; mutex.into_inner(), 12);
+    holds!(rt; is_written && is_granted);
+    same!(rt; mutex.into_inner(), 12);
     Ok(())
 }

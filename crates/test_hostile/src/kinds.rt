@@ -114,6 +114,7 @@ impl Modelled for LockCore {
             LockCall::TryShare => tried(model, Mode::Shared),
             LockCall::ReleaseLock => LockAnswer::Bool(model.give_back(Need::Lock(Mode::Exclusive))),
             LockCall::ReleaseShare => LockAnswer::Bool(model.give_back(Need::Lock(Mode::Shared))),
+            LockCall::Downgrade => LockAnswer::Bool(model.lower()),
             LockCall::PoisonLock => {
                 let is_owned = matches!(model.held, Held::Owned);
                 if is_owned {

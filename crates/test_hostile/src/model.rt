@@ -169,6 +169,16 @@ impl Model {
         }
     }
 
+    /// Makes an owner alone one of those who share, and serves the oldest who then fit.
+    pub fn lower(&mut self) -> bool {
+        let is_owned = matches!(self.held, Held::Owned);
+        if is_owned {
+            self.held = Held::Shared(1);
+            self.settle();
+        }
+        is_owned
+    }
+
     // The oldest who waits is answered, and keeps its slot.
     fn answer_oldest(&mut self, value: u8) {
         let Some(name) = self.oldest else {

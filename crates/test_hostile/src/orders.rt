@@ -8,6 +8,7 @@ use saa::ticket::{How, Ticket};
 use std::alloc::{AllocError, Global};
 use std::io;
 use std::process::Abort;
+use test_asserts::holds;
 use test_support::listed::ListedSemaphore;
 
 // How many pagers there are, and for how many of them there is room.
@@ -105,8 +106,8 @@ fn a_line_of_links_replies_as_a_list_does(rt: HostRuntime) -> io::Result<()> {
             fullest = both.registered().max(fullest);
         }
     }
-    assert!(rt; different == 0);
+    holds!(rt; different == 0);
     // The room was full at times, and pagers without a slot were answered at once.
-    assert!(rt; fullest > usize::from(ROOM));
+    holds!(rt; fullest > usize::from(ROOM));
     Ok(())
 }

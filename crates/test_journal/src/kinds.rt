@@ -64,12 +64,13 @@ impl Kind for LockCore {
     }
 
     fn called(turn: u16) -> LockCall {
-        match turn % 7 {
+        match turn % 9 {
             0 => LockCall::TryLock,
             1 => LockCall::TryShare,
             2 | 3 => LockCall::ReleaseShare,
             4 => LockCall::ReleaseLock,
-            5 => LockCall::PoisonLock,
+            5 | 6 => LockCall::Downgrade,
+            7 => LockCall::PoisonLock,
             _ => LockCall::ClearPoison,
         }
     }

@@ -12,6 +12,7 @@ use std::io;
 use std::marker::Brand;
 use std::process::Abort;
 use std::sync::ledger::Blank;
+use test_asserts::{holds, same};
 
 // What two shares do at a semaphore with room for four, and what the first of them, or both, count.
 fn three_commands<J: Journal>(
@@ -29,26 +30,23 @@ fn three_commands<J: Journal>(
 {
     let (mut journal, mut shares) = Journalled::<SemaphoreCore, J>::new(alloc, core, 2, blank, 2)?;
     let (Some(mut one), Some(mut other)) = (shares.pop(), shares.pop()) else {
-        assert!(rt; false);
+        holds!(rt; false);
         return Ok(());
     };
     let all = CommandOf::Call(SemaphoreCall::TryAcquireMany(63));
     let taken = journal.call(&all, &mut one);
-    assert_eq!(rt; taken, Ok(ReplyOf::Answered(SemaphoreAnswer::Bool(true))));
+    same!(rt; taken, Ok(ReplyOf::Answered(SemaphoreAnswer::Bool(true))));
     let registered = journal.call(&CommandOf::Register(1, 2, true), &mut other);
-    assert_eq!(rt; registered, Ok(ReplyOf::Registered(Ok(true))));
-    assert_eq!(rt;
-        journal.call(&CommandOf::Drop(1), &mut one),
-        Ok(ReplyOf::Dropped)
-    );
-    assert_eq!(rt; journal.history().len(), 3);
-    assert_eq!(rt; (one.calls(), other.calls()), (2, 1));
+    same!(rt; registered, Ok(ReplyOf::Registered(Ok(true))));
+    same!(rt; journal.call(&CommandOf::Drop(1), &mut one), Ok(ReplyOf::Dropped));
+    same!(rt; journal.history().len(), 3);
+    same!(rt; (one.calls(), other.calls()), (2, 1));
     shares.push(one)?;
     if are_both {
         shares.push(other)?;
     }
     let wanted = if are_both { Some(3) } else { None };
-    assert_eq!(rt; journal.gather(shares), wanted);
+    same!(rt; journal.gather(shares), wanted);
     Ok(())
 }
 

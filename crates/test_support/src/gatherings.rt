@@ -124,7 +124,7 @@ fn gathers<F: Gathering, R: Threads + Wait + Sync>(
     }) && told.exact.load(Ordering::SeqCst) == 1
 }
 
-// Starts those who wait, and counts those that could be started.
+// Starts the waiters, and counts those that could be started.
 fn start<'s, E, F: Gathering>(
     scope: &Scope<'s, E>,
     form: &'s F,

@@ -7,6 +7,7 @@ use std::sync::atomic::{AtomicBool, AtomicU64, Ordering};
 use std::test::Fail;
 use std::thread;
 use std::thread::yield_now;
+use test_asserts::{holds, same};
 
 // How often the main thread looks whether a call that must wait has returned.
 const TURNS: u32 = 10_000;
@@ -24,20 +25,20 @@ fn a_dropped_arrival_is_taken_back(rt: HostRuntime) -> Result<(), Fail> {
     let mut b = Pager::new();
     let mut c = Pager::new();
     let mut d = Pager::new();
-    assert_eq!(rt; barrier.register_pager(&mut a, true), Ok(true));
-    assert_eq!(rt; barrier.register_pager(&mut b, true), Ok(true));
-    assert_eq!(rt; barrier.register_pager(&mut b, true), Ok(false));
-    assert_eq!(rt; barrier.count(mo), 1);
+    same!(rt; barrier.register_pager(&mut a, true), Ok(true));
+    same!(rt; barrier.register_pager(&mut b, true), Ok(true));
+    same!(rt; barrier.register_pager(&mut b, true), Ok(false));
+    same!(rt; barrier.count(mo), 1);
     a.cancel();
-    assert_eq!(rt; barrier.count(mo), 2);
-    assert_eq!(rt; barrier.register_pager(&mut c, true), Ok(true));
-    assert_eq!(rt; c.try_poll(), Err(Error::NotReady));
-    assert_eq!(rt; barrier.register_pager(&mut d, true), Ok(true));
-    assert_eq!(rt; d.poll_sync(), Ok(true));
-    assert_eq!(rt; b.poll_sync(), Ok(false));
-    assert_eq!(rt; c.poll_sync(), Ok(false));
-    assert_eq!(rt; c.poll_sync(), Err(Error::NotRegistered));
-    assert_eq!(rt; barrier.count(mo), 3);
+    same!(rt; barrier.count(mo), 2);
+    same!(rt; barrier.register_pager(&mut c, true), Ok(true));
+    same!(rt; c.try_poll(), Err(Error::NotReady));
+    same!(rt; barrier.register_pager(&mut d, true), Ok(true));
+    same!(rt; d.poll_sync(), Ok(true));
+    same!(rt; b.poll_sync(), Ok(false));
+    same!(rt; c.poll_sync(), Ok(false));
+    same!(rt; c.poll_sync(), Err(Error::NotRegistered));
+    same!(rt; barrier.count(mo), 3);
     Ok(())
 }
 
@@ -47,11 +48,11 @@ fn a_dropped_answer_is_only_consumed(rt: HostRuntime) -> Result<(), Fail> {
     let barrier = Barrier::with_count(&rt, rt.alloc(), 2, 4)?;
     let mut one = Pager::new();
     let mut two = Pager::new();
-    assert_eq!(rt; barrier.register_pager(&mut one, true), Ok(true));
-    assert_eq!(rt; barrier.register_pager(&mut two, true), Ok(true));
+    same!(rt; barrier.register_pager(&mut one, true), Ok(true));
+    same!(rt; barrier.register_pager(&mut two, true), Ok(true));
     two.cancel();
-    assert_eq!(rt; barrier.count(mo), 2);
-    assert_eq!(rt; one.poll_sync(), Ok(false));
+    same!(rt; barrier.count(mo), 2);
+    same!(rt; one.poll_sync(), Ok(false));
     Ok(())
 }
 
@@ -61,13 +62,13 @@ fn the_last_arrival_needs_no_slot(rt: HostRuntime) -> Result<(), Fail> {
     let mut one = Pager::new();
     let mut two = Pager::new();
     let mut three = Pager::new();
-    assert_eq!(rt; barrier.register_pager(&mut one, true), Ok(true));
-    assert_eq!(rt; barrier.register_pager(&mut two, true), Ok(true));
-    assert!(rt; barrier.register_pager(&mut three, true).is_err());
-    assert_eq!(rt; one.poll_sync(), Ok(false));
-    assert_eq!(rt; two.poll_sync(), Ok(true));
-    assert_eq!(rt; barrier.register_pager(&mut three, true), Ok(true));
-    assert_eq!(rt; barrier.count(Ordering::SeqCst), 1);
+    same!(rt; barrier.register_pager(&mut one, true), Ok(true));
+    same!(rt; barrier.register_pager(&mut two, true), Ok(true));
+    holds!(rt; barrier.register_pager(&mut three, true).is_err());
+    same!(rt; one.poll_sync(), Ok(false));
+    same!(rt; two.poll_sync(), Ok(true));
+    same!(rt; barrier.register_pager(&mut three, true), Ok(true));
+    same!(rt; barrier.count(Ordering::SeqCst), 1);
     Ok(())
 }
 
@@ -77,47 +78,44 @@ fn rounds_follow_one_another(rt: HostRuntime) -> Result<(), Fail> {
     let barrier = Barrier::with_count(&rt, rt.alloc(), 2, 4)?;
     let mut a = Pager::new();
     let mut c = Pager::new();
-    assert_eq!(rt; barrier.register_pager(&mut a, true), Ok(true));
-    assert_eq!(rt; a.try_poll(), Err(Error::NotReady));
-    assert_eq!(rt; barrier.wait_sync(), Ok(true));
-    assert_eq!(rt; a.poll_sync(), Ok(false));
-    assert_eq!(rt; barrier.register_pager(&mut c, false), Ok(true));
-    assert_eq!(rt; c.poll_sync(), Err(Error::WrongMode));
-    assert_eq!(rt; barrier.wait_sync(), Ok(true));
-    assert_eq!(rt; c.try_poll(), Ok(false));
-    assert_eq!(rt; barrier.count(mo), 2);
+    same!(rt; barrier.register_pager(&mut a, true), Ok(true));
+    same!(rt; a.try_poll(), Err(Error::NotReady));
+    same!(rt; barrier.wait_sync(), Ok(true));
+    same!(rt; a.poll_sync(), Ok(false));
+    same!(rt; barrier.register_pager(&mut c, false), Ok(true));
+    same!(rt; c.poll_sync(), Err(Error::WrongMode));
+    same!(rt; barrier.wait_sync(), Ok(true));
+    same!(rt; c.try_poll(), Ok(false));
+    same!(rt; barrier.count(mo), 2);
     Ok(())
 }
 
 #[test]
 fn sizes_are_cut_and_none_or_one_is_a_size(rt: HostRuntime) -> Result<(), Fail> {
     let mo = Ordering::SeqCst;
-    assert_eq!(rt; Barrier::<&HostRuntime>::MAX_TASKS, 63);
-    assert_eq!(rt; Barrier::with_count(&rt, rt.alloc(), 64, 0)?.count(mo), 63);
-    assert_eq!(rt; Barrier::with_count(&rt, rt.alloc(), 63, 0)?.count(mo), 63);
-    assert_eq!(rt;
-        Barrier::with_count(&rt, rt.alloc(), usize::MAX, 0)?.count(mo),
-        63
-    );
+    same!(rt; Barrier::<&HostRuntime>::MAX_TASKS, 63);
+    same!(rt; Barrier::with_count(&rt, rt.alloc(), 64, 0)?.count(mo), 63);
+    same!(rt; Barrier::with_count(&rt, rt.alloc(), 63, 0)?.count(mo), 63);
+    same!(rt; Barrier::with_count(&rt, rt.alloc(), usize::MAX, 0)?.count(mo), 63);
 
     // Nobody passes a barrier of size 0.
     let none = Barrier::with_count(&rt, rt.alloc(), 0, 2)?;
     let mut one = Pager::new();
     let mut two = Pager::new();
-    assert_eq!(rt; none.register_pager(&mut one, true), Ok(true));
-    assert_eq!(rt; none.register_pager(&mut two, true), Ok(true));
-    assert_eq!(rt; one.try_poll(), Err(Error::NotReady));
-    assert_eq!(rt; two.try_poll(), Err(Error::NotReady));
-    assert_eq!(rt; none.count(mo), 0);
-    assert!(rt; none.wait_sync().is_err());
+    same!(rt; none.register_pager(&mut one, true), Ok(true));
+    same!(rt; none.register_pager(&mut two, true), Ok(true));
+    same!(rt; one.try_poll(), Err(Error::NotReady));
+    same!(rt; two.try_poll(), Err(Error::NotReady));
+    same!(rt; none.count(mo), 0);
+    holds!(rt; none.wait_sync().is_err());
 
     // Everybody passes one of size 1, and leads.
     let alone = Barrier::with_count(&rt, rt.alloc(), 1, 0)?;
     let mut pager = Pager::new();
-    assert_eq!(rt; alone.register_pager(&mut pager, true), Ok(true));
-    assert_eq!(rt; pager.poll_sync(), Ok(true));
-    assert_eq!(rt; alone.wait_sync(), Ok(true));
-    assert_eq!(rt; alone.count(mo), 1);
+    same!(rt; alone.register_pager(&mut pager, true), Ok(true));
+    same!(rt; pager.poll_sync(), Ok(true));
+    same!(rt; alone.wait_sync(), Ok(true));
+    same!(rt; alone.count(mo), 1);
     Ok(())
 }
 
@@ -128,28 +126,22 @@ fn a_full_room_refuses_and_runs_no_callback(rt: HostRuntime) -> Result<(), Fail>
         runs.fetch_add(1, Ordering::SeqCst);
     };
     let two = Barrier::with_count(&rt, rt.alloc(), 2, 0)?;
-    assert!(rt; two.wait_sync_with(count_run).is_err());
-    assert!(rt; two.wait_sync().is_err());
-    assert_eq!(rt; two.count(Ordering::SeqCst), 2);
+    holds!(rt; two.wait_sync_with(count_run).is_err());
+    holds!(rt; two.wait_sync().is_err());
+    same!(rt; two.count(Ordering::SeqCst), 2);
     let alone = Barrier::with_count(&rt, rt.alloc(), 1, 0)?;
-    assert_eq!(rt; alone.wait_sync_with(count_run), Ok(true));
-    assert_eq!(rt; runs.load(Ordering::SeqCst), 0);
+    same!(rt; alone.wait_sync_with(count_run), Ok(true));
+    same!(rt; runs.load(Ordering::SeqCst), 0);
     Ok(())
 }
 
 #[test]
 fn values_read_as_their_table(rt: HostRuntime) {
     for (value, is_leader) in [(0, false), (1, true), (2, false), (255, false)] {
-        assert_eq!(rt;
-            <Barrier<&HostRuntime> as SyncResult>::to_result(value, None),
-            Ok(is_leader)
-        );
+        same!(rt; <Barrier<&HostRuntime> as SyncResult>::to_result(value, None), Ok(is_leader));
     }
     for fault in [Error::NotRegistered, Error::WrongMode, Error::NotReady] {
-        assert_eq!(rt;
-            <Barrier<&HostRuntime> as SyncResult>::to_result(1, Some(fault)),
-            Err(fault)
-        );
+        same!(rt; <Barrier<&HostRuntime> as SyncResult>::to_result(1, Some(fault)), Err(fault));
     }
 }
 
@@ -164,16 +156,10 @@ fn a_callback_runs_once_and_may_use_its_barrier(rt: HostRuntime) -> Result<(), F
             leads.fetch_add(1, Ordering::SeqCst);
         }
     };
-    assert_eq!(rt; barrier.wait_sync_with(arrive_last), Ok(false));
-    assert_eq!(rt;
-        (runs.load(Ordering::SeqCst), leads.load(Ordering::SeqCst)),
-        (1, 1)
-    );
-    assert_eq!(rt; barrier.wait_sync_with(arrive_last), Ok(false));
-    assert_eq!(rt;
-        (runs.load(Ordering::SeqCst), leads.load(Ordering::SeqCst)),
-        (2, 2)
-    );
+    same!(rt; barrier.wait_sync_with(arrive_last), Ok(false));
+    same!(rt; (runs.load(Ordering::SeqCst), leads.load(Ordering::SeqCst)), (1, 1));
+    same!(rt; barrier.wait_sync_with(arrive_last), Ok(false));
+    same!(rt; (runs.load(Ordering::SeqCst), leads.load(Ordering::SeqCst)), (2, 2));
     Ok(())
 }
 
@@ -221,9 +207,9 @@ fn who_arrives_is_held_back(rt: HostRuntime) -> Result<(), Fail> {
             (early, barrier.wait_sync())
         },
     );
-    assert_eq!(rt; answer, Ok(false));
-    assert_eq!(rt; last, Ok(true));
-    assert_eq!(rt; (early, ended.load(Ordering::SeqCst)), (0, 1));
+    same!(rt; answer, Ok(false));
+    same!(rt; last, Ok(true));
+    same!(rt; (early, ended.load(Ordering::SeqCst)), (0, 1));
     Ok(())
 }
 
@@ -250,9 +236,9 @@ fn a_dropped_pager_wakes_nobody(rt: HostRuntime) -> Result<(), Fail> {
             (early, missing, barrier.wait_sync())
         },
     );
-    assert_eq!(rt; answer, Ok(false));
-    assert_eq!(rt; (missing, last), (1, Ok(true)));
-    assert_eq!(rt; (early, ended.load(Ordering::SeqCst)), (0, 1));
+    same!(rt; answer, Ok(false));
+    same!(rt; (missing, last), (1, Ok(true)));
+    same!(rt; (early, ended.load(Ordering::SeqCst)), (0, 1));
     Ok(())
 }
 
@@ -284,8 +270,8 @@ fn a_plain_call_is_waited_for(rt: HostRuntime) -> Result<(), Fail> {
         },
         || come_last(&barrier, &has_ended),
     );
-    assert_eq!(rt; (answer, leads), (Ok(false), true));
-    assert_eq!(rt; barrier.count(Ordering::SeqCst), 2);
+    same!(rt; (answer, leads), (Ok(false), true));
+    same!(rt; barrier.count(Ordering::SeqCst), 2);
     Ok(())
 }
 
@@ -320,8 +306,8 @@ fn each_round_of_eight_has_one_leader(rt: HostRuntime) -> Result<(), Fail> {
             }
         }
     });
-    assert_eq!(rt; leaders.load(Ordering::SeqCst), 4);
-    assert_eq!(rt; others.load(Ordering::SeqCst), 28);
-    assert_eq!(rt; barrier.count(Ordering::SeqCst), 8);
+    same!(rt; leaders.load(Ordering::SeqCst), 4);
+    same!(rt; others.load(Ordering::SeqCst), 28);
+    same!(rt; barrier.count(Ordering::SeqCst), 8);
     Ok(())
 }

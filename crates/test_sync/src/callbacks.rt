@@ -5,6 +5,7 @@ use saa_sync::lock::{Lock, TryLockError};
 use saa_sync::semaphore::Semaphore;
 use std::io;
 use std::sync::atomic::{AtomicU64, Ordering};
+use test_asserts::{holds, same};
 
 #[test]
 fn a_callback_may_use_its_semaphore(rt: HostRuntime) -> io::Result<()> {
@@ -17,9 +18,9 @@ fn a_callback_may_use_its_semaphore(rt: HostRuntime) -> io::Result<()> {
         );
         semaphore.release();
     });
-    assert_eq!(rt; answer, Ok(true));
-    assert_eq!(rt; seen.load(Ordering::SeqCst), 2);
-    assert_eq!(rt; semaphore.available_permits(Ordering::SeqCst), 0);
+    same!(rt; answer, Ok(true));
+    same!(rt; seen.load(Ordering::SeqCst), 2);
+    same!(rt; semaphore.available_permits(Ordering::SeqCst), 0);
     Ok(())
 }
 
@@ -31,13 +32,10 @@ fn a_callback_runs_once_where_the_task_joins(rt: HostRuntime) -> io::Result<()> 
         runs.fetch_add(1, Ordering::SeqCst);
         semaphore.release();
     };
-    assert_eq!(rt; semaphore.acquire_sync_with(count_and_release), Ok(()));
-    assert_eq!(rt; runs.load(Ordering::SeqCst), 1);
-    assert_eq!(rt;
-        semaphore.acquire_many_sync_with(1, count_and_release),
-        Ok(true)
-    );
-    assert_eq!(rt; runs.load(Ordering::SeqCst), 2);
+    same!(rt; semaphore.acquire_sync_with(count_and_release), Ok(()));
+    same!(rt; runs.load(Ordering::SeqCst), 1);
+    same!(rt; semaphore.acquire_many_sync_with(1, count_and_release), Ok(true));
+    same!(rt; runs.load(Ordering::SeqCst), 2);
     Ok(())
 }
 
@@ -59,10 +57,10 @@ fn a_callback_does_not_run_where_nobody_waits(rt: HostRuntime) -> io::Result<()>
         Ok(false),
         "too many"
     );
-    assert_eq!(rt; semaphore.acquire_sync_with(count), Err(Full));
-    assert_eq!(rt; semaphore.acquire_many_sync_with(1, count), Err(Full));
-    assert_eq!(rt; runs.load(Ordering::SeqCst), 0);
-    assert_eq!(rt; semaphore.available_permits(Ordering::SeqCst), 0);
+    same!(rt; semaphore.acquire_sync_with(count), Err(Full));
+    same!(rt; semaphore.acquire_many_sync_with(1, count), Err(Full));
+    same!(rt; runs.load(Ordering::SeqCst), 0);
+    same!(rt; semaphore.available_permits(Ordering::SeqCst), 0);
     Ok(())
 }
 
@@ -76,8 +74,8 @@ fn a_callback_runs_while_its_task_stands_in_the_line(rt: HostRuntime) -> io::Res
         }
         semaphore.release();
     });
-    assert_eq!(rt; answer, Ok(true));
-    assert_eq!(rt; passed.load(Ordering::SeqCst), 0);
+    same!(rt; answer, Ok(true));
+    same!(rt; passed.load(Ordering::SeqCst), 0);
     Ok(())
 }
 
@@ -88,7 +86,7 @@ fn a_callback_of_a_lock_runs_once_while_its_task_stands_in_the_line(
     let lock = Lock::new(&rt, rt.alloc(), 1)?;
     let runs = AtomicU64::new(0);
     let refused = AtomicU64::new(0);
-    assert_eq!(rt; lock.try_share(), Ok(()));
+    same!(rt; lock.try_share(), Ok(()));
     let answer = lock.lock_sync_with(|| {
         runs.fetch_add(1, Ordering::SeqCst);
         if lock.try_share() == Err(TryLockError::WouldBlock) {
@@ -96,8 +94,8 @@ fn a_callback_of_a_lock_runs_once_while_its_task_stands_in_the_line(
         }
         lock.release_share();
     });
-    assert_eq!(rt; answer, Ok(true));
-    assert!(rt; lock.is_locked(Ordering::SeqCst));
+    same!(rt; answer, Ok(true));
+    holds!(rt; lock.is_locked(Ordering::SeqCst));
     let answer = lock.share_sync_with(|| {
         runs.fetch_add(1, Ordering::SeqCst);
         if lock.share_sync().is_err() {
@@ -105,9 +103,9 @@ fn a_callback_of_a_lock_runs_once_while_its_task_stands_in_the_line(
         }
         lock.release_lock();
     });
-    assert_eq!(rt; answer, Ok(true));
-    assert!(rt; lock.is_shared(Ordering::SeqCst));
-    assert_eq!(rt; runs.load(Ordering::SeqCst), 2);
-    assert_eq!(rt; refused.load(Ordering::SeqCst), 2);
+    same!(rt; answer, Ok(true));
+    holds!(rt; lock.is_shared(Ordering::SeqCst));
+    same!(rt; runs.load(Ordering::SeqCst), 2);
+    same!(rt; refused.load(Ordering::SeqCst), 2);
     Ok(())
 }

@@ -8,6 +8,7 @@ use std::sync::atomic::{AtomicBool, AtomicU64, Ordering};
 use std::test::Fail;
 use std::thread;
 use std::thread::yield_now;
+use test_asserts::{holds, same};
 
 // How often the main thread looks whether a call that must wait has returned.
 const TURNS: u32 = 10_000;
@@ -16,20 +17,20 @@ const TURNS: u32 = 10_000;
 fn a_gate_is_sealed_reset_and_opened(rt: HostRuntime) -> Result<(), Fail> {
     let mo = Ordering::SeqCst;
     let gate = Gate::new(&rt, rt.alloc(), 4)?;
-    assert_eq!(rt; gate.state(mo), State::Controlled);
-    assert_eq!(rt; gate.seal(), (State::Controlled, 0));
-    assert_eq!(rt; gate.reset(), Some(State::Sealed));
-    assert_eq!(rt; gate.state(mo), State::Controlled);
-    assert_eq!(rt; gate.reset(), None);
-    assert_eq!(rt; gate.seal(), (State::Controlled, 0));
-    assert_eq!(rt; gate.state(mo), State::Sealed);
-    assert_eq!(rt; gate.enter_sync(), Ok(Err(Error::Sealed)));
-    assert_eq!(rt; gate.permit(), Err(State::Sealed));
-    assert_eq!(rt; gate.open(), (State::Sealed, 0));
-    assert_eq!(rt; gate.enter_sync(), Ok(Ok(State::Open)));
-    assert_eq!(rt; gate.reject(), Err(State::Open));
-    assert_eq!(rt; gate.reset(), Some(State::Open));
-    assert_eq!(rt; gate.reject(), Ok(0));
+    same!(rt; gate.state(mo), State::Controlled);
+    same!(rt; gate.seal(), (State::Controlled, 0));
+    same!(rt; gate.reset(), Some(State::Sealed));
+    same!(rt; gate.state(mo), State::Controlled);
+    same!(rt; gate.reset(), None);
+    same!(rt; gate.seal(), (State::Controlled, 0));
+    same!(rt; gate.state(mo), State::Sealed);
+    same!(rt; gate.enter_sync(), Ok(Err(Error::Sealed)));
+    same!(rt; gate.permit(), Err(State::Sealed));
+    same!(rt; gate.open(), (State::Sealed, 0));
+    same!(rt; gate.enter_sync(), Ok(Ok(State::Open)));
+    same!(rt; gate.reject(), Err(State::Open));
+    same!(rt; gate.reset(), Some(State::Open));
+    same!(rt; gate.reject(), Ok(0));
     Ok(())
 }
 
@@ -40,18 +41,18 @@ fn a_permit_lets_all_pass(rt: HostRuntime) -> Result<(), Fail> {
     let mut two = Pager::new();
     let mut three = Pager::new();
     let mut four = Pager::new();
-    assert_eq!(rt; gate.register_pager(&mut one, true), Ok(true));
-    assert_eq!(rt; gate.register_pager(&mut two, true), Ok(true));
-    assert_eq!(rt; gate.register_pager(&mut three, true), Ok(true));
-    assert_eq!(rt; gate.register_pager(&mut four, true), Ok(true));
-    assert_eq!(rt; gate.register_pager(&mut four, true), Ok(false));
-    assert_eq!(rt; gate.permit(), Ok(4));
-    assert_eq!(rt; one.poll_sync(), Ok(State::Controlled));
-    assert_eq!(rt; two.poll_sync(), Ok(State::Controlled));
-    assert_eq!(rt; three.poll_sync(), Ok(State::Controlled));
-    assert_eq!(rt; four.poll_sync(), Ok(State::Controlled));
-    assert!(rt; !four.is_registered());
-    assert_eq!(rt; gate.permit(), Ok(0));
+    same!(rt; gate.register_pager(&mut one, true), Ok(true));
+    same!(rt; gate.register_pager(&mut two, true), Ok(true));
+    same!(rt; gate.register_pager(&mut three, true), Ok(true));
+    same!(rt; gate.register_pager(&mut four, true), Ok(true));
+    same!(rt; gate.register_pager(&mut four, true), Ok(false));
+    same!(rt; gate.permit(), Ok(4));
+    same!(rt; one.poll_sync(), Ok(State::Controlled));
+    same!(rt; two.poll_sync(), Ok(State::Controlled));
+    same!(rt; three.poll_sync(), Ok(State::Controlled));
+    same!(rt; four.poll_sync(), Ok(State::Controlled));
+    holds!(rt; !four.is_registered());
+    same!(rt; gate.permit(), Ok(0));
     Ok(())
 }
 
@@ -61,15 +62,15 @@ fn an_answer_stays_what_it_was(rt: HostRuntime) -> Result<(), Fail> {
     let mut one = Pager::new();
     let mut two = Pager::new();
     let mut three = Pager::new();
-    assert_eq!(rt; gate.register_pager(&mut one, true), Ok(true));
-    assert_eq!(rt; gate.register_pager(&mut two, true), Ok(true));
-    assert_eq!(rt; gate.register_pager(&mut three, true), Ok(true));
-    assert_eq!(rt; gate.reject(), Ok(3));
-    assert_eq!(rt; one.try_poll(), Err(Error::Rejected));
-    assert_eq!(rt; gate.seal(), (State::Controlled, 0));
-    assert_eq!(rt; two.try_poll(), Err(Error::Rejected));
-    assert_eq!(rt; gate.open(), (State::Sealed, 0));
-    assert_eq!(rt; three.try_poll(), Err(Error::Rejected));
+    same!(rt; gate.register_pager(&mut one, true), Ok(true));
+    same!(rt; gate.register_pager(&mut two, true), Ok(true));
+    same!(rt; gate.register_pager(&mut three, true), Ok(true));
+    same!(rt; gate.reject(), Ok(3));
+    same!(rt; one.try_poll(), Err(Error::Rejected));
+    same!(rt; gate.seal(), (State::Controlled, 0));
+    same!(rt; two.try_poll(), Err(Error::Rejected));
+    same!(rt; gate.open(), (State::Sealed, 0));
+    same!(rt; three.try_poll(), Err(Error::Rejected));
     Ok(())
 }
 
@@ -79,22 +80,22 @@ fn a_pager_that_gives_up_answers_the_others(rt: HostRuntime) -> Result<(), Fail>
     let mut one = Pager::new();
     let mut two = Pager::new();
     let mut three = Pager::new();
-    assert_eq!(rt; gate.register_pager(&mut one, true), Ok(true));
-    assert_eq!(rt; gate.register_pager(&mut two, true), Ok(true));
+    same!(rt; gate.register_pager(&mut one, true), Ok(true));
+    same!(rt; gate.register_pager(&mut two, true), Ok(true));
     one.cancel();
-    assert_eq!(rt; two.try_poll(), Err(Error::SpuriousFailure));
-    assert_eq!(rt; gate.permit(), Ok(0));
+    same!(rt; two.try_poll(), Err(Error::SpuriousFailure));
+    same!(rt; gate.permit(), Ok(0));
 
     // The second gives up first, so the first has its answer by then, and only consumes it.
-    assert_eq!(rt; gate.register_pager(&mut one, true), Ok(true));
-    assert_eq!(rt; gate.register_pager(&mut two, true), Ok(true));
-    assert_eq!(rt; gate.register_pager(&mut three, true), Ok(true));
+    same!(rt; gate.register_pager(&mut one, true), Ok(true));
+    same!(rt; gate.register_pager(&mut two, true), Ok(true));
+    same!(rt; gate.register_pager(&mut three, true), Ok(true));
     two.cancel();
     one.cancel();
-    assert_eq!(rt; three.try_poll(), Err(Error::SpuriousFailure));
-    assert_eq!(rt; gate.permit(), Ok(0));
-    assert_eq!(rt; gate.open(), (State::Controlled, 0));
-    assert_eq!(rt; gate.permit(), Err(State::Open));
+    same!(rt; three.try_poll(), Err(Error::SpuriousFailure));
+    same!(rt; gate.permit(), Ok(0));
+    same!(rt; gate.open(), (State::Controlled, 0));
+    same!(rt; gate.permit(), Err(State::Open));
     Ok(())
 }
 
@@ -102,17 +103,17 @@ fn a_pager_that_gives_up_answers_the_others(rt: HostRuntime) -> Result<(), Fail>
 fn a_pager_is_polled_in_its_mode(rt: HostRuntime) -> Result<(), Fail> {
     let gate = Gate::new(&rt, rt.alloc(), 4)?;
     let mut pager = Pager::new();
-    assert_eq!(rt; pager.try_poll(), Err(Error::NotRegistered));
-    assert_eq!(rt; gate.register_pager(&mut pager, true), Ok(true));
-    assert_eq!(rt; pager.try_poll(), Err(Error::NotReady));
-    assert_eq!(rt; gate.open(), (State::Controlled, 1));
-    assert_eq!(rt; poll_as(&mut pager, How::Async), Err(Error::WrongMode));
-    assert!(rt; pager.is_registered());
-    assert_eq!(rt; pager.poll_sync(), Ok(State::Open));
-    assert_eq!(rt; pager.poll_sync(), Err(Error::NotRegistered));
-    assert_eq!(rt; gate.register_pager(&mut pager, false), Ok(true));
-    assert_eq!(rt; pager.poll_sync(), Err(Error::WrongMode));
-    assert_eq!(rt; poll_as(&mut pager, How::Async), Ok(State::Open));
+    same!(rt; pager.try_poll(), Err(Error::NotRegistered));
+    same!(rt; gate.register_pager(&mut pager, true), Ok(true));
+    same!(rt; pager.try_poll(), Err(Error::NotReady));
+    same!(rt; gate.open(), (State::Controlled, 1));
+    same!(rt; poll_as(&mut pager, How::Async), Err(Error::WrongMode));
+    holds!(rt; pager.is_registered());
+    same!(rt; pager.poll_sync(), Ok(State::Open));
+    same!(rt; pager.poll_sync(), Err(Error::NotRegistered));
+    same!(rt; gate.register_pager(&mut pager, false), Ok(true));
+    same!(rt; pager.poll_sync(), Err(Error::WrongMode));
+    same!(rt; poll_as(&mut pager, How::Async), Ok(State::Open));
     Ok(())
 }
 
@@ -124,16 +125,16 @@ fn a_full_room_refuses_and_runs_no_callback(rt: HostRuntime) -> Result<(), Fail>
     let count_run = || {
         runs.fetch_add(1, Ordering::SeqCst);
     };
-    assert!(rt; gate.register_pager(&mut pager, true).is_err());
-    assert!(rt; gate.enter_sync().is_err());
-    assert!(rt; gate.enter_sync_with(count_run).is_err());
-    assert_eq!(rt; gate.open(), (State::Controlled, 0));
-    assert_eq!(rt; gate.register_pager(&mut pager, true), Ok(true));
-    assert_eq!(rt; pager.try_poll(), Ok(State::Open));
-    assert_eq!(rt; gate.enter_sync_with(count_run), Ok(Ok(State::Open)));
-    assert_eq!(rt; gate.seal(), (State::Open, 0));
-    assert_eq!(rt; gate.enter_sync_with(count_run), Ok(Err(Error::Sealed)));
-    assert_eq!(rt; runs.load(Ordering::SeqCst), 0);
+    holds!(rt; gate.register_pager(&mut pager, true).is_err());
+    holds!(rt; gate.enter_sync().is_err());
+    holds!(rt; gate.enter_sync_with(count_run).is_err());
+    same!(rt; gate.open(), (State::Controlled, 0));
+    same!(rt; gate.register_pager(&mut pager, true), Ok(true));
+    same!(rt; pager.try_poll(), Ok(State::Open));
+    same!(rt; gate.enter_sync_with(count_run), Ok(Ok(State::Open)));
+    same!(rt; gate.seal(), (State::Open, 0));
+    same!(rt; gate.enter_sync_with(count_run), Ok(Err(Error::Sealed)));
+    same!(rt; runs.load(Ordering::SeqCst), 0);
     Ok(())
 }
 
@@ -146,20 +147,14 @@ fn values_read_as_their_table(rt: HostRuntime) {
         (9, Err(Error::Sealed)),
         (12, Err(Error::SpuriousFailure)),
     ] {
-        assert_eq!(rt;
-            <Gate<&HostRuntime> as SyncResult>::to_result(value, None),
-            answer
-        );
+        same!(rt; <Gate<&HostRuntime> as SyncResult>::to_result(value, None), answer);
     }
     for (fault, answer) in [
         (saa_sync::pager::Error::NotRegistered, Error::NotRegistered),
         (saa_sync::pager::Error::WrongMode, Error::WrongMode),
         (saa_sync::pager::Error::NotReady, Error::NotReady),
     ] {
-        assert_eq!(rt;
-            <Gate<&HostRuntime> as SyncResult>::to_result(9, Some(fault)),
-            Err(answer)
-        );
+        same!(rt; <Gate<&HostRuntime> as SyncResult>::to_result(9, Some(fault)), Err(answer));
     }
 }
 
@@ -173,12 +168,12 @@ fn a_callback_runs_once_and_may_use_its_gate(rt: HostRuntime) -> Result<(), Fail
         let count = gate.permit().unwrap_or(9);
         answered.fetch_add(count as u64, Ordering::SeqCst);
     };
-    assert_eq!(rt; gate.enter_sync_with(permit_all), Ok(Ok(State::Controlled)));
-    assert_eq!(rt; runs.load(Ordering::SeqCst), 1);
-    assert_eq!(rt; answered.load(Ordering::SeqCst), 1);
-    assert_eq!(rt; gate.enter_sync_with(permit_all), Ok(Ok(State::Controlled)));
-    assert_eq!(rt; runs.load(Ordering::SeqCst), 2);
-    assert_eq!(rt; answered.load(Ordering::SeqCst), 2);
+    same!(rt; gate.enter_sync_with(permit_all), Ok(Ok(State::Controlled)));
+    same!(rt; runs.load(Ordering::SeqCst), 1);
+    same!(rt; answered.load(Ordering::SeqCst), 1);
+    same!(rt; gate.enter_sync_with(permit_all), Ok(Ok(State::Controlled)));
+    same!(rt; runs.load(Ordering::SeqCst), 2);
+    same!(rt; answered.load(Ordering::SeqCst), 2);
     Ok(())
 }
 
@@ -221,9 +216,9 @@ fn who_enters_is_held_back(rt: HostRuntime) -> Result<(), Fail> {
             (early, gate.permit())
         },
     );
-    assert_eq!(rt; answer, Ok(Ok(State::Controlled)));
-    assert_eq!(rt; permitted, Ok(1));
-    assert_eq!(rt; (early, ended.load(Ordering::SeqCst)), (0, 1));
+    same!(rt; answer, Ok(Ok(State::Controlled)));
+    same!(rt; permitted, Ok(1));
+    same!(rt; (early, ended.load(Ordering::SeqCst)), (0, 1));
     Ok(())
 }
 
@@ -246,9 +241,9 @@ fn a_dropped_pager_wakes_who_enters(rt: HostRuntime) -> Result<(), Fail> {
             (looks_until_ended(&ended), is_registered)
         },
     );
-    assert_eq!(rt; is_registered, Ok(true));
-    assert_eq!(rt; answer, Ok(Err(Error::SpuriousFailure)));
-    assert_eq!(rt; (early, ended.load(Ordering::SeqCst)), (0, 1));
-    assert_eq!(rt; gate.permit(), Ok(0));
+    same!(rt; is_registered, Ok(true));
+    same!(rt; answer, Ok(Err(Error::SpuriousFailure)));
+    same!(rt; (early, ended.load(Ordering::SeqCst)), (0, 1));
+    same!(rt; gate.permit(), Ok(0));
     Ok(())
 }

@@ -20,6 +20,8 @@ mod permits;
 #[cfg(test)]
 mod prints;
 #[cfg(test)]
+mod seats;
+#[cfg(test)]
 mod semaphores;
 #[cfg(test)]
 mod threads;

@@ -7,6 +7,7 @@ use std::sync::atomic::{AtomicBool, AtomicU64, Ordering};
 use std::test::Fail;
 use std::thread;
 use std::thread::{Threads, yield_now};
+use test_asserts::{holds, same};
 
 // How often the main thread looks whether a call that must wait has returned.
 const TURNS: u32 = 10_000;
@@ -15,25 +16,46 @@ const TURNS: u32 = 10_000;
 fn a_lock_is_taken_refused_and_poisoned(rt: HostRuntime) -> Result<(), Fail> {
     let mo = Ordering::SeqCst;
     let lock = Lock::new(&rt, rt.alloc(), 4)?;
-    assert!(rt; lock.is_free(mo) && !lock.is_shared(mo));
-    assert_eq!(rt; lock.try_lock(), Ok(()));
-    assert!(rt; lock.is_locked(mo));
-    assert_eq!(rt; lock.try_lock(), Err(TryLockError::WouldBlock));
-    assert_eq!(rt; lock.try_share(), Err(TryLockError::WouldBlock));
-    assert!(rt; !lock.release_share());
-    assert!(rt; lock.release_lock());
-    assert_eq!(rt; lock.lock_sync(), Ok(true));
-    assert!(rt; lock.poison_lock());
-    assert!(rt; lock.is_poisoned(mo));
-    assert_eq!(rt; lock.lock_sync(), Ok(false));
-    assert_eq!(rt; lock.share_sync(), Ok(false));
-    assert_eq!(rt; lock.try_lock(), Err(TryLockError::Poisoned));
-    assert!(rt; lock.clear_poison());
-    assert!(rt; !lock.clear_poison());
-    assert_eq!(rt; lock.share_sync(), Ok(true));
-    assert_eq!(rt; lock.try_share(), Ok(()));
-    assert!(rt; lock.is_shared(mo));
-    assert!(rt; lock.release_share() && lock.release_share() && !lock.release_share());
+    holds!(rt; lock.is_free(mo) && !lock.is_shared(mo));
+    same!(rt; lock.try_lock(), Ok(()));
+    holds!(rt; lock.is_locked(mo));
+    same!(rt; lock.try_lock(), Err(TryLockError::WouldBlock));
+    same!(rt; lock.try_share(), Err(TryLockError::WouldBlock));
+    holds!(rt; !lock.release_share());
+    holds!(rt; lock.release_lock());
+    same!(rt; lock.lock_sync(), Ok(true));
+    holds!(rt; lock.poison_lock());
+    holds!(rt; lock.is_poisoned(mo));
+    same!(rt; lock.lock_sync(), Ok(false));
+    same!(rt; lock.share_sync(), Ok(false));
+    same!(rt; lock.try_lock(), Err(TryLockError::Poisoned));
+    holds!(rt; lock.clear_poison());
+    holds!(rt; !lock.clear_poison());
+    same!(rt; lock.share_sync(), Ok(true));
+    same!(rt; lock.try_share(), Ok(()));
+    holds!(rt; lock.is_shared(mo));
+    holds!(rt; lock.release_share() && lock.release_share() && !lock.release_share());
+    Ok(())
+}
+
+#[test]
+fn an_owner_becomes_a_sharer(rt: HostRuntime) -> Result<(), Fail> {
+    let mo = Ordering::SeqCst;
+    let lock = Lock::new(&rt, rt.alloc(), 4)?;
+    holds!(rt; !lock.downgrade() && lock.is_free(mo));
+    same!(rt; lock.try_lock(), Ok(()));
+    let mut reader = Pager::new();
+    let mut writer = Pager::new();
+    same!(rt; lock.register_pager(&mut reader, Mode::Shared, true), Ok(true));
+    same!(rt; lock.register_pager(&mut writer, Mode::Exclusive, true), Ok(true));
+    holds!(rt; lock.downgrade());
+    holds!(rt; lock.is_shared(mo) && !lock.downgrade());
+    same!(rt; reader.poll_sync(), Ok(true));
+    same!(rt; writer.try_poll(), Err(saa_sync::pager::Error::NotReady));
+    holds!(rt; lock.release_share() && lock.release_share());
+    same!(rt; writer.poll_sync(), Ok(true));
+    holds!(rt; lock.poison_lock());
+    holds!(rt; !lock.downgrade() && lock.is_poisoned(mo));
     Ok(())
 }
 
@@ -44,12 +66,12 @@ fn a_full_room_refuses_and_runs_no_callback(rt: HostRuntime) -> Result<(), Fail>
     let count_run = || {
         runs.fetch_add(1, Ordering::SeqCst);
     };
-    assert_eq!(rt; lock.lock_sync_with(count_run), Ok(true));
-    assert!(rt; lock.lock_sync().is_err());
-    assert!(rt; lock.share_sync_with(count_run).is_err());
-    assert!(rt; lock.release_lock());
-    assert_eq!(rt; lock.share_sync_with(count_run), Ok(true));
-    assert_eq!(rt; runs.load(Ordering::SeqCst), 0);
+    same!(rt; lock.lock_sync_with(count_run), Ok(true));
+    holds!(rt; lock.lock_sync().is_err());
+    holds!(rt; lock.share_sync_with(count_run).is_err());
+    holds!(rt; lock.release_lock());
+    same!(rt; lock.share_sync_with(count_run), Ok(true));
+    same!(rt; runs.load(Ordering::SeqCst), 0);
     Ok(())
 }
 
@@ -58,66 +80,45 @@ fn a_pager_of_a_lock_is_granted_poisoned_and_dropped(rt: HostRuntime) -> Result<
     let mo = Ordering::SeqCst;
     let lock = Lock::new(&rt, rt.alloc(), 4)?;
     let mut one = Pager::new();
-    assert_eq!(rt;
-        lock.register_pager(&mut one, Mode::Exclusive, true),
-        Ok(true)
-    );
-    assert_eq!(rt;
-        lock.register_pager(&mut one, Mode::Exclusive, true),
-        Ok(false)
-    );
+    same!(rt; lock.register_pager(&mut one, Mode::Exclusive, true), Ok(true));
+    same!(rt; lock.register_pager(&mut one, Mode::Exclusive, true), Ok(false));
     one.cancel();
-    assert!(rt; lock.is_free(mo));
-    assert_eq!(rt;
-        lock.register_pager(&mut one, Mode::Shared, false),
-        Ok(true)
-    );
-    assert_eq!(rt; one.poll_sync(), Err(saa_sync::pager::Error::WrongMode));
-    assert_eq!(rt; one.try_poll(), Ok(true));
-    assert!(rt; lock.is_shared(mo) && lock.release_share());
-    assert_eq!(rt; lock.try_lock(), Ok(()));
-    assert_eq!(rt;
-        lock.register_pager(&mut one, Mode::WaitShared, true),
-        Ok(true)
-    );
-    assert!(rt; lock.poison_lock());
-    assert_eq!(rt; one.poll_sync(), Ok(false));
+    holds!(rt; lock.is_free(mo));
+    same!(rt; lock.register_pager(&mut one, Mode::Shared, false), Ok(true));
+    same!(rt; one.poll_sync(), Err(saa_sync::pager::Error::WrongMode));
+    same!(rt; one.try_poll(), Ok(true));
+    holds!(rt; lock.is_shared(mo) && lock.release_share());
+    same!(rt; lock.try_lock(), Ok(()));
+    same!(rt; lock.register_pager(&mut one, Mode::WaitShared, true), Ok(true));
+    holds!(rt; lock.poison_lock());
+    same!(rt; one.poll_sync(), Ok(false));
     Ok(())
 }
 
 #[test]
 fn sixty_two_share_and_no_more(rt: HostRuntime) -> Result<(), Fail> {
-    assert_eq!(rt; Lock::<&HostRuntime>::MAX_SHARED_OWNERS, 62);
+    same!(rt; Lock::<&HostRuntime>::MAX_SHARED_OWNERS, 62);
     let lock = Lock::new(&rt, rt.alloc(), 1)?;
     for owner in 1..=62 {
         assert_eq!(rt; lock.share_sync(), Ok(true), "{owner}");
     }
-    assert_eq!(rt; lock.try_share(), Err(TryLockError::WouldBlock));
+    same!(rt; lock.try_share(), Err(TryLockError::WouldBlock));
     let answer = lock.share_sync_with(|| {
         lock.release_share();
     });
-    assert_eq!(rt; answer, Ok(true));
+    same!(rt; answer, Ok(true));
     for owner in 1..=62 {
         assert!(rt; lock.release_share(), "{owner}");
     }
-    assert!(rt; lock.is_free(Ordering::SeqCst) && !lock.release_share());
+    holds!(rt; lock.is_free(Ordering::SeqCst) && !lock.release_share());
     Ok(())
 }
 
 #[test]
 fn values_read_as_their_table(rt: HostRuntime) {
-    assert_eq!(rt;
-        <Lock<&HostRuntime> as SyncResult>::to_result(0, None),
-        Ok(true)
-    );
-    assert_eq!(rt;
-        <Lock<&HostRuntime> as SyncResult>::to_result(2, None),
-        Ok(false)
-    );
-    assert_eq!(rt;
-        <Lock<&HostRuntime> as SyncResult>::to_result(0, Some(saa_sync::pager::Error::NotReady)),
-        Err(saa_sync::pager::Error::NotReady)
-    );
+    same!(rt; <Lock<&HostRuntime> as SyncResult>::to_result(0, None), Ok(true));
+    same!(rt; <Lock<&HostRuntime> as SyncResult>::to_result(2, None), Ok(false));
+    same!(rt; <Lock<&HostRuntime> as SyncResult>::to_result(0, Some(saa_sync::pager::Error::NotReady)), Err(saa_sync::pager::Error::NotReady));
 }
 
 // Waits until a call joined, and looks so often whether it has returned; how often it had.
@@ -140,7 +141,7 @@ fn watch(rt: &impl Wait, waits: &AtomicBool, ended: &AtomicU64) -> u32 {
 #[test]
 fn a_writer_is_held_back(rt: HostRuntime) -> Result<(), Fail> {
     let lock = Lock::new(&rt, rt.alloc(), 4)?;
-    assert_eq!(rt; lock.try_share(), Ok(()));
+    same!(rt; lock.try_share(), Ok(()));
     let waits = AtomicBool::new(false);
     let ended = AtomicU64::new(0);
     let (answer, early) = thread::join(
@@ -156,16 +157,16 @@ fn a_writer_is_held_back(rt: HostRuntime) -> Result<(), Fail> {
             early
         },
     );
-    assert_eq!(rt; answer, Ok(true));
-    assert_eq!(rt; (early, ended.load(Ordering::SeqCst)), (0, 1));
-    assert!(rt; lock.is_locked(Ordering::SeqCst));
+    same!(rt; answer, Ok(true));
+    same!(rt; (early, ended.load(Ordering::SeqCst)), (0, 1));
+    holds!(rt; lock.is_locked(Ordering::SeqCst));
     Ok(())
 }
 
 #[test]
 fn a_reader_is_held_back(rt: HostRuntime) -> Result<(), Fail> {
     let lock = Lock::new(&rt, rt.alloc(), 4)?;
-    assert_eq!(rt; lock.try_lock(), Ok(()));
+    same!(rt; lock.try_lock(), Ok(()));
     let waits = AtomicBool::new(false);
     let ended = AtomicU64::new(0);
     let (answer, early) = thread::join(
@@ -181,9 +182,9 @@ fn a_reader_is_held_back(rt: HostRuntime) -> Result<(), Fail> {
             early
         },
     );
-    assert_eq!(rt; answer, Ok(true));
-    assert_eq!(rt; (early, ended.load(Ordering::SeqCst)), (0, 1));
-    assert!(rt; lock.is_shared(Ordering::SeqCst));
+    same!(rt; answer, Ok(true));
+    same!(rt; (early, ended.load(Ordering::SeqCst)), (0, 1));
+    holds!(rt; lock.is_shared(Ordering::SeqCst));
     Ok(())
 }
 
@@ -267,9 +268,9 @@ fn writers_are_alone_and_the_counter_is_exact(rt: HostRuntime) -> Result<(), Fai
     for (threads, writes_every) in [(4, 1), (8, 4), (8, 2)] {
         let lock = Lock::new(&rt, rt.alloc(), 8)?;
         let (counter, meetings, writers) = after_turns(&rt, &lock, threads, writes_every);
-        assert_eq!(rt; counter, writers.saturating_mul(ROUNDS));
-        assert_eq!(rt; meetings, 0);
-        assert!(rt; lock.is_free(Ordering::SeqCst));
+        same!(rt; counter, writers.saturating_mul(ROUNDS));
+        same!(rt; meetings, 0);
+        holds!(rt; lock.is_free(Ordering::SeqCst));
     }
     Ok(())
 }

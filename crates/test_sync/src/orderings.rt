@@ -8,6 +8,7 @@ use saa_sync::semaphore::Semaphore;
 use std::sync::Wait;
 use std::sync::atomic::Ordering;
 use std::test::Fail;
+use test_asserts::{holds, same};
 
 const ORDERINGS: [Ordering; 5] = [
     Ordering::Relaxed,
@@ -71,36 +72,36 @@ fn barrier_misses<R: Wait + Drop>(barrier: &Barrier<R>, count: usize) -> bool {
 #[test]
 fn a_lock_is_read_in_every_ordering(rt: HostRuntime) -> Result<(), Fail> {
     let lock = Lock::new(&rt, rt.alloc(), 1)?;
-    assert!(rt; lock_is(&lock, (true, false, false, false)));
-    assert_eq!(rt; lock.try_share(), Ok(()));
-    assert!(rt; lock_is(&lock, (false, false, true, false)));
-    assert!(rt; lock.release_share());
-    assert_eq!(rt; lock.try_lock(), Ok(()));
-    assert!(rt; lock_is(&lock, (false, true, false, false)));
-    assert!(rt; lock.poison_lock());
-    assert!(rt; lock_is(&lock, (false, false, false, true)));
+    holds!(rt; lock_is(&lock, (true, false, false, false)));
+    same!(rt; lock.try_share(), Ok(()));
+    holds!(rt; lock_is(&lock, (false, false, true, false)));
+    holds!(rt; lock.release_share());
+    same!(rt; lock.try_lock(), Ok(()));
+    holds!(rt; lock_is(&lock, (false, true, false, false)));
+    holds!(rt; lock.poison_lock());
+    holds!(rt; lock_is(&lock, (false, false, false, true)));
     Ok(())
 }
 
 #[test]
 fn a_semaphore_is_read_in_every_ordering(rt: HostRuntime) -> Result<(), Fail> {
     let semaphore = Semaphore::new(&rt, rt.alloc(), 1)?;
-    assert!(rt; semaphore_has(&semaphore, 63));
-    assert!(rt; semaphore.try_acquire_many(62));
-    assert!(rt; semaphore_has(&semaphore, 1));
-    assert!(rt; semaphore.try_acquire());
-    assert!(rt; semaphore_has(&semaphore, 0));
+    holds!(rt; semaphore_has(&semaphore, 63));
+    holds!(rt; semaphore.try_acquire_many(62));
+    holds!(rt; semaphore_has(&semaphore, 1));
+    holds!(rt; semaphore.try_acquire());
+    holds!(rt; semaphore_has(&semaphore, 0));
     Ok(())
 }
 
 #[test]
 fn a_gate_is_read_in_every_ordering(rt: HostRuntime) -> Result<(), Fail> {
     let gate = Gate::new(&rt, rt.alloc(), 1)?;
-    assert!(rt; gate_is(&gate, State::Controlled));
-    assert_eq!(rt; gate.seal(), (State::Controlled, 0));
-    assert!(rt; gate_is(&gate, State::Sealed));
-    assert_eq!(rt; gate.open(), (State::Sealed, 0));
-    assert!(rt; gate_is(&gate, State::Open));
+    holds!(rt; gate_is(&gate, State::Controlled));
+    same!(rt; gate.seal(), (State::Controlled, 0));
+    holds!(rt; gate_is(&gate, State::Sealed));
+    same!(rt; gate.open(), (State::Sealed, 0));
+    holds!(rt; gate_is(&gate, State::Open));
     Ok(())
 }
 
@@ -108,10 +109,10 @@ fn a_gate_is_read_in_every_ordering(rt: HostRuntime) -> Result<(), Fail> {
 fn a_barrier_is_read_in_every_ordering(rt: HostRuntime) -> Result<(), Fail> {
     let barrier = Barrier::with_count(&rt, rt.alloc(), 3, 2)?;
     let (mut one, mut two) = (Pager::new(), Pager::new());
-    assert!(rt; barrier_misses(&barrier, 3));
-    assert_eq!(rt; barrier.register_pager(&mut one, true), Ok(true));
-    assert!(rt; barrier_misses(&barrier, 2));
-    assert_eq!(rt; barrier.register_pager(&mut two, false), Ok(true));
-    assert!(rt; barrier_misses(&barrier, 1));
+    holds!(rt; barrier_misses(&barrier, 3));
+    same!(rt; barrier.register_pager(&mut one, true), Ok(true));
+    holds!(rt; barrier_misses(&barrier, 2));
+    same!(rt; barrier.register_pager(&mut two, false), Ok(true));
+    holds!(rt; barrier_misses(&barrier, 1));
     Ok(())
 }

@@ -5,6 +5,7 @@ use saa_sync::pager::{Error, How, Pager, SyncResult, Ticket};
 use saa_sync::semaphore::Semaphore;
 use std::io;
 use std::sync::atomic::Ordering;
+use test_asserts::{holds, same};
 
 #[test]
 fn dropping_a_waiting_pager_lets_the_next_be_granted(rt: HostRuntime) -> io::Result<()> {
@@ -12,13 +13,13 @@ fn dropping_a_waiting_pager_lets_the_next_be_granted(rt: HostRuntime) -> io::Res
     let mut next = Pager::new();
     {
         let mut first = Pager::new();
-        assert!(rt; semaphore.try_acquire_many(60));
-        assert_eq!(rt; semaphore.register_pager(&mut first, 4, true), Ok(true));
-        assert_eq!(rt; semaphore.register_pager(&mut next, 3, true), Ok(true));
-        assert_eq!(rt; next.try_poll(), Err(Error::NotReady));
+        holds!(rt; semaphore.try_acquire_many(60));
+        same!(rt; semaphore.register_pager(&mut first, 4, true), Ok(true));
+        same!(rt; semaphore.register_pager(&mut next, 3, true), Ok(true));
+        same!(rt; next.try_poll(), Err(Error::NotReady));
     }
-    assert_eq!(rt; next.poll_sync(), Ok(()));
-    assert_eq!(rt; semaphore.available_permits(Ordering::SeqCst), 0);
+    same!(rt; next.poll_sync(), Ok(()));
+    same!(rt; semaphore.available_permits(Ordering::SeqCst), 0);
     Ok(())
 }
 
@@ -27,10 +28,10 @@ fn dropping_a_granted_pager_returns_its_permits(rt: HostRuntime) -> io::Result<(
     let semaphore = Semaphore::new(&rt, rt.alloc(), 4)?;
     {
         let mut pager = Pager::new();
-        assert_eq!(rt; semaphore.register_pager(&mut pager, 11, false), Ok(true));
-        assert_eq!(rt; semaphore.available_permits(Ordering::SeqCst), 52);
+        same!(rt; semaphore.register_pager(&mut pager, 11, false), Ok(true));
+        same!(rt; semaphore.available_permits(Ordering::SeqCst), 52);
     }
-    assert_eq!(rt; semaphore.available_permits(Ordering::SeqCst), 63);
+    same!(rt; semaphore.available_permits(Ordering::SeqCst), 63);
     Ok(())
 }
 
@@ -39,16 +40,16 @@ fn a_cancelled_pager_can_be_used_again(rt: HostRuntime) -> io::Result<()> {
     let semaphore = Semaphore::with_permits(&rt, rt.alloc(), 0, 1)?;
     let mut pager = Pager::new();
     let mut other = Pager::new();
-    assert_eq!(rt; semaphore.register_pager(&mut pager, 1, true), Ok(true));
-    assert_eq!(rt; semaphore.register_pager(&mut other, 1, true), Err(Full));
+    same!(rt; semaphore.register_pager(&mut pager, 1, true), Ok(true));
+    same!(rt; semaphore.register_pager(&mut other, 1, true), Err(Full));
     pager.cancel();
-    assert!(rt; !pager.is_registered());
-    assert_eq!(rt; pager.poll_sync(), Err(Error::NotRegistered));
-    assert_eq!(rt; semaphore.register_pager(&mut pager, 2, true), Ok(true));
-    assert!(rt; semaphore.release_many(2));
-    assert_eq!(rt; pager.poll_sync(), Ok(()));
-    assert!(rt; semaphore.release_many(61));
-    assert_eq!(rt; semaphore.available_permits(Ordering::SeqCst), 61);
+    holds!(rt; !pager.is_registered());
+    same!(rt; pager.poll_sync(), Err(Error::NotRegistered));
+    same!(rt; semaphore.register_pager(&mut pager, 2, true), Ok(true));
+    holds!(rt; semaphore.release_many(2));
+    same!(rt; pager.poll_sync(), Ok(()));
+    holds!(rt; semaphore.release_many(61));
+    same!(rt; semaphore.available_permits(Ordering::SeqCst), 61);
     Ok(())
 }
 
@@ -56,16 +57,16 @@ fn a_cancelled_pager_can_be_used_again(rt: HostRuntime) -> io::Result<()> {
 fn a_wrong_mode_leaves_the_pager_registered(rt: HostRuntime) -> io::Result<()> {
     let semaphore = Semaphore::with_permits(&rt, rt.alloc(), 0, 4)?;
     let mut pager = Pager::new();
-    assert_eq!(rt; pager.try_poll(), Err(Error::NotRegistered));
-    assert_eq!(rt; semaphore.register_pager(&mut pager, 1, false), Ok(true));
-    assert_eq!(rt; semaphore.register_pager(&mut pager, 1, true), Ok(false));
-    assert_eq!(rt; pager.poll_sync(), Err(Error::WrongMode));
-    assert_eq!(rt; pager.try_poll(), Err(Error::NotReady));
-    assert!(rt; semaphore.release());
-    assert_eq!(rt; pager.poll_sync(), Err(Error::WrongMode));
-    assert!(rt; pager.is_registered());
-    assert_eq!(rt; pager.try_poll(), Ok(()));
-    assert!(rt; !pager.is_registered());
+    same!(rt; pager.try_poll(), Err(Error::NotRegistered));
+    same!(rt; semaphore.register_pager(&mut pager, 1, false), Ok(true));
+    same!(rt; semaphore.register_pager(&mut pager, 1, true), Ok(false));
+    same!(rt; pager.poll_sync(), Err(Error::WrongMode));
+    same!(rt; pager.try_poll(), Err(Error::NotReady));
+    holds!(rt; semaphore.release());
+    same!(rt; pager.poll_sync(), Err(Error::WrongMode));
+    holds!(rt; pager.is_registered());
+    same!(rt; pager.try_poll(), Ok(()));
+    holds!(rt; !pager.is_registered());
     Ok(())
 }
 
@@ -74,10 +75,10 @@ fn an_idle_ticket_is_not_registered(rt: HostRuntime) -> io::Result<()> {
     let semaphore = Semaphore::new(&rt, rt.alloc(), 4)?;
     let mut ticket = Ticket::new();
     for how in [How::Try, How::Sync, How::Async] {
-        assert_eq!(rt; semaphore.take(&mut ticket, how), Err(Error::NotRegistered));
+        same!(rt; semaphore.take(&mut ticket, how), Err(Error::NotRegistered));
     }
     semaphore.cancel(&mut ticket);
-    assert_eq!(rt; semaphore.available_permits(Ordering::SeqCst), 63);
+    same!(rt; semaphore.available_permits(Ordering::SeqCst), 63);
     Ok(())
 }
 
@@ -89,15 +90,15 @@ fn a_granted_pager_gives_its_permits_back(rt: HostRuntime) -> io::Result<()> {
                 let semaphore = Semaphore::with_permits(&rt, rt.alloc(), permits, 1)?;
                 {
                     let mut pager = Pager::new();
-                    assert_eq!(rt; semaphore.register_pager(&mut pager, 63, is_sync), Ok(true));
+                    same!(rt; semaphore.register_pager(&mut pager, 63, is_sync), Ok(true));
                     // From 63 permits it was granted at once.
                     if permits == 0 {
-                        assert!(rt; semaphore.release_many(63));
+                        holds!(rt; semaphore.release_many(63));
                     }
-                    assert_eq!(rt; semaphore.available_permits(Ordering::SeqCst), 0);
+                    same!(rt; semaphore.available_permits(Ordering::SeqCst), 0);
                     if is_cancelled {
                         pager.cancel();
-                        assert_eq!(rt; semaphore.available_permits(Ordering::SeqCst), 63);
+                        same!(rt; semaphore.available_permits(Ordering::SeqCst), 63);
                     }
                 }
                 assert_eq!(rt;
@@ -117,12 +118,12 @@ fn a_pager_is_polled_as_it_was_registered(rt: HostRuntime) -> io::Result<()> {
         for permits in [0, 63] {
             let semaphore = Semaphore::with_permits(&rt, rt.alloc(), permits, 1)?;
             let mut pager = Pager::new();
-            assert_eq!(rt; semaphore.register_pager(&mut pager, 63, is_sync), Ok(true));
+            same!(rt; semaphore.register_pager(&mut pager, 63, is_sync), Ok(true));
             if permits == 0 {
-                assert!(rt; semaphore.release_many(63));
+                holds!(rt; semaphore.release_many(63));
             }
             assert_eq!(rt; pager.poll_sync(), answer, "from {permits}");
-            assert_eq!(rt; pager.is_registered(), !is_sync);
+            same!(rt; pager.is_registered(), !is_sync);
         }
     }
     Ok(())

@@ -5,45 +5,43 @@ use saa_sync::pager::{Error, Pager};
 use saa_sync::semaphore::Semaphore;
 use std::io;
 use std::sync::atomic::Ordering;
+use test_asserts::{holds, same};
 
 #[test]
 fn no_room(rt: HostRuntime) -> io::Result<()> {
     let semaphore = Semaphore::new(&rt, rt.alloc(), 0)?;
-    assert!(rt; semaphore.try_acquire_many(63));
+    holds!(rt; semaphore.try_acquire_many(63));
     let mut is_run = false;
-    assert_eq!(rt;
-        semaphore.acquire_many_sync_with(1, || is_run = true),
-        Err(Full)
-    );
-    assert!(rt; !is_run);
+    same!(rt; semaphore.acquire_many_sync_with(1, || is_run = true), Err(Full));
+    holds!(rt; !is_run);
     let mut pager = Pager::new();
-    assert_eq!(rt; semaphore.register_pager(&mut pager, 0, true), Ok(true));
-    assert_eq!(rt; pager.poll_sync(), Ok(()));
+    same!(rt; semaphore.register_pager(&mut pager, 0, true), Ok(true));
+    same!(rt; pager.poll_sync(), Ok(()));
     Ok(())
 }
 
 #[test]
 fn permits_that_are_out_from_the_start(rt: HostRuntime) -> io::Result<()> {
     let semaphore = Semaphore::with_permits(&rt, rt.alloc(), 0, 4)?;
-    assert!(rt; semaphore.release_many(1));
-    assert_eq!(rt; semaphore.available_permits(Ordering::Relaxed), 1);
-    assert!(rt; semaphore.try_acquire_many(1));
-    assert!(rt; semaphore.release_many(63));
-    assert!(rt; !semaphore.release_many(1));
+    holds!(rt; semaphore.release_many(1));
+    same!(rt; semaphore.available_permits(Ordering::Relaxed), 1);
+    holds!(rt; semaphore.try_acquire_many(1));
+    holds!(rt; semaphore.release_many(63));
+    holds!(rt; !semaphore.release_many(1));
     Ok(())
 }
 
 #[test]
 fn sixty_two_and_one(rt: HostRuntime) -> io::Result<()> {
-    assert_eq!(rt; Semaphore::<&HostRuntime>::MAX_PERMITS, 63);
+    same!(rt; Semaphore::<&HostRuntime>::MAX_PERMITS, 63);
     let semaphore = Semaphore::new(&rt, rt.alloc(), 4)?;
-    assert_eq!(rt; semaphore.acquire_many_sync(62), Ok(true));
-    assert!(rt; semaphore.try_acquire());
-    assert!(rt; !semaphore.try_acquire());
-    assert!(rt; semaphore.release_many(1));
-    assert!(rt; !semaphore.release_many(63));
-    assert!(rt; semaphore.release_many(62));
-    assert_eq!(rt; semaphore.available_permits(Ordering::SeqCst), 63);
+    same!(rt; semaphore.acquire_many_sync(62), Ok(true));
+    holds!(rt; semaphore.try_acquire());
+    holds!(rt; !semaphore.try_acquire());
+    holds!(rt; semaphore.release_many(1));
+    holds!(rt; !semaphore.release_many(63));
+    holds!(rt; semaphore.release_many(62));
+    same!(rt; semaphore.available_permits(Ordering::SeqCst), 63);
     Ok(())
 }
 
@@ -58,13 +56,13 @@ fn reads_in_every_ordering(rt: HostRuntime) -> io::Result<()> {
         Ordering::SeqCst,
     ];
     for mo in orderings {
-        assert!(rt; semaphore.is_open(mo));
-        assert!(rt; !semaphore.is_closed(mo));
-        assert_eq!(rt; semaphore.available_permits(mo), 1);
-        assert_eq!(rt; semaphore.acquire_sync(), Ok(()));
-        assert!(rt; semaphore.is_closed(mo));
-        assert!(rt; !semaphore.is_open(mo));
-        assert!(rt; semaphore.release());
+        holds!(rt; semaphore.is_open(mo));
+        holds!(rt; !semaphore.is_closed(mo));
+        same!(rt; semaphore.available_permits(mo), 1);
+        same!(rt; semaphore.acquire_sync(), Ok(()));
+        holds!(rt; semaphore.is_closed(mo));
+        holds!(rt; !semaphore.is_open(mo));
+        holds!(rt; semaphore.release());
     }
     Ok(())
 }
@@ -73,10 +71,10 @@ fn reads_in_every_ordering(rt: HostRuntime) -> io::Result<()> {
 fn too_many_is_false_at_once(rt: HostRuntime) -> io::Result<()> {
     let semaphore = Semaphore::new(&rt, rt.alloc(), 4)?;
     let mut pager = Pager::new();
-    assert_eq!(rt; semaphore.acquire_many_sync(64), Ok(false));
-    assert_eq!(rt; semaphore.register_pager(&mut pager, 64, true), Ok(false));
-    assert_eq!(rt; pager.try_poll(), Err(Error::NotRegistered));
-    assert_eq!(rt; semaphore.acquire_many_sync(63), Ok(true));
-    assert!(rt; semaphore.is_closed(Ordering::SeqCst));
+    same!(rt; semaphore.acquire_many_sync(64), Ok(false));
+    same!(rt; semaphore.register_pager(&mut pager, 64, true), Ok(false));
+    same!(rt; pager.try_poll(), Err(Error::NotRegistered));
+    same!(rt; semaphore.acquire_many_sync(63), Ok(true));
+    holds!(rt; semaphore.is_closed(Ordering::SeqCst));
     Ok(())
 }

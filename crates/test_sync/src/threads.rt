@@ -7,6 +7,7 @@ use std::sync::atomic::{AtomicBool, AtomicU64, Ordering};
 use std::sync::{Mutex, Wait};
 use std::thread::{Threads, yield_now};
 use std::{io, thread};
+use test_asserts::{holds, same};
 
 // How often the main thread looks whether a call that must wait has returned.
 const TURNS: u32 = 10_000;
@@ -29,7 +30,7 @@ fn two_threads_one_core(rt: HostRuntime) -> io::Result<()> {
             }
         }
     });
-    assert_eq!(rt; core.lock(&rt).available_permits(), 61);
+    same!(rt; core.lock(&rt).available_permits(), 61);
     Ok(())
 }
 
@@ -52,9 +53,9 @@ fn one_permit_is_held_back(rt: HostRuntime) -> io::Result<()> {
         },
         || watch_then_release(&rt, &semaphore, &waits, &ended, 1),
     );
-    assert!(rt; is_granted);
-    assert_eq!(rt; early, 0);
-    assert_eq!(rt; ended.load(Ordering::SeqCst), 1);
+    holds!(rt; is_granted);
+    same!(rt; early, 0);
+    same!(rt; ended.load(Ordering::SeqCst), 1);
     Ok(())
 }
 
@@ -75,9 +76,9 @@ fn two_permits_are_held_back(rt: HostRuntime) -> io::Result<()> {
         },
         || watch_then_release(&rt, &semaphore, &waits, &ended, 1),
     );
-    assert_eq!(rt; answer, Ok(true));
-    assert_eq!(rt; early, 0);
-    assert_eq!(rt; ended.load(Ordering::SeqCst), 1);
+    same!(rt; answer, Ok(true));
+    same!(rt; early, 0);
+    same!(rt; ended.load(Ordering::SeqCst), 1);
     Ok(())
 }
 
@@ -123,7 +124,7 @@ fn one_release_wakes_all_whom_it_grants(rt: HostRuntime) -> io::Result<()> {
         await_count(handle, joined_by, SLEEPERS);
         shared.release_many(SLEEPERS as usize);
     });
-    assert_eq!(rt; ended.load(Ordering::SeqCst), SLEEPERS);
+    same!(rt; ended.load(Ordering::SeqCst), SLEEPERS);
     Ok(())
 }
 
@@ -162,8 +163,8 @@ fn a_dropped_pager_wakes_those_behind_it(rt: HostRuntime) -> io::Result<()> {
         },
         || stand_ahead(&rt, &semaphore, &ahead, &behind),
     );
-    assert_eq!(rt; answer, Ok(()));
-    assert!(rt; was_ahead);
+    same!(rt; answer, Ok(()));
+    holds!(rt; was_ahead);
     Ok(())
 }
 
@@ -197,9 +198,9 @@ fn contention_leaves_the_count_whole(rt: HostRuntime) -> io::Result<()> {
             }
         }
     });
-    assert_eq!(rt; semaphore.available_permits(Ordering::SeqCst), 63);
-    assert_eq!(rt; done.load(Ordering::SeqCst), 8 * ROUNDS);
-    assert_eq!(rt; total.load(Ordering::SeqCst), 2 * ROUNDS);
+    same!(rt; semaphore.available_permits(Ordering::SeqCst), 63);
+    same!(rt; done.load(Ordering::SeqCst), 8 * ROUNDS);
+    same!(rt; total.load(Ordering::SeqCst), 2 * ROUNDS);
     Ok(())
 }
 

@@ -8,6 +8,7 @@ use std::sync::atomic::{AtomicBool, Ordering};
 use std::test::Fail;
 use std::thread;
 use std::thread::{Threads, yield_now};
+use test_asserts::same;
 
 // How often the main thread turns, at most, until somebody waits.
 const TURNS: u32 = 1_000_000;
@@ -25,10 +26,7 @@ enum Waiting {
 
 #[test]
 fn one_permit_is_waited_for(rt: HostRuntime) -> Result<(), Fail> {
-    assert_eq!(rt;
-        left_after(&rt, rt.alloc(), Waiting::One, 1)?,
-        (true, true, 0)
-    );
+    same!(rt; left_after(&rt, rt.alloc(), Waiting::One, 1)?, (true, true, 0));
     Ok(())
 }
 

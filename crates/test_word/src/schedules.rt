@@ -5,6 +5,7 @@ use saa_word_steps::call::{Mode, TryLockError};
 use std::alloc::{AllocError, Global};
 use std::process::Abort;
 use std::test::Fail;
+use test_asserts::same;
 
 const GOING: Step = Step::Going;
 
@@ -187,17 +188,17 @@ fn a_release_in_place_while_another_walks(rt: HostRuntime) -> Result<(), Fail> {
 #[test]
 fn who_waits_is_as_it_was(rt: HostRuntime) -> Result<(), Fail> {
     let mut played = Played::new(rt.alloc(), 63, 3)?;
-    assert_eq!(rt; played.call(0, WordCall::Register(1)), YES);
-    assert_eq!(rt; played.start(0, WordCall::Poll), Step::Going);
+    same!(rt; played.call(0, WordCall::Register(1)), YES);
+    same!(rt; played.start(0, WordCall::Poll), Step::Going);
     for _try in 0..3 {
-        assert_eq!(rt; played.go(0), Step::Waits);
-        assert_eq!(rt; played.next_kind(0), Some(Kind::Take));
-        assert_eq!(rt; played.start(0, WordCall::Poll), Step::Busy);
+        same!(rt; played.go(0), Step::Waits);
+        same!(rt; played.next_kind(0), Some(Kind::Take));
+        same!(rt; played.start(0, WordCall::Poll), Step::Busy);
     }
-    assert_eq!(rt; played.call(2, WordCall::Try(1)), NO);
-    assert_eq!(rt; played.call(1, WordCall::Release(1)), YES);
-    assert_eq!(rt; played.go(0), Step::Done(Answer::Taken(Ok(true))));
-    assert_eq!(rt; played.machine.word(), 63);
+    same!(rt; played.call(2, WordCall::Try(1)), NO);
+    same!(rt; played.call(1, WordCall::Release(1)), YES);
+    same!(rt; played.go(0), Step::Done(Answer::Taken(Ok(true))));
+    same!(rt; played.machine.word(), 63);
     Ok(())
 }
 
@@ -256,14 +257,14 @@ const RELEASED_ALL: [(u16, WordCall, Step); 4] = [
 fn what_needs_no_word_is_done_as_it_starts(rt: HostRuntime) -> Result<(), Fail> {
     let mut played = Played::new(rt.alloc(), 0, 1)?;
     play(&rt, &mut played, &AT_ONCE);
-    assert_eq!(rt; played.call(0, WordCall::Register(63)), YES);
+    same!(rt; played.call(0, WordCall::Register(63)), YES);
     play(&rt, &mut played, &REGISTERED_AT_ONCE);
     play_calls(&rt, &mut played, &RELEASED_ALL);
     Ok(())
 }
 
 // Each call, and whether a semaphore and a lock take it.
-const TAKES: [(WordCall, bool, bool); 19] = [
+const TAKES: [(WordCall, bool, bool); 20] = [
     (WordCall::Try(usize::MAX), true, false),
     (WordCall::Register(0), true, false),
     (WordCall::Release(1), true, false),
@@ -274,6 +275,7 @@ const TAKES: [(WordCall, bool, bool); 19] = [
     (WordCall::RegisterMode(Mode::WaitShared), false, true),
     (WordCall::ReleaseLock, false, true),
     (WordCall::ReleaseShare, false, true),
+    (WordCall::Downgrade, false, true),
     (WordCall::PoisonLock, false, true),
     (WordCall::ClearPoison, false, true),
     (WordCall::IsFree, false, true),
@@ -290,15 +292,15 @@ fn what_each_machine_takes(rt: HostRuntime) -> Result<(), Fail> {
     let semaphore = Machine::semaphore(rt.alloc(), 0, 0)?;
     let lock = Machine::lock(rt.alloc(), 0)?;
     for (call, is_permits, is_modes) in TAKES {
-        assert_eq!(rt; semaphore.takes(call), is_permits);
-        assert_eq!(rt; lock.takes(call), is_modes);
+        same!(rt; semaphore.takes(call), is_permits);
+        same!(rt; lock.takes(call), is_modes);
     }
     Ok(())
 }
 
 // Each call of a lock that two places make in turn: the kind of its first step, how many steps it makes, its answer, and the main word
 // behind it. Place 1 in line adds 512, and poison is 128.
-const LOCK_CALLS: [(u16, WordCall, Option<Kind>, u16, Step, u64); 45] = [
+const LOCK_CALLS: [Counted; 45] = [
     (0, WordCall::IsFree, ASK, 1, YES, 0),
     (0, WordCall::TryLock, ASK, 2, OWNED, 63),
     (1, WordCall::TryLock, ASK, 1, BLOCKED, 63),
@@ -353,20 +355,28 @@ const LOCK_CALLS: [(u16, WordCall, Option<Kind>, u16, Step, u64); 45] = [
     (0, WordCall::IsFree, ASK, 1, YES, 0),
 ];
 
+// Each call with the kind of its first step, how many steps it makes, its answer, and the main word behind it.
+type Counted = (u16, WordCall, Option<Kind>, u16, Step, u64);
+
+fn play_counted(rt: &impl Abort, played: &mut Played, calls: &[Counted]) {
+    for i in 0..calls.len() {
+        let (me, call, kind, steps, answer, word) = calls[i];
+        let mut step = played.start(me, call);
+        assert_eq!(rt; played.next_kind(me), kind, "call {i}");
+        for _step in 0..steps {
+            assert_eq!(rt; step, Step::Going, "call {i}");
+            step = played.go(me);
+        }
+        assert_eq!(rt; step, answer, "call {i}");
+        assert_eq!(rt; played.next_kind(me), None, "call {i}");
+        assert_eq!(rt; played.machine.word(), word, "call {i}");
+    }
+}
+
 #[test]
 fn the_calls_of_a_lock(rt: HostRuntime) -> Result<(), Fail> {
     let mut played = Played::lock(rt.alloc(), 2)?;
-    for (me, call, kind, steps, answer, word) in LOCK_CALLS {
-        let mut step = played.start(me, call);
-        assert_eq!(rt; played.next_kind(me), kind);
-        for _step in 0..steps {
-            assert_eq!(rt; step, Step::Going);
-            step = played.go(me);
-        }
-        assert_eq!(rt; step, answer);
-        assert_eq!(rt; played.next_kind(me), None);
-        assert_eq!(rt; played.machine.word(), word);
-    }
+    play_counted(&rt, &mut played, &LOCK_CALLS);
     Ok(())
 }
 
@@ -474,8 +484,8 @@ const WITHHELD: [(usize, u64); 6] = [
 fn as_many_are_withheld_as_there_are(rt: HostRuntime) -> Result<(), Fail> {
     for (withheld, word) in WITHHELD {
         let mut machine = Machine::semaphore(rt.alloc(), withheld, 0)?;
-        assert_eq!(rt; machine.word(), word);
-        assert_eq!(rt; machine.places(), 0);
+        same!(rt; machine.word(), word);
+        same!(rt; machine.places(), 0);
         machine.run(&[], &mut []);
     }
     Ok(())
@@ -484,12 +494,82 @@ fn as_many_are_withheld_as_there_are(rt: HostRuntime) -> Result<(), Fail> {
 #[test]
 fn the_last_place_waits_and_is_granted(rt: HostRuntime) -> Result<(), Fail> {
     let mut played = Played::new(rt.alloc(), 63, u16::MAX)?;
-    assert_eq!(rt; played.machine.places(), u16::MAX);
+    same!(rt; played.machine.places(), u16::MAX);
     let last = u16::MAX - 1;
-    assert_eq!(rt; played.call(last, WordCall::Register(1)), YES);
-    assert_eq!(rt; played.machine.word(), 63 + 256 * u64::from(u16::MAX));
-    assert_eq!(rt; played.call(0, WordCall::Release(1)), YES);
-    assert_eq!(rt; played.call(last, WordCall::Poll), TAKEN);
+    same!(rt; played.call(last, WordCall::Register(1)), YES);
+    same!(rt; played.machine.word(), 63 + 256 * u64::from(u16::MAX));
+    same!(rt; played.call(0, WordCall::Release(1)), YES);
+    same!(rt; played.call(last, WordCall::Poll), TAKEN);
+    Ok(())
+}
+
+// The lock of one owner is downgraded beside a sharer and an owner who wait, with the flag taken in the same step: the sharer is let in
+// beside it, and the owner waits on. The word is read as count, flag and tail: 833 is 1, set and place 2; 770 is 2, clear and place 2.
+#[test]
+fn a_downgrade_lets_a_sharer_in_beside_it(rt: HostRuntime) -> Result<(), Fail> {
+    let mut played = Played::lock(rt.alloc(), 3)?;
+    same!(rt; played.call(0, WordCall::TryLock), OWNED);
+    same!(rt; played.call(1, WordCall::RegisterMode(Mode::Shared)), YES);
+    same!(rt; played.call(2, WordCall::RegisterMode(Mode::Exclusive)), YES);
+    same!(rt; played.start(0, WordCall::Downgrade), GOING);
+    same!(rt; played.next_kind(0), RELEASE);
+    for _step in 0..100u16 {
+        if played.next_kind(0) != PUBLISH {
+            same!(rt; played.go(0), GOING);
+        }
+    }
+    same!(rt; played.next_kind(0), PUBLISH);
+    same!(rt; played.machine.word(), 833);
+    same!(rt; played.end(0), YES);
+    same!(rt; played.machine.word(), 770);
+    same!(rt; played.call(1, WordCall::TryPoll), TAKEN);
+    same!(rt; played.call(2, WordCall::TryPoll), NOT_READY);
+    Ok(())
+}
+
+// The same while a cancel holds the flag: it is made in place, and the cancel grants the sharer behind it. The main word is 895 where one
+// owner has the lock, the flag is set and the tail is place 2, and 833 once it is lowered.
+#[test]
+fn a_downgrade_in_place_while_a_cancel_holds_the_flag(rt: HostRuntime) -> Result<(), Fail> {
+    let mut played = Played::lock(rt.alloc(), 3)?;
+    same!(rt; played.call(0, WordCall::TryLock), OWNED);
+    same!(rt; played.call(1, WordCall::RegisterMode(Mode::Exclusive)), YES);
+    same!(rt; played.call(2, WordCall::RegisterMode(Mode::Shared)), YES);
+    same!(rt; played.start(1, WordCall::Cancel), GOING);
+    same!(rt; played.go(1), GOING);
+    same!(rt; played.go(1), GOING);
+    same!(rt; played.machine.word(), 895);
+    same!(rt; played.start(0, WordCall::Downgrade), GOING);
+    same!(rt; played.go(0), GOING);
+    same!(rt; played.go(0), YES);
+    same!(rt; played.machine.word(), 833);
+    same!(rt; played.call(2, WordCall::TryPoll), NOT_READY);
+    same!(rt; played.end(1), UNIT);
+    same!(rt; played.machine.word(), 2);
+    same!(rt; played.call(2, WordCall::TryPoll), TAKEN);
+    Ok(())
+}
+
+// Downgrades of a lock by place 0 where nobody waits, of one owner and else. A start of it is never done at once.
+const DOWNGRADES: [Counted; 12] = [
+    (0, WordCall::Downgrade, RELEASE, 1, NO, 0),
+    (0, WordCall::TryLock, ASK, 2, OWNED, 63),
+    (0, WordCall::Downgrade, RELEASE, 2, YES, 1),
+    (0, WordCall::Downgrade, RELEASE, 1, NO, 1),
+    (1, WordCall::IsShared, ASK, 1, YES, 1),
+    (1, WordCall::TryShare, ASK, 2, OWNED, 2),
+    (1, WordCall::ReleaseShare, RELEASE, 2, YES, 1),
+    (0, WordCall::ReleaseShare, RELEASE, 2, YES, 0),
+    (0, WordCall::TryLock, ASK, 2, OWNED, 63),
+    (0, WordCall::PoisonLock, POISON, 2, YES, 128),
+    (0, WordCall::Downgrade, RELEASE, 1, NO, 128),
+    (0, WordCall::ClearPoison, CLEAR, 1, YES, 0),
+];
+
+#[test]
+fn only_one_owner_is_downgraded(rt: HostRuntime) -> Result<(), Fail> {
+    let mut played = Played::lock(rt.alloc(), 2)?;
+    play_counted(&rt, &mut played, &DOWNGRADES);
     Ok(())
 }
 
@@ -528,13 +608,13 @@ fn run_does_what_go_does(rt: HostRuntime) -> Result<(), Fail> {
     let mut at_once = Machine::semaphore(rt.alloc(), 63, 3)?;
     let mut steps = [Step::Busy; 21];
     at_once.run(&MOVES, &mut steps);
-    assert_eq!(rt; steps, expected);
-    assert_eq!(rt; at_once.word(), one_by_one.machine.word());
-    assert_eq!(rt; steps[3], Step::Idle);
-    assert_eq!(rt; steps[8], Step::Waits);
-    assert_eq!(rt; steps[12], Step::Busy);
-    assert_eq!(rt; steps[19], TAKEN);
-    assert_eq!(rt; steps[20], Step::Idle);
+    same!(rt; steps, expected);
+    same!(rt; at_once.word(), one_by_one.machine.word());
+    same!(rt; steps[3], Step::Idle);
+    same!(rt; steps[8], Step::Waits);
+    same!(rt; steps[12], Step::Busy);
+    same!(rt; steps[19], TAKEN);
+    same!(rt; steps[20], Step::Idle);
     Ok(())
 }
 
@@ -562,7 +642,7 @@ fn run_on_a_lock(rt: HostRuntime) -> Result<(), Fail> {
         YES,
         Step::Idle,
     ];
-    assert_eq!(rt; steps, expected);
-    assert_eq!(rt; lock.word(), 63);
+    same!(rt; steps, expected);
+    same!(rt; lock.word(), 63);
     Ok(())
 }

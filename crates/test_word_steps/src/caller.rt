@@ -1,8 +1,8 @@
 //! What a place is told of its calls, in plain code: what it is registered as, which events a call may name, and which answer they
 //! name.
 
+use crate::abstract_state::Event;
 use crate::held::Held;
-use crate::lazy::Event;
 use saa_word_steps::call::{Answer, Error, Mode, TryLockError, WordCall};
 use saa_word_steps::place::Registration;
 
@@ -98,6 +98,7 @@ impl Caller {
             WordCall::Release(_)
                 | WordCall::ReleaseLock
                 | WordCall::ReleaseShare
+                | WordCall::Downgrade
                 | WordCall::PoisonLock
                 | WordCall::Cancel
         )
@@ -118,6 +119,9 @@ impl Caller {
                 let is_owed = self.gives == Some(request);
                 self.gives = None;
                 is_owed
+            }
+            Event::Lowered | Event::NotLowered => {
+                is_first && matches!(self.call, WordCall::Downgrade)
             }
             Event::Left => is_first && self.leaves(),
             Event::Took(value) => is_first && self.takes(value, held),
@@ -245,6 +249,10 @@ fn reading(call: WordCall, held: Held) -> Option<Answer> {
 fn has_done_it(event: Event) -> bool {
     !matches!(
         event,
-        Event::Refused(_) | Event::GaveNothing(_) | Event::NotPoisoned | Event::NotCleared
+        Event::Refused(_)
+            | Event::GaveNothing(_)
+            | Event::NotLowered
+            | Event::NotPoisoned
+            | Event::NotCleared
     )
 }

@@ -1,9 +1,9 @@
 //! Which events a step is, as its stage and the number that it found say.
 
-use crate::lazy::{Event, Lazy};
+use crate::abstract_state::{AbstractState, Event};
 use saa_word_steps::call::{Answer, Error, TryLockError};
 use saa_word_steps::operation::Operation;
-use saa_word_steps::place::{Ask, Next, Place, Registration, Stage};
+use saa_word_steps::place::{Ask, Given, Next, Place, Registration, Stage};
 
 // The value of an answer that the lock is poisoned.
 const POISONED: u8 = 2;
@@ -28,21 +28,21 @@ impl Move {
     }
 
     /// The events of the step, at most two, in their order.
-    pub fn events(self, lazy: &Lazy) -> (Option<Event>, Option<Event>) {
+    pub fn events(self, state: &AbstractState) -> (Option<Event>, Option<Event>) {
         match self.place.stage {
             Stage::Close { top, .. } if self.is_made() => {
-                let closed = if lazy.unclosed {
+                let closed = if state.unclosed {
                     Some(Event::Closed)
                 } else {
                     None
                 };
-                (granted(lazy, top), closed)
+                (granted(state, top), closed)
             }
             Stage::Empty { .. } if self.is_made() => {
-                let all = lazy.line.len();
+                let all = state.line.len();
                 (Some(Event::Granted(all)), Some(Event::Closed))
             }
-            Stage::GoRound { top, .. } => (granted(lazy, top), None),
+            Stage::GoRound { top, .. } => (granted(state, top), None),
             _ => (self.event(), None),
         }
     }
@@ -57,9 +57,9 @@ impl Move {
                 joins: true,
             }),
             Stage::AskLoad { ask } | Stage::AskExchange { ask, .. } => self.asked(ask),
-            Stage::ReleaseExchange { given, .. } if self.is_made() => Some(Event::Gave(given)),
+            Stage::ReleaseExchange { given, .. } if self.is_made() => Some(gave(given)),
             Stage::ReleaseLoad { given } | Stage::ReleaseExchange { given, .. } => {
-                self.where_done(Event::GaveNothing(given))
+                self.where_done(gave_nothing(given))
             }
             Stage::ShowStore { current, .. } => Some(Event::Showed(current)),
             Stage::Take { .. } => self.taken(),
@@ -107,10 +107,26 @@ impl Move {
     }
 }
 
+// Something is given back.
+fn gave(given: Given) -> Event {
+    match given {
+        Given::Asked(request) => Event::Gave(request),
+        Given::AllButAShare => Event::Lowered,
+    }
+}
+
+// What was to be given back isn't held.
+fn gave_nothing(given: Given) -> Event {
+    match given {
+        Given::Asked(request) => Event::GaveNothing(request),
+        Given::AllButAShare => Event::NotLowered,
+    }
+}
+
 // A front of the line is granted, up to this link; nobody where it is 0.
-fn granted(lazy: &Lazy, top: u16) -> Option<Event> {
+fn granted(state: &AbstractState, top: u16) -> Option<Event> {
     if top == 0 {
         return None;
     }
-    Some(Event::Granted(lazy.up_to(top)))
+    Some(Event::Granted(state.up_to(top)))
 }

@@ -9,6 +9,7 @@ use saa_word_steps::place::Stage;
 use std::alloc::{AllocError, Global};
 use std::process::Abort;
 use std::test::Fail;
+use test_asserts::same;
 
 // The call of a random word, at a semaphore of so many permits.
 fn permit_call(word: u32, bound: usize) -> WordCall {
@@ -40,7 +41,8 @@ fn lock_call(word: u32) -> WordCall {
         0 | 1 => WordCall::TryLock,
         2 | 3 => WordCall::TryShare,
         4..=12 => WordCall::RegisterMode(mode_of(word >> 8)),
-        13..=15 => WordCall::ReleaseLock,
+        13 | 14 => WordCall::ReleaseLock,
+        15 => WordCall::Downgrade,
         16..=18 => WordCall::ReleaseShare,
         19 => WordCall::PoisonLock,
         20 | 21 => WordCall::ClearPoison,
@@ -117,7 +119,7 @@ fn calls(alloc: Global, seed: u16, held: Held, places: u16) -> Result<Option<Fau
 
 // One call from its start to its end; the first fault. It may take 8 steps for each who waits as it starts, and 24.
 fn alone(watched: &mut Watched, me: u16, call: WordCall) -> Result<Option<Fault>, AllocError> {
-    let waiting = watched.lazy.line.len();
+    let waiting = watched.state.line.len();
     let most = waiting.saturating_mul(8).saturating_add(24);
     let fault = watched.make(me, call)?;
     if fault.is_some() {
@@ -162,19 +164,21 @@ fn lock(seed: u16) -> Held {
 }
 
 #[test]
-fn random_moves_of_a_semaphore_are_events_of_the_lazy_object(rt: HostRuntime) -> Result<(), Fail> {
+fn random_moves_of_a_semaphore_are_events_of_the_abstract_state(
+    rt: HostRuntime,
+) -> Result<(), Fail> {
     for seed in 0..60u16 {
         let places = 2 + seed / 6 % 5;
-        assert_eq!(rt; moves(rt.alloc(), seed, permits(seed), places)?, None);
+        same!(rt; moves(rt.alloc(), seed, permits(seed), places)?, None);
     }
     Ok(())
 }
 
 #[test]
-fn random_moves_of_a_lock_are_events_of_the_lazy_object(rt: HostRuntime) -> Result<(), Fail> {
+fn random_moves_of_a_lock_are_events_of_the_abstract_state(rt: HostRuntime) -> Result<(), Fail> {
     for seed in 0..60u16 {
         let places = 2 + seed / 4 % 5;
-        assert_eq!(rt; moves(rt.alloc(), seed, lock(seed), places)?, None);
+        same!(rt; moves(rt.alloc(), seed, lock(seed), places)?, None);
     }
     Ok(())
 }
@@ -183,8 +187,8 @@ fn random_moves_of_a_lock_are_events_of_the_lazy_object(rt: HostRuntime) -> Resu
 fn calls_that_move_alone_are_soon_done(rt: HostRuntime) -> Result<(), Fail> {
     for seed in 0..30u16 {
         let places = 2 + seed / 6 % 5;
-        assert_eq!(rt; calls(rt.alloc(), seed, permits(seed), places)?, None);
-        assert_eq!(rt; calls(rt.alloc(), seed, lock(seed), places)?, None);
+        same!(rt; calls(rt.alloc(), seed, permits(seed), places)?, None);
+        same!(rt; calls(rt.alloc(), seed, lock(seed), places)?, None);
     }
     Ok(())
 }

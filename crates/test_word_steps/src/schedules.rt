@@ -7,6 +7,7 @@ use saa_word_steps::rules::Rules;
 use std::alloc::{AllocError, Global};
 use std::process::Abort;
 use std::test::Fail;
+use test_asserts::same;
 
 // What most calls answer.
 const TRUE: Step = Step::Done(Answer::Bool(true));
@@ -40,25 +41,25 @@ fn go_to_show(row: &mut Row, me: u16) {
 #[test]
 fn a_release_during_the_walk_is_not_lost(rt: HostRuntime) -> Result<(), Fail> {
     let mut row = Row::new(rt.alloc(), Rules::Permits(63), 0, 3)?;
-    assert_eq!(rt; row.start(1, WordCall::Try(63)), Step::Going);
-    assert_eq!(rt; row.end(1), Step::Done(Answer::Bool(true)));
-    assert_eq!(rt; row.start(0, WordCall::Register(10)), Step::Going);
-    assert_eq!(rt; row.end(0), Step::Done(Answer::Bool(true)));
-    assert_eq!(rt; row.start(1, WordCall::Release(5)), Step::Going);
+    same!(rt; row.start(1, WordCall::Try(63)), Step::Going);
+    same!(rt; row.end(1), Step::Done(Answer::Bool(true)));
+    same!(rt; row.start(0, WordCall::Register(10)), Step::Going);
+    same!(rt; row.end(0), Step::Done(Answer::Bool(true)));
+    same!(rt; row.start(1, WordCall::Release(5)), Step::Going);
     for _step in 0..1_000 {
         if matches!(row.place(1).stage, Stage::Close { .. }) {
             break;
         }
-        assert_eq!(rt; row.go(1), Step::Going);
+        same!(rt; row.go(1), Step::Going);
     }
-    assert_eq!(rt; row.number(0), 58 + 64 + 256);
-    assert_eq!(rt; row.start(2, WordCall::Release(5)), Step::Going);
-    assert_eq!(rt; row.end(2), Step::Done(Answer::Bool(true)));
-    assert_eq!(rt; row.number(0), 53 + 64 + 256);
-    assert_eq!(rt; row.end(1), Step::Done(Answer::Bool(true)));
-    assert_eq!(rt; row.number(0), 63);
-    assert_eq!(rt; row.start(0, WordCall::TryPoll), Step::Going);
-    assert_eq!(rt; row.end(0), Step::Done(Answer::Taken(Ok(true))));
+    same!(rt; row.number(0), 58 + 64 + 256);
+    same!(rt; row.start(2, WordCall::Release(5)), Step::Going);
+    same!(rt; row.end(2), Step::Done(Answer::Bool(true)));
+    same!(rt; row.number(0), 53 + 64 + 256);
+    same!(rt; row.end(1), Step::Done(Answer::Bool(true)));
+    same!(rt; row.number(0), 63);
+    same!(rt; row.start(0, WordCall::TryPoll), Step::Going);
+    same!(rt; row.end(0), Step::Done(Answer::Taken(Ok(true))));
     Ok(())
 }
 
@@ -66,39 +67,21 @@ fn a_release_during_the_walk_is_not_lost(rt: HostRuntime) -> Result<(), Fail> {
 #[test]
 fn a_call_that_needs_no_word_is_done_as_it_starts(rt: HostRuntime) -> Result<(), Fail> {
     let mut row = Row::new(rt.alloc(), Rules::Permits(63), 0, 1)?;
-    assert_eq!(rt;
-        row.start(0, WordCall::Try(64)),
-        Step::Done(Answer::Bool(false))
-    );
-    assert_eq!(rt;
-        row.start(0, WordCall::Register(usize::MAX)),
-        Step::Done(Answer::Bool(false))
-    );
-    assert_eq!(rt;
-        row.start(0, WordCall::Release(64)),
-        Step::Done(Answer::Bool(false))
-    );
-    assert_eq!(rt;
-        row.start(0, WordCall::Release(0)),
-        Step::Done(Answer::Bool(true))
-    );
+    same!(rt; row.start(0, WordCall::Try(64)), Step::Done(Answer::Bool(false)));
+    same!(rt; row.start(0, WordCall::Register(usize::MAX)), Step::Done(Answer::Bool(false)));
+    same!(rt; row.start(0, WordCall::Release(64)), Step::Done(Answer::Bool(false)));
+    same!(rt; row.start(0, WordCall::Release(0)), Step::Done(Answer::Bool(true)));
     let none = Answer::Taken(Err(Error::NotRegistered));
-    assert_eq!(rt; row.start(0, WordCall::TryPoll), Step::Done(none));
-    assert_eq!(rt; row.start(0, WordCall::Poll), Step::Done(none));
-    assert_eq!(rt; row.go(0), Step::Idle);
-    assert_eq!(rt; row.start(0, WordCall::Register(63)), Step::Going);
-    assert_eq!(rt; row.start(0, WordCall::Available), Step::Busy);
-    assert_eq!(rt; row.end(0), Step::Done(Answer::Bool(true)));
-    assert_eq!(rt;
-        row.start(0, WordCall::Register(1)),
-        Step::Done(Answer::Bool(false))
-    );
-    assert_eq!(rt;
-        row.start(0, WordCall::Poll),
-        Step::Done(Answer::Taken(Ok(true)))
-    );
-    assert_eq!(rt; row.start(0, WordCall::Available), Step::Going);
-    assert_eq!(rt; row.end(0), Step::Done(Answer::Number(0)));
+    same!(rt; row.start(0, WordCall::TryPoll), Step::Done(none));
+    same!(rt; row.start(0, WordCall::Poll), Step::Done(none));
+    same!(rt; row.go(0), Step::Idle);
+    same!(rt; row.start(0, WordCall::Register(63)), Step::Going);
+    same!(rt; row.start(0, WordCall::Available), Step::Busy);
+    same!(rt; row.end(0), Step::Done(Answer::Bool(true)));
+    same!(rt; row.start(0, WordCall::Register(1)), Step::Done(Answer::Bool(false)));
+    same!(rt; row.start(0, WordCall::Poll), Step::Done(Answer::Taken(Ok(true))));
+    same!(rt; row.start(0, WordCall::Available), Step::Going);
+    same!(rt; row.end(0), Step::Done(Answer::Number(0)));
     Ok(())
 }
 
@@ -106,17 +89,17 @@ fn a_call_that_needs_no_word_is_done_as_it_starts(rt: HostRuntime) -> Result<(),
 #[test]
 fn who_leaves_the_middle_links_its_neighbours(rt: HostRuntime) -> Result<(), Fail> {
     let mut row = three_who_wait(rt.alloc())?;
-    assert_eq!(rt; row.number(0), 1 + 3 * 256);
-    assert_eq!(rt; row.call(1, WordCall::Cancel), UNIT);
-    assert_eq!(rt; row.number(0), 1 + 3 * 256);
-    assert_eq!(rt; row.line(3).older, 1);
-    assert_eq!(rt; row.line(1).newer, 3);
-    assert_eq!(rt; row.call(1, WordCall::Release(1)), TRUE);
-    assert_eq!(rt; row.call(0, WordCall::TryPoll), GRANTED);
-    assert_eq!(rt; row.number(0), 1 + 3 * 256);
-    assert_eq!(rt; row.call(0, WordCall::Release(1)), TRUE);
-    assert_eq!(rt; row.number(0), 1);
-    assert_eq!(rt; row.call(2, WordCall::Poll), GRANTED);
+    same!(rt; row.number(0), 1 + 3 * 256);
+    same!(rt; row.call(1, WordCall::Cancel), UNIT);
+    same!(rt; row.number(0), 1 + 3 * 256);
+    same!(rt; row.line(3).older, 1);
+    same!(rt; row.line(1).newer, 3);
+    same!(rt; row.call(1, WordCall::Release(1)), TRUE);
+    same!(rt; row.call(0, WordCall::TryPoll), GRANTED);
+    same!(rt; row.number(0), 1 + 3 * 256);
+    same!(rt; row.call(0, WordCall::Release(1)), TRUE);
+    same!(rt; row.number(0), 1);
+    same!(rt; row.call(2, WordCall::Poll), GRANTED);
     Ok(())
 }
 
@@ -124,13 +107,13 @@ fn who_leaves_the_middle_links_its_neighbours(rt: HostRuntime) -> Result<(), Fai
 #[test]
 fn who_leaves_as_the_newest_hands_the_tail_on(rt: HostRuntime) -> Result<(), Fail> {
     let mut row = three_who_wait(rt.alloc())?;
-    assert_eq!(rt; row.call(2, WordCall::Cancel), UNIT);
-    assert_eq!(rt; row.number(0), 1 + 2 * 256);
-    assert_eq!(rt; row.call(1, WordCall::Cancel), UNIT);
-    assert_eq!(rt; row.number(0), 1 + 256);
-    assert_eq!(rt; row.call(0, WordCall::Cancel), UNIT);
-    assert_eq!(rt; row.number(0), 1);
-    assert_eq!(rt; row.call(0, WordCall::Cancel), UNIT);
+    same!(rt; row.call(2, WordCall::Cancel), UNIT);
+    same!(rt; row.number(0), 1 + 2 * 256);
+    same!(rt; row.call(1, WordCall::Cancel), UNIT);
+    same!(rt; row.number(0), 1 + 256);
+    same!(rt; row.call(0, WordCall::Cancel), UNIT);
+    same!(rt; row.number(0), 1);
+    same!(rt; row.call(0, WordCall::Cancel), UNIT);
     Ok(())
 }
 
@@ -138,19 +121,19 @@ fn who_leaves_as_the_newest_hands_the_tail_on(rt: HostRuntime) -> Result<(), Fai
 #[test]
 fn a_cancel_waits_for_a_grant_and_gives_it_back(rt: HostRuntime) -> Result<(), Fail> {
     let mut row = three_who_wait(rt.alloc())?;
-    assert_eq!(rt; row.start(1, WordCall::Release(1)), Step::Going);
-    assert_eq!(rt; row.go(1), Step::Going);
-    assert_eq!(rt; row.go(1), Step::Going);
-    assert_eq!(rt; row.number(0), 64 + 3 * 256);
-    assert_eq!(rt; row.call(0, WordCall::Cancel), Step::Waits);
-    assert_eq!(rt; row.number(0), 64 + 3 * 256);
+    same!(rt; row.start(1, WordCall::Release(1)), Step::Going);
+    same!(rt; row.go(1), Step::Going);
+    same!(rt; row.go(1), Step::Going);
+    same!(rt; row.number(0), 64 + 3 * 256);
+    same!(rt; row.call(0, WordCall::Cancel), Step::Waits);
+    same!(rt; row.number(0), 64 + 3 * 256);
     go_to_show(&mut row, 1);
-    assert_eq!(rt; row.number(0), 1 + 3 * 256);
-    assert_eq!(rt; row.end(0), Step::Waits);
-    assert_eq!(rt; row.end(1), TRUE);
-    assert_eq!(rt; row.end(0), UNIT);
-    assert_eq!(rt; row.call(1, WordCall::Poll), GRANTED);
-    assert_eq!(rt; row.number(0), 1 + 3 * 256);
+    same!(rt; row.number(0), 1 + 3 * 256);
+    same!(rt; row.end(0), Step::Waits);
+    same!(rt; row.end(1), TRUE);
+    same!(rt; row.end(0), UNIT);
+    same!(rt; row.call(1, WordCall::Poll), GRANTED);
+    same!(rt; row.number(0), 1 + 3 * 256);
     Ok(())
 }
 
@@ -158,30 +141,24 @@ fn a_cancel_waits_for_a_grant_and_gives_it_back(rt: HostRuntime) -> Result<(), F
 #[test]
 fn poison_answers_all_who_wait(rt: HostRuntime) -> Result<(), Fail> {
     let mut row = Row::new(rt.alloc(), Rules::Modes, 0, 4)?;
-    assert_eq!(rt;
-        row.call(0, WordCall::TryLock),
-        Step::Done(Answer::Tried(Ok(())))
-    );
-    assert_eq!(rt; row.call(1, WordCall::RegisterMode(Mode::Shared)), TRUE);
-    assert_eq!(rt;
-        row.call(2, WordCall::RegisterMode(Mode::WaitExclusive)),
-        TRUE
-    );
-    assert_eq!(rt; row.call(3, WordCall::RegisterMode(Mode::Exclusive)), TRUE);
-    assert_eq!(rt; row.number(0), 63 + 4 * 256);
-    assert_eq!(rt; row.call(0, WordCall::PoisonLock), TRUE);
-    assert_eq!(rt; row.number(0), 128);
-    assert_eq!(rt; row.call(1, WordCall::TryPoll), POISONED);
-    assert_eq!(rt; row.call(2, WordCall::Poll), POISONED);
-    assert_eq!(rt; row.call(3, WordCall::Cancel), UNIT);
+    same!(rt; row.call(0, WordCall::TryLock), Step::Done(Answer::Tried(Ok(()))));
+    same!(rt; row.call(1, WordCall::RegisterMode(Mode::Shared)), TRUE);
+    same!(rt; row.call(2, WordCall::RegisterMode(Mode::WaitExclusive)), TRUE);
+    same!(rt; row.call(3, WordCall::RegisterMode(Mode::Exclusive)), TRUE);
+    same!(rt; row.number(0), 63 + 4 * 256);
+    same!(rt; row.call(0, WordCall::PoisonLock), TRUE);
+    same!(rt; row.number(0), 128);
+    same!(rt; row.call(1, WordCall::TryPoll), POISONED);
+    same!(rt; row.call(2, WordCall::Poll), POISONED);
+    same!(rt; row.call(3, WordCall::Cancel), UNIT);
     let refused = Answer::Tried(Err(TryLockError::Poisoned));
-    assert_eq!(rt; row.call(2, WordCall::TryShare), Step::Done(refused));
-    assert_eq!(rt; row.call(2, WordCall::RegisterMode(Mode::Shared)), TRUE);
-    assert_eq!(rt; row.call(2, WordCall::Poll), POISONED);
-    assert_eq!(rt; row.call(2, WordCall::ClearPoison), TRUE);
-    assert_eq!(rt; row.number(0), 0);
+    same!(rt; row.call(2, WordCall::TryShare), Step::Done(refused));
+    same!(rt; row.call(2, WordCall::RegisterMode(Mode::Shared)), TRUE);
+    same!(rt; row.call(2, WordCall::Poll), POISONED);
+    same!(rt; row.call(2, WordCall::ClearPoison), TRUE);
+    same!(rt; row.number(0), 0);
     let none = Step::Done(Answer::Bool(false));
-    assert_eq!(rt; row.call(2, WordCall::ClearPoison), none);
-    assert_eq!(rt; row.call(2, WordCall::PoisonLock), none);
+    same!(rt; row.call(2, WordCall::ClearPoison), none);
+    same!(rt; row.call(2, WordCall::PoisonLock), none);
     Ok(())
 }

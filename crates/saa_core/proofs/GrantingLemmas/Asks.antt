@@ -8,7 +8,7 @@ use Rattle.saa_core_spec.specs.Held.{Held, OfSemaphore, OfLock, OfGate, OfBarrie
 use Rattle.saa_core_spec.specs.Object.{Object, After, Idle, Waiting, Answered, Waiter, with_entry, used, is_nobody, times, one_if}
 use Rattle.saa_core_spec.specs.Settling.{fitting_front, plus_all, answered_in, granted, settled}
 use Rattle.saa_core_spec.specs.Asking.{registered, granted_at_once, answer_at_once, answer_in as answer_of_kind, is_granted_at_once}
-use Rattle.saa_core_spec.specs.Lock.{is_locked, poisoned_of}
+use Rattle.saa_core_spec.specs.Lock.{is_locked, downgraded_of, poisoned_of}
 use Rattle.saa_core_spec.specs.Values.{poisoned_value}
 use Rattle.saa_core.proofs.TicketLemmas.Answering.{all_calls}
 use Rattle.saa_core_spec.specs.Polling.{given_back, given_back_of, is_for_nothing, left_of, undone_of}
@@ -195,6 +195,19 @@ release_given h rest slots r sound some given =
     let answer : given_answer (is_for_nothing r) (less h r) ≡ true =
     ap (λ b. given_answer b (less h r)) some ∙ ap (given_answer false) given ∙ given_some rest in
     subst (λ k. Calls c k (λ s. given_back s r) true) core (release_calls c r true sound answer)
+
+-- Downgrading
+
+-- the downgrade of a lock that one owner has
+pub downgrade_calls : (h : Held) (slots : Slots) → IsSound slots → is_locked h ≡ true
+    → Calls (record { held = h; slots = slots }) (core_settled (record { held = OfLock (Shared 1); slots = slots })) (λ s. downgraded_of s (is_locked s.held)) true
+downgrade_calls h slots sound locked = record {
+  calls = λ ts b.
+      let c : Core = record { held = OfLock (Shared 1); slots = slots } in (
+        ap (downgraded_of (object_of (record { held = h; slots = slots }) ts)) locked ∙ ap (after true) (settled-object c ts sound b),
+        settled-belong c ts sound b,
+      );
+}
 
 -- Poison
 

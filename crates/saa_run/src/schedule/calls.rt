@@ -20,6 +20,7 @@ fn in_steps(call: LockCall) -> WordCall
         LockCall::TryShare => WordCall::TryShare,
         LockCall::ReleaseLock => WordCall::ReleaseLock,
         LockCall::ReleaseShare => WordCall::ReleaseShare,
+        LockCall::Downgrade => WordCall::Downgrade,
         LockCall::PoisonLock => WordCall::PoisonLock,
         LockCall::ClearPoison => WordCall::ClearPoison,
         LockCall::IsFree => WordCall::IsFree,

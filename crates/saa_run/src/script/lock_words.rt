@@ -57,6 +57,9 @@ pub fn lone_call(word: &[u8]) -> Option<LockCall>
     if word == b"release_share".as_slice() {
         return Some(LockCall::ReleaseShare);
     }
+    if word == b"downgrade".as_slice() {
+        return Some(LockCall::Downgrade);
+    }
     if word == b"poison_lock".as_slice() {
         return Some(LockCall::PoisonLock);
     }

@@ -93,7 +93,7 @@ impl<'a, R: Wait + Drop, T> Future for WriteFuture<'a, R, T> {
         match ready!(poll_turn(&mut self.turn, cx)) {
             Ok(()) => {
                 let (turn, value) = guarded.granted_to_write();
-                Poll::Ready(Ok(RwLockWriteGuard::new(turn, value)))
+                Poll::Ready(Ok(RwLockWriteGuard::new(guarded, turn, value)))
             }
             Err(full) => Poll::Ready(Err(full)),
         }

@@ -63,7 +63,7 @@ impl<R: Wait + Drop, T> RwLock<R, T> {
         ensures { IfOk result (λ guard. guard.turn.lock.now ≡ self.now.guarded.turn) }
     {
         let (turn, value) = self.guarded.write()?;
-        Ok(RwLockWriteGuard::new(turn, value))
+        Ok(RwLockWriteGuard::new(&self.guarded, turn, value))
     }
 
     /// Takes the lock to write if nobody has it and nobody waits; never waits for it.
@@ -73,7 +73,7 @@ impl<R: Wait + Drop, T> RwLock<R, T> {
         ensures { IfSome result (λ guard. guard.turn.lock.now ≡ self.now.guarded.turn) }
     {
         let (turn, value) = self.guarded.try_write()?;
-        Some(RwLockWriteGuard::new(turn, value))
+        Some(RwLockWriteGuard::new(&self.guarded, turn, value))
     }
 
     /// The value, with no lock: whoever has the lock to itself needs none.
@@ -135,15 +135,38 @@ impl<R: Wait + Drop, T> Deref for RwLockReadGuard<'_, R, T> {
 pub struct RwLockWriteGuard<'a, R: Wait + Drop, T> {
     value: Writer<'a, T>,
     turn: Alone<'a, R>,
+    // Where a downgrade finds the value again.
+    guarded: &'a Guarded<R, T>,
 }
 
 impl<'a, R: Wait + Drop, T> RwLockWriteGuard<'a, R, T> {
     // The guard of a turn, with the value.
-    pub(crate) fn new(turn: Alone<'a, R>, value: Writer<'a, T>) -> Self
+    pub(crate) fn new(guarded: &'a Guarded<R, T>, turn: Alone<'a, R>, value: Writer<'a, T>) -> Self
         ensures turn { result.turn ≡ turn.entry }
         ensures value { result.value ≡ value.entry }
     {
-        RwLockWriteGuard { value, turn }
+        RwLockWriteGuard {
+            value,
+            turn,
+            guarded,
+        }
+    }
+
+    /// Becomes a reader's guard, and lets in those who asked to read first, as far as they may share; nobody writes in
+    /// between.
+    ///
+    /// Never waits. Who reads through the new guard sees what was written through this one. Readers behind a writer that
+    /// waits go on waiting. Costs a short lock, and a wake for each who is let in.
+    pub fn downgrade(guard: Self) -> RwLockReadGuard<'a, R, T>
+        ensures { result.turn.lock ≡ guard.entry.turn.lock }
+    {
+        let RwLockWriteGuard {
+            value,
+            turn,
+            guarded,
+        } = guard;
+        let (turn, value) = guarded.lower(turn, value);
+        RwLockReadGuard::new(turn, value)
     }
 
     /// Gives the lock up, to whoever asked first; the same as a drop, which is fair too.
@@ -154,7 +177,11 @@ impl<'a, R: Wait + Drop, T> RwLockWriteGuard<'a, R, T> {
 
 impl<R: Wait + Drop, T> Drop for RwLockWriteGuard<'_, R, T> {
     fn drop(self) {
-        let RwLockWriteGuard { value, turn } = self;
+        let RwLockWriteGuard {
+            value,
+            turn,
+            guarded: _guarded,
+        } = self;
         turn.pass_on(PutDown::by_writer(value));
     }
 }

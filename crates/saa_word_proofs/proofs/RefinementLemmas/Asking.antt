@@ -14,38 +14,38 @@ use Rattle.saa_word_steps.specs.declared.place.Stage.TheVariants.{Quiet, ReadLoa
 use Rattle.saa_word_steps.specs.Needs.{Needs, AreNeeds, fits_count}
 use Rattle.saa_word_steps.specs.declared.event.Event.{Event}
 use Rattle.saa_word_steps.specs.declared.event.Event.TheVariants.{AskedPoisoned, Got, Refused, Read}
-use Rattle.saa_word_steps.specs.Lazy.{Lazy, must_wait, is_empty, is_in}
+use Rattle.saa_word_steps.specs.AbstractState.{AbstractState, must_wait, is_empty, is_in}
 use Rattle.saa_word_steps.specs.Steps.{decided, found_poisoned, granted, tried_answer, going, done}
 use Rattle.saa_word_proofs.specs.Refinement.{updated, main_of, is_slot, is_holder, IsAlone, IsShowing, waits_behind, Refines}
-use Rattle.saa_word_proofs.specs.StepRefinement.{StepRefines, decided_events, place_after}
+use Rattle.saa_word_proofs.specs.StepRefinement.{StepRefines, decided_events}
 use Rattle.saa_word_proofs.proofs.RefinementLemmas.Lists.{newest-empty, empty-nil}
 use Rattle.saa_word_proofs.proofs.RefinementLemmas.Rows.{moved, loaded, count-small, tail-small}
-use Rattle.saa_word_proofs.proofs.RefinementLemmas.Outcomes.{not-holder, Outcome}
+use Rattle.saa_word_proofs.proofs.RefinementLemmas.Outcomes.{not-holder, Outcome, only-looked}
 
 -- a place that only reads answers by the main word as it stands
-pub step-ReadLoad : (needs : Needs) → AreNeeds needs → needs.top < 2 ^ count_bits → (places : ℕ) (row : ℕ → ℕ) (standing : ℕ → Place) (lazy : Lazy) (me : ℕ)
-    → places < 65536 → me < places → (s : Refines needs places row standing lazy)
-    → (reading : Reading) → (standing me).stage ≡ ReadLoad reading → StepRefines needs places row standing lazy me (ReadLoad reading)
-step-ReadLoad needs lawful wide places row standing lazy me room here s reading at = record {
+pub step-ReadLoad : (needs : Needs) → AreNeeds needs → needs.top < 2 ^ count_bits → (places : ℕ) (row : ℕ → ℕ) (standing : ℕ → Place) (state : AbstractState) (me : ℕ)
+    → places < 65536 → me < places → (s : Refines needs places row standing state)
+    → (reading : Reading) → (standing me).stage ≡ ReadLoad reading → StepRefines needs places row standing state me (ReadLoad reading)
+step-ReadLoad needs lawful wide places row standing state me room here s reading at = record {
   events = Read (main_of row).count (main_of row).is_poisoned ∷ [];
-  last = lazy;
+  last = state;
   run = ((sym s.main.count, sym s.main.poison), refl);
   names = refl;
   calm = λ semaphore. refl;
   inside = omega arith;
-  stands = loaded needs places row (updated standing me (record (standing me) { stage = Quiet })) lazy 0
-      (moved needs places row standing lazy me s (record (standing me) { stage = Quiet }) here refl tt tt (λ gives. absurd (cc)) tt
+  stands = loaded needs places row (updated standing me (record (standing me) { stage = Quiet })) state 0
+      (moved needs places row standing state me s (record (standing me) { stage = Quiet }) here refl tt tt (λ gives. absurd (cc)) tt
       (subst (λ stage. IsShowing (s.owed me) (s.worth me) stage) at (s.stages.showing me)) (ap is_holder (sym at))
-      (λ is. absurd (not-holder needs places row standing lazy me s (ap is_holder at) is)));
+      (λ is. absurd (not-holder needs places row standing state me s (ap is_holder at) is)));
 }
 
 -- an ask has to wait exactly where it has to wait behind the main word
-pub waits-same : (needs : Needs) (places : ℕ) (row : ℕ → ℕ) (standing : ℕ → Place) (lazy : Lazy) (s : Refines needs places row standing lazy) (request : ℕ)
-    → waits_behind needs (main_of row) request ≡ must_wait needs lazy request
-waits-same needs places row standing lazy s request =
-    let empty : (main_of row).tail == 0 ≡ is_empty lazy.line = ap (λ (n : ℕ). n == 0) s.main.tail ∙ newest-empty lazy.line in
+pub waits-same : (needs : Needs) (places : ℕ) (row : ℕ → ℕ) (standing : ℕ → Place) (state : AbstractState) (s : Refines needs places row standing state) (request : ℕ)
+    → waits_behind needs (main_of row) request ≡ must_wait needs state request
+waits-same needs places row standing state s request =
+    let empty : (main_of row).tail == 0 ≡ is_empty state.line = ap (λ (n : ℕ). n == 0) s.main.tail ∙ newest-empty state.line in
     ap (λ (b : Bool). not b || not (fits_count needs (main_of row).count request)) empty
-    ∙ ap (λ (n : ℕ). not (is_empty lazy.line) || not (fits_count needs n request)) s.main.count
+    ∙ ap (λ (n : ℕ). not (is_empty state.line) || not (fits_count needs n request)) s.main.count
 
 -- a test that is false says both
 neither : (one other : Bool) → not one || not other ≡ false → (one ≡ true) × (other ≡ true)
@@ -72,122 +72,114 @@ names_by needs ask seen is_poisoned =
     else (if needs.takes ask.request == 0 then Got ask.request ∷ [] else []))
 
 -- An ask that is decided by the main word as it stands
-pub decided-outcome : (needs : Needs) → needs.top < 2 ^ count_bits → (places : ℕ) (row : ℕ → ℕ) (standing : ℕ → Place) (lazy : Lazy) (me : ℕ)
-    → me < places → (s : Refines needs places row standing lazy) → is_holder (standing me).stage ≡ false → s.owed me ≡ []
+pub decided-outcome : (needs : Needs) → needs.top < 2 ^ count_bits → (places : ℕ) (row : ℕ → ℕ) (standing : ℕ → Place) (state : AbstractState) (me : ℕ)
+    → me < places → (s : Refines needs places row standing state) → is_holder (standing me).stage ≡ false → s.owed me ≡ []
     → (ask : Ask) → ask.request < 65536 → (ask.joins ≡ true → is_slot (standing me).registration ≡ false)
-    → Outcome needs places row standing lazy me (decided needs (standing me) ask (main_of row)) (decided_events needs ask.request ask.joins (main_of row))
-decided-outcome needs wide places row standing lazy me here s none nothing ask small idle = by (main_of row).is_poisoned refl
+    → Outcome needs places row standing state me (decided needs (standing me) ask (main_of row)) (decided_events needs ask.request ask.joins (main_of row))
+decided-outcome needs wide places row standing state me here s none nothing ask small idle = by (main_of row).is_poisoned refl
   where
     no_holder : s.holder ≡ me + 1 → ⊥
-    no_holder = not-holder needs places row standing lazy me s none
+    no_holder = not-holder needs places row standing state me s none
 
-    still : false ≡ true → is_in me lazy.line ≡ false
+    still : false ≡ true → is_in me state.line ≡ false
     still gives = absurd (cc)
 
     by : (is_poisoned : Bool) → (main_of row).is_poisoned ≡ is_poisoned
-        → Outcome needs places row standing lazy me (next_by needs (standing me) ask (main_of row) is_poisoned) (names_by needs ask (main_of row) is_poisoned)
+        → Outcome needs places row standing state me (next_by needs (standing me) ask (main_of row) is_poisoned) (names_by needs ask (main_of row) is_poisoned)
     by true poisoned =
         elim (cases_Bool ask.joins) [
           | inl joins ↦ rw joins (record {
             events = AskedPoisoned ∷ [];
-            last = lazy;
+            last = state;
             run = (sym s.main.poison ∙ poisoned, refl);
             names = refl;
             calm = λ semaphore. refl;
-            stands = moved needs places row standing lazy me s (record (standing me) { registration = Once poisoned_value ask.request; stage = Quiet }) here
+            stands = moved needs places row standing state me s (record (standing me) { registration = Once poisoned_value ask.request; stage = Quiet }) here
                 (sym (idle joins)) tt tt still tt nothing (sym none) (λ is. absurd (no_holder is));
           })
           | inr tries ↦ rw tries (record {
             events = AskedPoisoned ∷ [];
-            last = lazy;
+            last = state;
             run = (sym s.main.poison ∙ poisoned, refl);
             names = refl;
             calm = λ semaphore. refl;
-            stands = moved needs places row standing lazy me s (record (standing me) { stage = Quiet }) here refl
+            stands = moved needs places row standing state me s (record (standing me) { stage = Quiet }) here refl
                 tt tt still tt nothing (sym none) (λ is. absurd (no_holder is));
           })
         ]
     by false clean =
         let seen : Word = main_of row in
-        let calm : lazy.poisoned ≡ false = sym s.main.poison ∙ clean in
+        let calm : state.poisoned ≡ false = sym s.main.poison ∙ clean in
         elim (cases_Bool (waits_behind needs seen ask.request)) [
           | inl waits ↦
-              let must : must_wait needs lazy ask.request ≡ true = sym (waits-same needs places row standing lazy s ask.request) ∙ waits in
+              let must : must_wait needs state ask.request ≡ true = sym (waits-same needs places row standing state s ask.request) ∙ waits in
               elim (cases_Bool ask.joins) [
                 | inl joins ↦ rw (waits, joins) (record {
                   events = [];
-                  last = lazy;
+                  last = state;
                   run = refl;
                   names = refl;
                   calm = λ semaphore. refl;
-                  stands = moved needs places row standing lazy me s (record (standing me) { stage = Prepare ask.request seen }) here refl
+                  stands = moved needs places row standing state me s (record (standing me) { stage = Prepare ask.request seen }) here refl
                       (count-small (row 0)) (small, idle joins, tail-small (row 0), waits, clean) still tt nothing (sym none) (λ is. absurd (no_holder is));
                 })
                 | inr refused ↦ rw (waits, refused) (record {
                   events = Refused ask.request ∷ [];
-                  last = lazy;
+                  last = state;
                   run = ((calm, must), refl);
                   names = refl;
                   calm = λ semaphore. refl;
-                  stands = moved needs places row standing lazy me s (record (standing me) { stage = Quiet }) here refl
+                  stands = moved needs places row standing state me s (record (standing me) { stage = Quiet }) here refl
                       tt tt still tt nothing (sym none) (λ is. absurd (no_holder is));
                 })
               ]
           | inr free ↦
               let both = neither (seen.tail == 0) (fits_count needs seen.count ask.request) free in
-              let alone : lazy.line ≡ [] = empty-nil lazy.line (sym (newest-empty lazy.line) ∙ ap (λ (n : ℕ). n == 0) (sym s.main.tail) ∙ both.0) in
-              let fits : fits_count needs lazy.count ask.request ≡ true = ap (λ (n : ℕ). fits_count needs n ask.request) (sym s.main.count) ∙ both.1 in
+              let alone : state.line ≡ [] = empty-nil state.line (sym (newest-empty state.line) ∙ ap (λ (n : ℕ). n == 0) (sym s.main.tail) ∙ both.0) in
+              let fits : fits_count needs state.count ask.request ≡ true = ap (λ (n : ℕ). fits_count needs n ask.request) (sym s.main.count) ∙ both.1 in
               elim (cases_Bool (needs.takes ask.request == 0)) [
                 | inl nothing_taken ↦
-                    let same : record lazy { count = lazy.count + needs.takes ask.request } ≡ lazy =
-                    ap (λ (n : ℕ). record lazy { count = n }) (omega (arith, same_number (needs.takes ask.request) 0 nothing_taken)) in
+                    let same : record state { count = state.count + needs.takes ask.request } ≡ state =
+                    ap (λ (n : ℕ). record state { count = n }) (omega (arith, same_number (needs.takes ask.request) 0 nothing_taken)) in
                     elim (cases_Bool ask.joins) [
                       | inl joins ↦ rw (free, nothing_taken, joins) (record {
                         events = Got ask.request ∷ [];
-                        last = lazy;
+                        last = state;
                         run = ((calm, alone, fits), same);
                         names = refl;
                         calm = λ semaphore. refl;
-                        stands = moved needs places row standing lazy me s (record (standing me) { registration = Once 0 ask.request; stage = Quiet }) here
+                        stands = moved needs places row standing state me s (record (standing me) { registration = Once 0 ask.request; stage = Quiet }) here
                             (sym (idle joins)) tt tt still tt nothing (sym none) (λ is. absurd (no_holder is));
                       })
                       | inr tries ↦ rw (free, nothing_taken, tries) (record {
                         events = Got ask.request ∷ [];
-                        last = lazy;
+                        last = state;
                         run = ((calm, alone, fits), same);
                         names = refl;
                         calm = λ semaphore. refl;
-                        stands = moved needs places row standing lazy me s (record (standing me) { stage = Quiet }) here refl
+                        stands = moved needs places row standing state me s (record (standing me) { stage = Quiet }) here refl
                             tt tt still tt nothing (sym none) (λ is. absurd (no_holder is));
                       })
                     ]
                 | inr takes ↦ rw (free, takes) (record {
                   events = [];
-                  last = lazy;
+                  last = state;
                   run = refl;
                   names = refl;
                   calm = λ semaphore. refl;
-                  stands = moved needs places row standing lazy me s (record (standing me) { stage = AskExchange ask seen }) here refl
+                  stands = moved needs places row standing state me s (record (standing me) { stage = AskExchange ask seen }) here refl
                       (count-small (row 0), both.1) (small, idle, both.0, clean) still tt nothing (sym none) (λ is. absurd (no_holder is));
                 })
               ]
         ]
 
 -- a place that asks loads the main word and is decided by it
-pub step-AskLoad : (needs : Needs) → AreNeeds needs → needs.top < 2 ^ count_bits → (places : ℕ) (row : ℕ → ℕ) (standing : ℕ → Place) (lazy : Lazy) (me : ℕ)
-    → places < 65536 → me < places → (s : Refines needs places row standing lazy)
-    → (ask : Ask) → (standing me).stage ≡ AskLoad ask → StepRefines needs places row standing lazy me (AskLoad ask)
-step-AskLoad needs lawful wide places row standing lazy me room here s ask at =
+pub step-AskLoad : (needs : Needs) → AreNeeds needs → needs.top < 2 ^ count_bits → (places : ℕ) (row : ℕ → ℕ) (standing : ℕ → Place) (state : AbstractState) (me : ℕ)
+    → places < 65536 → me < places → (s : Refines needs places row standing state)
+    → (ask : Ask) → (standing me).stage ≡ AskLoad ask → StepRefines needs places row standing state me (AskLoad ask)
+step-AskLoad needs lawful wide places row standing state me room here s ask at =
     let alone : IsAlone needs (standing me).registration (standing me).back (AskLoad ask) =
     subst (λ stage. IsAlone needs (standing me).registration (standing me).back stage) at (s.stages.alone me) in
-    let out = decided-outcome needs wide places row standing lazy me here s (ap is_holder at)
+    let out = decided-outcome needs wide places row standing state me here s (ap is_holder at)
     (subst (λ stage. IsShowing (s.owed me) (s.worth me) stage) at (s.stages.showing me)) ask alone.0 alone.1 in
-    record {
-      events = out.events;
-      last = out.last;
-      run = out.run;
-      names = out.names;
-      calm = out.calm;
-      inside = omega arith;
-      stands = loaded needs places row (updated standing me (place_after (standing me) (decided needs (standing me) ask (main_of row)))) out.last 0 out.stands;
-    }
+    only-looked needs places row standing state me (AskLoad ask) out refl refl refl refl

@@ -11,9 +11,9 @@ use Rattle.saa_word_steps.specs.declared.place.Stage.{Stage}
 use Rattle.saa_word_steps.specs.declared.place.Stage.TheVariants.{Quiet, ReadLoad, AskLoad, AskExchange, Prepare, Join, ReleaseLoad, ReleaseExchange, BackLoad, BackStore, Forward, CutToClose, CutToGoRound, Close, Empty, GoRound, ShowLoad, ShowStore, Take, FlagLoad, FlagExchange, LookLoad, LookStore, Unlink, DropTail, PoisonLoad, PoisonExchange, Clear}
 use Rattle.saa_word_steps.specs.Needs.{Needs, fits_count}
 use Rattle.saa_word_steps.specs.declared.event.Event.{Event}
-use Rattle.saa_word_steps.specs.declared.event.Event.TheVariants.{Joined, Left, Gave, Poisoned, Cleared, NotCleared, Read}
+use Rattle.saa_word_steps.specs.declared.event.Event.TheVariants.{Joined, Left, Poisoned, Cleared, NotCleared, Read}
 use Rattle.saa_word_steps.specs.Steps.{next_of, read_as, poisoned_word}
-use Rattle.saa_word_proofs.specs.StepRefinement.{named_at}
+use Rattle.saa_word_proofs.specs.StepRefinement.{gave, named_at}
 use Rattle.saa_word_proofs.specs.Calls.{IsUnder, IsUnderNext}
 use Rattle.saa_word_proofs.proofs.RefinementLemmas.Naming.{ask-answered, read-answered, cancel-answered, unnamed, granted-under, decided-under, finished-under, shown-under, gave-working, given-under, taken-under, left-cancelled, left-working, flagging-under, poisoning-under, poison-working}
 
@@ -40,18 +40,18 @@ under-next needs call registered me place (Join request seen) found events h =
       | inr differs ↦ rw (h.1, differs)
           (decided-under needs call registered (Join request seen) place (record { request = request; joins = true }) (word_of count_bits found) h.0)
     ]
-under-next needs call registered me place (ReleaseLoad request) found events h =
-    given-under needs call registered (ReleaseLoad request) place request (word_of count_bits found) events h
-under-next needs call registered me place (ReleaseExchange request seen) found events h =
+under-next needs call registered me place (ReleaseLoad what) found events h =
+    given-under needs call registered (ReleaseLoad what) place what (word_of count_bits found) events h
+under-next needs call registered me place (ReleaseExchange what seen) found events h =
     elim (cases_Bool (found == word_number count_bits seen)) [
       | inl same ↦
           elim (cases_Bool (not (seen.tail == 0) && not seen.is_flagged)) [
-            | inl works ↦ rw (same, works) (gave-working needs call registered place.back request events h)
+            | inl works ↦ rw (same, works) (gave-working needs call registered place.back what events h)
             | inr ends ↦ rw (same, ends)
-                (finished-under needs call registered place.back (ReleaseExchange request seen) (events ++ Gave request ∷ []) place place.back
-                (gave-working needs call registered place.back request events h))
+                (finished-under needs call registered place.back (ReleaseExchange what seen) (events ++ gave what ∷ []) place place.back
+                (gave-working needs call registered place.back what events h))
           ]
-      | inr differs ↦ rw differs (given-under needs call registered (ReleaseExchange request seen) place request (word_of count_bits found) events h)
+      | inr differs ↦ rw differs (given-under needs call registered (ReleaseExchange what seen) place what (word_of count_bits found) events h)
     ]
 under-next needs call registered me place (BackLoad seen current newer) found events h =
     unnamed needs call registered place.back (BackLoad seen current newer) events (next_of needs me place (BackLoad seen current newer) found) h

@@ -10,7 +10,7 @@ use Rattle.saa_word_steps.specs.declared.place.Afterwards.TheVariants.{Ends}
 use Rattle.saa_word_steps.specs.declared.place.Stage.{Stage}
 use Rattle.saa_word_steps.specs.declared.place.Stage.TheVariants.{Close, GoRound, ShowLoad}
 use Rattle.saa_word_steps.specs.Needs.{Needs, AreNeeds}
-use Rattle.saa_word_steps.specs.Lazy.{Lazy, IsFront, IsSettledAt, is_empty, is_in, takes_of}
+use Rattle.saa_word_steps.specs.AbstractState.{AbstractState, IsFront, IsSettledAt, is_empty, is_in, takes_of}
 use Rattle.saa_word_steps.specs.Steps.{IsRanged, settled_word}
 use Rattle.saa_word_proofs.specs.Refinement.{updated, main_of, line_of, newest, is_holder, takes_back, IsAlone, IsShowing, Work, IsHolding, Refines}
 use Rattle.saa_word_proofs.specs.StepRefinement.{StepRefines}
@@ -21,35 +21,35 @@ use Rattle.saa_word_proofs.proofs.RefinementLemmas.Holders.{calm-held}
 use Rattle.saa_word_proofs.proofs.RefinementLemmas.Ending.{end_stage, ended, ended-ranged, ended-alone, ended-apart, ended-own, ended-showing, ended-holder}
 
 -- the exchange succeeds
-closed-step : (needs : Needs) → AreNeeds needs → (places : ℕ) (row : ℕ → ℕ) (standing : ℕ → Place) (lazy : Lazy) (me : ℕ)
-    → me < places → (s : Refines needs places row standing lazy)
+closed-step : (needs : Needs) → AreNeeds needs → (places : ℕ) (row : ℕ → ℕ) (standing : ℕ → Place) (state : AbstractState) (me : ℕ)
+    → me < places → (s : Refines needs places row standing state)
     → (seen : Word) (count top : ℕ) → row 0 == word_number count_bits seen ≡ true
     → s.holder ≡ me + 1 → IsRanged needs (Close seen count top) → IsAlone needs (standing me).registration (standing me).back (Close seen count top)
     → s.owed me ≡ []
-    → (takes_back (standing me).back ≡ true → is_in me lazy.line ≡ false)
-    → IsHolding needs (line_of row) me lazy.count lazy.line s.cut (Close seen count top)
-    → StepRefines needs places row standing lazy me (Close seen count top)
-closed-step needs lawful places row standing lazy me here s seen count top same mine ranged alone none apart holding =
+    → (takes_back (standing me).back ≡ true → is_in me state.line ≡ false)
+    → IsHolding needs (line_of row) me state.count state.line s.cut (Close seen count top)
+    → StepRefines needs places row standing state me (Close seen count top)
+closed-step needs lawful places row standing state me here s seen count top same mine ranged alone none apart holding =
     let back : Back = (standing me).back in
-    let work : Work lazy.count lazy.line seen = holding.0 in
+    let work : Work state.count state.line seen = holding.0 in
     let rest : List (ℕ × ℕ) = work.behind ++ work.joined in
     let found : main_of row ≡ seen = main-found (row 0) seen ranged.0 alone.0 same in
-    let counted : seen.count ≡ lazy.count = sym (ap (λ (w : Word). w.count) found) ∙ s.main.count in
-    let adds : count ≡ lazy.count + takes_of needs work.front = omega (arith, counted, holding.2.1) in
-    let fits : IsFront needs lazy.count work.front = subst (λ (n : ℕ). IsFront needs n work.front) counted holding.2.0 in
-    let bounded : count ≤ needs.top = omega (arith, adds, front-bounded needs lawful lazy.count work.front fits s.main.bounded) in
+    let counted : seen.count ≡ state.count = sym (ap (λ (w : Word). w.count) found) ∙ s.main.count in
+    let adds : count ≡ state.count + takes_of needs work.front = omega (arith, counted, holding.2.1) in
+    let fits : IsFront needs state.count work.front = subst (λ (n : ℕ). IsFront needs n work.front) counted holding.2.0 in
+    let bounded : count ≤ needs.top = omega (arith, adds, front-bounded needs lawful state.count work.front fits s.main.bounded) in
     let some : is_empty rest ≡ false = some-append work.behind work.joined holding.4 in
     let tail : seen.tail ≡ newest 0 rest =
     sym (ap (λ (w : Word). w.tail) found) ∙ s.main.tail ∙ ap (λ (l : List (ℕ × ℕ)). newest 0 l) work.parts ∙ newest-rest 0 work.front rest some in
     let settled : IsSettledAt needs count rest = settled-append needs count work.behind work.joined holding.4 holding.5 in
     let number : ℕ = word_number count_bits (settled_word count seen.tail) in
-    let calm : lazy.poisoned ≡ false = calm-held needs places row standing lazy me s mine in
-    let main = settled-main needs lazy work.front rest count seen.tail calm ranged.1 alone.0 adds bounded tail settled in
-    let linked = parts-linked (line_of row) lazy.line s.cut s.uncut work.front rest s.line holding.1 work.parts in
-    let grant = close-run needs lazy me work.front rest work.parts fits (rw (← adds) settled) s.main.settled in
+    let calm : state.poisoned ≡ false = calm-held needs places row standing state me s mine in
+    let main = settled-main needs state work.front rest count seen.tail calm ranged.1 alone.0 adds bounded tail settled in
+    let linked = parts-linked (line_of row) state.line s.cut s.uncut work.front rest s.line holding.1 work.parts in
+    let grant = close-run needs state me work.front rest work.parts fits (rw (← adds) settled) s.main.settled in
     record {
       events = grant.events;
-      last = granted needs lazy work.front rest false;
+      last = granted needs state work.front rest false;
       run = grant.run;
       names = grant.names;
       calm = λ semaphore. grant.calm;
@@ -59,7 +59,7 @@ closed-step needs lawful places row standing lazy me here s seen count top same 
             | inl empty ↦
                 let front : work.front ≡ [] = front-none work.front top holding.3 empty in
                 rw (same, empty, ended (standing me) back)
-                (granting needs places row standing lazy me s number (end_stage back) work.front rest 0 false
+                (granting needs places row standing state me s number (end_stage back) work.front rest 0 false
                 here mine none work.parts linked.0 linked.1 main (ended-ranged needs back) (ended-alone needs (standing me).registration back alone.1)
                 (λ gives. apart (sym (ended-apart back) ∙ gives)) (ended-own (line_of row me) back) (ended-showing work.front 0 back front)
                 (ended-holder back ∙ sym (nobody me))
@@ -67,26 +67,26 @@ closed-step needs lawful places row standing lazy me here s seen count top same 
             | inr there ↦
                 let front : is_empty work.front ≡ false = front-some work.front top holding.3 there in
                 rw (same, there)
-                (granting needs places row standing lazy me s number (ShowLoad top 0 Ends) work.front rest 0 false
+                (granting needs places row standing state me s number (ShowLoad top 0 Ends) work.front rest 0 false
                 here mine none work.parts linked.0 linked.1 main tt alone.1 apart tt (sym holding.3, front, refl) (sym (nobody me))
                 (λ is. absurd (omega (arith, is))) (λ other apart. holder-none s.holder me other mine apart))
           ];
     }
 
 -- the exchange fails: another word stands there
-missed-step : (needs : Needs) (places : ℕ) (row : ℕ → ℕ) (standing : ℕ → Place) (lazy : Lazy) (me : ℕ)
-    → me < places → (s : Refines needs places row standing lazy)
+missed-step : (needs : Needs) (places : ℕ) (row : ℕ → ℕ) (standing : ℕ → Place) (state : AbstractState) (me : ℕ)
+    → me < places → (s : Refines needs places row standing state)
     → (seen : Word) (count top : ℕ) → (standing me).stage ≡ Close seen count top → row 0 == word_number count_bits seen ≡ false
     → s.holder ≡ me + 1 → IsRanged needs (Close seen count top) → IsAlone needs (standing me).registration (standing me).back (Close seen count top)
     → s.owed me ≡ []
-    → (takes_back (standing me).back ≡ true → is_in me lazy.line ≡ false)
-    → IsHolding needs (line_of row) me lazy.count lazy.line s.cut (Close seen count top)
-    → StepRefines needs places row standing lazy me (Close seen count top)
-missed-step needs places row standing lazy me here s seen count top at differs mine ranged alone none apart holding =
-    let work : Work lazy.count lazy.line seen = holding.0 in
+    → (takes_back (standing me).back ≡ true → is_in me state.line ≡ false)
+    → IsHolding needs (line_of row) me state.count state.line s.cut (Close seen count top)
+    → StepRefines needs places row standing state me (Close seen count top)
+missed-step needs places row standing state me here s seen count top at differs mine ranged alone none apart holding =
+    let work : Work state.count state.line seen = holding.0 in
     record {
       events = [];
-      last = lazy;
+      last = state;
       run = refl;
       names = refl;
       calm = λ semaphore. refl;
@@ -96,7 +96,7 @@ missed-step needs places row standing lazy me here s seen count top at differs m
             | inl same ↦
                 let counted : seen.count ≡ (main_of row).count = sym (same_number (main_of row).count seen.count same) in
                 let rest : List (ℕ × ℕ) = work.behind ++ work.joined in
-                let now : Work lazy.count lazy.line (main_of row) = record {
+                let now : Work state.count state.line (main_of row) = record {
                   front = work.front;
                   behind = rest;
                   joined = [];
@@ -105,8 +105,8 @@ missed-step needs places row standing lazy me here s seen count top at differs m
                   count = omega (arith, s.main.count);
                 } in
                 rw (differs, same)
-                (loaded needs places row (updated standing me (record (standing me) { stage = Close (main_of row) count top })) lazy 0
-                (moved needs places row standing lazy me s (record (standing me) { stage = Close (main_of row) count top }) here refl
+                (loaded needs places row (updated standing me (record (standing me) { stage = Close (main_of row) count top })) state 0
+                (moved needs places row standing state me s (record (standing me) { stage = Close (main_of row) count top }) here refl
                 (count-small (row 0), ranged.1) (tail-small (row 0), alone.1) apart tt none (ap is_holder (sym at))
                 (λ is. (
                   now,
@@ -121,25 +121,25 @@ missed-step needs places row standing lazy me here s seen count top at differs m
                 ))))
             | inr changed ↦
                 rw (differs, changed)
-                (loaded needs places row (updated standing me (record (standing me) { stage = GoRound seen count top })) lazy 0
-                (moved needs places row standing lazy me s (record (standing me) { stage = GoRound seen count top }) here refl
+                (loaded needs places row (updated standing me (record (standing me) { stage = GoRound seen count top })) state 0
+                (moved needs places row standing state me s (record (standing me) { stage = GoRound seen count top }) here refl
                 ranged alone.1 apart tt none (ap is_holder (sym at))
                 (λ is. (work, holding.1, holding.2, holding.3, holding.4))))
           ];
     }
 
 -- Whoever closes the line publishes what it granted, or goes on with the word that it found
-pub step-Close : (needs : Needs) → AreNeeds needs → needs.top < 2 ^ count_bits → (places : ℕ) (row : ℕ → ℕ) (standing : ℕ → Place) (lazy : Lazy) (me : ℕ)
-    → places < 65536 → me < places → (s : Refines needs places row standing lazy)
-    → (seen : Word) (count top : ℕ) → (standing me).stage ≡ Close seen count top → StepRefines needs places row standing lazy me (Close seen count top)
-step-Close needs lawful wide places row standing lazy me room here s seen count top at =
-    let mine : s.holder ≡ me + 1 = flag-held needs places row standing lazy me s (ap is_holder at) in
+pub step-Close : (needs : Needs) → AreNeeds needs → needs.top < 2 ^ count_bits → (places : ℕ) (row : ℕ → ℕ) (standing : ℕ → Place) (state : AbstractState) (me : ℕ)
+    → places < 65536 → me < places → (s : Refines needs places row standing state)
+    → (seen : Word) (count top : ℕ) → (standing me).stage ≡ Close seen count top → StepRefines needs places row standing state me (Close seen count top)
+step-Close needs lawful wide places row standing state me room here s seen count top at =
+    let mine : s.holder ≡ me + 1 = flag-held needs places row standing state me s (ap is_holder at) in
     let ranged = subst (λ (stage : Stage). IsRanged needs stage) at (s.stages.ranged me) in
     let alone = subst (λ (stage : Stage). IsAlone needs (standing me).registration (standing me).back stage) at (s.stages.alone me) in
     let none = subst (λ (stage : Stage). IsShowing (s.owed me) (s.worth me) stage) at (s.stages.showing me) in
-    let apart = apart-at needs places row standing lazy me s (Close seen count top) at in
-    let holding = flag-knows needs places row standing lazy me s (Close seen count top) at refl in
+    let apart = apart-at needs places row standing state me s (Close seen count top) at in
+    let holding = flag-knows needs places row standing state me s (Close seen count top) at refl in
     elim (cases_Bool (row 0 == word_number count_bits seen)) [
-      | inl same ↦ closed-step needs lawful places row standing lazy me here s seen count top same mine ranged alone none apart holding
-      | inr differs ↦ missed-step needs places row standing lazy me here s seen count top at differs mine ranged alone none apart holding
+      | inl same ↦ closed-step needs lawful places row standing state me here s seen count top same mine ranged alone none apart holding
+      | inr differs ↦ missed-step needs places row standing state me here s seen count top at differs mine ranged alone none apart holding
     ]

@@ -11,7 +11,7 @@ use Rattle.saa_word_steps.specs.declared.place.Place.{Place}
 use Rattle.saa_word_steps.specs.declared.place.Stage.{Stage}
 use Rattle.saa_word_steps.specs.declared.place.Stage.TheVariants.{CutToClose, CutToGoRound, Close, GoRound}
 use Rattle.saa_word_steps.specs.Needs.{Needs, AreNeeds, fits_count}
-use Rattle.saa_word_steps.specs.Lazy.{Lazy, IsSettledAt, is_in, waits_times}
+use Rattle.saa_word_steps.specs.AbstractState.{AbstractState, IsSettledAt, is_in, waits_times}
 use Rattle.saa_word_steps.specs.Steps.{IsRanged}
 use Rattle.saa_word_proofs.specs.Refinement.{updated, line_of, IsBehind, is_holder, gives_up, IsAlone, IsOwn, IsShowing, Work, IsAt, IsHolding, IsLine, AreSeats, Refines}
 use Rattle.saa_word_proofs.specs.StepRefinement.{StepRefines}
@@ -58,21 +58,21 @@ cut-line words new line front rest asker parts linked once request older others 
     kept place apart = (ap (λ (w : LineWord). w.request) (others place apart), ap (λ (w : LineWord). w.older) (others place apart))
 
 -- What both cuts leave, for any stage that the holder goes on at: the front is cut off
-cut : (needs : Needs) (places : ℕ) (row : ℕ → ℕ) (standing : ℕ → Place) (lazy : Lazy) (me : ℕ) (s : Refines needs places row standing lazy)
-    (seen : Word) (work : Work lazy.count lazy.line seen) (current : ℕ) (line : LineWord) (next : Stage)
+cut : (needs : Needs) (places : ℕ) (row : ℕ → ℕ) (standing : ℕ → Place) (state : AbstractState) (me : ℕ) (s : Refines needs places row standing state)
+    (seen : Word) (work : Work state.count state.line seen) (current : ℕ) (line : LineWord) (next : Stage)
     → me < places → is_holder (standing me).stage ≡ true → s.cut ≡ [] → IsAt (line_of row) work.behind current → line ≡ line_of row (pred current)
     → IsRanged needs next → IsAlone needs (standing me).registration (standing me).back next
-    → (gives_up (standing me).back next ≡ true → is_in me lazy.line ≡ false) → ((word : LineWord) → IsOwn word next) → IsShowing (s.owed me) (s.worth me) next
+    → (gives_up (standing me).back next ≡ true → is_in me state.line ≡ false) → ((word : LineWord) → IsOwn word next) → IsShowing (s.owed me) (s.worth me) next
     → is_holder next ≡ true
-    → (IsLooked (line_of row) lazy.count lazy.line seen work current → (new : ℕ → LineWord) → IsHolding needs new me lazy.count lazy.line work.front next)
-    → Refines needs places (updated row current (line_number (record line { older = 0 }))) (updated standing me (record (standing me) { stage = next })) lazy
-cut needs places row standing lazy me s seen work current line next here holds none at word ranged alone apart own showing holder holding =
-    let flag = flag-held needs places row standing lazy me s holds in
+    → (IsLooked (line_of row) state.count state.line seen work current → (new : ℕ → LineWord) → IsHolding needs new me state.count state.line work.front next)
+    → Refines needs places (updated row current (line_number (record line { older = 0 }))) (updated standing me (record (standing me) { stage = next })) state
+cut needs places row standing state me s seen work current line next here holds none at word ranged alone apart own showing holder holding =
+    let flag = flag-held needs places row standing state me s holds in
     let there = oldest-stands work.behind current at.1 at.0 in
-    let waits = work-behind lazy.count lazy.line seen work (pred current) there.0 in
-    let seat = in-line places standing lazy (pred current) s.seats waits in
-    let linked = linked-all (line_of row) lazy.line s.cut s.uncut s.line none in
-    let look : IsLooked (line_of row) lazy.count lazy.line seen work current = looked (line_of row) lazy.count lazy.line seen work current linked at in
+    let waits = work-behind state.count state.line seen work (pred current) there.0 in
+    let seat = in-line places standing state (pred current) s.seats waits in
+    let linked = linked-all (line_of row) state.line s.cut s.uncut s.line none in
+    let look : IsLooked (line_of row) state.count state.line seen work current = looked (line_of row) state.count state.line seen work current linked at in
     let place : pred current ≡ look.asker.0 = omega (arith, look.link) in
     let number : ℕ = line_number (record line { older = 0 }) in
     let new : ℕ → LineWord = line_of (updated row (pred current + 1) number) in
@@ -81,46 +81,46 @@ cut needs places row standing lazy me s seen work current line next here holds n
     let written : new (pred current) ≡ record line { older = 0 } =
     line-at row (pred current) number ∙ line_word-read (record line { older = 0 }) small.0 (omega arith) small.2 in
     let written_there : new look.asker.0 ≡ record line { older = 0 } = subst (λ (n : ℕ). new n ≡ record line { older = 0 }) place written in
-    let line_is : IsLine new lazy.line work.front (look.asker ∷ (look.rest ++ work.joined)) =
-    cut-line (line_of row) new lazy.line work.front (look.rest ++ work.joined) look.asker
+    let line_is : IsLine new state.line work.front (look.asker ∷ (look.rest ++ work.joined)) =
+    cut-line (line_of row) new state.line work.front (look.rest ++ work.joined) look.asker
     (work.parts ∙ ap (λ (l : List (ℕ × ℕ)). work.front ++ (l ++ work.joined)) look.behind) linked
-    (omega (arith, seat.2, ap (λ (n : ℕ). waits_times n lazy.line) place))
+    (omega (arith, seat.2, ap (λ (n : ℕ). waits_times n state.line) place))
     (ap (λ (w : LineWord). w.request) written_there
     ∙ ap (λ (w : LineWord). w.request) word ∙ ap (λ (n : ℕ). (line_of row n).request) place)
     (ap (λ (w : LineWord). w.older) written_there)
     (λ other apart. line-other row (pred current) number other (λ is. apart (is ∙ place))) in
-    subst (λ (link : ℕ). Refines needs places (updated row link number) (updated standing me (record (standing me) { stage = next })) lazy) (sym there.1)
-    (relinked needs places row standing lazy me s next (pred current) number work.front (look.asker ∷ (look.rest ++ work.joined)) here flag waits line_is
+    subst (λ (link : ℕ). Refines needs places (updated row link number) (updated standing me (record (standing me) { stage = next })) state) (sym there.1)
+    (relinked needs places row standing state me s next (pred current) number work.front (look.asker ∷ (look.rest ++ work.joined)) here flag waits line_is
     ranged alone apart (own (new me)) showing holder (holding look new))
 
 -- the place that is cut off from is a place
-cut-inside : (places : ℕ) (row : ℕ → ℕ) (standing : ℕ → Place) (lazy : Lazy) (seen : Word) (work : Work lazy.count lazy.line seen) (current : ℕ)
-    → AreSeats places standing lazy → IsAt (line_of row) work.behind current → current < places + places + 1
-cut-inside places row standing lazy seen work current seats at =
+cut-inside : (places : ℕ) (row : ℕ → ℕ) (standing : ℕ → Place) (state : AbstractState) (seen : Word) (work : Work state.count state.line seen) (current : ℕ)
+    → AreSeats places standing state → IsAt (line_of row) work.behind current → current < places + places + 1
+cut-inside places row standing state seen work current seats at =
     let there = oldest-stands work.behind current at.1 at.0 in
-    omega (arith, there.1, (in-line places standing lazy (pred current) seats (work-behind lazy.count lazy.line seen work (pred current) there.0)).0)
+    omega (arith, there.1, (in-line places standing state (pred current) seats (work-behind state.count state.line seen work (pred current) there.0)).0)
 
 -- The cut before the line is closed: the oldest of those who stay does not fit
-pub step-CutToClose : (needs : Needs) → AreNeeds needs → needs.top < 2 ^ count_bits → (places : ℕ) (row : ℕ → ℕ) (standing : ℕ → Place) (lazy : Lazy) (me : ℕ)
-    → places < 65536 → me < places → (s : Refines needs places row standing lazy)
+pub step-CutToClose : (needs : Needs) → AreNeeds needs → needs.top < 2 ^ count_bits → (places : ℕ) (row : ℕ → ℕ) (standing : ℕ → Place) (state : AbstractState) (me : ℕ)
+    → places < 65536 → me < places → (s : Refines needs places row standing state)
     → (seen : Word) (current count : ℕ) (line : LineWord) → (standing me).stage ≡ CutToClose seen current count line
-    → StepRefines needs places row standing lazy me (CutToClose seen current count line)
-step-CutToClose needs lawful wide places row standing lazy me room here s seen current count line at =
-    let knows = flag-knows needs places row standing lazy me s (CutToClose seen current count line) at refl in
+    → StepRefines needs places row standing state me (CutToClose seen current count line)
+step-CutToClose needs lawful wide places row standing state me room here s seen current count line at =
+    let knows = flag-knows needs places row standing state me s (CutToClose seen current count line) at refl in
     record {
       events = [];
-      last = lazy;
+      last = state;
       run = refl;
       names = refl;
       calm = λ semaphore. refl;
-      inside = cut-inside places row standing lazy seen knows.0 current s.seats knows.3;
-      stands = cut needs places row standing lazy me s seen knows.0 current line (Close seen count line.older) here (ap is_holder at)
+      inside = cut-inside places row standing state seen knows.0 current s.seats knows.3;
+      stands = cut needs places row standing state me s seen knows.0 current line (Close seen count line.older) here (ap is_holder at)
           knows.1 knows.3 knows.4
           (subst (λ stage. IsRanged needs stage) at (s.stages.ranged me)) (
-            tail-room places standing lazy seen knows.0 s.seats room knows.3.1,
+            tail-room places standing state seen knows.0 s.seats room knows.3.1,
             subst (λ stage. IsAlone needs (standing me).registration (standing me).back stage) at (s.stages.alone me),
           )
-          (apart-at needs places row standing lazy me s (CutToClose seen current count line) at) (λ word. tt)
+          (apart-at needs places row standing state me s (CutToClose seen current count line) at) (λ word. tt)
           (subst (λ stage. IsShowing (s.owed me) (s.worth me) stage) at (s.stages.showing me)) refl
           (λ look new. (
             knows.0,
@@ -134,24 +134,24 @@ step-CutToClose needs lawful wide places row standing lazy me room here s seen c
     }
 
 -- The cut before the holder goes round: the line could not be emptied, and its last waits on
-pub step-CutToGoRound : (needs : Needs) → AreNeeds needs → needs.top < 2 ^ count_bits → (places : ℕ) (row : ℕ → ℕ) (standing : ℕ → Place) (lazy : Lazy) (me : ℕ)
-    → places < 65536 → me < places → (s : Refines needs places row standing lazy)
+pub step-CutToGoRound : (needs : Needs) → AreNeeds needs → needs.top < 2 ^ count_bits → (places : ℕ) (row : ℕ → ℕ) (standing : ℕ → Place) (state : AbstractState) (me : ℕ)
+    → places < 65536 → me < places → (s : Refines needs places row standing state)
     → (seen : Word) (current count : ℕ) (line : LineWord) → (standing me).stage ≡ CutToGoRound seen current count line
-    → StepRefines needs places row standing lazy me (CutToGoRound seen current count line)
-step-CutToGoRound needs lawful wide places row standing lazy me room here s seen current count line at =
-    let knows = flag-knows needs places row standing lazy me s (CutToGoRound seen current count line) at refl in
+    → StepRefines needs places row standing state me (CutToGoRound seen current count line)
+step-CutToGoRound needs lawful wide places row standing state me room here s seen current count line at =
+    let knows = flag-knows needs places row standing state me s (CutToGoRound seen current count line) at refl in
     record {
       events = [];
-      last = lazy;
+      last = state;
       run = refl;
       names = refl;
       calm = λ semaphore. refl;
-      inside = cut-inside places row standing lazy seen knows.0 current s.seats knows.3;
-      stands = cut needs places row standing lazy me s seen knows.0 current line (GoRound seen count line.older) here (ap is_holder at)
+      inside = cut-inside places row standing state seen knows.0 current s.seats knows.3;
+      stands = cut needs places row standing state me s seen knows.0 current line (GoRound seen count line.older) here (ap is_holder at)
           knows.1 knows.3 knows.4
           (subst (λ stage. IsRanged needs stage) at (s.stages.ranged me))
           (subst (λ stage. IsAlone needs (standing me).registration (standing me).back stage) at (s.stages.alone me))
-          (apart-at needs places row standing lazy me s (CutToGoRound seen current count line) at) (λ word. tt)
+          (apart-at needs places row standing state me s (CutToGoRound seen current count line) at) (λ word. tt)
           (subst (λ stage. IsShowing (s.owed me) (s.worth me) stage) at (s.stages.showing me)) refl
           (λ look new. (knows.0, refl, knows.2, ap (λ (w : LineWord). w.older) knows.4 ∙ look.older, knows.3.1));
     }

@@ -10,7 +10,7 @@ use Rattle.saa_word_steps.specs.declared.place.Afterwards.TheVariants.{Ends}
 use Rattle.saa_word_steps.specs.declared.place.Stage.{Stage}
 use Rattle.saa_word_steps.specs.declared.place.Stage.TheVariants.{CutToGoRound, Empty, GoRound, ShowLoad}
 use Rattle.saa_word_steps.specs.Needs.{Needs, AreNeeds, fits_count}
-use Rattle.saa_word_steps.specs.Lazy.{Lazy, IsFront, is_empty, is_in, waits_times, takes_of}
+use Rattle.saa_word_steps.specs.AbstractState.{AbstractState, IsFront, is_empty, is_in, waits_times, takes_of}
 use Rattle.saa_word_steps.specs.Steps.{IsRanged, settled_word}
 use Rattle.saa_word_proofs.specs.Refinement.{updated, main_of, line_of, newest, oldest, IsBehind, is_holder, gives_up, IsAlone, IsShowing, Work, IsHolding, Refines}
 use Rattle.saa_word_proofs.specs.StepRefinement.{StepRefines}
@@ -55,57 +55,57 @@ older-first words older (asker ∷ rest) link some first linked =
     ap (λ (n : ℕ). (words n).older) place ∙ linked.1
 
 -- the exchange succeeds
-emptied-step : (needs : Needs) → AreNeeds needs → (places : ℕ) (row : ℕ → ℕ) (standing : ℕ → Place) (lazy : Lazy) (me : ℕ)
-    → me < places → (s : Refines needs places row standing lazy)
+emptied-step : (needs : Needs) → AreNeeds needs → (places : ℕ) (row : ℕ → ℕ) (standing : ℕ → Place) (state : AbstractState) (me : ℕ)
+    → me < places → (s : Refines needs places row standing state)
     → (seen : Word) (current count : ℕ) (word : LineWord) → row 0 == word_number count_bits seen ≡ true
     → s.holder ≡ me + 1 → IsRanged needs (Empty seen current count word)
     → IsAlone needs (standing me).registration (standing me).back (Empty seen current count word)
-    → (gives_up (standing me).back (Empty seen current count word) ≡ true → is_in me lazy.line ≡ false) → s.owed me ≡ []
-    → IsHolding needs (line_of row) me lazy.count lazy.line s.cut (Empty seen current count word)
-    → StepRefines needs places row standing lazy me (Empty seen current count word)
-emptied-step needs lawful places row standing lazy me here s seen current count word same mine ranged alone apart none holding =
-    let work : Work lazy.count lazy.line seen = holding.0 in
+    → (gives_up (standing me).back (Empty seen current count word) ≡ true → is_in me state.line ≡ false) → s.owed me ≡ []
+    → IsHolding needs (line_of row) me state.count state.line s.cut (Empty seen current count word)
+    → StepRefines needs places row standing state me (Empty seen current count word)
+emptied-step needs lawful places row standing state me here s seen current count word same mine ranged alone apart none holding =
+    let work : Work state.count state.line seen = holding.0 in
     let rest : List (ℕ × ℕ) = work.behind ++ work.joined in
     let found : main_of row ≡ seen = main-found (row 0) seen ranged.0 alone.0 same in
-    let counted : seen.count ≡ lazy.count = sym (ap (λ (w : Word). w.count) found) ∙ s.main.count in
+    let counted : seen.count ≡ state.count = sym (ap (λ (w : Word). w.count) found) ∙ s.main.count in
     let some : is_empty rest ≡ false = some-append work.behind work.joined holding.3.1 in
     let tail : current ≡ newest 0 rest =
     sym holding.5 ∙ sym (ap (λ (w : Word). w.tail) found) ∙ s.main.tail
     ∙ ap (λ (l : List (ℕ × ℕ)). newest 0 l) work.parts ∙ newest-rest 0 work.front rest some in
     let once : (place : ℕ) → waits_times place rest ≤ 1 = λ place.
-    let both = times-parts place lazy.line work.front rest work.parts in
-    omega (arith, both, held-once places standing lazy s.seats place) in
+    let both = times-parts place state.line work.front rest work.parts in
+    omega (arith, both, held-once places standing state s.seats place) in
     let one : IsOne rest current =
     oldest-newest rest current some (holding.3.0 ∙ sym (oldest-append work.behind work.joined holding.3.1)) tail once in
     let asker : ℕ × ℕ = one.asker in
     let all : List (ℕ × ℕ) = work.front ++ asker ∷ [] in
-    let whole : lazy.line ≡ all = work.parts ∙ ap (λ (l : List (ℕ × ℕ)). work.front ++ l) one.is in
-    let parts : lazy.line ≡ all ++ [] = whole ∙ sym (append-nil all) in
+    let whole : state.line ≡ all = work.parts ∙ ap (λ (l : List (ℕ × ℕ)). work.front ++ l) one.is in
+    let parts : state.line ≡ all ++ [] = whole ∙ sym (append-nil all) in
     let linked : IsBehind (line_of row) 0 all =
     subst (λ (l : List (ℕ × ℕ)). IsBehind (line_of row) 0 l) whole
-    (parts-linked (line_of row) lazy.line s.cut s.uncut [] lazy.line s.line holding.1 refl).1 in
+    (parts-linked (line_of row) state.line s.cut s.uncut [] state.line s.line holding.1 refl).1 in
     let last = behind-rest (line_of row) 0 work.front (asker ∷ []) linked in
     let place : pred current ≡ asker.0 = omega (arith, one.stands) in
     let asks : word.request ≡ asker.1 = ap (λ (w : LineWord). w.request) (holding.4 ∙ ap (line_of row) place) ∙ last.0 in
-    let fits : IsFront needs lazy.count all =
+    let fits : IsFront needs state.count all =
     subst (λ (n : ℕ). IsFront needs n all) counted
     (front-append needs seen.count work.front (asker ∷ []) holding.2
     (subst (λ (n : ℕ). fits_count needs (seen.count + takes_of needs work.front) n ≡ true) asks holding.6, tt)) in
-    let adds : count ≡ lazy.count + takes_of needs all =
+    let adds : count ≡ state.count + takes_of needs all =
     omega (arith, counted, holding.7, ap needs.takes asks, takes-append needs work.front (asker ∷ [])) in
-    let bounded : count ≤ needs.top = omega (arith, adds, front-bounded needs lawful lazy.count all fits s.main.bounded) in
-    let main = settled-main needs lazy all [] count 0 (calm-held needs places row standing lazy me s mine) ranged.1 (omega arith) adds bounded refl tt in
-    let grant = close-run needs lazy me all [] parts fits tt s.main.settled in
+    let bounded : count ≤ needs.top = omega (arith, adds, front-bounded needs lawful state.count all fits s.main.bounded) in
+    let main = settled-main needs state all [] count 0 (calm-held needs places row standing state me s mine) ranged.1 (omega arith) adds bounded refl tt in
+    let grant = close-run needs state me all [] parts fits tt s.main.settled in
     record {
       events = grant.events;
-      last = granted needs lazy all [] false;
+      last = granted needs state all [] false;
       run = grant.run;
       names = grant.names;
       calm = λ semaphore. grant.calm;
       inside = omega arith;
       stands =
           rw same
-          (granting needs places row standing lazy me s (word_number count_bits (settled_word count 0)) (ShowLoad current 0 Ends) all [] 0 false
+          (granting needs places row standing state me s (word_number count_bits (settled_word count 0)) (ShowLoad current 0 Ends) all [] 0 false
           here mine none parts linked tt main tt alone.1 apart tt
           (newest-last 0 work.front asker ∙ sym one.stands, some-last work.front asker, refl)
           (sym (nobody me))
@@ -113,17 +113,17 @@ emptied-step needs lawful places row standing lazy me here s seen current count 
     }
 
 -- the exchange fails: another word stands there, and all but the last go round
-missed-step : (needs : Needs) (places : ℕ) (row : ℕ → ℕ) (standing : ℕ → Place) (lazy : Lazy) (me : ℕ)
-    → me < places → (s : Refines needs places row standing lazy)
+missed-step : (needs : Needs) (places : ℕ) (row : ℕ → ℕ) (standing : ℕ → Place) (state : AbstractState) (me : ℕ)
+    → me < places → (s : Refines needs places row standing state)
     → (seen : Word) (current count : ℕ) (word : LineWord) → (standing me).stage ≡ Empty seen current count word
     → row 0 == word_number count_bits seen ≡ false
     → s.holder ≡ me + 1 → IsRanged needs (Empty seen current count word)
     → IsAlone needs (standing me).registration (standing me).back (Empty seen current count word)
-    → (gives_up (standing me).back (Empty seen current count word) ≡ true → is_in me lazy.line ≡ false) → s.owed me ≡ []
-    → IsHolding needs (line_of row) me lazy.count lazy.line s.cut (Empty seen current count word)
-    → StepRefines needs places row standing lazy me (Empty seen current count word)
-missed-step needs places row standing lazy me here s seen current count word at differs mine ranged alone apart none holding =
-    let work : Work lazy.count lazy.line seen = holding.0 in
+    → (gives_up (standing me).back (Empty seen current count word) ≡ true → is_in me state.line ≡ false) → s.owed me ≡ []
+    → IsHolding needs (line_of row) me state.count state.line s.cut (Empty seen current count word)
+    → StepRefines needs places row standing state me (Empty seen current count word)
+missed-step needs places row standing state me here s seen current count word at differs mine ranged alone apart none holding =
+    let work : Work state.count state.line seen = holding.0 in
     let rest : List (ℕ × ℕ) = work.behind ++ work.joined in
     let fewer : ℕ = count - needs.takes word.request in
     let left : fewer ≡ seen.count + takes_of needs work.front = omega (arith, holding.7) in
@@ -131,14 +131,14 @@ missed-step needs places row standing lazy me here s seen current count word at 
     let linked : IsBehind (line_of row) (newest 0 work.front) rest =
     behind-rest (line_of row) 0 work.front rest
     (subst (λ (l : List (ℕ × ℕ)). IsBehind (line_of row) 0 l) work.parts
-    (parts-linked (line_of row) lazy.line s.cut s.uncut [] lazy.line s.line holding.1 refl).1) in
+    (parts-linked (line_of row) state.line s.cut s.uncut [] state.line s.line holding.1 refl).1) in
     let older : word.older ≡ newest 0 work.front =
     ap (λ (w : LineWord). w.older) holding.4
     ∙ older-first (line_of row) (newest 0 work.front) rest current (some-append work.behind work.joined holding.3.1)
     (holding.3.0 ∙ sym (oldest-append work.behind work.joined holding.3.1)) linked in
     record {
       events = [];
-      last = lazy;
+      last = state;
       run = refl;
       names = refl;
       calm = λ semaphore. refl;
@@ -148,32 +148,32 @@ missed-step needs places row standing lazy me here s seen current count word at 
             | inl only ↦
                 let front : work.front ≡ [] = front-none work.front word.older older only in
                 rw (differs, only)
-                (loaded needs places row (updated standing me (record (standing me) { stage = GoRound seen fewer 0 })) lazy 0
-                (moved needs places row standing lazy me s (record (standing me) { stage = GoRound seen fewer 0 }) here refl
+                (loaded needs places row (updated standing me (record (standing me) { stage = GoRound seen fewer 0 })) state 0
+                (moved needs places row standing state me s (record (standing me) { stage = GoRound seen fewer 0 }) here refl
                 (ranged.0, small) alone.1 apart tt none (ap is_holder (sym at))
                 (λ is. (work, holding.1 ∙ sym front, (holding.2, left), sym (ap (λ (l : List (ℕ × ℕ)). newest 0 l) front), holding.3.1))))
             | inr others ↦
                 rw (differs, others)
-                (loaded needs places row (updated standing me (record (standing me) { stage = CutToGoRound seen current fewer word })) lazy 0
-                (moved needs places row standing lazy me s (record (standing me) { stage = CutToGoRound seen current fewer word }) here refl
+                (loaded needs places row (updated standing me (record (standing me) { stage = CutToGoRound seen current fewer word })) state 0
+                (moved needs places row standing state me s (record (standing me) { stage = CutToGoRound seen current fewer word }) here refl
                 (ranged.0, small) alone.1 apart tt none (ap is_holder (sym at))
                 (λ is. (work, holding.1, (holding.2, left), holding.3, holding.4))))
           ];
     }
 
 -- Where all fit, the line is emptied; else all but the last of them go round
-pub step-Empty : (needs : Needs) → AreNeeds needs → needs.top < 2 ^ count_bits → (places : ℕ) (row : ℕ → ℕ) (standing : ℕ → Place) (lazy : Lazy) (me : ℕ)
-    → places < 65536 → me < places → (s : Refines needs places row standing lazy)
+pub step-Empty : (needs : Needs) → AreNeeds needs → needs.top < 2 ^ count_bits → (places : ℕ) (row : ℕ → ℕ) (standing : ℕ → Place) (state : AbstractState) (me : ℕ)
+    → places < 65536 → me < places → (s : Refines needs places row standing state)
     → (seen : Word) (current count : ℕ) (word : LineWord) → (standing me).stage ≡ Empty seen current count word
-    → StepRefines needs places row standing lazy me (Empty seen current count word)
-step-Empty needs lawful wide places row standing lazy me room here s seen current count word at =
-    let mine : s.holder ≡ me + 1 = flag-held needs places row standing lazy me s (ap is_holder at) in
+    → StepRefines needs places row standing state me (Empty seen current count word)
+step-Empty needs lawful wide places row standing state me room here s seen current count word at =
+    let mine : s.holder ≡ me + 1 = flag-held needs places row standing state me s (ap is_holder at) in
     let ranged = subst (λ (stage : Stage). IsRanged needs stage) at (s.stages.ranged me) in
     let alone = subst (λ (stage : Stage). IsAlone needs (standing me).registration (standing me).back stage) at (s.stages.alone me) in
-    let apart = apart-at needs places row standing lazy me s (Empty seen current count word) at in
+    let apart = apart-at needs places row standing state me s (Empty seen current count word) at in
     let none = subst (λ (stage : Stage). IsShowing (s.owed me) (s.worth me) stage) at (s.stages.showing me) in
-    let holding = subst (λ (stage : Stage). IsHolding needs (line_of row) me lazy.count lazy.line s.cut stage) at (s.stages.holding me mine) in
+    let holding = subst (λ (stage : Stage). IsHolding needs (line_of row) me state.count state.line s.cut stage) at (s.stages.holding me mine) in
     elim (cases_Bool (row 0 == word_number count_bits seen)) [
-      | inl same ↦ emptied-step needs lawful places row standing lazy me here s seen current count word same mine ranged alone apart none holding
-      | inr differs ↦ missed-step needs places row standing lazy me here s seen current count word at differs mine ranged alone apart none holding
+      | inl same ↦ emptied-step needs lawful places row standing state me here s seen current count word same mine ranged alone apart none holding
+      | inr differs ↦ missed-step needs places row standing state me here s seen current count word at differs mine ranged alone apart none holding
     ]

@@ -13,15 +13,15 @@ use Rattle.saa_word_steps.specs.declared.place.Stage.{Stage}
 use Rattle.saa_word_steps.specs.declared.place.Stage.TheVariants.{FlagLoad, FlagExchange, LookLoad}
 use Rattle.saa_word_steps.specs.declared.place.Next.TheVariants.{Waits}
 use Rattle.saa_word_steps.specs.Needs.{Needs, AreNeeds}
-use Rattle.saa_word_steps.specs.Lazy.{Lazy, is_empty, is_in}
+use Rattle.saa_word_steps.specs.AbstractState.{AbstractState, is_empty, is_in}
 use Rattle.saa_word_steps.specs.Steps.{IsRanged, flagged_word, going, finished, flagging, no_line}
 use Rattle.saa_word_proofs.specs.Refinement.{updated, line_of, main_of, newest, is_holder, IsReturning, IsLeaving, IsAlone, IsShowing, IsLine, AreDebts, AreStages, Refines}
-use Rattle.saa_word_proofs.specs.StepRefinement.{StepRefines, place_after}
+use Rattle.saa_word_proofs.specs.StepRefinement.{StepRefines}
 use Rattle.saa_word_proofs.proofs.RefinementLemmas.Lists.{updated-same, newest-empty, empty-nil}
 use Rattle.saa_word_proofs.proofs.RefinementLemmas.Frames.{stages-next}
-use Rattle.saa_word_proofs.proofs.RefinementLemmas.Rows.{moved, loaded, main-found, line-main, seats-next, count-small, tail-small}
+use Rattle.saa_word_proofs.proofs.RefinementLemmas.Rows.{moved, main-found, line-main, seats-next, count-small, tail-small}
 use Rattle.saa_word_proofs.proofs.RefinementLemmas.Holders.{main-now}
-use Rattle.saa_word_proofs.proofs.RefinementLemmas.Outcomes.{Outcome, not-holder, answers-main}
+use Rattle.saa_word_proofs.proofs.RefinementLemmas.Outcomes.{Outcome, not-holder, answers-main, only-looked}
 use Rattle.saa_word_proofs.proofs.RefinementLemmas.Ending.{end_stage, ended, ended-ranged, ended-alone, ended-own, ended-showing, ended-holder}
 
 -- who gives its registration up is returning
@@ -31,73 +31,65 @@ returning-leaving registration Ends leaving = absurd leaving
 returning-leaving registration (Takes request) leaving = leaving
 
 -- A cancel that is decided by the main word as it stands: by its flag, and by whether nobody waits
-flag-outcome : (needs : Needs) (places : ℕ) (row : ℕ → ℕ) (standing : ℕ → Place) (lazy : Lazy) (me : ℕ)
-    → me < places → (s : Refines needs places row standing lazy) → is_holder (standing me).stage ≡ false → s.owed me ≡ []
+flag-outcome : (needs : Needs) (places : ℕ) (row : ℕ → ℕ) (standing : ℕ → Place) (state : AbstractState) (me : ℕ)
+    → me < places → (s : Refines needs places row standing state) → is_holder (standing me).stage ≡ false → s.owed me ≡ []
     → IsLeaving (standing me).registration (standing me).back
     → (flagged empty : Bool) → (main_of row).is_flagged ≡ flagged → ((main_of row).tail == 0) ≡ empty
-    → Outcome needs places row standing lazy me
+    → Outcome needs places row standing state me
     (if flagged then Waits else (if empty then finished (standing me) (standing me).back else going (standing me) (FlagExchange (main_of row)))) []
-flag-outcome needs places row standing lazy me here s none nothing leaving true empty set rest = record {
+flag-outcome needs places row standing state me here s none nothing leaving true empty set rest = record {
   events = [];
-  last = lazy;
+  last = state;
   run = refl;
   names = refl;
   calm = λ semaphore. refl;
-  stands = subst (λ (p : ℕ → Place). Refines needs places row p lazy) (sym (updated-same standing me (standing me) refl)) s;
+  stands = subst (λ (p : ℕ → Place). Refines needs places row p state) (sym (updated-same standing me (standing me) refl)) s;
 }
-flag-outcome needs places row standing lazy me here s none nothing leaving false true clear nobody =
+flag-outcome needs places row standing state me here s none nothing leaving false true clear nobody =
     let back : Back = (standing me).back in
     let registration : Registration = (standing me).registration in
-    let empty : lazy.line ≡ [] = empty-nil lazy.line (sym (newest-empty lazy.line) ∙ ap (λ (n : ℕ). n == 0) (sym s.main.tail) ∙ nobody) in
+    let empty : state.line ≡ [] = empty-nil state.line (sym (newest-empty state.line) ∙ ap (λ (n : ℕ). n == 0) (sym s.main.tail) ∙ nobody) in
     record {
       events = [];
-      last = lazy;
+      last = state;
       run = refl;
       names = refl;
       calm = λ semaphore. refl;
-      stands = subst (λ (p : Place). Refines needs places row (updated standing me p) lazy) (sym (ended (standing me) back))
-          (moved needs places row standing lazy me s (record (standing me) { stage = end_stage back }) here refl
+      stands = subst (λ (p : Place). Refines needs places row (updated standing me p) state) (sym (ended (standing me) back))
+          (moved needs places row standing state me s (record (standing me) { stage = end_stage back }) here refl
           (ended-ranged needs back) (ended-alone needs registration back (returning-leaving registration back leaving))
           (λ gives. ap (is_in me) empty) (ended-own (line_of row me) back) (ended-showing (s.owed me) (s.worth me) back nothing)
-          (ended-holder back ∙ sym none) (λ it. absurd (not-holder needs places row standing lazy me s none it)));
+          (ended-holder back ∙ sym none) (λ it. absurd (not-holder needs places row standing state me s none it)));
     }
-flag-outcome needs places row standing lazy me here s none nothing leaving false false clear some = record {
+flag-outcome needs places row standing state me here s none nothing leaving false false clear some = record {
   events = [];
-  last = lazy;
+  last = state;
   run = refl;
   names = refl;
   calm = λ semaphore. refl;
-  stands = moved needs places row standing lazy me s (record (standing me) { stage = FlagExchange (main_of row) }) here refl
+  stands = moved needs places row standing state me s (record (standing me) { stage = FlagExchange (main_of row) }) here refl
       (count-small (row 0)) (leaving, tail-small (row 0), some, clear) (λ gives. absurd (cc)) tt nothing (sym none)
-      (λ it. absurd (not-holder needs places row standing lazy me s none it));
+      (λ it. absurd (not-holder needs places row standing state me s none it));
 }
 
 -- the two tests are those of the main word
-flagging-outcome : (needs : Needs) (places : ℕ) (row : ℕ → ℕ) (standing : ℕ → Place) (lazy : Lazy) (me : ℕ)
-    → me < places → (s : Refines needs places row standing lazy) → is_holder (standing me).stage ≡ false → s.owed me ≡ []
+flagging-outcome : (needs : Needs) (places : ℕ) (row : ℕ → ℕ) (standing : ℕ → Place) (state : AbstractState) (me : ℕ)
+    → me < places → (s : Refines needs places row standing state) → is_holder (standing me).stage ≡ false → s.owed me ≡ []
     → IsLeaving (standing me).registration (standing me).back
-    → Outcome needs places row standing lazy me (flagging (standing me) (main_of row)) []
-flagging-outcome needs places row standing lazy me here s none nothing leaving =
-    flag-outcome needs places row standing lazy me here s none nothing leaving (main_of row).is_flagged ((main_of row).tail == 0) refl refl
+    → Outcome needs places row standing state me (flagging (standing me) (main_of row)) []
+flagging-outcome needs places row standing state me here s none nothing leaving =
+    flag-outcome needs places row standing state me here s none nothing leaving (main_of row).is_flagged ((main_of row).tail == 0) refl refl
 
 -- The main word is loaded: the cancel waits, is done with the line, or is to set the flag
-pub step-FlagLoad : (needs : Needs) → AreNeeds needs → needs.top < 2 ^ count_bits → (places : ℕ) (row : ℕ → ℕ) (standing : ℕ → Place) (lazy : Lazy) (me : ℕ)
-    → places < 65536 → me < places → (s : Refines needs places row standing lazy)
-    → (standing me).stage ≡ FlagLoad → StepRefines needs places row standing lazy me FlagLoad
-step-FlagLoad needs lawful wide places row standing lazy me room here s at =
+pub step-FlagLoad : (needs : Needs) → AreNeeds needs → needs.top < 2 ^ count_bits → (places : ℕ) (row : ℕ → ℕ) (standing : ℕ → Place) (state : AbstractState) (me : ℕ)
+    → places < 65536 → me < places → (s : Refines needs places row standing state)
+    → (standing me).stage ≡ FlagLoad → StepRefines needs places row standing state me FlagLoad
+step-FlagLoad needs lawful wide places row standing state me room here s at =
     let leaving : IsLeaving (standing me).registration (standing me).back =
     subst (λ stage. IsAlone needs (standing me).registration (standing me).back stage) at (s.stages.alone me) in
-    let out = flagging-outcome needs places row standing lazy me here s (ap is_holder at)
+    let out = flagging-outcome needs places row standing state me here s (ap is_holder at)
     (subst (λ stage. IsShowing (s.owed me) (s.worth me) stage) at (s.stages.showing me)) leaving in
-    record {
-      events = out.events;
-      last = out.last;
-      run = out.run;
-      names = out.names;
-      calm = out.calm;
-      inside = omega arith;
-      stands = loaded needs places row (updated standing me (place_after (standing me) (flagging (standing me) (main_of row)))) out.last 0 out.stands;
-    }
+    only-looked needs places row standing state me FlagLoad out refl refl refl refl
 
 -- the link of a place isn't 0
 pub link-some : (place : ℕ) → (place + 1 == 0) ≡ false
@@ -115,16 +107,16 @@ apart-holders holder me other nobody apart =
     ∙ sym (number_other (me + 1) (other + 1) (λ is. apart (omega (arith, is))))
 
 -- The flag is set where somebody waits and nobody holds it: this place holds it, and looks for itself from the tail
-flag-set : (needs : Needs) (places : ℕ) (row : ℕ → ℕ) (standing : ℕ → Place) (lazy : Lazy) (me : ℕ)
-    → me < places → (s : Refines needs places row standing lazy) → s.owed me ≡ [] → IsLeaving (standing me).registration (standing me).back
+flag-set : (needs : Needs) (places : ℕ) (row : ℕ → ℕ) (standing : ℕ → Place) (state : AbstractState) (me : ℕ)
+    → me < places → (s : Refines needs places row standing state) → s.owed me ≡ [] → IsLeaving (standing me).registration (standing me).back
     → (seen : Word) → seen.count < 64 → seen.tail < 65536 → (seen.tail == 0) ≡ false → seen.is_flagged ≡ false → main_of row ≡ seen
     → Refines needs places (updated row 0 (word_number count_bits (flagged_word seen)))
-    (updated standing me (record (standing me) { stage = LookLoad (flagged_word seen) seen.tail 0 no_line })) lazy
-flag-set needs places row standing lazy me here s nothing leaving seen small tail_small somebody clear is =
-    let tail : seen.tail ≡ newest 0 lazy.line = ap (λ (w : Word). w.tail) (sym is) ∙ s.main.tail in
-    let count : seen.count ≡ lazy.count = ap (λ (w : Word). w.count) (sym is) ∙ s.main.count in
-    let poison : seen.is_poisoned ≡ lazy.poisoned = ap (λ (w : Word). w.is_poisoned) (sym is) ∙ s.main.poison in
-    let some : is_empty lazy.line ≡ false = sym (newest-empty lazy.line) ∙ ap (λ (n : ℕ). n == 0) (sym tail) ∙ somebody in
+    (updated standing me (record (standing me) { stage = LookLoad (flagged_word seen) seen.tail 0 no_line })) state
+flag-set needs places row standing state me here s nothing leaving seen small tail_small somebody clear is =
+    let tail : seen.tail ≡ newest 0 state.line = ap (λ (w : Word). w.tail) (sym is) ∙ s.main.tail in
+    let count : seen.count ≡ state.count = ap (λ (w : Word). w.count) (sym is) ∙ s.main.count in
+    let poison : seen.is_poisoned ≡ state.poisoned = ap (λ (w : Word). w.is_poisoned) (sym is) ∙ s.main.poison in
+    let some : is_empty state.line ≡ false = sym (newest-empty state.line) ∙ ap (λ (n : ℕ). n == 0) (sym tail) ∙ somebody in
     let nobody : s.holder == 0 ≡ true = not-true (s.holder == 0) (sym s.main.flag ∙ ap (λ (w : Word). w.is_flagged) is ∙ clear) in
     let word : Word = flagged_word seen in
     let number : ℕ = word_number count_bits word in
@@ -138,24 +130,24 @@ flag-set needs places row standing lazy me here s nothing leaving seen small tai
       shower = s.shower;
       worth = s.worth;
       free = λ free. let wrong : true ≡ false = sym free ∙ link-some me in absurd (cc);
-      main = main-now needs lazy (me + 1) word small tail_small count tail (sym (ap not (link-some me))) poison s.main.barren s.main.bounded
+      main = main-now needs state (me + 1) word small tail_small count tail (sym (ap not (link-some me))) poison s.main.barren s.main.bounded
           (λ free. let wrong : true ≡ false = sym free ∙ link-some me in absurd (cc)) s.main.settled;
-      line = subst (λ (w : ℕ → LineWord). IsLine w lazy.line s.cut s.uncut) (sym (line-main row number)) s.line;
-      seats = seats-next places standing lazy me place s.seats here refl;
-      answers = answers-main places row number lazy.shown s.answers;
-      debts = subst (λ (w : ℕ → LineWord). AreDebts w lazy.due s.owed s.shower s.worth) (sym (line-main row number)) s.debts;
-      stages = subst (λ (w : ℕ → LineWord). AreStages needs w (updated standing me place) lazy.count lazy.line s.cut (me + 1) s.owed s.worth)
+      line = subst (λ (w : ℕ → LineWord). IsLine w state.line s.cut s.uncut) (sym (line-main row number)) s.line;
+      seats = seats-next places standing state me place s.seats here refl;
+      answers = answers-main places row number state.shown s.answers;
+      debts = subst (λ (w : ℕ → LineWord). AreDebts w state.due s.owed s.shower s.worth) (sym (line-main row number)) s.debts;
+      stages = subst (λ (w : ℕ → LineWord). AreStages needs w (updated standing me place) state.count state.line s.cut (me + 1) s.owed s.worth)
           (sym (line-main row number))
-          (stages-next needs (line_of row) (line_of row) standing lazy.count lazy.count lazy.line lazy.line s.cut s.cut s.holder (me + 1)
+          (stages-next needs (line_of row) (line_of row) standing state.count state.count state.line state.line s.cut s.cut s.holder (me + 1)
           s.owed s.owed s.worth s.worth me place s.stages
           small leaving (λ gives. absurd (cc)) tt nothing (sym (number_same (me + 1)))
           (λ it. (
             record {
-              front = lazy.line;
+              front = state.line;
               behind = [];
               joined = [];
-              parts = sym (append-nil lazy.line);
-              tail = tail ∙ ap (newest 0) (sym (append-nil lazy.line));
+              parts = sym (append-nil state.line);
+              tail = tail ∙ ap (newest 0) (sym (append-nil state.line));
               count = omega (arith, count);
             },
             s.free nobody,
@@ -168,10 +160,10 @@ flag-set needs places row standing lazy me here s nothing leaving seen small tai
     }
 
 -- The flag is set, or the main word is another one by now, and decides as where it is loaded
-pub step-FlagExchange : (needs : Needs) → AreNeeds needs → needs.top < 2 ^ count_bits → (places : ℕ) (row : ℕ → ℕ) (standing : ℕ → Place) (lazy : Lazy) (me : ℕ)
-    → places < 65536 → me < places → (s : Refines needs places row standing lazy)
-    → (seen : Word) → (standing me).stage ≡ FlagExchange seen → StepRefines needs places row standing lazy me (FlagExchange seen)
-step-FlagExchange needs lawful wide places row standing lazy me room here s seen at =
+pub step-FlagExchange : (needs : Needs) → AreNeeds needs → needs.top < 2 ^ count_bits → (places : ℕ) (row : ℕ → ℕ) (standing : ℕ → Place) (state : AbstractState) (me : ℕ)
+    → places < 65536 → me < places → (s : Refines needs places row standing state)
+    → (seen : Word) → (standing me).stage ≡ FlagExchange seen → StepRefines needs places row standing state me (FlagExchange seen)
+step-FlagExchange needs lawful wide places row standing state me room here s seen at =
     let alone : IsAlone needs (standing me).registration (standing me).back (FlagExchange seen) =
     subst (λ stage. IsAlone needs (standing me).registration (standing me).back stage) at (s.stages.alone me) in
     let small : IsRanged needs (FlagExchange seen) = subst (λ stage. IsRanged needs stage) at (s.stages.ranged me) in
@@ -179,24 +171,15 @@ step-FlagExchange needs lawful wide places row standing lazy me room here s seen
     elim (cases_Bool (row 0 == word_number count_bits seen)) [
       | inl same ↦ record {
         events = [];
-        last = lazy;
+        last = state;
         run = refl;
         names = refl;
         calm = λ semaphore. refl;
         inside = omega arith;
-        stands = rw same (flag-set needs places row standing lazy me here s nothing alone.0 seen small alone.1 alone.2 alone.3
+        stands = rw same (flag-set needs places row standing state me here s nothing alone.0 seen small alone.1 alone.2 alone.3
             (main-found (row 0) seen small alone.1 same));
       }
       | inr differs ↦
-          let out = flagging-outcome needs places row standing lazy me here s (ap is_holder at) nothing alone.0 in
-          record {
-            events = out.events;
-            last = out.last;
-            run = out.run;
-            names = out.names;
-            calm = out.calm;
-            inside = omega arith;
-            stands = rw differs
-                (loaded needs places row (updated standing me (place_after (standing me) (flagging (standing me) (main_of row)))) out.last 0 out.stands);
-          }
+          let out = flagging-outcome needs places row standing state me here s (ap is_holder at) nothing alone.0 in
+          only-looked needs places row standing state me (FlagExchange seen) out refl (rw differs refl) (rw differs refl) refl
     ]

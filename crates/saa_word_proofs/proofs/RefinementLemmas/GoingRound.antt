@@ -8,7 +8,7 @@ use Rattle.saa_word_steps.specs.declared.place.Afterwards.TheVariants.{Again}
 use Rattle.saa_word_steps.specs.declared.place.Stage.{Stage}
 use Rattle.saa_word_steps.specs.declared.place.Stage.TheVariants.{BackLoad, GoRound, ShowLoad}
 use Rattle.saa_word_steps.specs.Needs.{Needs, AreNeeds}
-use Rattle.saa_word_steps.specs.Lazy.{Lazy, IsFront, IsSettledAt, is_empty, takes_of}
+use Rattle.saa_word_steps.specs.AbstractState.{AbstractState, IsFront, IsSettledAt, is_empty, takes_of}
 use Rattle.saa_word_proofs.specs.Refinement.{line_of, newest, is_holder, IsAlone, IsShowing, Work, IsHolding, IsMain, Refines}
 use Rattle.saa_word_proofs.specs.StepRefinement.{StepRefines}
 use Rattle.saa_word_proofs.proofs.RefinementLemmas.Lists.{front-lower}
@@ -41,55 +41,55 @@ round-settled needs count line (asker ∷ more) rest parts fits settled =
     absurd (cc)
 
 -- The main word once what a front takes is added to it says what the object is
-raised-main : (needs : Needs) → AreNeeds needs → needs.top < 2 ^ count_bits → (lazy : Lazy) (number holder more : ℕ) (front rest : List (ℕ × ℕ))
-    → lazy.poisoned ≡ false → IsMain needs number lazy holder → IsFront needs lazy.count front → lazy.line ≡ front ++ rest → is_empty rest ≡ false
-    → more ≡ takes_of needs front → IsMain needs ((number + more) % 2 ^ 64) (granted needs lazy front rest lazy.unclosed) holder
-raised-main needs lawful wide lazy number holder more front rest calm was fits parts some adds =
-    let bounded : lazy.count + takes_of needs front ≤ needs.top = front-bounded needs lawful lazy.count front fits was.bounded in
+raised-main : (needs : Needs) → AreNeeds needs → needs.top < 2 ^ count_bits → (state : AbstractState) (number holder more : ℕ) (front rest : List (ℕ × ℕ))
+    → state.poisoned ≡ false → IsMain needs number state holder → IsFront needs state.count front → state.line ≡ front ++ rest → is_empty rest ≡ false
+    → more ≡ takes_of needs front → IsMain needs ((number + more) % 2 ^ 64) (granted needs state front rest state.unclosed) holder
+raised-main needs lawful wide state number holder more front rest calm was fits parts some adds =
+    let bounded : state.count + takes_of needs front ≤ needs.top = front-bounded needs lawful state.count front fits was.bounded in
     let small : number % 64 + more < 64 = omega (arith, was.count, bounded, wide, adds) in
     let is : (number + more) % 2 ^ 64 ≡ number + more = raised-number number more was.whole small in
     let word =
     ap (word_of count_bits) is ∙ raised-word number more small in
     record {
       whole = rw is (raised-whole number more was.whole small);
-      count = ap (λ (w : Word). w.count) word ∙ ap (λ (n : ℕ). n + more) was.count ∙ ap (λ (n : ℕ). lazy.count + n) adds;
+      count = ap (λ (w : Word). w.count) word ∙ ap (λ (n : ℕ). n + more) was.count ∙ ap (λ (n : ℕ). state.count + n) adds;
       tail = ap (λ (w : Word). w.tail) word ∙ was.tail ∙ ap (λ (l : List (ℕ × ℕ)). newest 0 l) parts ∙ newest-rest 0 front rest some;
       flag = ap (λ (w : Word). w.is_flagged) word ∙ was.flag;
       poison = ap (λ (w : Word). w.is_poisoned) word ∙ was.poison;
-      barren = never-barren needs (granted needs lazy front rest lazy.unclosed) calm;
+      barren = never-barren needs (granted needs state front rest state.unclosed) calm;
       bounded = bounded;
       closed = was.closed;
-      settled = λ closed. round-settled needs lazy.count lazy.line front rest parts fits (was.settled closed);
+      settled = λ closed. round-settled needs state.count state.line front rest parts fits (was.settled closed);
     }
 
 -- Whoever goes round adds what it granted to the count, shows the answers, and walks anew
-pub step-GoRound : (needs : Needs) → AreNeeds needs → needs.top < 2 ^ count_bits → (places : ℕ) (row : ℕ → ℕ) (standing : ℕ → Place) (lazy : Lazy) (me : ℕ)
-    → places < 65536 → me < places → (s : Refines needs places row standing lazy)
-    → (seen : Word) (count top : ℕ) → (standing me).stage ≡ GoRound seen count top → StepRefines needs places row standing lazy me (GoRound seen count top)
-step-GoRound needs lawful wide places row standing lazy me room here s seen count top at =
-    let mine : s.holder ≡ me + 1 = flag-held needs places row standing lazy me s (ap is_holder at) in
+pub step-GoRound : (needs : Needs) → AreNeeds needs → needs.top < 2 ^ count_bits → (places : ℕ) (row : ℕ → ℕ) (standing : ℕ → Place) (state : AbstractState) (me : ℕ)
+    → places < 65536 → me < places → (s : Refines needs places row standing state)
+    → (seen : Word) (count top : ℕ) → (standing me).stage ≡ GoRound seen count top → StepRefines needs places row standing state me (GoRound seen count top)
+step-GoRound needs lawful wide places row standing state me room here s seen count top at =
+    let mine : s.holder ≡ me + 1 = flag-held needs places row standing state me s (ap is_holder at) in
     let none = subst (λ (stage : Stage). IsShowing (s.owed me) (s.worth me) stage) at (s.stages.showing me) in
-    let holding = subst (λ (stage : Stage). IsHolding needs (line_of row) me lazy.count lazy.line s.cut stage) at (s.stages.holding me mine) in
-    let work : Work lazy.count lazy.line seen = holding.0 in
+    let holding = subst (λ (stage : Stage). IsHolding needs (line_of row) me state.count state.line s.cut stage) at (s.stages.holding me mine) in
+    let work : Work state.count state.line seen = holding.0 in
     let rest : List (ℕ × ℕ) = work.behind ++ work.joined in
     let some : is_empty rest ≡ false = some-append work.behind work.joined holding.4 in
-    let fits : IsFront needs lazy.count work.front = front-lower needs lawful lazy.count seen.count work.front work.count holding.2.0 in
+    let fits : IsFront needs state.count work.front = front-lower needs lawful state.count seen.count work.front work.count holding.2.0 in
     let adds : count - seen.count ≡ takes_of needs work.front = omega (arith, holding.2.1) in
     let number : ℕ = (row 0 + (count - seen.count)) % 2 ^ 64 in
     let now : Word = word_of count_bits number in
-    let main : IsMain needs number (granted needs lazy work.front rest lazy.unclosed) s.holder =
-    raised-main needs lawful wide lazy (row 0) s.holder (count - seen.count) work.front rest
-    (calm-held needs places row standing lazy me s mine) s.main fits work.parts some adds in
-    let linked = parts-linked (line_of row) lazy.line s.cut s.uncut work.front rest s.line holding.1 work.parts in
-    let grant = round-run needs lazy me work.front rest work.parts fits s.main.settled in
-    let held : lazy.count + takes_of needs work.front ≤ now.count = omega (arith, main.count) in
+    let main : IsMain needs number (granted needs state work.front rest state.unclosed) s.holder =
+    raised-main needs lawful wide state (row 0) s.holder (count - seen.count) work.front rest
+    (calm-held needs places row standing state me s mine) s.main fits work.parts some adds in
+    let linked = parts-linked (line_of row) state.line s.cut s.uncut work.front rest s.line holding.1 work.parts in
+    let grant = round-run needs state me work.front rest work.parts fits s.main.settled in
+    let held : state.count + takes_of needs work.front ≤ now.count = omega (arith, main.count) in
     let tail : now.tail ≡ newest 0 (rest ++ []) = main.tail ∙ ap (λ (l : List (ℕ × ℕ)). newest 0 l) (sym (append-nil rest)) in
     let alone = subst (λ (stage : Stage). IsAlone needs (standing me).registration (standing me).back stage) at (s.stages.alone me) in
-    let apart = apart-at needs places row standing lazy me s (GoRound seen count top) at in
+    let apart = apart-at needs places row standing state me s (GoRound seen count top) at in
     let holder : true ≡ (s.holder == me + 1) = sym (ap is_holder at) ∙ s.stages.one me in
     record {
       events = grant.events;
-      last = granted needs lazy work.front rest lazy.unclosed;
+      last = granted needs state work.front rest state.unclosed;
       run = grant.run;
       names = grant.names;
       calm = λ semaphore. grant.calm;
@@ -99,7 +99,7 @@ step-GoRound needs lawful wide places row standing lazy me room here s seen coun
             | inl empty ↦
                 let front : work.front ≡ [] = front-none work.front top holding.3 empty in
                 rw empty
-                (granting needs places row standing lazy me s number (BackLoad now now.tail 0) work.front rest s.holder lazy.unclosed
+                (granting needs places row standing state me s number (BackLoad now now.tail 0) work.front rest s.holder state.unclosed
                 here mine none work.parts linked.0 linked.1 main (count-small number) alone apart tt front holder
                 (λ is. (
                   record { front = rest; behind = []; joined = []; parts = sym (append-nil rest); tail = tail; count = held },
@@ -110,7 +110,7 @@ step-GoRound needs lawful wide places row standing lazy me room here s seen coun
             | inr there ↦
                 let front : is_empty work.front ≡ false = front-some work.front top holding.3 there in
                 rw there
-                (granting needs places row standing lazy me s number (ShowLoad top 0 (Again now)) work.front rest s.holder lazy.unclosed
+                (granting needs places row standing state me s number (ShowLoad top 0 (Again now)) work.front rest s.holder state.unclosed
                 here mine none work.parts linked.0 linked.1 main (count-small number) alone apart tt (sym holding.3, front, refl) holder
                 (λ is. (
                   record { front = []; behind = rest; joined = []; parts = sym (append-nil rest); tail = main.tail; count = held },

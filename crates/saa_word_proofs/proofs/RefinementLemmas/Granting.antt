@@ -13,7 +13,7 @@ use Rattle.saa_word_steps.specs.declared.place.Stage.{Stage}
 use Rattle.saa_word_steps.specs.Needs.{Needs, AreNeeds, fits_count}
 use Rattle.saa_word_steps.specs.declared.event.Event.{Event}
 use Rattle.saa_word_steps.specs.declared.event.Event.TheVariants.{Granted, Closed}
-use Rattle.saa_word_steps.specs.Lazy.{Lazy, IsEnabled, after_event, IsRun, IsFront, IsSettledAt, is_empty, is_in, waits_times, takes_of, answered_with, held_by}
+use Rattle.saa_word_steps.specs.AbstractState.{AbstractState, IsEnabled, after_event, IsRun, IsFront, IsSettledAt, is_empty, is_in, waits_times, takes_of, answered_with, held_by}
 use Rattle.saa_word_steps.specs.Steps.{IsRanged, settled_word}
 use Rattle.saa_word_proofs.specs.Refinement.{updated, line_of, newest, IsBehind, is_slot, is_holder, gives_up, IsAlone, IsOwn, IsShowing, IsHolding, IsMain, IsLine, AreSeats, AreDebts, Refines}
 use Rattle.saa_word_proofs.specs.StepRefinement.{of_place, named, never_poisons}
@@ -23,18 +23,18 @@ use Rattle.saa_word_proofs.proofs.RefinementLemmas.Holders.{never-barren}
 use Rattle.saa_word_proofs.proofs.RefinementLemmas.Rows.{word-whole, line-main, row-other, seats-next}
 
 -- The object once those of a front are granted, with the rest of the line
-abbrev pub granted : Needs → Lazy → List (ℕ × ℕ) → List (ℕ × ℕ) → Bool → Lazy
-granted needs lazy front rest unclosed = record lazy {
-  count = lazy.count + takes_of needs front;
+abbrev pub granted : Needs → AbstractState → List (ℕ × ℕ) → List (ℕ × ℕ) → Bool → AbstractState
+granted needs state front rest unclosed = record state {
+  count = state.count + takes_of needs front;
   line = rest;
   unclosed = unclosed;
-  due = answered_with 0 front lazy.due;
+  due = answered_with 0 front state.due;
 }
 
 -- The events of a grant: an answer names none of them
-pub record IsGrant (needs : Needs) (lazy : Lazy) (me : ℕ) (last : Lazy) : Type 0 where
+pub record IsGrant (needs : Needs) (state : AbstractState) (me : ℕ) (last : AbstractState) : Type 0 where
   pub events : List Event
-  pub run : IsRun needs lazy (of_place me events) last
+  pub run : IsRun needs state (of_place me events) last
   pub names : named events ≡ []
   pub calm : never_poisons events ≡ true
 
@@ -117,108 +117,108 @@ parts-linked words line cut uncut front rest was same parts =
 -- Runs
 
 -- an object that differs in nothing else
-same-lazy : (lazy : Lazy) (count : ℕ) (line : List (ℕ × ℕ)) (unclosed : Bool) → lazy.count ≡ count → lazy.line ≡ line → lazy.unclosed ≡ unclosed
-    → lazy ≡ record lazy { count = count; line = line; unclosed = unclosed }
-same-lazy lazy count line unclosed same_count same_line same_unclosed =
-    λ i. record lazy { count = same_count i; line = same_line i; unclosed = same_unclosed i }
+same-state : (state : AbstractState) (count : ℕ) (line : List (ℕ × ℕ)) (unclosed : Bool) → state.count ≡ count → state.line ≡ line → state.unclosed ≡ unclosed
+    → state ≡ record state { count = count; line = line; unclosed = unclosed }
+same-state state count line unclosed same_count same_line same_unclosed =
+    λ i. record state { count = same_count i; line = same_line i; unclosed = same_unclosed i }
 
 -- the event of a grant, before the line is closed
-after-granted : (needs : Needs) (lazy : Lazy) (me : ℕ) (front rest : List (ℕ × ℕ)) → lazy.line ≡ front ++ rest
-    → after_event needs lazy me (Granted (length front)) ≡ granted needs lazy front rest lazy.unclosed
-after-granted needs lazy me front rest parts =
-    let first : take (length front) lazy.line ≡ front = ap (λ (l : List (ℕ × ℕ)). take (length front) l) parts ∙ take-front front rest in
-    let last : drop (length front) lazy.line ≡ rest = ap (λ (l : List (ℕ × ℕ)). drop (length front) l) parts ∙ drop-front front rest in
-    λ i. record lazy { count = lazy.count + takes_of needs (first i); line = last i; due = answered_with 0 (first i) lazy.due }
+after-granted : (needs : Needs) (state : AbstractState) (me : ℕ) (front rest : List (ℕ × ℕ)) → state.line ≡ front ++ rest
+    → after_event needs state me (Granted (length front)) ≡ granted needs state front rest state.unclosed
+after-granted needs state me front rest parts =
+    let first : take (length front) state.line ≡ front = ap (λ (l : List (ℕ × ℕ)). take (length front) l) parts ∙ take-front front rest in
+    let last : drop (length front) state.line ≡ rest = ap (λ (l : List (ℕ × ℕ)). drop (length front) l) parts ∙ drop-front front rest in
+    λ i. record state { count = state.count + takes_of needs (first i); line = last i; due = answered_with 0 (first i) state.due }
 
-granted-allowed : (needs : Needs) (lazy : Lazy) (me : ℕ) (front rest : List (ℕ × ℕ)) → lazy.line ≡ front ++ rest → lazy.unclosed ≡ true
-    → is_empty front ≡ false → IsFront needs lazy.count front → IsEnabled needs lazy me (Granted (length front))
-granted-allowed needs lazy me front rest parts opened some fits =
-    let first : take (length front) lazy.line ≡ front = ap (λ (l : List (ℕ × ℕ)). take (length front) l) parts ∙ take-front front rest in
-    let within : length lazy.line ≡ length front + length rest = ap (λ (l : List (ℕ × ℕ)). length l) parts ∙ length-append front rest in
-    (opened, some-length front some, omega (arith, within), subst (λ (l : List (ℕ × ℕ)). IsFront needs lazy.count l) (sym first) fits)
+granted-allowed : (needs : Needs) (state : AbstractState) (me : ℕ) (front rest : List (ℕ × ℕ)) → state.line ≡ front ++ rest → state.unclosed ≡ true
+    → is_empty front ≡ false → IsFront needs state.count front → IsEnabled needs state me (Granted (length front))
+granted-allowed needs state me front rest parts opened some fits =
+    let first : take (length front) state.line ≡ front = ap (λ (l : List (ℕ × ℕ)). take (length front) l) parts ∙ take-front front rest in
+    let within : length state.line ≡ length front + length rest = ap (λ (l : List (ℕ × ℕ)). length l) parts ∙ length-append front rest in
+    (opened, some-length front some, omega (arith, within), subst (λ (l : List (ℕ × ℕ)). IsFront needs state.count l) (sym first) fits)
 
-granted-none : (needs : Needs) (lazy : Lazy) (rest : List (ℕ × ℕ)) (unclosed : Bool) → lazy.line ≡ rest → lazy.unclosed ≡ unclosed
-    → lazy ≡ granted needs lazy [] rest unclosed
-granted-none needs lazy rest unclosed parts same = same-lazy lazy (lazy.count + 0) rest unclosed (omega arith) parts same
+granted-none : (needs : Needs) (state : AbstractState) (rest : List (ℕ × ℕ)) (unclosed : Bool) → state.line ≡ rest → state.unclosed ≡ unclosed
+    → state ≡ granted needs state [] rest unclosed
+granted-none needs state rest unclosed parts same = same-state state (state.count + 0) rest unclosed (omega arith) parts same
 
 -- Where a front is granted and the line stays open
-pub round-run : (needs : Needs) (lazy : Lazy) (me : ℕ) (front rest : List (ℕ × ℕ)) → lazy.line ≡ front ++ rest → IsFront needs lazy.count front
-    → (lazy.unclosed ≡ false → IsSettledAt needs lazy.count lazy.line) → IsGrant needs lazy me (granted needs lazy front rest lazy.unclosed)
-round-run needs lazy me [] rest parts fits settled =
-    record { events = []; run = granted-none needs lazy rest lazy.unclosed parts refl; names = refl; calm = refl }
-round-run needs lazy me (asker ∷ more) rest parts fits settled =
-    elim (cases_Bool lazy.unclosed) [
+pub round-run : (needs : Needs) (state : AbstractState) (me : ℕ) (front rest : List (ℕ × ℕ)) → state.line ≡ front ++ rest → IsFront needs state.count front
+    → (state.unclosed ≡ false → IsSettledAt needs state.count state.line) → IsGrant needs state me (granted needs state front rest state.unclosed)
+round-run needs state me [] rest parts fits settled =
+    record { events = []; run = granted-none needs state rest state.unclosed parts refl; names = refl; calm = refl }
+round-run needs state me (asker ∷ more) rest parts fits settled =
+    elim (cases_Bool state.unclosed) [
       | inl opened ↦ record {
         events = Granted (length (asker ∷ more)) ∷ [];
-        run = (granted-allowed needs lazy me (asker ∷ more) rest parts opened refl fits, after-granted needs lazy me (asker ∷ more) rest parts);
+        run = (granted-allowed needs state me (asker ∷ more) rest parts opened refl fits, after-granted needs state me (asker ∷ more) rest parts);
         names = refl;
         calm = refl;
       }
       | inr closed ↦
-          let none : asker ∷ more ≡ [] = settled-front needs lazy.count lazy.line (asker ∷ more) rest parts fits (settled closed) in
+          let none : asker ∷ more ≡ [] = settled-front needs state.count state.line (asker ∷ more) rest parts fits (settled closed) in
           absurd (cc)
     ]
 
 -- Where a front is granted and the line is closed; a line that wasn't open is settled, and nobody is granted
-pub close-run : (needs : Needs) (lazy : Lazy) (me : ℕ) (front rest : List (ℕ × ℕ)) → lazy.line ≡ front ++ rest → IsFront needs lazy.count front
-    → IsSettledAt needs (lazy.count + takes_of needs front) rest
-    → (lazy.unclosed ≡ false → IsSettledAt needs lazy.count lazy.line) → IsGrant needs lazy me (granted needs lazy front rest false)
-close-run needs lazy me [] rest parts fits closes settled =
-    elim (cases_Bool lazy.unclosed) [
+pub close-run : (needs : Needs) (state : AbstractState) (me : ℕ) (front rest : List (ℕ × ℕ)) → state.line ≡ front ++ rest → IsFront needs state.count front
+    → IsSettledAt needs (state.count + takes_of needs front) rest
+    → (state.unclosed ≡ false → IsSettledAt needs state.count state.line) → IsGrant needs state me (granted needs state front rest false)
+close-run needs state me [] rest parts fits closes settled =
+    elim (cases_Bool state.unclosed) [
       | inl opened ↦ record {
         events = Closed ∷ [];
         run = (
           (
             opened,
-            subst (λ (l : List (ℕ × ℕ)). IsSettledAt needs lazy.count l) (sym parts)
+            subst (λ (l : List (ℕ × ℕ)). IsSettledAt needs state.count l) (sym parts)
                 (subst (λ (n : ℕ). IsSettledAt needs n rest) (omega arith) closes),
           ),
-          ap (λ (z : Lazy). record z { unclosed = false }) (granted-none needs lazy rest lazy.unclosed parts refl),
+          ap (λ (z : AbstractState). record z { unclosed = false }) (granted-none needs state rest state.unclosed parts refl),
         );
         names = refl;
         calm = refl;
       }
-      | inr closed ↦ record { events = []; run = granted-none needs lazy rest false parts closed; names = refl; calm = refl }
+      | inr closed ↦ record { events = []; run = granted-none needs state rest false parts closed; names = refl; calm = refl }
     ]
-close-run needs lazy me (asker ∷ more) rest parts fits closes settled =
-    elim (cases_Bool lazy.unclosed) [
+close-run needs state me (asker ∷ more) rest parts fits closes settled =
+    elim (cases_Bool state.unclosed) [
       | inl opened ↦
-          let after = after-granted needs lazy me (asker ∷ more) rest parts in
+          let after = after-granted needs state me (asker ∷ more) rest parts in
           record {
             events = Granted (length (asker ∷ more)) ∷ (Closed ∷ []);
             run = (
-              granted-allowed needs lazy me (asker ∷ more) rest parts opened refl fits,
+              granted-allowed needs state me (asker ∷ more) rest parts opened refl fits,
               (
-                (opened, subst (λ (z : Lazy). IsSettledAt needs z.count z.line) (sym after) closes),
-                ap (λ (z : Lazy). record z { unclosed = false }) after,
+                (opened, subst (λ (z : AbstractState). IsSettledAt needs z.count z.line) (sym after) closes),
+                ap (λ (z : AbstractState). record z { unclosed = false }) after,
               ),
             );
             names = refl;
             calm = refl;
           }
       | inr closed ↦
-          let none : asker ∷ more ≡ [] = settled-front needs lazy.count lazy.line (asker ∷ more) rest parts fits (settled closed) in
+          let none : asker ∷ more ≡ [] = settled-front needs state.count state.line (asker ∷ more) rest parts fits (settled closed) in
           absurd (cc)
     ]
 
 -- Seats and debts
 
 -- nobody is held twice
-pub held-once : (places : ℕ) (standing : ℕ → Place) (lazy : Lazy) → AreSeats places standing lazy → (place : ℕ) → held_by place lazy ≤ 1
-held-once places standing lazy seats place = omega (arith, seats.held place, one_if-le (is_slot (standing place).registration))
+pub held-once : (places : ℕ) (standing : ℕ → Place) (state : AbstractState) → AreSeats places standing state → (place : ℕ) → held_by place state ≤ 1
+held-once places standing state seats place = omega (arith, seats.held place, one_if-le (is_slot (standing place).registration))
 
 -- who is due stands in no part of the line
-pub due-apart : (lazy : Lazy) (front rest : List (ℕ × ℕ)) (place : ℕ) → lazy.line ≡ front ++ rest → held_by place lazy ≤ 1
-    → is_some (lazy.due place) ≡ true → is_in place front ≡ false
-due-apart lazy front rest place parts once due =
-    let both = times-parts place lazy.line front rest parts in
+pub due-apart : (state : AbstractState) (front rest : List (ℕ × ℕ)) (place : ℕ) → state.line ≡ front ++ rest → held_by place state ≤ 1
+    → is_some (state.due place) ≡ true → is_in place front ≡ false
+due-apart state front rest place parts once due =
+    let both = times-parts place state.line front rest parts in
     in-none place front (omega (arith, once, both, ap one_if due))
 
 -- a grant changes how a place is held, and not whether it is
-pub held-granted : (needs : Needs) (lazy : Lazy) (front rest : List (ℕ × ℕ)) (unclosed : Bool) (place : ℕ)
-    → lazy.line ≡ front ++ rest → held_by place lazy ≤ 1 → held_by place (granted needs lazy front rest unclosed) ≡ held_by place lazy
-held-granted needs lazy front rest unclosed place parts once =
-    let both = times-parts place lazy.line front rest parts in
+pub held-granted : (needs : Needs) (state : AbstractState) (front rest : List (ℕ × ℕ)) (unclosed : Bool) (place : ℕ)
+    → state.line ≡ front ++ rest → held_by place state ≤ 1 → held_by place (granted needs state front rest unclosed) ≡ held_by place state
+held-granted needs state front rest unclosed place parts once =
+    let both = times-parts place state.line front rest parts in
     elim (cases_Bool (is_in place front)) [
       | inl some ↦ rw some (omega (arith, once, both, in-waits place front some))
       | inr none ↦ rw none (omega (arith, both, in-no place front none))
@@ -228,19 +228,19 @@ held-granted needs lazy front rest unclosed place parts once =
 abbrev pub shower_after : (ℕ → ℕ) → ℕ → List (ℕ × ℕ) → ℕ → ℕ
 shower_after shower me front other = if is_in other front then me else shower other
 
-pub debts-granted : (words : ℕ → LineWord) (lazy : Lazy) (owed : ℕ → List (ℕ × ℕ)) (shower worth : ℕ → ℕ) (me value : ℕ) (front rest : List (ℕ × ℕ))
-    → AreDebts words lazy.due owed shower worth → value < 256 → lazy.line ≡ front ++ rest → ((place : ℕ) → held_by place lazy ≤ 1) → owed me ≡ [] → IsBehind words 0 front
-    → AreDebts words (answered_with value front lazy.due) (updated owed me front) (shower_after shower me front) (updated worth me value)
-debts-granted words lazy owed shower worth me value front rest was fits parts once none linked = record {
+pub debts-granted : (words : ℕ → LineWord) (state : AbstractState) (owed : ℕ → List (ℕ × ℕ)) (shower worth : ℕ → ℕ) (me value : ℕ) (front rest : List (ℕ × ℕ))
+    → AreDebts words state.due owed shower worth → value < 256 → state.line ≡ front ++ rest → ((place : ℕ) → held_by place state ≤ 1) → owed me ≡ [] → IsBehind words 0 front
+    → AreDebts words (answered_with value front state.due) (updated owed me front) (shower_after shower me front) (updated worth me value)
+debts-granted words state owed shower worth me value front rest was fits parts once none linked = record {
   due_to = λ place other.
       each-updated
       (λ (n : ℕ) (l : List (ℕ × ℕ)). is_in other l ≡ true
-      → (shower_after shower me front other ≡ n) × (answered_with value front lazy.due other ≡ Some (updated worth me value n)))
+      → (shower_after shower me front other ≡ n) × (answered_with value front state.due other ≡ Some (updated worth me value n)))
       owed me front
       (λ there. (rw there refl, rw (there, number_same me) refl))
       (λ other_place apart there.
       let old = was.due_to other_place other there in
-      let out : is_in other front ≡ false = due-apart lazy front rest other parts (once other) (ap is_some old.1) in
+      let out : is_in other front ≡ false = due-apart state front rest other parts (once other) (ap is_some old.1) in
       (rw out old.0, rw (out, number_other other_place me apart) old.1))
       place;
   paid_by = λ other due.
@@ -258,7 +258,7 @@ debts-granted words lazy owed shower worth me value front rest was fits parts on
       ];
   once = λ place other.
       each-updated (λ (n : ℕ) (l : List (ℕ × ℕ)). waits_times other l ≤ 1) owed me front
-      (let both = times-parts other lazy.line front rest parts in omega (arith, both, once other))
+      (let both = times-parts other state.line front rest parts in omega (arith, both, once other))
       (λ other_place apart. was.once other_place other)
       place;
   links = each-updated (λ (n : ℕ) (l : List (ℕ × ℕ)). IsBehind words 0 l) owed me front linked (λ other apart. was.links other);
@@ -276,10 +276,10 @@ pub holder-none : (holder me other : ℕ) → holder ≡ me + 1 → (other ≡ m
 holder-none holder me other mine apart = number_other holder (other + 1) (λ is. apart (omega (arith, mine, is))) ∙ sym (nobody other)
 
 -- The main word of a line that is settled says what the object is once the line is closed
-pub settled-main : (needs : Needs) (lazy : Lazy) (front rest : List (ℕ × ℕ)) (count tail : ℕ) → lazy.poisoned ≡ false → count < 64 → tail < 65536
-    → count ≡ lazy.count + takes_of needs front → count ≤ needs.top → tail ≡ newest 0 rest → IsSettledAt needs count rest
-    → IsMain needs (word_number count_bits (settled_word count tail)) (granted needs lazy front rest false) 0
-settled-main needs lazy front rest count tail calm small room adds bounded is settled =
+pub settled-main : (needs : Needs) (state : AbstractState) (front rest : List (ℕ × ℕ)) (count tail : ℕ) → state.poisoned ≡ false → count < 64 → tail < 65536
+    → count ≡ state.count + takes_of needs front → count ≤ needs.top → tail ≡ newest 0 rest → IsSettledAt needs count rest
+    → IsMain needs (word_number count_bits (settled_word count tail)) (granted needs state front rest false) 0
+settled-main needs state front rest count tail calm small room adds bounded is settled =
     let read = word-read count_bits (settled_word count tail) small room in
     record {
       whole = word-whole (settled_word count tail) small room;
@@ -287,7 +287,7 @@ settled-main needs lazy front rest count tail calm small room adds bounded is se
       tail = ap (λ (w : Word). w.tail) read ∙ is;
       flag = ap (λ (w : Word). w.is_flagged) read;
       poison = ap (λ (w : Word). w.is_poisoned) read ∙ sym calm;
-      barren = never-barren needs (granted needs lazy front rest false) calm;
+      barren = never-barren needs (granted needs state front rest false) calm;
       bounded = rw (← adds) bounded;
       closed = λ unheld. refl;
       settled = λ closed. rw (← adds) settled;
@@ -303,26 +303,26 @@ out-of-rest place front rest line parts out =
     out-of-both false other h = h
 
 -- The holder grants a front by a write to the main word, and goes on at a stage
-pub granting : (needs : Needs) (places : ℕ) (row : ℕ → ℕ) (standing : ℕ → Place) (lazy : Lazy) (me : ℕ) (s : Refines needs places row standing lazy)
+pub granting : (needs : Needs) (places : ℕ) (row : ℕ → ℕ) (standing : ℕ → Place) (state : AbstractState) (me : ℕ) (s : Refines needs places row standing state)
     (number : ℕ) (stage : Stage) (front rest : List (ℕ × ℕ)) (next : ℕ) (unclosed : Bool)
-    → me < places → s.holder ≡ me + 1 → s.owed me ≡ [] → lazy.line ≡ front ++ rest → IsBehind (line_of row) 0 front → IsBehind (line_of row) 0 rest
-    → IsMain needs number (granted needs lazy front rest unclosed) next
+    → me < places → s.holder ≡ me + 1 → s.owed me ≡ [] → state.line ≡ front ++ rest → IsBehind (line_of row) 0 front → IsBehind (line_of row) 0 rest
+    → IsMain needs number (granted needs state front rest unclosed) next
     → IsRanged needs stage → IsAlone needs (standing me).registration (standing me).back stage
-    → (gives_up (standing me).back stage ≡ true → is_in me lazy.line ≡ false) → IsOwn (line_of row me) stage → IsShowing front 0 stage
+    → (gives_up (standing me).back stage ≡ true → is_in me state.line ≡ false) → IsOwn (line_of row me) stage → IsShowing front 0 stage
     → is_holder stage ≡ (next == me + 1)
-    → (next ≡ me + 1 → IsHolding needs (line_of row) me (lazy.count + takes_of needs front) rest [] stage)
+    → (next ≡ me + 1 → IsHolding needs (line_of row) me (state.count + takes_of needs front) rest [] stage)
     → ((other : ℕ) → (other ≡ me → ⊥) → (s.holder == other + 1) ≡ (next == other + 1))
     → Refines needs places (updated row 0 number) (updated standing me (record (standing me) { stage = stage }))
-    (granted needs lazy front rest unclosed)
-granting needs places row standing lazy me s number stage front rest next unclosed here mine none parts linked stays main ranged alone apart own showing
+    (granted needs state front rest unclosed)
+granting needs places row standing state me s number stage front rest next unclosed here mine none parts linked stays main ranged alone apart own showing
     holder holding others =
-    let once = held-once places standing lazy s.seats in
-    let seats = seats-next places standing lazy me (record (standing me) { stage = stage }) s.seats here refl in
-    let debts = debts-granted (line_of row) lazy s.owed s.shower s.worth me 0 front rest s.debts (omega arith) parts once none linked in
-    let stages = stages-next needs (line_of row) (line_of row) standing lazy.count (lazy.count + takes_of needs front) lazy.line rest s.cut []
+    let once = held-once places standing state s.seats in
+    let seats = seats-next places standing state me (record (standing me) { stage = stage }) s.seats here refl in
+    let debts = debts-granted (line_of row) state s.owed s.shower s.worth me 0 front rest s.debts (omega arith) parts once none linked in
+    let stages = stages-next needs (line_of row) (line_of row) standing state.count (state.count + takes_of needs front) state.line rest s.cut []
     s.holder next s.owed (updated s.owed me front) s.worth (updated s.worth me 0) me (record (standing me) { stage = stage }) s.stages
-    ranged alone (λ gives. out-of-rest me front rest lazy.line parts (apart gives)) own (rw (number_same me) showing) holder holding
-    (λ other differs. out-of-rest other front rest lazy.line parts)
+    ranged alone (λ gives. out-of-rest me front rest state.line parts (apart gives)) own (rw (number_same me) showing) holder holding
+    (λ other differs. out-of-rest other front rest state.line parts)
     (λ other differs. s.stages.own other)
     (λ other differs. rw (number_other other me differs) refl)
     (λ other differs. rw (number_other other me differs) refl)
@@ -339,7 +339,7 @@ granting needs places row standing lazy me s number stage front rest next unclos
       main = main;
       line = record { parts = refl; granted = tt; stays = rw (line-main row number) stays; some = λ gone. refl };
       seats = record {
-        held = λ place. held-granted needs lazy front rest unclosed place parts (once place) ∙ seats.held place;
+        held = λ place. held-granted needs state front rest unclosed place parts (once place) ∙ seats.held place;
         within = seats.within;
         beyond = seats.beyond;
       };

@@ -11,7 +11,7 @@ use Rattle.saa_word_steps.specs.declared.place.Afterwards.TheVariants.{Ends, Aga
 use Rattle.saa_word_steps.specs.declared.place.Stage.{Stage}
 use Rattle.saa_word_steps.specs.declared.place.Stage.TheVariants.{Quiet, ReadLoad, AskLoad, AskExchange, Prepare, Join, ReleaseLoad, ReleaseExchange, BackLoad, BackStore, Forward, CutToClose, CutToGoRound, Close, Empty, GoRound, ShowLoad, ShowStore, Take, FlagLoad, FlagExchange, LookLoad, LookStore, Unlink, DropTail, PoisonLoad, PoisonExchange, Clear}
 use Rattle.saa_word_steps.specs.Needs.{Needs}
-use Rattle.saa_word_steps.specs.Lazy.{Lazy, is_empty, IsSettledAt}
+use Rattle.saa_word_steps.specs.AbstractState.{AbstractState, is_empty, IsSettledAt}
 use Rattle.saa_word_steps.specs.Steps.{IsSmall}
 use Rattle.saa_word_proofs.specs.Refinement.{updated, line_of, newest, Work, IsHolding, IsMain, Refines}
 use Rattle.saa_word_proofs.proofs.RefinementLemmas.Rows.{word-whole, loaded}
@@ -67,24 +67,24 @@ holding-some needs words me held line cut (PoisonExchange seen) h = absurd h
 holding-some needs words me held line cut Clear h = absurd h
 
 -- where nobody waits nobody holds the flag
-pub nobody-holds : (needs : Needs) (places : ℕ) (row : ℕ → ℕ) (standing : ℕ → Place) (lazy : Lazy) (s : Refines needs places row standing lazy)
-    → is_empty lazy.line ≡ true → s.holder == 0 ≡ true
-nobody-holds needs places row standing lazy s none =
+pub nobody-holds : (needs : Needs) (places : ℕ) (row : ℕ → ℕ) (standing : ℕ → Place) (state : AbstractState) (s : Refines needs places row standing state)
+    → is_empty state.line ≡ true → s.holder == 0 ≡ true
+nobody-holds needs places row standing state s none =
     elim (cases_Bool (s.holder == 0)) [
       | inl nobody ↦ nobody
       | inr somebody ↦
           let is : s.holder ≡ pred s.holder + 1 = grind (arith, nat_tests, somebody) in
-          let some = holding-some needs (line_of row) (pred s.holder) lazy.count lazy.line s.cut (standing (pred s.holder)).stage (s.stages.holding (pred s.holder) is) in
+          let some = holding-some needs (line_of row) (pred s.holder) state.count state.line s.cut (standing (pred s.holder)).stage (s.stages.holding (pred s.holder) is) in
           let wrong : true ≡ false = sym none ∙ some in
           absurd (cc)
     ]
 
 -- the main word that an exchange has written
-pub main-now : (needs : Needs) (lazy : Lazy) (holder : ℕ) (word : Word) → IsSmall word → word.tail < 65536
-    → word.count ≡ lazy.count → word.tail ≡ newest 0 lazy.line → word.is_flagged ≡ not (holder == 0) → word.is_poisoned ≡ lazy.poisoned
-    → (lazy.poisoned ≡ true → (lazy.count ≡ 0) × (lazy.line ≡ []) × (needs.is_lock ≡ true)) → lazy.count ≤ needs.top → ((holder == 0) ≡ true → lazy.unclosed ≡ false)
-    → (lazy.unclosed ≡ false → IsSettledAt needs lazy.count lazy.line) → IsMain needs (word_number count_bits word) lazy holder
-main-now needs lazy holder word small tail_small count tail flag poison barren bounded closed settled =
+pub main-now : (needs : Needs) (state : AbstractState) (holder : ℕ) (word : Word) → IsSmall word → word.tail < 65536
+    → word.count ≡ state.count → word.tail ≡ newest 0 state.line → word.is_flagged ≡ not (holder == 0) → word.is_poisoned ≡ state.poisoned
+    → (state.poisoned ≡ true → (state.count ≡ 0) × (state.line ≡ []) × (needs.is_lock ≡ true)) → state.count ≤ needs.top → ((holder == 0) ≡ true → state.unclosed ≡ false)
+    → (state.unclosed ≡ false → IsSettledAt needs state.count state.line) → IsMain needs (word_number count_bits word) state holder
+main-now needs state holder word small tail_small count tail flag poison barren bounded closed settled =
     let read = word-read count_bits word small tail_small in record {
       whole = word-whole word small tail_small;
       count = ap (λ (w : Word). w.count) read ∙ count;
@@ -98,27 +98,27 @@ main-now needs lazy holder word small tail_small count tail flag poison barren b
     }
 
 -- an exchange that fails leaves the row
-pub failed : (needs : Needs) (places : ℕ) (row : ℕ → ℕ) (standing : ℕ → Place) (lazy : Lazy) (old new : ℕ) → row 0 == old ≡ false
-    → Refines needs places row standing lazy → Refines needs places (updated row 0 (if row 0 == old then new else row 0)) standing lazy
-failed needs places row standing lazy old new test s = rw test (loaded needs places row standing lazy 0 s)
+pub failed : (needs : Needs) (places : ℕ) (row : ℕ → ℕ) (standing : ℕ → Place) (state : AbstractState) (old new : ℕ) → row 0 == old ≡ false
+    → Refines needs places row standing state → Refines needs places (updated row 0 (if row 0 == old then new else row 0)) standing state
+failed needs places row standing state old new test s = rw test (loaded needs places row standing state 0 s)
 
 -- where somebody waits, or holds the flag, nothing is poisoned
-pub calm-some : (needs : Needs) (number : ℕ) (lazy : Lazy) (holder : ℕ) → IsMain needs number lazy holder → is_empty lazy.line ≡ false → lazy.poisoned ≡ false
-calm-some needs number lazy holder main some =
-    elim (cases_Bool lazy.poisoned) [
+pub calm-some : (needs : Needs) (number : ℕ) (state : AbstractState) (holder : ℕ) → IsMain needs number state holder → is_empty state.line ≡ false → state.poisoned ≡ false
+calm-some needs number state holder main some =
+    elim (cases_Bool state.poisoned) [
       | inl poisoned ↦
           let wrong : true ≡ false = sym (ap is_empty (main.barren poisoned).1) ∙ some in
           absurd (cc)
       | inr calm ↦ calm
     ]
 
-pub calm-held : (needs : Needs) (places : ℕ) (row : ℕ → ℕ) (standing : ℕ → Place) (lazy : Lazy) (me : ℕ) (s : Refines needs places row standing lazy)
-    → s.holder ≡ me + 1 → lazy.poisoned ≡ false
-calm-held needs places row standing lazy me s held =
-    calm-some needs (row 0) lazy s.holder s.main
-    (holding-some needs (line_of row) me lazy.count lazy.line s.cut (standing me).stage (s.stages.holding me held))
+pub calm-held : (needs : Needs) (places : ℕ) (row : ℕ → ℕ) (standing : ℕ → Place) (state : AbstractState) (me : ℕ) (s : Refines needs places row standing state)
+    → s.holder ≡ me + 1 → state.poisoned ≡ false
+calm-held needs places row standing state me s held =
+    calm-some needs (row 0) state s.holder s.main
+    (holding-some needs (line_of row) me state.count state.line s.cut (standing me).stage (s.stages.holding me held))
 
 -- what isn't poisoned isn't barren
-pub never-barren : (needs : Needs) (lazy : Lazy) → lazy.poisoned ≡ false → lazy.poisoned ≡ true
-    → (lazy.count ≡ 0) × (lazy.line ≡ []) × (needs.is_lock ≡ true)
-never-barren needs lazy calm poisoned = let wrong : true ≡ false = sym poisoned ∙ calm in absurd (cc)
+pub never-barren : (needs : Needs) (state : AbstractState) → state.poisoned ≡ false → state.poisoned ≡ true
+    → (state.count ≡ 0) × (state.line ≡ []) × (needs.is_lock ≡ true)
+never-barren needs state calm poisoned = let wrong : true ≡ false = sym poisoned ∙ calm in absurd (cc)

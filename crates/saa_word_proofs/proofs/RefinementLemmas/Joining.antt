@@ -13,31 +13,31 @@ use Rattle.saa_word_steps.specs.declared.place.Registration.TheVariants.{Once, S
 use Rattle.saa_word_steps.specs.declared.place.Stage.TheVariants.{Quiet, AskExchange, Prepare, Join}
 use Rattle.saa_word_steps.specs.Needs.{Needs, AreNeeds, fits_count}
 use Rattle.saa_word_steps.specs.declared.event.Event.TheVariants.{Got, Joined}
-use Rattle.saa_word_steps.specs.Lazy.{Lazy, is_empty, is_in, waits_times, held_by, must_wait, IsSettledAt}
-use Rattle.saa_word_steps.specs.Steps.{IsRanged, IsSmall, decided}
-use Rattle.saa_word_steps.proofs.LazyRuns.{joined-settled}
+use Rattle.saa_word_steps.specs.AbstractState.{AbstractState, is_empty, is_in, waits_times, held_by, must_wait, IsSettledAt}
+use Rattle.saa_word_steps.specs.Steps.{IsRanged, IsSmall}
+use Rattle.saa_word_steps.proofs.AbstractRuns.{joined-settled}
 use Rattle.saa_word_proofs.specs.Refinement.{updated, main_of, line_of, newest, is_slot, is_holder, gives_up, IsAlone, IsOwn, IsShowing, waits_behind, IsMain, IsLine, AreSeats, AreDebts, AreStages, Refines}
-use Rattle.saa_word_proofs.specs.StepRefinement.{StepRefines, place_after}
+use Rattle.saa_word_proofs.specs.StepRefinement.{StepRefines}
 use Rattle.saa_word_proofs.proofs.RefinementLemmas.Lists.{each-updated, newest-empty, newest-append, newest-any, empty-nil, in-none, in-append, times-append, behind-frame, behind-append, in-some}
 use Rattle.saa_word_proofs.proofs.RefinementLemmas.Frames.{holding-frame, stages-next}
-use Rattle.saa_word_proofs.proofs.RefinementLemmas.Rows.{loaded, main-found, line-main, line-at, line-other, row-other, seats-next}
+use Rattle.saa_word_proofs.proofs.RefinementLemmas.Rows.{main-found, line-main, line-at, line-other, row-other, seats-next}
 use Rattle.saa_word_proofs.proofs.RefinementLemmas.Holders.{nobody-holds, main-now, never-barren}
 use Rattle.saa_word_proofs.proofs.RefinementLemmas.Asking.{decided-outcome, waits-same}
-use Rattle.saa_word_proofs.proofs.RefinementLemmas.Outcomes.{not-holder, answers-main}
+use Rattle.saa_word_proofs.proofs.RefinementLemmas.Outcomes.{not-holder, answers-main, only-looked}
 
 -- Somebody is granted at once: the count is raised, and nobody waits
-raised : (needs : Needs) → AreNeeds needs → needs.top < 2 ^ count_bits → (places : ℕ) (row : ℕ → ℕ) (standing : ℕ → Place) (lazy : Lazy) (me : ℕ)
-    → me < places → (s : Refines needs places row standing lazy) → is_holder (standing me).stage ≡ false → s.owed me ≡ []
-    → lazy.poisoned ≡ false → (request : ℕ) (seen : Word) → IsSmall seen → main_of row ≡ seen → seen.tail == 0 ≡ true
+raised : (needs : Needs) → AreNeeds needs → needs.top < 2 ^ count_bits → (places : ℕ) (row : ℕ → ℕ) (standing : ℕ → Place) (state : AbstractState) (me : ℕ)
+    → me < places → (s : Refines needs places row standing state) → is_holder (standing me).stage ≡ false → s.owed me ≡ []
+    → state.poisoned ≡ false → (request : ℕ) (seen : Word) → IsSmall seen → main_of row ≡ seen → seen.tail == 0 ≡ true
     → fits_count needs seen.count request ≡ true
     → (place : Place) → place.stage ≡ Quiet → is_slot place.registration ≡ is_slot (standing me).registration
     → Refines needs places (updated row 0 (word_number count_bits (record seen { count = seen.count + needs.takes request }))) (updated standing me place)
-    (record lazy { count = lazy.count + needs.takes request })
-raised needs lawful wide places row standing lazy me here s none nothing calm request seen small is alone fits place quiet same =
-    let tail : seen.tail ≡ newest 0 lazy.line = ap (λ (w : Word). w.tail) (sym is) ∙ s.main.tail in
-    let count : seen.count ≡ lazy.count = ap (λ (w : Word). w.count) (sym is) ∙ s.main.count in
-    let empty : lazy.line ≡ [] = empty-nil lazy.line (sym (newest-empty lazy.line) ∙ ap (λ (n : ℕ). n == 0) (sym tail) ∙ alone) in
-    let nobody : s.holder == 0 ≡ true = nobody-holds needs places row standing lazy s (ap is_empty empty) in
+    (record state { count = state.count + needs.takes request })
+raised needs lawful wide places row standing state me here s none nothing calm request seen small is alone fits place quiet same =
+    let tail : seen.tail ≡ newest 0 state.line = ap (λ (w : Word). w.tail) (sym is) ∙ s.main.tail in
+    let count : seen.count ≡ state.count = ap (λ (w : Word). w.count) (sym is) ∙ s.main.count in
+    let empty : state.line ≡ [] = empty-nil state.line (sym (newest-empty state.line) ∙ ap (λ (n : ℕ). n == 0) (sym tail) ∙ alone) in
+    let nobody : s.holder == 0 ≡ true = nobody-holds needs places row standing state s (ap is_empty empty) in
     let within : seen.count + needs.takes request ≤ needs.top = lawful.bounded seen.count request fits in
     let word : Word = record seen { count = seen.count + needs.takes request } in
     let number : ℕ = word_number count_bits word in
@@ -49,36 +49,36 @@ raised needs lawful wide places row standing lazy me here s none nothing calm re
       shower = s.shower;
       worth = s.worth;
       free = s.free;
-      main = main-now needs (record lazy { count = lazy.count + needs.takes request }) s.holder word (omega (arith, within, wide))
+      main = main-now needs (record state { count = state.count + needs.takes request }) s.holder word (omega (arith, within, wide))
           (omega (arith, same_number seen.tail 0 alone)) (ap (λ (n : ℕ). n + needs.takes request) count) tail
           (ap (λ (w : Word). w.is_flagged) (sym is) ∙ s.main.flag) (ap (λ (w : Word). w.is_poisoned) (sym is) ∙ s.main.poison)
-          (never-barren needs (record lazy { count = lazy.count + needs.takes request }) calm) (omega (arith, within, count)) s.main.closed
-          (λ closed. subst (λ (l : List (ℕ × ℕ)). IsSettledAt needs (lazy.count + needs.takes request) l) (sym empty) tt);
-      line = subst (λ (w : ℕ → LineWord). IsLine w lazy.line s.cut s.uncut) (sym (line-main row number)) s.line;
+          (never-barren needs (record state { count = state.count + needs.takes request }) calm) (omega (arith, within, count)) s.main.closed
+          (λ closed. subst (λ (l : List (ℕ × ℕ)). IsSettledAt needs (state.count + needs.takes request) l) (sym empty) tt);
+      line = subst (λ (w : ℕ → LineWord). IsLine w state.line s.cut s.uncut) (sym (line-main row number)) s.line;
       seats =
-          let seats = seats-next places standing lazy me place s.seats here same in
+          let seats = seats-next places standing state me place s.seats here same in
           record { held = seats.held; within = seats.within; beyond = seats.beyond };
-      answers = answers-main places row number lazy.shown s.answers;
-      debts = subst (λ (w : ℕ → LineWord). AreDebts w lazy.due s.owed s.shower s.worth) (sym (line-main row number)) s.debts;
+      answers = answers-main places row number state.shown s.answers;
+      debts = subst (λ (w : ℕ → LineWord). AreDebts w state.due s.owed s.shower s.worth) (sym (line-main row number)) s.debts;
       stages = subst
-          (λ (w : ℕ → LineWord). AreStages needs w (updated standing me place) (lazy.count + needs.takes request) lazy.line s.cut s.holder s.owed s.worth)
+          (λ (w : ℕ → LineWord). AreStages needs w (updated standing me place) (state.count + needs.takes request) state.line s.cut s.holder s.owed s.worth)
           (sym (line-main row number))
-          (stages-next needs (line_of row) (line_of row) standing lazy.count (lazy.count + needs.takes request) lazy.line lazy.line
+          (stages-next needs (line_of row) (line_of row) standing state.count (state.count + needs.takes request) state.line state.line
           s.cut s.cut s.holder s.holder s.owed s.owed s.worth s.worth me place s.stages
           (subst (λ stage. IsRanged needs stage) (sym quiet) tt) (subst (λ stage. IsAlone needs place.registration place.back stage) (sym quiet) tt)
           (λ gives. let wrong : true ≡ false = sym gives ∙ ap (gives_up place.back) quiet in absurd (cc))
           (subst (λ stage. IsOwn (line_of row me) stage) (sym quiet) tt) (subst (λ stage. IsShowing (s.owed me) (s.worth me) stage) (sym quiet) nothing)
           (ap is_holder quiet ∙ sym none ∙ s.stages.one me)
-          (λ it. absurd (not-holder needs places row standing lazy me s none it))
+          (λ it. absurd (not-holder needs places row standing state me s none it))
           (λ other apart out. out) (λ other apart. s.stages.own other) (λ other apart. refl) (λ other apart. refl) (λ other apart. refl)
           (λ other apart it. absurd (omega (arith, it, same_number s.holder 0 nobody))));
     }
 
 -- a place raises the count, where the main word is as it saw it, and else is decided by the main word as it stands
-pub step-AskExchange : (needs : Needs) → AreNeeds needs → needs.top < 2 ^ count_bits → (places : ℕ) (row : ℕ → ℕ) (standing : ℕ → Place) (lazy : Lazy) (me : ℕ)
-    → places < 65536 → me < places → (s : Refines needs places row standing lazy)
-    → (ask : Ask) (seen : Word) → (standing me).stage ≡ AskExchange ask seen → StepRefines needs places row standing lazy me (AskExchange ask seen)
-step-AskExchange needs lawful wide places row standing lazy me room here s ask seen at =
+pub step-AskExchange : (needs : Needs) → AreNeeds needs → needs.top < 2 ^ count_bits → (places : ℕ) (row : ℕ → ℕ) (standing : ℕ → Place) (state : AbstractState) (me : ℕ)
+    → places < 65536 → me < places → (s : Refines needs places row standing state)
+    → (ask : Ask) (seen : Word) → (standing me).stage ≡ AskExchange ask seen → StepRefines needs places row standing state me (AskExchange ask seen)
+step-AskExchange needs lawful wide places row standing state me room here s ask seen at =
     let alone : IsAlone needs (standing me).registration (standing me).back (AskExchange ask seen) =
     subst (λ stage. IsAlone needs (standing me).registration (standing me).back stage) at (s.stages.alone me) in
     let ranged : IsRanged needs (AskExchange ask seen) = subst (λ stage. IsRanged needs stage) at (s.stages.ranged me) in
@@ -87,85 +87,76 @@ step-AskExchange needs lawful wide places row standing lazy me room here s ask s
     elim (cases_Bool (row 0 == word_number count_bits seen)) [
       | inl same ↦
           let is : main_of row ≡ seen = main-found (row 0) seen ranged.0 (omega (arith, same_number seen.tail 0 alone.2)) same in
-          let calm : lazy.poisoned ≡ false = sym s.main.poison ∙ ap (λ (w : Word). w.is_poisoned) is ∙ alone.3 in
-          let tail : lazy.line ≡ [] =
-          empty-nil lazy.line (sym (newest-empty lazy.line) ∙ ap (λ (n : ℕ). n == 0) (sym s.main.tail ∙ ap (λ (w : Word). w.tail) is) ∙ alone.2) in
-          let fits : fits_count needs lazy.count ask.request ≡ true =
+          let calm : state.poisoned ≡ false = sym s.main.poison ∙ ap (λ (w : Word). w.is_poisoned) is ∙ alone.3 in
+          let tail : state.line ≡ [] =
+          empty-nil state.line (sym (newest-empty state.line) ∙ ap (λ (n : ℕ). n == 0) (sym s.main.tail ∙ ap (λ (w : Word). w.tail) is) ∙ alone.2) in
+          let fits : fits_count needs state.count ask.request ≡ true =
           ap (λ (n : ℕ). fits_count needs n ask.request) (sym s.main.count ∙ ap (λ (w : Word). w.count) is) ∙ ranged.1 in
           elim (cases_Bool ask.joins) [
             | inl joins ↦ record {
               events = Got ask.request ∷ [];
-              last = record lazy { count = lazy.count + needs.takes ask.request };
+              last = record state { count = state.count + needs.takes ask.request };
               run = ((calm, tail, fits), refl);
               names = rw same refl;
               calm = λ semaphore. refl;
               inside = omega arith;
-              stands = rw (same, joins) (raised needs lawful wide places row standing lazy me here s none nothing calm ask.request seen ranged.0 is
+              stands = rw (same, joins) (raised needs lawful wide places row standing state me here s none nothing calm ask.request seen ranged.0 is
                   alone.2 ranged.1 (record (standing me) { registration = Once 0 ask.request; stage = Quiet }) refl (sym (alone.1 joins)));
             }
             | inr tries ↦ record {
               events = Got ask.request ∷ [];
-              last = record lazy { count = lazy.count + needs.takes ask.request };
+              last = record state { count = state.count + needs.takes ask.request };
               run = ((calm, tail, fits), refl);
               names = rw same refl;
               calm = λ semaphore. refl;
               inside = omega arith;
-              stands = rw (same, tries) (raised needs lawful wide places row standing lazy me here s none nothing calm ask.request seen ranged.0 is
+              stands = rw (same, tries) (raised needs lawful wide places row standing state me here s none nothing calm ask.request seen ranged.0 is
                   alone.2 ranged.1 (record (standing me) { stage = Quiet }) refl refl);
             }
           ]
       | inr differs ↦
-          let out = decided-outcome needs wide places row standing lazy me here s none nothing ask alone.0 alone.1 in
-          let now : Place = place_after (standing me) (decided needs (standing me) ask (main_of row)) in
-          record {
-            events = out.events;
-            last = out.last;
-            run = out.run;
-            names = rw differs out.names;
-            calm = out.calm;
-            inside = omega arith;
-            stands = rw differs (loaded needs places row (updated standing me now) out.last 0 out.stands);
-          }
+          let out = decided-outcome needs wide places row standing state me here s none nothing ask alone.0 alone.1 in
+          only-looked needs places row standing state me (AskExchange ask seen) out refl (rw differs refl) (rw differs refl) (rw differs refl)
     ]
 
 -- a place that isn't registered in the line doesn't stand in it, and nobody owes it an answer
-pub outside : (needs : Needs) (places : ℕ) (row : ℕ → ℕ) (standing : ℕ → Place) (lazy : Lazy) (me : ℕ) (s : Refines needs places row standing lazy)
-    → is_slot (standing me).registration ≡ false → (waits_times me lazy.line ≡ 0) × (is_some (lazy.due me) ≡ false) × (is_some (lazy.shown me) ≡ false)
-outside needs places row standing lazy me s idle =
-    let held : held_by me lazy ≡ 0 = s.seats.held me ∙ ap one_if idle in
-    (omega (arith, held), none-one (is_some (lazy.due me)) (omega (arith, held)), none-one (is_some (lazy.shown me)) (omega (arith, held)))
+pub outside : (needs : Needs) (places : ℕ) (row : ℕ → ℕ) (standing : ℕ → Place) (state : AbstractState) (me : ℕ) (s : Refines needs places row standing state)
+    → is_slot (standing me).registration ≡ false → (waits_times me state.line ≡ 0) × (is_some (state.due me) ≡ false) × (is_some (state.shown me) ≡ false)
+outside needs places row standing state me s idle =
+    let held : held_by me state ≡ 0 = s.seats.held me ∙ ap one_if idle in
+    (omega (arith, held), none-one (is_some (state.due me)) (omega (arith, held)), none-one (is_some (state.shown me)) (omega (arith, held)))
   where
     none-one : (mark : Bool) → one_if mark ≡ 0 → mark ≡ false
     none-one true is = absurd (omega (arith, is))
     none-one false is = refl
 
 -- a place writes its own line word before it joins
-pub step-Prepare : (needs : Needs) → AreNeeds needs → needs.top < 2 ^ count_bits → (places : ℕ) (row : ℕ → ℕ) (standing : ℕ → Place) (lazy : Lazy) (me : ℕ)
-    → places < 65536 → me < places → (s : Refines needs places row standing lazy)
-    → (request : ℕ) (seen : Word) → (standing me).stage ≡ Prepare request seen → StepRefines needs places row standing lazy me (Prepare request seen)
-step-Prepare needs lawful wide places row standing lazy me room here s request seen at =
+pub step-Prepare : (needs : Needs) → AreNeeds needs → needs.top < 2 ^ count_bits → (places : ℕ) (row : ℕ → ℕ) (standing : ℕ → Place) (state : AbstractState) (me : ℕ)
+    → places < 65536 → me < places → (s : Refines needs places row standing state)
+    → (request : ℕ) (seen : Word) → (standing me).stage ≡ Prepare request seen → StepRefines needs places row standing state me (Prepare request seen)
+step-Prepare needs lawful wide places row standing state me room here s request seen at =
     let alone : IsAlone needs (standing me).registration (standing me).back (Prepare request seen) =
     subst (λ stage. IsAlone needs (standing me).registration (standing me).back stage) at (s.stages.alone me) in
     let ranged : IsRanged needs (Prepare request seen) = subst (λ stage. IsRanged needs stage) at (s.stages.ranged me) in
     let none : is_holder (standing me).stage ≡ false = ap is_holder at in
     let nothing : s.owed me ≡ [] = subst (λ stage. IsShowing (s.owed me) (s.worth me) stage) at (s.stages.showing me) in
-    let out = outside needs places row standing lazy me s alone.1 in
+    let out = outside needs places row standing state me s alone.1 in
     let word : LineWord = record { request = request; older = seen.tail; newer = 0 } in
     let number : ℕ = line_number word in
     let new : ℕ → LineWord = line_of (updated row (me + 1) number) in
     let read : line_word_of number ≡ word = line_word-read word alone.0 alone.2 (omega arith) in
     let same : (place : ℕ) → (place ≡ me → ⊥) → new place ≡ line_of row place = λ place apart. line-other row me number place apart in
-    let apart_line : (place : ℕ) → 0 < waits_times place lazy.line → place ≡ me → ⊥ =
-    λ place there is. absurd (omega (arith, there, ap (λ (n : ℕ). waits_times n lazy.line) is, out.0)) in
+    let apart_line : (place : ℕ) → 0 < waits_times place state.line → place ≡ me → ⊥ =
+    λ place there is. absurd (omega (arith, there, ap (λ (n : ℕ). waits_times n state.line) is, out.0)) in
     let apart_owed : (place other : ℕ) → 0 < waits_times other (s.owed place) → other ≡ me → ⊥ =
     λ place other there is.
     let due = (s.debts.due_to place other (in-some other (s.owed place) there)).1 in
-    let wrong : true ≡ false = ap is_some (sym due ∙ ap lazy.due is) ∙ out.1 in absurd (cc) in
+    let wrong : true ≡ false = ap is_some (sym due ∙ ap state.due is) ∙ out.1 in absurd (cc) in
     let fields : (place : ℕ) → (place ≡ me → ⊥) → ((new place).request ≡ (line_of row place).request) × ((new place).older ≡ (line_of row place).older) =
     λ place apart. (ap (λ (w : LineWord). w.request) (same place apart), ap (λ (w : LineWord). w.older) (same place apart)) in
     record {
       events = [];
-      last = lazy;
+      last = state;
       run = refl;
       names = refl;
       calm = λ semaphore. refl;
@@ -178,7 +169,7 @@ step-Prepare needs lawful wide places row standing lazy me room here s request s
         shower = s.shower;
         worth = s.worth;
         free = s.free;
-        main = subst (λ (n : ℕ). IsMain needs n lazy s.holder) (sym (row-other row (me + 1) number 0 (λ is. absurd (omega (arith, is))))) s.main;
+        main = subst (λ (n : ℕ). IsMain needs n state s.holder) (sym (row-other row (me + 1) number 0 (λ is. absurd (omega (arith, is))))) s.main;
         line = record {
           parts = s.line.parts;
           granted = behind-frame (line_of row) new 0 s.cut (λ place there. fields place (apart_line place
@@ -187,7 +178,7 @@ step-Prepare needs lawful wide places row standing lazy me room here s request s
               (rw s.line.parts (omega (arith, there, times-append place s.cut s.uncut))))) s.line.stays;
           some = s.line.some;
         };
-        seats = seats-next places standing lazy me (record (standing me) { stage = Join request seen }) s.seats here refl;
+        seats = seats-next places standing state me (record (standing me) { stage = Join request seen }) s.seats here refl;
         answers = record {
           words = λ place inside. row-other row (me + 1) number (places + place + 1) (λ is. absurd (omega (arith, is, here))) ∙ s.answers.words place inside;
           small = s.answers.small;
@@ -199,47 +190,47 @@ step-Prepare needs lawful wide places row standing lazy me room here s request s
           small = s.debts.small;
           links = λ place. behind-frame (line_of row) new 0 (s.owed place) (λ other there. fields other (apart_owed place other there)) (s.debts.links place);
         };
-        stages = stages-next needs (line_of row) new standing lazy.count lazy.count lazy.line lazy.line s.cut s.cut
+        stages = stages-next needs (line_of row) new standing state.count state.count state.line state.line s.cut s.cut
             s.holder s.holder s.owed s.owed s.worth s.worth me (record (standing me) { stage = Join request seen }) s.stages
             ranged alone (λ gives. absurd (cc))
             (ap (λ (w : LineWord). w.request) (line-at row me number ∙ read), ap (λ (w : LineWord). w.older) (line-at row me number ∙ read)) nothing
             (sym none ∙ s.stages.one me)
-            (λ it. absurd (not-holder needs places row standing lazy me s none it))
+            (λ it. absurd (not-holder needs places row standing state me s none it))
             (λ other apart out. out)
             (λ other apart. subst (λ (w : LineWord). IsOwn w (standing other).stage) (sym (same other apart)) (s.stages.own other))
             (λ other apart. refl) (λ other apart. refl) (λ other apart. refl)
-            (λ other apart it. holding-frame needs (line_of row) new other lazy.count lazy.count lazy.line lazy.line [] s.cut (standing other).stage
-            (omega arith) (sym (append-nil lazy.line)) refl (λ place there. same place (apart_line place there)) (s.stages.holding other it));
+            (λ other apart it. holding-frame needs (line_of row) new other state.count state.count state.line state.line [] s.cut (standing other).stage
+            (omega arith) (sym (append-nil state.line)) refl (λ place there. same place (apart_line place there)) (s.stages.holding other it));
       };
     }
 
 -- a place that joins is held as one that is registered in the line
-held-joined : (places : ℕ) (standing : ℕ → Place) (lazy : Lazy) (me request : ℕ) → AreSeats places standing lazy → is_slot (standing me).registration ≡ false
-    → (other : ℕ) → held_by other (record lazy { line = lazy.line ++ (me, request) ∷ [] })
+held-joined : (places : ℕ) (standing : ℕ → Place) (state : AbstractState) (me request : ℕ) → AreSeats places standing state → is_slot (standing me).registration ≡ false
+    → (other : ℕ) → held_by other (record state { line = state.line ++ (me, request) ∷ [] })
     ≡ one_if (is_slot (updated standing me (record (standing me) { registration = Slot request; stage = Quiet }) other).registration)
-held-joined places standing lazy me request was idle =
-    each-updated (λ (n : ℕ) (p : Place). held_by n (record lazy { line = lazy.line ++ (me, request) ∷ [] }) ≡ one_if (is_slot p.registration))
+held-joined places standing state me request was idle =
+    each-updated (λ (n : ℕ) (p : Place). held_by n (record state { line = state.line ++ (me, request) ∷ [] }) ≡ one_if (is_slot p.registration))
     standing me (record (standing me) { registration = Slot request; stage = Quiet })
-    (omega (arith, was.held me, ap one_if idle, times-append me lazy.line ((me, request) ∷ []), one_if-same me))
+    (omega (arith, was.held me, ap one_if idle, times-append me state.line ((me, request) ∷ []), one_if-same me))
     (λ other apart.
     let test : me == other ≡ false = number_other me other (λ is. apart (sym is)) in
-    omega (arith, was.held other, times-append other lazy.line ((me, request) ∷ []), ap one_if test))
+    omega (arith, was.held other, times-append other state.line ((me, request) ∷ []), ap one_if test))
 
 -- A place joins the line
-joined : (needs : Needs) → AreNeeds needs → needs.top < 2 ^ count_bits → (places : ℕ) (row : ℕ → ℕ) (standing : ℕ → Place) (lazy : Lazy) (me : ℕ)
-    → places < 65536 → me < places → (s : Refines needs places row standing lazy) → is_holder (standing me).stage ≡ false → s.owed me ≡ []
-    → lazy.poisoned ≡ false → (request : ℕ) (seen : Word) → IsSmall seen → is_slot (standing me).registration ≡ false → main_of row ≡ seen
-    → must_wait needs lazy request ≡ true → IsOwn (line_of row me) (Join request seen)
+joined : (needs : Needs) → AreNeeds needs → needs.top < 2 ^ count_bits → (places : ℕ) (row : ℕ → ℕ) (standing : ℕ → Place) (state : AbstractState) (me : ℕ)
+    → places < 65536 → me < places → (s : Refines needs places row standing state) → is_holder (standing me).stage ≡ false → s.owed me ≡ []
+    → state.poisoned ≡ false → (request : ℕ) (seen : Word) → IsSmall seen → is_slot (standing me).registration ≡ false → main_of row ≡ seen
+    → must_wait needs state request ≡ true → IsOwn (line_of row me) (Join request seen)
     → Refines needs places (updated row 0 (word_number count_bits (record seen { tail = me + 1 })))
-    (updated standing me (record (standing me) { registration = Slot request; stage = Quiet })) (record lazy { line = lazy.line ++ (me, request) ∷ [] })
-joined needs lawful wide places row standing lazy me room here s none nothing calm request seen small idle is waits own =
-    let tail : seen.tail ≡ newest 0 lazy.line = ap (λ (w : Word). w.tail) (sym is) ∙ s.main.tail in
-    let count : seen.count ≡ lazy.count = ap (λ (w : Word). w.count) (sym is) ∙ s.main.count in
+    (updated standing me (record (standing me) { registration = Slot request; stage = Quiet })) (record state { line = state.line ++ (me, request) ∷ [] })
+joined needs lawful wide places row standing state me room here s none nothing calm request seen small idle is waits own =
+    let tail : seen.tail ≡ newest 0 state.line = ap (λ (w : Word). w.tail) (sym is) ∙ s.main.tail in
+    let count : seen.count ≡ state.count = ap (λ (w : Word). w.count) (sym is) ∙ s.main.count in
     let word : Word = record seen { tail = me + 1 } in
     let number : ℕ = word_number count_bits word in
     let place : Place = record (standing me) { registration = Slot request; stage = Quiet } in
-    let after : List (ℕ × ℕ) = lazy.line ++ (me, request) ∷ [] in
-    let older : newest 0 lazy.line ≡ newest 0 s.uncut =
+    let after : List (ℕ × ℕ) = state.line ++ (me, request) ∷ [] in
+    let older : newest 0 state.line ≡ newest 0 s.uncut =
     elim (cases_Bool (is_empty s.uncut)) [
       | inl gone ↦
           let no_cut : s.cut ≡ [] = s.line.some gone in
@@ -254,10 +245,10 @@ joined needs lawful wide places row standing lazy me room here s none nothing ca
       shower = s.shower;
       worth = s.worth;
       free = s.free;
-      main = main-now needs (record lazy { line = after }) s.holder word small (omega (arith, room, here)) count
-          (sym (newest-append 0 lazy.line ((me, request) ∷ []))) (ap (λ (w : Word). w.is_flagged) (sym is) ∙ s.main.flag)
-          (ap (λ (w : Word). w.is_poisoned) (sym is) ∙ s.main.poison) (never-barren needs (record lazy { line = after }) calm) s.main.bounded s.main.closed
-          (λ closed. joined-settled needs lazy.count me request lazy.line waits (s.main.settled closed));
+      main = main-now needs (record state { line = after }) s.holder word small (omega (arith, room, here)) count
+          (sym (newest-append 0 state.line ((me, request) ∷ []))) (ap (λ (w : Word). w.is_flagged) (sym is) ∙ s.main.flag)
+          (ap (λ (w : Word). w.is_poisoned) (sym is) ∙ s.main.poison) (never-barren needs (record state { line = after }) calm) s.main.bounded s.main.closed
+          (λ closed. joined-settled needs state.count me request state.line waits (s.main.settled closed));
       line = subst (λ (w : ℕ → LineWord). IsLine w after s.cut (s.uncut ++ (me, request) ∷ [])) (sym (line-main row number)) (record {
         parts = ap (λ (l : List (ℕ × ℕ)). l ++ (me, request) ∷ []) s.line.parts ∙ append_assoc s.cut s.uncut ((me, request) ∷ []);
         granted = s.line.granted;
@@ -265,21 +256,21 @@ joined needs lawful wide places row standing lazy me room here s none nothing ca
         some = λ none. absurd (never s.uncut none);
       });
       seats = record {
-        held = held-joined places standing lazy me request s.seats idle;
+        held = held-joined places standing state me request s.seats idle;
         within = each-updated (λ (n : ℕ) (p : Place). is_slot p.registration ≡ true → n < places) standing me place (λ slot. here)
             (λ other apart. s.seats.within other);
         beyond = each-updated (λ (n : ℕ) (p : Place). places ≤ n → p.stage ≡ Quiet) standing me place (λ out. refl) (λ other apart. s.seats.beyond other);
       };
-      answers = answers-main places row number lazy.shown s.answers;
-      debts = subst (λ (w : ℕ → LineWord). AreDebts w lazy.due s.owed s.shower s.worth) (sym (line-main row number)) s.debts;
-      stages = subst (λ (w : ℕ → LineWord). AreStages needs w (updated standing me place) lazy.count after s.cut s.holder s.owed s.worth)
+      answers = answers-main places row number state.shown s.answers;
+      debts = subst (λ (w : ℕ → LineWord). AreDebts w state.due s.owed s.shower s.worth) (sym (line-main row number)) s.debts;
+      stages = subst (λ (w : ℕ → LineWord). AreStages needs w (updated standing me place) state.count after s.cut s.holder s.owed s.worth)
           (sym (line-main row number))
-          (stages-next needs (line_of row) (line_of row) standing lazy.count lazy.count lazy.line after s.cut s.cut s.holder s.holder s.owed s.owed
+          (stages-next needs (line_of row) (line_of row) standing state.count state.count state.line after s.cut s.cut s.holder s.holder s.owed s.owed
           s.worth s.worth me place s.stages tt tt (λ gives. absurd (cc)) tt nothing (sym none ∙ s.stages.one me)
-          (λ it. absurd (not-holder needs places row standing lazy me s none it))
-          (λ other apart out. rw (in-append other lazy.line ((me, request) ∷ []), out) (not-joined other apart))
+          (λ it. absurd (not-holder needs places row standing state me s none it))
+          (λ other apart out. rw (in-append other state.line ((me, request) ∷ []), out) (not-joined other apart))
           (λ other apart. s.stages.own other) (λ other apart. refl) (λ other apart. refl) (λ other apart. refl)
-          (λ other apart it. holding-frame needs (line_of row) (line_of row) other lazy.count lazy.count lazy.line after ((me, request) ∷ []) s.cut
+          (λ other apart it. holding-frame needs (line_of row) (line_of row) other state.count state.count state.line after ((me, request) ∷ []) s.cut
           (standing other).stage (omega arith) refl (not-joined other apart) (λ one there. refl) (s.stages.holding other it)));
     }
   where
@@ -291,10 +282,10 @@ joined needs lawful wide places row standing lazy me room here s none nothing ca
     never (asker ∷ rest) none = absurd (cc)
 
 -- a place joins the line, where the main word is as it saw it, and else is decided by the main word as it stands
-pub step-Join : (needs : Needs) → AreNeeds needs → needs.top < 2 ^ count_bits → (places : ℕ) (row : ℕ → ℕ) (standing : ℕ → Place) (lazy : Lazy) (me : ℕ)
-    → places < 65536 → me < places → (s : Refines needs places row standing lazy)
-    → (request : ℕ) (seen : Word) → (standing me).stage ≡ Join request seen → StepRefines needs places row standing lazy me (Join request seen)
-step-Join needs lawful wide places row standing lazy me room here s request seen at =
+pub step-Join : (needs : Needs) → AreNeeds needs → needs.top < 2 ^ count_bits → (places : ℕ) (row : ℕ → ℕ) (standing : ℕ → Place) (state : AbstractState) (me : ℕ)
+    → places < 65536 → me < places → (s : Refines needs places row standing state)
+    → (request : ℕ) (seen : Word) → (standing me).stage ≡ Join request seen → StepRefines needs places row standing state me (Join request seen)
+step-Join needs lawful wide places row standing state me room here s request seen at =
     let alone : IsAlone needs (standing me).registration (standing me).back (Join request seen) =
     subst (λ stage. IsAlone needs (standing me).registration (standing me).back stage) at (s.stages.alone me) in
     let ranged : IsRanged needs (Join request seen) = subst (λ stage. IsRanged needs stage) at (s.stages.ranged me) in
@@ -304,32 +295,23 @@ step-Join needs lawful wide places row standing lazy me room here s request seen
     elim (cases_Bool (row 0 == word_number count_bits seen)) [
       | inl same ↦
           let is : main_of row ≡ seen = main-found (row 0) seen ranged alone.2 same in
-          let calm : lazy.poisoned ≡ false = sym s.main.poison ∙ ap (λ (w : Word). w.is_poisoned) is ∙ alone.4 in
-          let waits : must_wait needs lazy request ≡ true =
-          sym (waits-same needs places row standing lazy s request) ∙ ap (λ (w : Word). waits_behind needs w request) is ∙ alone.3 in
-          let out = outside needs places row standing lazy me s alone.1 in
+          let calm : state.poisoned ≡ false = sym s.main.poison ∙ ap (λ (w : Word). w.is_poisoned) is ∙ alone.4 in
+          let waits : must_wait needs state request ≡ true =
+          sym (waits-same needs places row standing state s request) ∙ ap (λ (w : Word). waits_behind needs w request) is ∙ alone.3 in
+          let out = outside needs places row standing state me s alone.1 in
           record {
             events = Joined request ∷ [];
-            last = record lazy { line = lazy.line ++ (me, request) ∷ [] };
-            run = ((calm, waits, in-none me lazy.line out.0, none-of (lazy.due me) out.1, none-of (lazy.shown me) out.2), refl);
+            last = record state { line = state.line ++ (me, request) ∷ [] };
+            run = ((calm, waits, in-none me state.line out.0, none-of (state.due me) out.1, none-of (state.shown me) out.2), refl);
             names = rw same refl;
             calm = λ semaphore. refl;
             inside = omega arith;
-            stands = rw same (joined needs lawful wide places row standing lazy me room here s none nothing calm request seen ranged alone.1 is waits own);
+            stands = rw same (joined needs lawful wide places row standing state me room here s none nothing calm request seen ranged alone.1 is waits own);
           }
       | inr differs ↦
           let ask : Ask = record { request = request; joins = true } in
-          let out = decided-outcome needs wide places row standing lazy me here s none nothing ask alone.0 (λ joins. alone.1) in
-          let now : Place = place_after (standing me) (decided needs (standing me) ask (main_of row)) in
-          record {
-            events = out.events;
-            last = out.last;
-            run = out.run;
-            names = rw differs out.names;
-            calm = out.calm;
-            inside = omega arith;
-            stands = rw differs (loaded needs places row (updated standing me now) out.last 0 out.stands);
-          }
+          let out = decided-outcome needs wide places row standing state me here s none nothing ask alone.0 (λ joins. alone.1) in
+          only-looked needs places row standing state me (Join request seen) out refl (rw differs refl) (rw differs refl) (rw differs refl)
     ]
   where
     none-of : (answer : Option ℕ) → is_some answer ≡ false → answer ≡ None

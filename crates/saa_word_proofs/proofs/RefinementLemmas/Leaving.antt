@@ -12,7 +12,7 @@ use Rattle.saa_word_steps.specs.declared.place.Stage.{Stage}
 use Rattle.saa_word_steps.specs.declared.place.Stage.TheVariants.{Quiet}
 use Rattle.saa_word_steps.specs.Needs.{Needs}
 use Rattle.saa_word_steps.specs.declared.event.Event.TheVariants.{Left}
-use Rattle.saa_word_steps.specs.Lazy.{Lazy, IsRun, is_empty, is_in, waits_times, line_without, held_by}
+use Rattle.saa_word_steps.specs.AbstractState.{AbstractState, IsRun, is_empty, is_in, waits_times, line_without, held_by}
 use Rattle.saa_word_steps.specs.Steps.{IsRanged, left_line}
 use Rattle.saa_word_proofs.specs.Refinement.{updated, line_of, newest, IsBehind, is_slot, is_holder, gives_up, IsAlone, IsOwn, IsShowing, Work, IsFound, IsHolding, IsMain, AreSeats, AreDebts, Refines}
 use Rattle.saa_word_proofs.specs.StepRefinement.{of_place}
@@ -23,8 +23,8 @@ use Rattle.saa_word_proofs.proofs.RefinementLemmas.Granting.{in-waits, in-no}
 use Rattle.saa_word_proofs.proofs.RefinementLemmas.Linking.{apart-by, in-line, line-room}
 
 -- The object once a place has left the line, with those who still wait
-abbrev pub left : Lazy → List (ℕ × ℕ) → Lazy
-left lazy rest = record lazy { line = rest; unclosed = not (is_empty rest) }
+abbrev pub left : AbstractState → List (ℕ × ℕ) → AbstractState
+left state rest = record state { line = rest; unclosed = not (is_empty rest) }
 
 -- Lines
 
@@ -98,13 +98,13 @@ found-room row line before after asker linked parts =
     subst (λ (n : ℕ). n < 65536) all.1 (line-room (row (asker.0 + 1))).1
 
 -- The event, for the object with those who still wait
-pub left-run : (needs : Needs) (lazy : Lazy) (me request : ℕ) (before after : List (ℕ × ℕ)) → lazy.line ≡ before ++ (me, request) ∷ after
-    → waits_times me lazy.line ≡ 1 → IsRun needs lazy (of_place me (Left ∷ [])) (left lazy (before ++ after))
-left-run needs lazy me request before after parts once =
-    let rest : line_without me lazy.line ≡ before ++ after =
+pub left-run : (needs : Needs) (state : AbstractState) (me request : ℕ) (before after : List (ℕ × ℕ)) → state.line ≡ before ++ (me, request) ∷ after
+    → waits_times me state.line ≡ 1 → IsRun needs state (of_place me (Left ∷ [])) (left state (before ++ after))
+left-run needs state me request before after parts once =
+    let rest : line_without me state.line ≡ before ++ after =
     ap (λ (l : List (ℕ × ℕ)). line_without me l) parts
     ∙ without-once me request before after (ap (λ (l : List (ℕ × ℕ)). waits_times me l) (sym parts) ∙ once) in
-    (in-some me lazy.line (omega (arith, once)), ap (λ (l : List (ℕ × ℕ)). left lazy l) rest)
+    (in-some me state.line (omega (arith, once)), ap (λ (l : List (ℕ × ℕ)). left state l) rest)
 
 -- Links
 
@@ -146,25 +146,25 @@ newer-same words new at newer others place =
 -- Seats and debts
 
 -- who waits where the holder found itself waits once
-pub found-once : (places : ℕ) (standing : ℕ → Place) (lazy : Lazy) (me request : ℕ) (before after : List (ℕ × ℕ))
-    → AreSeats places standing lazy → lazy.line ≡ before ++ (me, request) ∷ after → waits_times me lazy.line ≡ 1
-found-once places standing lazy me request before after seats parts =
-    let waits : 0 < waits_times me lazy.line =
+pub found-once : (places : ℕ) (standing : ℕ → Place) (state : AbstractState) (me request : ℕ) (before after : List (ℕ × ℕ))
+    → AreSeats places standing state → state.line ≡ before ++ (me, request) ∷ after → waits_times me state.line ≡ 1
+found-once places standing state me request before after seats parts =
+    let waits : 0 < waits_times me state.line =
     omega (arith, ap (λ (l : List (ℕ × ℕ)). waits_times me l) parts, times-append me before ((me, request) ∷ after), one_if-same me) in
-    (in-line places standing lazy me seats waits).2
+    (in-line places standing state me seats waits).2
 
 -- who leaves is held no more, and the others are held as they were
-pub seats-left : (places : ℕ) (standing : ℕ → Place) (lazy : Lazy) (me request : ℕ) (before after : List (ℕ × ℕ)) (stage : Stage)
-    → AreSeats places standing lazy → me < places → lazy.line ≡ before ++ (me, request) ∷ after
-    → AreSeats places (updated standing me (record (left_line (standing me)) { stage = stage })) (left lazy (before ++ after))
-seats-left places standing lazy me request before after stage was here parts =
-    let times : (place : ℕ) → waits_times place lazy.line ≡ one_if (me == place) + waits_times place (before ++ after) =
+pub seats-left : (places : ℕ) (standing : ℕ → Place) (state : AbstractState) (me request : ℕ) (before after : List (ℕ × ℕ)) (stage : Stage)
+    → AreSeats places standing state → me < places → state.line ≡ before ++ (me, request) ∷ after
+    → AreSeats places (updated standing me (record (left_line (standing me)) { stage = stage })) (left state (before ++ after))
+seats-left places standing state me request before after stage was here parts =
+    let times : (place : ℕ) → waits_times place state.line ≡ one_if (me == place) + waits_times place (before ++ after) =
     λ place. ap (λ (l : List (ℕ × ℕ)). waits_times place l) parts ∙ times-left place before after (me, request) in
-    let waits : 0 < waits_times me lazy.line = omega (arith, times me, one_if-same me) in
-    let slot : is_slot (standing me).registration ≡ true = (in-line places standing lazy me was waits).1 in
+    let waits : 0 < waits_times me state.line = omega (arith, times me, one_if-same me) in
+    let slot : is_slot (standing me).registration ≡ true = (in-line places standing state me was waits).1 in
     let place_now : Place = record (left_line (standing me)) { stage = stage } in
     record {
-      held = each-updated (λ (n : ℕ) (p : Place). held_by n (left lazy (before ++ after)) ≡ one_if (is_slot p.registration)) standing me place_now
+      held = each-updated (λ (n : ℕ) (p : Place). held_by n (left state (before ++ after)) ≡ one_if (is_slot p.registration)) standing me place_now
           (omega (arith, times me, one_if-same me, was.held me, ap one_if slot))
           (λ other apart.
           omega (arith, times other, ap one_if (number_other me other (λ is. apart (sym is))), was.held other));
@@ -175,14 +175,14 @@ seats-left places standing lazy me request before after stage was here parts =
     }
 
 -- no answer is due to who waits, so nobody owes it one
-pub owed-out : (places : ℕ) (words : ℕ → LineWord) (standing : ℕ → Place) (lazy : Lazy) (owed : ℕ → List (ℕ × ℕ)) (shower worth : ℕ → ℕ)
-    → AreSeats places standing lazy → AreDebts words lazy.due owed shower worth
-    → (place other : ℕ) → 0 < waits_times other (owed place) → is_in other lazy.line ≡ false
-owed-out places words standing lazy owed shower worth seats debts place other owes =
-    elim (cases_Bool (is_in other lazy.line)) [
+pub owed-out : (places : ℕ) (words : ℕ → LineWord) (standing : ℕ → Place) (state : AbstractState) (owed : ℕ → List (ℕ × ℕ)) (shower worth : ℕ → ℕ)
+    → AreSeats places standing state → AreDebts words state.due owed shower worth
+    → (place other : ℕ) → 0 < waits_times other (owed place) → is_in other state.line ≡ false
+owed-out places words standing state owed shower worth seats debts place other owes =
+    elim (cases_Bool (is_in other state.line)) [
       | inl waits ↦
-          let due : is_some (lazy.due other) ≡ true = ap is_some (debts.due_to place other (in-some other (owed place) owes)).1 in
-          let none : is_some (lazy.due other) ≡ false = (in-line places standing lazy other seats (in-waits other lazy.line waits)).3 in
+          let due : is_some (state.due other) ≡ true = ap is_some (debts.due_to place other (in-some other (owed place) owes)).1 in
+          let none : is_some (state.due other) ≡ false = (in-line places standing state other seats (in-waits other state.line waits)).3 in
           let wrong : true ≡ false = sym due ∙ none in
           absurd (cc)
       | inr out ↦ out
@@ -191,19 +191,19 @@ owed-out places words standing lazy owed shower worth seats debts place other ow
 -- The whole
 
 -- The holder leaves the line by a write that leaves the line words of all who don't wait, and goes on at a stage
-pub leaving : (needs : Needs) (places : ℕ) (row : ℕ → ℕ) (standing : ℕ → Place) (lazy : Lazy) (me : ℕ) (s : Refines needs places row standing lazy)
+pub leaving : (needs : Needs) (places : ℕ) (row : ℕ → ℕ) (standing : ℕ → Place) (state : AbstractState) (me : ℕ) (s : Refines needs places row standing state)
     (at number request : ℕ) (stage : Stage) (before after : List (ℕ × ℕ)) (next : ℕ)
-    → me < places → at ≤ places → s.holder ≡ me + 1 → lazy.line ≡ before ++ (me, request) ∷ after
-    → ((place : ℕ) → is_in place lazy.line ≡ false → line_of (updated row at number) place ≡ line_of row place)
+    → me < places → at ≤ places → s.holder ≡ me + 1 → state.line ≡ before ++ (me, request) ∷ after
+    → ((place : ℕ) → is_in place state.line ≡ false → line_of (updated row at number) place ≡ line_of row place)
     → IsBehind (line_of (updated row at number)) 0 (before ++ after)
-    → IsMain needs (updated row at number 0) (left lazy (before ++ after)) next
+    → IsMain needs (updated row at number 0) (left state (before ++ after)) next
     → IsRanged needs stage → IsAlone needs Idle EndsCall stage → (gives_up EndsCall stage ≡ false)
     → IsOwn (line_of (updated row at number) me) stage → IsShowing (s.owed me) (s.worth me) stage
     → is_holder stage ≡ (next == me + 1)
-    → (next ≡ me + 1 → IsHolding needs (line_of (updated row at number)) me lazy.count (before ++ after) [] stage)
+    → (next ≡ me + 1 → IsHolding needs (line_of (updated row at number)) me state.count (before ++ after) [] stage)
     → ((other : ℕ) → (other ≡ me → ⊥) → (s.holder == other + 1) ≡ (next == other + 1))
-    → Refines needs places (updated row at number) (updated standing me (record (left_line (standing me)) { stage = stage })) (left lazy (before ++ after))
-leaving needs places row standing lazy me s at number request stage before after next here below mine parts words linked main ranged alone stays own showing
+    → Refines needs places (updated row at number) (updated standing me (record (left_line (standing me)) { stage = stage })) (left state (before ++ after))
+leaving needs places row standing state me s at number request stage before after next here below mine parts words linked main ranged alone stays own showing
     holder holding others = record {
       holder = next;
       cut = [];
@@ -214,7 +214,7 @@ leaving needs places row standing lazy me s at number request stage before after
       free = λ nobody. refl;
       main = main;
       line = record { parts = refl; granted = tt; stays = linked; some = λ none. refl };
-      seats = seats-left places standing lazy me request before after stage s.seats here parts;
+      seats = seats-left places standing state me request before after stage s.seats here parts;
       answers = record {
         words = λ place inside. row-other row at number (places + place + 1) (λ is. omega (arith, is, below)) ∙ s.answers.words place inside;
         small = s.answers.small;
@@ -227,23 +227,23 @@ leaving needs places row standing lazy me s at number request stage before after
         links = λ place.
             behind-frame (line_of row) (line_of (updated row at number)) 0 (s.owed place)
             (λ other owes.
-            let same = words other (owed-out places (line_of row) standing lazy s.owed s.shower s.worth s.seats s.debts place other owes) in
+            let same = words other (owed-out places (line_of row) standing state s.owed s.shower s.worth s.seats s.debts place other owes) in
             (ap (λ (w : LineWord). w.request) same, ap (λ (w : LineWord). w.older) same))
             (s.debts.links place);
       };
-      stages = stages-next needs (line_of row) (line_of (updated row at number)) standing lazy.count lazy.count lazy.line (before ++ after) s.cut []
+      stages = stages-next needs (line_of row) (line_of (updated row at number)) standing state.count state.count state.line (before ++ after) s.cut []
           s.holder next s.owed s.owed s.worth s.worth me (record (left_line (standing me)) { stage = stage }) s.stages
           ranged alone (λ gives. let wrong : true ≡ false = sym gives ∙ stays in absurd (cc)) own showing holder holding
-          (λ other differs. out-left other lazy.line before after (me, request) parts)
+          (λ other differs. out-left other state.line before after (me, request) parts)
           (λ other differs. owns other) (λ other differs. refl) (λ other differs. refl) others
           (λ other differs is. absurd (differs (omega (arith, is, mine))));
     }
   where
     owns : (other : ℕ) → IsOwn (line_of (updated row at number) other) (standing other).stage
     owns other =
-        elim (cases_Bool (is_in other lazy.line)) [
+        elim (cases_Bool (is_in other state.line)) [
           | inl waits ↦
               own-any needs (standing other).registration (standing other).back (standing other).stage (line_of (updated row at number) other)
-              (s.stages.alone other) (in-line places standing lazy other s.seats (in-waits other lazy.line waits)).1
+              (s.stages.alone other) (in-line places standing state other s.seats (in-waits other state.line waits)).1
           | inr out ↦ subst (λ (w : LineWord). IsOwn w (standing other).stage) (sym (words other out)) (s.stages.own other)
         ]

@@ -9,7 +9,7 @@ use Rattle.saa_core_words.specs.Words.{line_word_of}
 use Rattle.saa_word_steps.specs.declared.place.Place.{Place}
 use Rattle.saa_word_steps.specs.declared.place.Stage.{Stage}
 use Rattle.saa_word_steps.specs.Needs.{Needs}
-use Rattle.saa_word_steps.specs.Lazy.{Lazy, is_empty, is_in, waits_times}
+use Rattle.saa_word_steps.specs.AbstractState.{AbstractState, is_empty, is_in, waits_times}
 use Rattle.saa_word_steps.specs.Steps.{IsRanged}
 use Rattle.saa_word_proofs.specs.Refinement.{updated, line_of, newest, oldest, IsBehind, IsAhead, is_slot, is_holder, gives_up, IsAlone, IsOwn, IsShowing, Work, IsHolding, IsAt, IsMain, IsLine, AreSeats, Refines}
 use Rattle.saa_word_proofs.proofs.RefinementLemmas.Lists.{in-some, behind-frame, behind-rest, newest-append, newest-last, empty-nil}
@@ -17,28 +17,28 @@ use Rattle.saa_word_proofs.proofs.RefinementLemmas.Frames.{stages-next, newest-s
 use Rattle.saa_word_proofs.proofs.RefinementLemmas.Rows.{line-other, row-other, own-any, seats-next}
 
 -- a place that holds the flag is its holder, and knows what a holder does
-pub flag-held : (needs : Needs) (places : ℕ) (row : ℕ → ℕ) (standing : ℕ → Place) (lazy : Lazy) (me : ℕ) (s : Refines needs places row standing lazy)
+pub flag-held : (needs : Needs) (places : ℕ) (row : ℕ → ℕ) (standing : ℕ → Place) (state : AbstractState) (me : ℕ) (s : Refines needs places row standing state)
     → is_holder (standing me).stage ≡ true → s.holder ≡ me + 1
-flag-held needs places row standing lazy me s holds = same_number s.holder (me + 1) (sym (s.stages.one me) ∙ holds)
+flag-held needs places row standing state me s holds = same_number s.holder (me + 1) (sym (s.stages.one me) ∙ holds)
 
-pub flag-knows : (needs : Needs) (places : ℕ) (row : ℕ → ℕ) (standing : ℕ → Place) (lazy : Lazy) (me : ℕ) (s : Refines needs places row standing lazy)
-    (stage : Stage) → (standing me).stage ≡ stage → is_holder stage ≡ true → IsHolding needs (line_of row) me lazy.count lazy.line s.cut stage
-flag-knows needs places row standing lazy me s stage at holds =
-    subst (λ (other : Stage). IsHolding needs (line_of row) me lazy.count lazy.line s.cut other) at
-    (s.stages.holding me (flag-held needs places row standing lazy me s (ap is_holder at ∙ holds)))
+pub flag-knows : (needs : Needs) (places : ℕ) (row : ℕ → ℕ) (standing : ℕ → Place) (state : AbstractState) (me : ℕ) (s : Refines needs places row standing state)
+    (stage : Stage) → (standing me).stage ≡ stage → is_holder stage ≡ true → IsHolding needs (line_of row) me state.count state.line s.cut stage
+flag-knows needs places row standing state me s stage at holds =
+    subst (λ (other : Stage). IsHolding needs (line_of row) me state.count state.line s.cut other) at
+    (s.stages.holding me (flag-held needs places row standing state me s (ap is_holder at ∙ holds)))
 
 -- numbers whose test fails are two
 pub apart-by : (one other : ℕ) → one == other ≡ false → one ≡ other → ⊥
 apart-by one other apart is = let same : one == other ≡ true = ap (λ (n : ℕ). n == other) is ∙ number_same other in absurd (cc)
 
 -- Whoever stands in the line is a place that is registered in it, stands there once, and no answer is due to it
-pub in-line : (places : ℕ) (standing : ℕ → Place) (lazy : Lazy) (place : ℕ) → AreSeats places standing lazy → 0 < waits_times place lazy.line
-    → (place < places) × (is_slot (standing place).registration ≡ true) × (waits_times place lazy.line ≡ 1) × (is_some (lazy.due place) ≡ false)
-in-line places standing lazy place seats there =
+pub in-line : (places : ℕ) (standing : ℕ → Place) (state : AbstractState) (place : ℕ) → AreSeats places standing state → 0 < waits_times place state.line
+    → (place < places) × (is_slot (standing place).registration ≡ true) × (waits_times place state.line ≡ 1) × (is_some (state.due place) ≡ false)
+in-line places standing state place seats there =
     elim (cases_Bool (is_slot (standing place).registration)) [
       | inl slot ↦
           let held = seats.held place ∙ ap one_if slot in
-          elim (cases_Bool (is_some (lazy.due place))) [
+          elim (cases_Bool (is_some (state.due place))) [
             | inl due ↦ absurd (omega (arith, there, held, ap one_if due))
             | inr none ↦ (seats.within place slot, slot, omega (arith, there, held), none)
           ]
@@ -46,9 +46,9 @@ in-line places standing lazy place seats there =
     ]
 
 -- so the link to the oldest or the newest of those in line is that of a place
-pub oldest-room : (places : ℕ) (standing : ℕ → Place) (lazy : Lazy) (seen : Word) (work : Work lazy.count lazy.line seen)
-    → AreSeats places standing lazy → places < 65536 → oldest work.behind < 65536
-oldest-room places standing lazy seen work seats room =
+pub oldest-room : (places : ℕ) (standing : ℕ → Place) (state : AbstractState) (seen : Word) (work : Work state.count state.line seen)
+    → AreSeats places standing state → places < 65536 → oldest work.behind < 65536
+oldest-room places standing state seen work seats room =
     elim (cases_Bool (is_empty work.behind)) [
       | inl none ↦ rw (oldest-none work.behind none) (omega arith)
       | inr some ↦
@@ -57,7 +57,7 @@ oldest-room places standing lazy seen work seats room =
             arith,
             there.1,
             room,
-            (in-line places standing lazy (pred (oldest work.behind)) seats (work-behind lazy.count lazy.line seen work (pred (oldest work.behind)) there.0)).0,
+            (in-line places standing state (pred (oldest work.behind)) seats (work-behind state.count state.line seen work (pred (oldest work.behind)) there.0)).0,
           )
     ]
   where
@@ -66,16 +66,16 @@ oldest-room places standing lazy seen work seats room =
     oldest-none (asker ∷ rest) none = absurd (cc)
 
 -- and the tail that the holder saw is that of a place too
-pub tail-room : (places : ℕ) (standing : ℕ → Place) (lazy : Lazy) (seen : Word) (work : Work lazy.count lazy.line seen)
-    → AreSeats places standing lazy → places < 65536 → is_empty work.behind ≡ false → seen.tail < 65536
-tail-room places standing lazy seen work seats room some =
+pub tail-room : (places : ℕ) (standing : ℕ → Place) (state : AbstractState) (seen : Word) (work : Work state.count state.line seen)
+    → AreSeats places standing state → places < 65536 → is_empty work.behind ≡ false → seen.tail < 65536
+tail-room places standing state seen work seats room some =
     let tail : seen.tail ≡ newest (newest 0 work.front) work.behind = work.tail ∙ newest-append 0 work.front work.behind in
     let there = newest-stands-behind (newest 0 work.front) work.behind seen.tail some tail in
     omega (
       arith,
       there.1,
       room,
-      (in-line places standing lazy (pred seen.tail) seats (work-behind lazy.count lazy.line seen work (pred seen.tail) there.0)).0,
+      (in-line places standing state (pred seen.tail) seats (work-behind state.count state.line seen work (pred seen.tail) there.0)).0,
     )
   where
     newest-stands-behind : (older : ℕ) (line : List (ℕ × ℕ)) (link : ℕ) → is_empty line ≡ false → link ≡ newest older line
@@ -88,17 +88,17 @@ pub line-room : (number : ℕ) → ((line_word_of number).request < 65536) × ((
 line-room number = (omega arith, omega arith, omega arith)
 
 -- The holder writes the line word of a place in line, and goes on as a holder that knows the line by the new words
-pub relinked : (needs : Needs) (places : ℕ) (row : ℕ → ℕ) (standing : ℕ → Place) (lazy : Lazy) (me : ℕ) (s : Refines needs places row standing lazy)
+pub relinked : (needs : Needs) (places : ℕ) (row : ℕ → ℕ) (standing : ℕ → Place) (state : AbstractState) (me : ℕ) (s : Refines needs places row standing state)
     (next : Stage) (at number : ℕ) (off rest : List (ℕ × ℕ))
-    → me < places → s.holder ≡ me + 1 → 0 < waits_times at lazy.line
-    → IsLine (line_of (updated row (at + 1) number)) lazy.line off rest
+    → me < places → s.holder ≡ me + 1 → 0 < waits_times at state.line
+    → IsLine (line_of (updated row (at + 1) number)) state.line off rest
     → IsRanged needs next → IsAlone needs (standing me).registration (standing me).back next
-    → (gives_up (standing me).back next ≡ true → is_in me lazy.line ≡ false)
+    → (gives_up (standing me).back next ≡ true → is_in me state.line ≡ false)
     → IsOwn (line_of (updated row (at + 1) number) me) next → IsShowing (s.owed me) (s.worth me) next
-    → is_holder next ≡ true → IsHolding needs (line_of (updated row (at + 1) number)) me lazy.count lazy.line off next
-    → Refines needs places (updated row (at + 1) number) (updated standing me (record (standing me) { stage = next })) lazy
-relinked needs places row standing lazy me s next at number off rest here flag there line ranged alone apart own showing holder holding =
-    let seat = in-line places standing lazy at s.seats there in
+    → is_holder next ≡ true → IsHolding needs (line_of (updated row (at + 1) number)) me state.count state.line off next
+    → Refines needs places (updated row (at + 1) number) (updated standing me (record (standing me) { stage = next })) state
+relinked needs places row standing state me s next at number off rest here flag there line ranged alone apart own showing holder holding =
+    let seat = in-line places standing state at s.seats there in
     record {
       holder = s.holder;
       cut = off;
@@ -107,9 +107,9 @@ relinked needs places row standing lazy me s next at number off rest here flag t
       shower = s.shower;
       worth = s.worth;
       free = λ nobody. absurd (omega (arith, flag, same_number s.holder 0 nobody));
-      main = subst (λ (n : ℕ). IsMain needs n lazy s.holder) (sym (row-other row (at + 1) number 0 (λ is. omega (arith, is)))) s.main;
+      main = subst (λ (n : ℕ). IsMain needs n state s.holder) (sym (row-other row (at + 1) number 0 (λ is. omega (arith, is)))) s.main;
       line = line;
-      seats = seats-next places standing lazy me (record (standing me) { stage = next }) s.seats here refl;
+      seats = seats-next places standing state me (record (standing me) { stage = next }) s.seats here refl;
       answers = record {
         words = λ place below.
             row-other row (at + 1) number (places + place + 1) (λ is. omega (arith, is, seat.0)) ∙ s.answers.words place below;
@@ -128,17 +128,17 @@ relinked needs places row standing lazy me s next at number off rest here flag t
             (ap (λ (w : LineWord). w.request) same, ap (λ (w : LineWord). w.older) same))
             (s.debts.links place);
       };
-      stages = stages-next needs (line_of row) (line_of (updated row (at + 1) number)) standing lazy.count lazy.count lazy.line lazy.line s.cut off
+      stages = stages-next needs (line_of row) (line_of (updated row (at + 1) number)) standing state.count state.count state.line state.line s.cut off
           s.holder s.holder s.owed s.owed s.worth s.worth me (record (standing me) { stage = next }) s.stages
           ranged alone apart own showing (holder ∙ sym (ap (λ (n : ℕ). n == me + 1) flag ∙ number_same (me + 1))) (λ is. holding)
           (λ other differs out. out)
           (owns seat.1) (λ other differs. refl) (λ other differs. refl) (λ other differs. refl) (λ other differs is. absurd (differs (omega (arith, is, flag))));
     }
   where
-    not-owed : is_some (lazy.due at) ≡ false → (place other : ℕ) → 0 < waits_times other (s.owed place) → other ≡ at → ⊥
+    not-owed : is_some (state.due at) ≡ false → (place other : ℕ) → 0 < waits_times other (s.owed place) → other ≡ at → ⊥
     not-owed none place other owes is =
-        let due : lazy.due other ≡ Some (s.worth place) = (s.debts.due_to place other (in-some other (s.owed place) owes)).1 in
-        let wrong : is_some (lazy.due at) ≡ true = ap (λ (n : ℕ). is_some (lazy.due n)) (sym is) ∙ ap is_some due in
+        let due : state.due other ≡ Some (s.worth place) = (s.debts.due_to place other (in-some other (s.owed place) owes)).1 in
+        let wrong : is_some (state.due at) ≡ true = ap (λ (n : ℕ). is_some (state.due n)) (sym is) ∙ ap is_some due in
         absurd (cc)
 
     owns : is_slot (standing at).registration ≡ true → (other : ℕ) → (other ≡ me → ⊥)

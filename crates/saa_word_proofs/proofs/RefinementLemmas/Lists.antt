@@ -6,7 +6,7 @@ use Rattle.saa_core_spec.specs.Object.{one_if}
 use Rattle.saa_core_spec.proofs.Counts.{number_same, same_number, one_if-same}
 use Rattle.saa_core_words.specs.declared.line_word.LineWord.{LineWord}
 use Rattle.saa_word_steps.specs.Needs.{Needs, AreNeeds}
-use Rattle.saa_word_steps.specs.Lazy.{is_empty, is_in, waits_times, IsFront, takes_of}
+use Rattle.saa_word_steps.specs.AbstractState.{is_empty, is_in, waits_times, IsFront, takes_of}
 use Rattle.saa_word_proofs.specs.Refinement.{updated, newest, oldest, IsBehind, IsAhead}
 
 -- functions that agree everywhere are one

@@ -11,7 +11,7 @@ use Rattle.saa_word_steps.specs.declared.place.Place.{Place}
 use Rattle.saa_word_steps.specs.declared.place.Stage.{Stage}
 use Rattle.saa_word_steps.specs.declared.place.Stage.TheVariants.{Forward, LookLoad, LookStore, Unlink, DropTail}
 use Rattle.saa_word_steps.specs.Needs.{Needs, AreNeeds}
-use Rattle.saa_word_steps.specs.Lazy.{Lazy, is_empty, is_in}
+use Rattle.saa_word_steps.specs.AbstractState.{AbstractState, is_empty, is_in}
 use Rattle.saa_word_steps.specs.Steps.{IsRanged}
 use Rattle.saa_word_proofs.specs.Refinement.{updated, line_of, newest, oldest, IsBehind, is_holder, gives_up, IsLeaving, IsAlone, IsOwn, IsShowing, Work, IsHolding, IsAdded, IsBack, IsPassed, IsFound, Refines}
 use Rattle.saa_word_proofs.specs.StepRefinement.{StepRefines}
@@ -45,33 +45,33 @@ found words me held line seen current newer work back linked own =
     )
 
 -- The line word of the last of the front is loaded: it is the own one, or is to be linked to those behind it
-pub step-LookLoad : (needs : Needs) → AreNeeds needs → needs.top < 2 ^ count_bits → (places : ℕ) (row : ℕ → ℕ) (standing : ℕ → Place) (lazy : Lazy) (me : ℕ)
-    → places < 65536 → me < places → (s : Refines needs places row standing lazy)
+pub step-LookLoad : (needs : Needs) → AreNeeds needs → needs.top < 2 ^ count_bits → (places : ℕ) (row : ℕ → ℕ) (standing : ℕ → Place) (state : AbstractState) (me : ℕ)
+    → places < 65536 → me < places → (s : Refines needs places row standing state)
     → (seen : Word) (current newer : ℕ) (previous : LineWord) → (standing me).stage ≡ LookLoad seen current newer previous
-    → StepRefines needs places row standing lazy me (LookLoad seen current newer previous)
-step-LookLoad needs lawful wide places row standing lazy me room here s seen current newer previous at =
-    let knows = flag-knows needs places row standing lazy me s (LookLoad seen current newer previous) at refl in
-    let work : Work lazy.count lazy.line seen = knows.0 in
+    → StepRefines needs places row standing state me (LookLoad seen current newer previous)
+step-LookLoad needs lawful wide places row standing state me room here s seen current newer previous at =
+    let knows = flag-knows needs places row standing state me s (LookLoad seen current newer previous) at refl in
+    let work : Work state.count state.line seen = knows.0 in
     let there = newest-stands work.front current knows.2.1 knows.2.0 in
-    let seat = in-line places standing lazy (pred current) s.seats (work-front lazy.count lazy.line seen work (pred current) there.0) in
+    let seat = in-line places standing state (pred current) s.seats (work-front state.count state.line seen work (pred current) there.0) in
     let leaving : IsLeaving (standing me).registration (standing me).back =
     subst (λ stage. IsAlone needs (standing me).registration (standing me).back stage) at (s.stages.alone me) in
     let small : seen.count < 64 = subst (λ stage. IsRanged needs stage) at (s.stages.ranged me) in
     let nothing : s.owed me ≡ [] = subst (λ stage. IsShowing (s.owed me) (s.worth me) stage) at (s.stages.showing me) in
-    let linked : IsBehind (line_of row) 0 lazy.line = linked-all (line_of row) lazy.line s.cut s.uncut s.line knows.1 in
+    let linked : IsBehind (line_of row) 0 state.line = linked-all (line_of row) state.line s.cut s.uncut s.line knows.1 in
     let line : LineWord = line_word_of (row current) in
     let on : (next : Stage) → IsRanged needs next → IsAlone needs (standing me).registration (standing me).back next
-    → (gives_up (standing me).back next ≡ true → is_in me lazy.line ≡ false)
+    → (gives_up (standing me).back next ≡ true → is_in me state.line ≡ false)
     → IsOwn (line_of row me) next → IsShowing (s.owed me) (s.worth me) next → is_holder next ≡ true
-    → IsHolding needs (line_of row) me lazy.count lazy.line s.cut next
-    → Refines needs places (updated row current (row current)) (updated standing me (record (standing me) { stage = next })) lazy =
+    → IsHolding needs (line_of row) me state.count state.line s.cut next
+    → Refines needs places (updated row current (row current)) (updated standing me (record (standing me) { stage = next })) state =
     λ next ranged alone apart own showing holder holding.
-    loaded needs places row (updated standing me (record (standing me) { stage = next })) lazy current
-    (moved needs places row standing lazy me s (record (standing me) { stage = next }) here refl ranged alone apart own showing
+    loaded needs places row (updated standing me (record (standing me) { stage = next })) state current
+    (moved needs places row standing state me s (record (standing me) { stage = next }) here refl ranged alone apart own showing
     (holder ∙ ap is_holder (sym at)) (λ is. holding)) in
     record {
       events = [];
-      last = lazy;
+      last = state;
       run = refl;
       names = refl;
       calm = λ semaphore. refl;
@@ -82,7 +82,7 @@ step-LookLoad needs lawful wide places row standing lazy me room here s seen cur
                 let mine : current ≡ me + 1 = same_number current (me + 1) own in
                 let is : IsFound me work.front line.older =
                 subst (λ (n : ℕ). IsFound me work.front (line_word_of (row n)).older) (sym mine)
-                (found (line_of row) me lazy.count lazy.line seen current newer work knows.2 linked mine) in
+                (found (line_of row) me state.count state.line seen current newer work knows.2 linked mine) in
                 elim (cases_Bool (newer == 0)) [
                   | inl last ↦
                       let none : work.behind ≡ [] =
@@ -111,16 +111,16 @@ passed-all me held line seen work none passed =
     ∙ in-append me work.behind work.joined ∙ rw passed.0 passed.1
 
 -- It is written with the link to the one behind it; the look goes on to the one before, or the whole line is passed
-pub step-LookStore : (needs : Needs) → AreNeeds needs → needs.top < 2 ^ count_bits → (places : ℕ) (row : ℕ → ℕ) (standing : ℕ → Place) (lazy : Lazy) (me : ℕ)
-    → places < 65536 → me < places → (s : Refines needs places row standing lazy)
+pub step-LookStore : (needs : Needs) → AreNeeds needs → needs.top < 2 ^ count_bits → (places : ℕ) (row : ℕ → ℕ) (standing : ℕ → Place) (state : AbstractState) (me : ℕ)
+    → places < 65536 → me < places → (s : Refines needs places row standing state)
     → (seen : Word) (current newer : ℕ) (line : LineWord) → (standing me).stage ≡ LookStore seen current newer line
-    → StepRefines needs places row standing lazy me (LookStore seen current newer line)
-step-LookStore needs lawful wide places row standing lazy me room here s seen current newer line at =
-    let knows = flag-knows needs places row standing lazy me s (LookStore seen current newer line) at refl in
-    let flag = flag-held needs places row standing lazy me s (ap is_holder at) in
-    let store : IsStored places row lazy s.cut s.uncut seen current newer line knows.0 =
-    stored needs places row standing lazy s seen current newer line knows.0 room knows.1 knows.2 knows.4 in
-    let work : Work lazy.count lazy.line seen = store.walk.work in
+    → StepRefines needs places row standing state me (LookStore seen current newer line)
+step-LookStore needs lawful wide places row standing state me room here s seen current newer line at =
+    let knows = flag-knows needs places row standing state me s (LookStore seen current newer line) at refl in
+    let flag = flag-held needs places row standing state me s (ap is_holder at) in
+    let store : IsStored places row state s.cut s.uncut seen current newer line knows.0 =
+    stored needs places row standing state s seen current newer line knows.0 room knows.1 knows.2 knows.4 in
+    let work : Work state.count state.line seen = store.walk.work in
     let passed : IsPassed me work.behind work.joined = store.walk.passed me knows.5 knows.3 in
     let leaving : IsLeaving (standing me).registration (standing me).back =
     subst (λ stage. IsAlone needs (standing me).registration (standing me).back stage) at (s.stages.alone me) in
@@ -128,17 +128,17 @@ step-LookStore needs lawful wide places row standing lazy me room here s seen cu
     let nothing : s.owed me ≡ [] = subst (λ stage. IsShowing (s.owed me) (s.worth me) stage) at (s.stages.showing me) in
     let number : ℕ = line_number (record line { newer = newer }) in
     let on : (next : Stage) → IsRanged needs next → IsAlone needs (standing me).registration (standing me).back next
-    → (gives_up (standing me).back next ≡ true → is_in me lazy.line ≡ false)
+    → (gives_up (standing me).back next ≡ true → is_in me state.line ≡ false)
     → IsOwn (line_of (updated row (pred current + 1) number) me) next → IsShowing (s.owed me) (s.worth me) next → is_holder next ≡ true
-    → IsHolding needs (line_of (updated row (pred current + 1) number)) me lazy.count lazy.line s.cut next
-    → Refines needs places (updated row current number) (updated standing me (record (standing me) { stage = next })) lazy =
+    → IsHolding needs (line_of (updated row (pred current + 1) number)) me state.count state.line s.cut next
+    → Refines needs places (updated row current number) (updated standing me (record (standing me) { stage = next })) state =
     λ next ranged alone apart own showing holder holding.
-    subst (λ (link : ℕ). Refines needs places (updated row link number) (updated standing me (record (standing me) { stage = next })) lazy) (sym store.link)
-    (relinked needs places row standing lazy me s next (pred current) number s.cut s.uncut here flag store.waits store.linked
+    subst (λ (link : ℕ). Refines needs places (updated row link number) (updated standing me (record (standing me) { stage = next })) state) (sym store.link)
+    (relinked needs places row standing state me s next (pred current) number s.cut s.uncut here flag store.waits store.linked
     ranged alone apart own showing holder holding) in
     record {
       events = [];
-      last = lazy;
+      last = state;
       run = refl;
       names = refl;
       calm = λ semaphore. refl;
@@ -150,7 +150,7 @@ step-LookStore needs lawful wide places row standing lazy me room here s seen cu
                 empty-nil work.front (sym (newest-empty work.front) ∙ ap (λ (n : ℕ). n == 0) (sym store.walk.before) ∙ none) in
                 rw none
                 (on (Forward seen current seen.count) (small, small) (returning-leaving (standing me).registration (standing me).back leaving)
-                (λ gives. passed-all me lazy.count lazy.line seen work nobody passed) tt nothing refl
+                (λ gives. passed-all me state.count state.line seen work nobody passed) tt nothing refl
                 (work, knows.1, subst (λ l. IsAdded needs seen l seen.count) (sym nobody) (tt, omega arith), store.walk.behind))
             | inr some ↦
                 let somebody : is_empty work.front ≡ false =

@@ -8,10 +8,12 @@ use Rattle.saa_core_spec.proofs.Counts.{number_same, same_number}
 use Rattle.saa_core_words.specs.declared.word.Word.{Word}
 use Rattle.saa_core_words.specs.Words.{lock_count}
 use Rattle.saa_word_steps.specs.declared.call.WordCall.{WordCall}
-use Rattle.saa_word_steps.specs.declared.call.WordCall.TheVariants.{Try, Register, Release, Available, TryLock, TryShare, RegisterMode, ReleaseLock, ReleaseShare, PoisonLock, IsFree, IsLocked, IsShared, IsPoisoned, TryPoll, Poll, Cancel}
+use Rattle.saa_word_steps.specs.declared.call.WordCall.TheVariants.{Try, Register, Release, Available, TryLock, TryShare, RegisterMode, ReleaseLock, ReleaseShare, Downgrade, PoisonLock, IsFree, IsLocked, IsShared, IsPoisoned, TryPoll, Poll, Cancel}
 use Rattle.saa_word_steps.specs.declared.call.Answer.{Answer}
 use Rattle.saa_word_steps.specs.declared.call.Answer.TheVariants.{Bool as Says, Tried, Unit as Ended}
 use Rattle.saa_word_steps.specs.declared.place.Place.{Place}
+use Rattle.saa_word_steps.specs.declared.place.Given.{Given}
+use Rattle.saa_word_steps.specs.declared.place.Given.TheVariants.{Asked, AllButAShare}
 use Rattle.saa_word_steps.specs.declared.place.Back.{Back}
 use Rattle.saa_word_steps.specs.declared.place.Back.TheVariants.{Tells, Ends as EndsCall, Takes}
 use Rattle.saa_word_steps.specs.declared.place.Ask.{Ask}
@@ -25,12 +27,12 @@ use Rattle.saa_word_steps.specs.declared.place.Afterwards.TheVariants.{Ends, Aga
 use Rattle.saa_word_steps.specs.declared.place.Next.{Next}
 use Rattle.saa_word_steps.specs.declared.place.Stage.{Stage}
 use Rattle.saa_word_steps.specs.declared.place.Stage.TheVariants.{Take}
-use Rattle.saa_word_steps.specs.Needs.{Needs, left_count}
+use Rattle.saa_word_steps.specs.Needs.{Needs}
 use Rattle.saa_word_steps.specs.declared.event.Event.{Event}
-use Rattle.saa_word_steps.specs.declared.event.Event.TheVariants.{Got, Refused, AskedPoisoned, Left, Gave, GaveNothing, Poisoned, NotPoisoned, NotReady, Took}
-use Rattle.saa_word_steps.specs.Steps.{decided, granted, found_poisoned, finished, given, given_to, gave_nothing, dropped, taken_answer, shown_all, flagging, poisoning, tried_answer}
+use Rattle.saa_word_steps.specs.declared.event.Event.TheVariants.{Got, Refused, AskedPoisoned, Left, Poisoned, NotPoisoned, NotReady, Took}
+use Rattle.saa_word_steps.specs.Steps.{left_from, decided, granted, found_poisoned, finished, given, given_to, gave_nothing, dropped, taken_answer, shown_all, flagging, poisoning, tried_answer}
 use Rattle.saa_word_proofs.specs.Refinement.{waits_behind}
-use Rattle.saa_word_proofs.specs.StepRefinement.{decided_events, given_events, left_events, taken_events, poisoning_events}
+use Rattle.saa_word_proofs.specs.StepRefinement.{gave, gave_not, decided_events, given_events, left_events, taken_events, poisoning_events}
 use Rattle.saa_word_proofs.specs.Calls.{answer_named, ask_named, release_named, read_named, poll_named, asked_by, given_by, read_by, taken_by, is_taken_up, IsDropped, IsCancelled, IsAnswered, IsGivingUp, IsReleasing, IsWorking, IsLeavingLine, IsTaking, IsUnder, IsUnderNext}
 
 -- Events that name an answer
@@ -57,17 +59,27 @@ ask-answered needs (RegisterMode mode) registered ask event answer is names = (e
 ask-answered needs call registered ask event answer is names = absurd (cc)
 
 -- what an event names for who may give something back
-abbrev given_names : Option ℕ → Event → Option Answer
+abbrev given_names : Option Given → Event → Option Answer
 given_names None event = None
-given_names (Some request) event = release_named request event
+given_names (Some what) event = release_named what event
 
 -- an event names the answer of a release, which isn't a cancel
-release-named : (needs : Needs) (call : WordCall) (request : ℕ) (event : Event) → given_by call ≡ Some request
-    → (answer_named needs call event ≡ release_named request event) × (call ≢ Cancel)
-release-named needs (Release count) request event is = (ap (λ (g : Option ℕ). given_names g event) is, λ cancel. absurd (cc))
-release-named needs ReleaseLock request event is = (ap (λ (g : Option ℕ). given_names g event) is, λ cancel. absurd (cc))
-release-named needs ReleaseShare request event is = (ap (λ (g : Option ℕ). given_names g event) is, λ cancel. absurd (cc))
-release-named needs call request event is = absurd (cc)
+release-named : (needs : Needs) (call : WordCall) (what : Given) (event : Event) → given_by call ≡ Some what
+    → (answer_named needs call event ≡ release_named what event) × (call ≢ Cancel)
+release-named needs (Release count) what event is = (ap (λ (g : Option Given). given_names g event) is, λ cancel. absurd (cc))
+release-named needs ReleaseLock what event is = (ap (λ (g : Option Given). given_names g event) is, λ cancel. absurd (cc))
+release-named needs ReleaseShare what event is = (ap (λ (g : Option Given). given_names g event) is, λ cancel. absurd (cc))
+release-named needs Downgrade what event is = (ap (λ (g : Option Given). given_names g event) is, λ cancel. absurd (cc))
+release-named needs call what event is = absurd (cc)
+
+-- what is given back is told, and so is what isn't held
+gave-says : (what : Given) → release_named what (gave what) ≡ Some (Says true)
+gave-says (Asked request) = rw (number_same request) refl
+gave-says AllButAShare = refl
+
+nothing-says : (what : Given) → release_named what (gave_not what) ≡ Some (Says false)
+nothing-says (Asked request) = rw (number_same request) refl
+nothing-says AllButAShare = refl
 
 -- what an event names for who may read
 abbrev read_names : Needs → Option Reading → Event → Option Answer
@@ -184,68 +196,66 @@ shown-under needs call registered stage events place (Again seen) working = work
 -- Releases
 
 -- a cancel that has given back, or found nothing to give back, is one that has named so
-gave-cancelled : (needs : Needs) (registered : Registration) (request : ℕ) (events last : List Event) → IsGivingUp needs registered request events
-    → IsDropped request last → IsCancelled needs registered (events ++ last)
-gave-cancelled needs Idle request events last giving is = absurd giving
-gave-cancelled needs (Once value asked) request events last giving is =
-    rw giving.2 (giving.1, subst (λ (n : ℕ). IsDropped n last) giving.0 is)
-gave-cancelled needs (Slot asked) request events last giving is =
-    rw giving.2 (inr (inr (giving.1, (last, refl, subst (λ (n : ℕ). IsDropped n last) giving.0 is))))
+gave-cancelled : (needs : Needs) (registered : Registration) (what : Given) (events last : List Event) → IsGivingUp needs registered what events
+    → ((request : ℕ) → what ≡ Asked request → IsDropped request last) → IsCancelled needs registered (events ++ last)
+gave-cancelled needs Idle what events last giving is = absurd giving
+gave-cancelled needs (Once value asked) what events last giving is = rw giving.2 (giving.1, is asked giving.0)
+gave-cancelled needs (Slot asked) what events last giving is = rw giving.2 (inr (inr (giving.1, (last, refl, is asked giving.0))))
 
 -- who gives back what it holds goes on with the line, or is done
-pub gave-working : (needs : Needs) (call : WordCall) (registered : Registration) (back : Back) (request : ℕ) (events : List Event)
-    → IsReleasing needs call registered back request events → IsWorking needs call registered back (events ++ Gave request ∷ [])
-gave-working needs call registered Tells request events releasing =
-    let names = release-named needs call request (Gave request) releasing.0 in (
-      Gave request,
-      ap (λ (l : List Event). l ++ Gave request ∷ []) releasing.1,
-      names.0 ∙ rw (number_same request) refl,
+pub gave-working : (needs : Needs) (call : WordCall) (registered : Registration) (back : Back) (what : Given) (events : List Event)
+    → IsReleasing needs call registered back what events → IsWorking needs call registered back (events ++ gave what ∷ [])
+gave-working needs call registered Tells what events releasing =
+    let names = release-named needs call what (gave what) releasing.0 in (
+      gave what,
+      ap (λ (l : List Event). l ++ gave what ∷ []) releasing.1,
+      names.0 ∙ gave-says what,
       names.1,
     )
-gave-working needs call registered EndsCall request events releasing =
-    (releasing.0, gave-cancelled needs registered request events (Gave request ∷ []) releasing.1 (inl refl))
-gave-working needs call registered (Takes asked) request events releasing = absurd releasing
+gave-working needs call registered EndsCall what events releasing =
+    (releasing.0, gave-cancelled needs registered what events (gave what ∷ []) releasing.1 (λ request is. inl (ap (λ (g : Given). gave g ∷ []) is)))
+gave-working needs call registered (Takes asked) what events releasing = absurd releasing
 
 -- who finds nothing to give back is done
 gave-nothing-under : (needs : Needs) (call : WordCall) (registered : Registration) (was : Back) (stage : Stage) (place : Place) (back : Back)
-    (request : ℕ) (events : List Event) → IsReleasing needs call registered back request events
-    → IsUnderNext needs call registered was stage (events ++ GaveNothing request ∷ []) (gave_nothing place back)
-gave-nothing-under needs call registered was stage place Tells request events releasing =
-    let names = release-named needs call request (GaveNothing request) releasing.0 in
-    rw releasing.1 (answered needs call registered (GaveNothing request) (Says false) names.1 (names.0 ∙ rw (number_same request) refl))
-gave-nothing-under needs call registered was stage place EndsCall request events releasing =
-    cancel-answered needs call registered (events ++ GaveNothing request ∷ []) releasing.0
-    (gave-cancelled needs registered request events (GaveNothing request ∷ []) releasing.1 (inr refl))
-gave-nothing-under needs call registered was stage place (Takes asked) request events releasing = absurd releasing
+    (what : Given) (events : List Event) → IsReleasing needs call registered back what events
+    → IsUnderNext needs call registered was stage (events ++ gave_not what ∷ []) (gave_nothing place back)
+gave-nothing-under needs call registered was stage place Tells what events releasing =
+    let names = release-named needs call what (gave_not what) releasing.0 in
+    rw releasing.1 (answered needs call registered (gave_not what) (Says false) names.1 (names.0 ∙ nothing-says what))
+gave-nothing-under needs call registered was stage place EndsCall what events releasing =
+    cancel-answered needs call registered (events ++ gave_not what ∷ []) releasing.0
+    (gave-cancelled needs registered what events (gave_not what ∷ []) releasing.1 (λ request is. inr (ap (λ (g : Given). gave_not g ∷ []) is)))
+gave-nothing-under needs call registered was stage place (Takes asked) what events releasing = absurd releasing
 
 -- a release that looks at what is left
 left-under : (needs : Needs) (call : WordCall) (registered : Registration) (stage : Stage) (place : Place)
-    (request : ℕ) (seen : Word) (left : Option ℕ) (events : List Event)
-    → IsReleasing needs call registered place.back request events
-    → IsUnderNext needs call registered place.back stage (events ++ left_events request left) (given_to place request seen left)
-left-under needs call registered stage place request seen None events releasing =
-    gave-nothing-under needs call registered place.back stage place place.back request events releasing
-left-under needs call registered stage place request seen (Some left) events releasing =
-    subst (λ (l : List Event). IsReleasing needs call registered place.back request l) (sym (append-nil events)) releasing
+    (what : Given) (seen : Word) (left : Option ℕ) (events : List Event)
+    → IsReleasing needs call registered place.back what events
+    → IsUnderNext needs call registered place.back stage (events ++ left_events what left) (given_to place what seen left)
+left-under needs call registered stage place what seen None events releasing =
+    gave-nothing-under needs call registered place.back stage place place.back what events releasing
+left-under needs call registered stage place what seen (Some left) events releasing =
+    subst (λ (l : List Event). IsReleasing needs call registered place.back what l) (sym (append-nil events)) releasing
 
 -- a release that is decided, of a main word that is poisoned or not
 tested-under : (needs : Needs) (call : WordCall) (registered : Registration) (stage : Stage) (place : Place)
-    (request : ℕ) (seen : Word) (events : List Event) (poisoned : Bool)
-    → IsReleasing needs call registered place.back request events
+    (what : Given) (seen : Word) (events : List Event) (poisoned : Bool)
+    → IsReleasing needs call registered place.back what events
     → IsUnderNext needs call registered place.back stage
-    (events ++ (if poisoned then GaveNothing request ∷ [] else left_events request (left_count needs seen.count request)))
-    (if poisoned then gave_nothing place place.back else given_to place request seen (left_count needs seen.count request))
-tested-under needs call registered stage place request seen events true releasing =
-    gave-nothing-under needs call registered place.back stage place place.back request events releasing
-tested-under needs call registered stage place request seen events false releasing =
-    left-under needs call registered stage place request seen (left_count needs seen.count request) events releasing
+    (events ++ (if poisoned then gave_not what ∷ [] else left_events what (left_from needs seen.count what)))
+    (if poisoned then gave_nothing place place.back else given_to place what seen (left_from needs seen.count what))
+tested-under needs call registered stage place what seen events true releasing =
+    gave-nothing-under needs call registered place.back stage place place.back what events releasing
+tested-under needs call registered stage place what seen events false releasing =
+    left-under needs call registered stage place what seen (left_from needs seen.count what) events releasing
 
 -- a release that is decided
-pub given-under : (needs : Needs) (call : WordCall) (registered : Registration) (stage : Stage) (place : Place) (request : ℕ) (seen : Word) (events : List Event)
-    → IsReleasing needs call registered place.back request events
-    → IsUnderNext needs call registered place.back stage (events ++ given_events needs request seen) (given needs place request seen)
-given-under needs call registered stage place request seen events releasing =
-    tested-under needs call registered stage place request seen events seen.is_poisoned releasing
+pub given-under : (needs : Needs) (call : WordCall) (registered : Registration) (stage : Stage) (place : Place) (what : Given) (seen : Word) (events : List Event)
+    → IsReleasing needs call registered place.back what events
+    → IsUnderNext needs call registered place.back stage (events ++ given_events needs what seen) (given needs place what seen)
+given-under needs call registered stage place what seen events releasing =
+    tested-under needs call registered stage place what seen events seen.is_poisoned releasing
 
 -- Answers that are taken
 
@@ -268,12 +278,12 @@ dropped-under needs call registered was stage place request value is slot =
 
     -- such a cancel has named that it took its answer
     taken-up : (needs : Needs) (registered : Registration) (request value : ℕ) → registered ≡ Slot request → is_taken_up needs request value ≡ true
-        → IsGivingUp needs registered request (Took value ∷ [])
+        → IsGivingUp needs registered (Asked request) (Took value ∷ [])
     taken-up needs registered request value slot up =
         let both = both-so (value == granted_value) (needs.takes request == 0) up in
         let some : needs.takes request ≢ 0 = λ none.
         (let wrong : true ≡ false = sym (ap (λ (n : ℕ). n == 0) none) ∙ both.1 in absurd (cc)) in
-        subst (λ (r : Registration). IsGivingUp needs r request (Took value ∷ [])) (sym slot)
+        subst (λ (r : Registration). IsGivingUp needs r (Asked request) (Took value ∷ [])) (sym slot)
         (refl, some, ap (λ (n : ℕ). Took n ∷ []) (same_number value granted_value both.0))
 
 -- an answer that is taken, and none that is there

@@ -1,5 +1,5 @@
 -- Steps of a place that poisons a lock or clears poison: each keeps that words and places refine the abstract state.
-use Rattle.std.proofs.Common.{◌^◌, ◌≡◌, ◌≢◌, ℕ, ◌+◌, ◌/◌, ◌%◌, ◌<◌, ◌≤◌, Bool, true, false, not, ◌||◌, [], ◌∷◌, ◌==◌, if◌then◌else◌, refl, sym, ap, subst, ◌∙◌, arith, inl, inr, append-nil}
+use Rattle.std.proofs.Common.{◌^◌, ◌≡◌, ℕ, ◌+◌, ◌/◌, ◌%◌, ◌<◌, ◌≤◌, Bool, true, false, not, ◌||◌, [], ◌∷◌, ◌==◌, if◌then◌else◌, refl, sym, ap, subst, ◌∙◌, arith, inl, inr, append-nil}
 use Rattle.std.proofs.lemmas.Bool.{cases_Bool}
 use Rattle.std.proofs.lemmas.Bool.Decides.{nat_tests}
 use Rattle.saa_core_spec.specs.Held.{Exclusive}
@@ -16,15 +16,15 @@ use Rattle.saa_word_steps.specs.declared.place.Stage.{Stage}
 use Rattle.saa_word_steps.specs.declared.place.Stage.TheVariants.{Quiet, ShowLoad, PoisonLoad, PoisonExchange, Clear}
 use Rattle.saa_word_steps.specs.Needs.{Needs, AreNeeds}
 use Rattle.saa_word_steps.specs.declared.event.Event.TheVariants.{Poisoned, NotPoisoned, Cleared, NotCleared}
-use Rattle.saa_word_steps.specs.Lazy.{Lazy, IsOwned, is_empty, is_in, answered_with, held_by}
+use Rattle.saa_word_steps.specs.AbstractState.{AbstractState, IsOwned, is_empty, is_in, answered_with, held_by}
 use Rattle.saa_word_steps.specs.Steps.{IsRanged, going, poisoning, poisoned_word, settled_word}
 use Rattle.saa_word_proofs.specs.Refinement.{updated, main_of, line_of, newest, is_holder, takes_back, IsAlone, IsOwn, IsShowing, IsLine, AreDebts, AreStages, Refines}
-use Rattle.saa_word_proofs.specs.StepRefinement.{StepRefines, place_after, poisoning_events}
+use Rattle.saa_word_proofs.specs.StepRefinement.{StepRefines, poisoning_events}
 use Rattle.saa_word_proofs.proofs.RefinementLemmas.Lists.{updated-same}
 use Rattle.saa_word_proofs.proofs.RefinementLemmas.Frames.{stages-next}
 use Rattle.saa_word_proofs.proofs.RefinementLemmas.Rows.{moved, loaded, main-found, line-main, seats-next, count-small, tail-small}
 use Rattle.saa_word_proofs.proofs.RefinementLemmas.Holders.{main-now, nobody-holds}
-use Rattle.saa_word_proofs.proofs.RefinementLemmas.Outcomes.{Outcome, not-holder, answers-main}
+use Rattle.saa_word_proofs.proofs.RefinementLemmas.Outcomes.{Outcome, not-holder, answers-main, only-looked}
 use Rattle.saa_word_proofs.proofs.RefinementLemmas.Linking.{linked-all}
 use Rattle.saa_word_proofs.proofs.RefinementLemmas.Ending.{end_stage, ended, ended-ranged, ended-alone, ended-own, ended-showing, ended-holder, returning-any}
 use Rattle.saa_word_proofs.proofs.RefinementLemmas.Granting.{in-waits, in-no, front-none, front-some, held-once, shower_after, debts-granted, nobody}
@@ -47,103 +47,95 @@ not-owned false true test calm = absurd (cc)
 not-owned false false test calm = refl
 
 -- Poison that is decided by the main word as it stands
-poisoning-outcome : (needs : Needs) (places : ℕ) (row : ℕ → ℕ) (standing : ℕ → Place) (lazy : Lazy) (me : ℕ)
-    → me < places → (s : Refines needs places row standing lazy) → is_holder (standing me).stage ≡ false → s.owed me ≡ []
+poisoning-outcome : (needs : Needs) (places : ℕ) (row : ℕ → ℕ) (standing : ℕ → Place) (state : AbstractState) (me : ℕ)
+    → me < places → (s : Refines needs places row standing state) → is_holder (standing me).stage ≡ false → s.owed me ≡ []
     → needs.is_lock ≡ true → takes_back (standing me).back ≡ false
-    → Outcome needs places row standing lazy me (poisoning (standing me) (main_of row)) (poisoning_events (main_of row))
-poisoning-outcome needs places row standing lazy me here s none nothing lock tells =
+    → Outcome needs places row standing state me (poisoning (standing me) (main_of row)) (poisoning_events (main_of row))
+poisoning-outcome needs places row standing state me here s none nothing lock tells =
     let seen : Word = main_of row in
     elim (cases_Bool (seen.is_poisoned || not (seen.count == lock_count Exclusive))) [
       | inl refused ↦
-          let other : IsOwned needs lazy → ⊥ = λ owned.
+          let other : IsOwned needs state → ⊥ = λ owned.
           let apart = not-owned seen.is_poisoned (seen.count == lock_count Exclusive) refused (s.main.poison ∙ owned.0) in
           let same : seen.count == lock_count Exclusive ≡ true = ap (λ (n : ℕ). n == lock_count Exclusive) (s.main.count ∙ owned.1) in
           let wrong : true ≡ false = sym same ∙ apart in
           absurd (cc) in
           rw refused (record {
             events = NotPoisoned ∷ [];
-            last = lazy;
+            last = state;
             run = (other, refl);
             names = refl;
             calm = λ semaphore. refl;
-            stands = moved needs places row standing lazy me s (record (standing me) { stage = Quiet }) here refl
-                tt tt (λ gives. absurd (cc)) tt nothing (sym none) (λ is. absurd (not-holder needs places row standing lazy me s none is));
+            stands = moved needs places row standing state me s (record (standing me) { stage = Quiet }) here refl
+                tt tt (λ gives. absurd (cc)) tt nothing (sym none) (λ is. absurd (not-holder needs places row standing state me s none is));
           })
       | inr owned ↦
           let both = neither seen.is_poisoned (seen.count == lock_count Exclusive) owned in
           elim (cases_Bool seen.is_flagged) [
             | inl flagged ↦ rw (owned, flagged) (record {
               events = [];
-              last = lazy;
+              last = state;
               run = refl;
               names = refl;
               calm = λ semaphore. refl;
-              stands = subst (λ (p : ℕ → Place). Refines needs places row p lazy) (sym (updated-same standing me (standing me) refl)) s;
+              stands = subst (λ (p : ℕ → Place). Refines needs places row p state) (sym (updated-same standing me (standing me) refl)) s;
             })
             | inr clear ↦ rw owned
-                (subst (λ (next : Next). Outcome needs places row standing lazy me next [])
+                (subst (λ (next : Next). Outcome needs places row standing state me next [])
                 (sym (ap (λ (flagged : Bool). if flagged then Waits else going (standing me) (PoisonExchange seen)) clear)) (record {
                   events = [];
-                  last = lazy;
+                  last = state;
                   run = refl;
                   names = refl;
                   calm = λ semaphore. refl;
-                  stands = moved needs places row standing lazy me s (record (standing me) { stage = PoisonExchange seen }) here refl
+                  stands = moved needs places row standing state me s (record (standing me) { stage = PoisonExchange seen }) here refl
                       (count-small (row 0)) (lock, tells, tail-small (row 0), same_number seen.count (lock_count Exclusive) both.1, clear, both.0)
-                      (λ gives. absurd (cc)) tt nothing (sym none) (λ is. absurd (not-holder needs places row standing lazy me s none is));
+                      (λ gives. absurd (cc)) tt nothing (sym none) (λ is. absurd (not-holder needs places row standing state me s none is));
                 }))
           ]
     ]
 
 -- Whoever poisons looks at the main word
-pub step-PoisonLoad : (needs : Needs) → AreNeeds needs → needs.top < 2 ^ count_bits → (places : ℕ) (row : ℕ → ℕ) (standing : ℕ → Place) (lazy : Lazy) (me : ℕ)
-    → places < 65536 → me < places → (s : Refines needs places row standing lazy)
-    → (standing me).stage ≡ PoisonLoad → StepRefines needs places row standing lazy me PoisonLoad
-step-PoisonLoad needs lawful wide places row standing lazy me room here s at =
+pub step-PoisonLoad : (needs : Needs) → AreNeeds needs → needs.top < 2 ^ count_bits → (places : ℕ) (row : ℕ → ℕ) (standing : ℕ → Place) (state : AbstractState) (me : ℕ)
+    → places < 65536 → me < places → (s : Refines needs places row standing state)
+    → (standing me).stage ≡ PoisonLoad → StepRefines needs places row standing state me PoisonLoad
+step-PoisonLoad needs lawful wide places row standing state me room here s at =
     let alone : IsAlone needs (standing me).registration (standing me).back PoisonLoad =
     subst (λ (stage : Stage). IsAlone needs (standing me).registration (standing me).back stage) at (s.stages.alone me) in
-    let out = poisoning-outcome needs places row standing lazy me here s (ap is_holder at)
+    let out = poisoning-outcome needs places row standing state me here s (ap is_holder at)
     (subst (λ (stage : Stage). IsShowing (s.owed me) (s.worth me) stage) at (s.stages.showing me)) alone.0 alone.1 in
-    record {
-      events = out.events;
-      last = out.last;
-      run = out.run;
-      names = out.names;
-      calm = out.calm;
-      inside = omega arith;
-      stands = loaded needs places row (updated standing me (place_after (standing me) (poisoning (standing me) (main_of row)))) out.last 0 out.stands;
-    }
+    only-looked needs places row standing state me PoisonLoad out refl refl refl refl
 
 -- the object once a lock is poisoned
-abbrev poisoned_after : Lazy → Lazy
-poisoned_after lazy = record lazy { count = 0; poisoned = true; line = []; due = answered_with 2 lazy.line lazy.due }
+abbrev poisoned_after : AbstractState → AbstractState
+poisoned_after state = record state { count = 0; poisoned = true; line = []; due = answered_with 2 state.line state.due }
 
 -- poison changes how a place is held, and not whether it is
-held-poisoned : (lazy : Lazy) (place : ℕ) → held_by place lazy ≤ 1 → held_by place (poisoned_after lazy) ≡ held_by place lazy
-held-poisoned lazy place once =
-    elim (cases_Bool (is_in place lazy.line)) [
-      | inl some ↦ rw some (omega (arith, once, in-waits place lazy.line some))
-      | inr none ↦ rw none (omega (arith, in-no place lazy.line none))
+held-poisoned : (state : AbstractState) (place : ℕ) → held_by place state ≤ 1 → held_by place (poisoned_after state) ≡ held_by place state
+held-poisoned state place once =
+    elim (cases_Bool (is_in place state.line)) [
+      | inl some ↦ rw some (omega (arith, once, in-waits place state.line some))
+      | inr none ↦ rw none (omega (arith, in-no place state.line none))
     ]
 
 -- A lock is poisoned by a write to the main word: who waited is owed by the place that poisoned, which goes on at a stage
-poisoned-stands : (needs : Needs) (places : ℕ) (row : ℕ → ℕ) (standing : ℕ → Place) (lazy : Lazy) (me : ℕ) (s : Refines needs places row standing lazy)
+poisoned-stands : (needs : Needs) (places : ℕ) (row : ℕ → ℕ) (standing : ℕ → Place) (state : AbstractState) (me : ℕ) (s : Refines needs places row standing state)
     (stage : Stage) → me < places → s.holder == 0 ≡ true → s.owed me ≡ [] → needs.is_lock ≡ true
     → IsRanged needs stage → IsAlone needs (standing me).registration (standing me).back stage
-    → IsOwn (line_of row me) stage → IsShowing lazy.line 2 stage → is_holder stage ≡ false
+    → IsOwn (line_of row me) stage → IsShowing state.line 2 stage → is_holder stage ≡ false
     → Refines needs places (updated row 0 (word_number count_bits poisoned_word)) (updated standing me (record (standing me) { stage = stage }))
-    (poisoned_after lazy)
-poisoned-stands needs places row standing lazy me s stage here unheld none lock ranged alone own showing holder =
+    (poisoned_after state)
+poisoned-stands needs places row standing state me s stage here unheld none lock ranged alone own showing holder =
     let number : ℕ = word_number count_bits poisoned_word in
     let place : Place = record (standing me) { stage = stage } in
     let zero : s.holder ≡ 0 = same_number s.holder 0 unheld in
-    let once = held-once places standing lazy s.seats in
-    let seats = seats-next places standing lazy me place s.seats here refl in
-    let linked = linked-all (line_of row) lazy.line s.cut s.uncut s.line (s.free unheld) in
-    let debts = debts-granted (line_of row) lazy s.owed s.shower s.worth me 2 lazy.line [] s.debts (omega arith) (sym (append-nil lazy.line))
+    let once = held-once places standing state s.seats in
+    let seats = seats-next places standing state me place s.seats here refl in
+    let linked = linked-all (line_of row) state.line s.cut s.uncut s.line (s.free unheld) in
+    let debts = debts-granted (line_of row) state s.owed s.shower s.worth me 2 state.line [] s.debts (omega arith) (sym (append-nil state.line))
     once none linked in
-    let stages = stages-next needs (line_of row) (line_of row) standing lazy.count 0 lazy.line [] s.cut []
-    s.holder 0 s.owed (updated s.owed me lazy.line) s.worth (updated s.worth me 2) me place s.stages
+    let stages = stages-next needs (line_of row) (line_of row) standing state.count 0 state.line [] s.cut []
+    s.holder 0 s.owed (updated s.owed me state.line) s.worth (updated s.worth me 2) me place s.stages
     ranged alone (λ gives. refl) own (rw (number_same me) showing) (holder ∙ sym (nobody me)) (λ is. absurd (omega (arith, is)))
     (λ other differs out. refl)
     (λ other differs. s.stages.own other)
@@ -155,28 +147,28 @@ poisoned-stands needs places row standing lazy me s stage here unheld none lock 
       holder = 0;
       cut = [];
       uncut = [];
-      owed = updated s.owed me lazy.line;
-      shower = shower_after s.shower me lazy.line;
+      owed = updated s.owed me state.line;
+      shower = shower_after s.shower me state.line;
       worth = updated s.worth me 2;
       free = λ free. refl;
-      main = main-now needs (poisoned_after lazy) 0 poisoned_word (omega arith) (omega arith) refl refl refl refl
+      main = main-now needs (poisoned_after state) 0 poisoned_word (omega arith) (omega arith) refl refl refl refl
           (λ poisoned. (refl, refl, lock)) (omega arith) (λ free. s.main.closed unheld) (λ closed. tt);
       line = record { parts = refl; granted = tt; stays = tt; some = λ gone. refl };
       seats = record {
-        held = λ other. held-poisoned lazy other (once other) ∙ seats.held other;
+        held = λ other. held-poisoned state other (once other) ∙ seats.held other;
         within = seats.within;
         beyond = seats.beyond;
       };
-      answers = answers-main places row number lazy.shown s.answers;
+      answers = answers-main places row number state.shown s.answers;
       debts = rw (line-main row number) debts;
       stages = rw (line-main row number) stages;
     }
 
 -- Whoever saw a lock that one owner has poisons it, and shows that to all who waited; or decides by the word that it found
-pub step-PoisonExchange : (needs : Needs) → AreNeeds needs → needs.top < 2 ^ count_bits → (places : ℕ) (row : ℕ → ℕ) (standing : ℕ → Place) (lazy : Lazy) (me : ℕ)
-    → places < 65536 → me < places → (s : Refines needs places row standing lazy)
-    → (seen : Word) → (standing me).stage ≡ PoisonExchange seen → StepRefines needs places row standing lazy me (PoisonExchange seen)
-step-PoisonExchange needs lawful wide places row standing lazy me room here s seen at =
+pub step-PoisonExchange : (needs : Needs) → AreNeeds needs → needs.top < 2 ^ count_bits → (places : ℕ) (row : ℕ → ℕ) (standing : ℕ → Place) (state : AbstractState) (me : ℕ)
+    → places < 65536 → me < places → (s : Refines needs places row standing state)
+    → (seen : Word) → (standing me).stage ≡ PoisonExchange seen → StepRefines needs places row standing state me (PoisonExchange seen)
+step-PoisonExchange needs lawful wide places row standing state me room here s seen at =
     let alone : IsAlone needs (standing me).registration (standing me).back (PoisonExchange seen) =
     subst (λ (stage : Stage). IsAlone needs (standing me).registration (standing me).back stage) at (s.stages.alone me) in
     let ranged : IsRanged needs (PoisonExchange seen) = subst (λ (stage : Stage). IsRanged needs stage) at (s.stages.ranged me) in
@@ -185,15 +177,15 @@ step-PoisonExchange needs lawful wide places row standing lazy me room here s se
     elim (cases_Bool (row 0 == word_number count_bits seen)) [
       | inl same ↦
           let is : main_of row ≡ seen = main-found (row 0) seen ranged alone.2 same in
-          let tail : seen.tail ≡ newest 0 lazy.line = ap (λ (w : Word). w.tail) (sym is) ∙ s.main.tail in
+          let tail : seen.tail ≡ newest 0 state.line = ap (λ (w : Word). w.tail) (sym is) ∙ s.main.tail in
           let unheld : s.holder == 0 ≡ true =
           not-clear (s.holder == 0) (sym s.main.flag ∙ ap (λ (w : Word). w.is_flagged) is ∙ alone.4) in
-          let calm : lazy.poisoned ≡ false = sym s.main.poison ∙ ap (λ (w : Word). w.is_poisoned) is ∙ alone.5 in
-          let owned : lazy.count ≡ lock_count Exclusive = sym s.main.count ∙ ap (λ (w : Word). w.count) is ∙ alone.3 in
+          let calm : state.poisoned ≡ false = sym s.main.poison ∙ ap (λ (w : Word). w.is_poisoned) is ∙ alone.5 in
+          let owned : state.count ≡ lock_count Exclusive = sym s.main.count ∙ ap (λ (w : Word). w.count) is ∙ alone.3 in
           let returning = returning-any (standing me).registration (standing me).back alone.1 in
           record {
             events = Poisoned ∷ [];
-            last = poisoned_after lazy;
+            last = poisoned_after state;
             run = ((s.main.closed unheld, (calm, owned, alone.0)), refl);
             names = rw same refl;
             calm = λ semaphore. let wrong : true ≡ false = sym alone.0 ∙ semaphore in absurd (cc);
@@ -203,30 +195,21 @@ step-PoisonExchange needs lawful wide places row standing lazy me room here s se
                   | inl alone_there ↦
                       rw (same, alone_there)
                       (subst (λ (p : Place). Refines needs places (updated row 0 (word_number count_bits poisoned_word)) (updated standing me p)
-                      (poisoned_after lazy))
+                      (poisoned_after state))
                       (sym (ended (standing me) (standing me).back))
-                      (poisoned-stands needs places row standing lazy me s (end_stage (standing me).back) here unheld nothing alone.0
+                      (poisoned-stands needs places row standing state me s (end_stage (standing me).back) here unheld nothing alone.0
                       (ended-ranged needs (standing me).back) (ended-alone needs (standing me).registration (standing me).back returning)
                       (ended-own (line_of row me) (standing me).back)
-                      (ended-showing lazy.line 2 (standing me).back (front-none lazy.line seen.tail tail alone_there)) (ended-holder (standing me).back)))
+                      (ended-showing state.line 2 (standing me).back (front-none state.line seen.tail tail alone_there)) (ended-holder (standing me).back)))
                   | inr others ↦
                       rw (same, others)
-                      (poisoned-stands needs places row standing lazy me s (ShowLoad seen.tail 2 Ends) here unheld nothing alone.0
-                      tt returning tt (sym tail, front-some lazy.line seen.tail tail others, refl) refl)
+                      (poisoned-stands needs places row standing state me s (ShowLoad seen.tail 2 Ends) here unheld nothing alone.0
+                      tt returning tt (sym tail, front-some state.line seen.tail tail others, refl) refl)
                 ];
           }
       | inr differs ↦
-          let out = poisoning-outcome needs places row standing lazy me here s none nothing alone.0 alone.1 in
-          record {
-            events = out.events;
-            last = out.last;
-            run = out.run;
-            names = rw differs out.names;
-            calm = out.calm;
-            inside = omega arith;
-            stands = rw differs
-                (loaded needs places row (updated standing me (place_after (standing me) (poisoning (standing me) (main_of row)))) out.last 0 out.stands);
-          }
+          let out = poisoning-outcome needs places row standing state me here s none nothing alone.0 alone.1 in
+          only-looked needs places row standing state me (PoisonExchange seen) out refl (rw differs refl) (rw differs refl) (rw differs refl)
     ]
 
 -- a bit that is tested is that bit
@@ -244,11 +227,11 @@ number-kept : (number : ℕ) → number < 16777216 → word_number count_bits (w
 number-kept number whole = omega (arith, whole, bit-kept (number / 64), bit-kept (number / 64 / 2))
 
 -- the main word of a poisoned lock is that of poison alone
-pub poisoned-number : (needs : Needs) (places : ℕ) (row : ℕ → ℕ) (standing : ℕ → Place) (lazy : Lazy) (s : Refines needs places row standing lazy)
-    → lazy.poisoned ≡ true → row 0 ≡ word_number count_bits poisoned_word
-poisoned-number needs places row standing lazy s poisoned =
+pub poisoned-number : (needs : Needs) (places : ℕ) (row : ℕ → ℕ) (standing : ℕ → Place) (state : AbstractState) (s : Refines needs places row standing state)
+    → state.poisoned ≡ true → row 0 ≡ word_number count_bits poisoned_word
+poisoned-number needs places row standing state s poisoned =
     let barren = s.main.barren poisoned in
-    let unheld : s.holder == 0 ≡ true = nobody-holds needs places row standing lazy s (ap is_empty barren.1) in
+    let unheld : s.holder == 0 ≡ true = nobody-holds needs places row standing state s (ap is_empty barren.1) in
     let word : Word = main_of row in
     let count : word.count ≡ 0 = s.main.count ∙ barren.0 in
     let flag : word.is_flagged ≡ false = s.main.flag ∙ ap not unheld in
@@ -258,12 +241,12 @@ poisoned-number needs places row standing lazy s poisoned =
     sym (number-kept (row 0) s.main.whole) ∙ ap (word_number count_bits) is
 
 -- what isn't cleared isn't poisoned
-never-poisoned : (needs : Needs) (places : ℕ) (row : ℕ → ℕ) (standing : ℕ → Place) (lazy : Lazy) (s : Refines needs places row standing lazy)
-    → row 0 == word_number count_bits poisoned_word ≡ false → lazy.poisoned ≡ false
-never-poisoned needs places row standing lazy s differs =
-    elim (cases_Bool lazy.poisoned) [
+never-poisoned : (needs : Needs) (places : ℕ) (row : ℕ → ℕ) (standing : ℕ → Place) (state : AbstractState) (s : Refines needs places row standing state)
+    → row 0 == word_number count_bits poisoned_word ≡ false → state.poisoned ≡ false
+never-poisoned needs places row standing state s differs =
+    elim (cases_Bool state.poisoned) [
       | inl poisoned ↦
-          let is : row 0 ≡ word_number count_bits poisoned_word = poisoned-number needs places row standing lazy s poisoned in
+          let is : row 0 ≡ word_number count_bits poisoned_word = poisoned-number needs places row standing state s poisoned in
           let same : row 0 == word_number count_bits poisoned_word ≡ true = ap (λ (n : ℕ). n == word_number count_bits poisoned_word) is in
           let wrong : true ≡ false = sym same ∙ differs in
           absurd (cc)
@@ -271,19 +254,19 @@ never-poisoned needs places row standing lazy s differs =
     ]
 
 -- Poison is cleared by a write to the main word, where nobody waits
-cleared-stands : (needs : Needs) (places : ℕ) (row : ℕ → ℕ) (standing : ℕ → Place) (lazy : Lazy) (me : ℕ) (s : Refines needs places row standing lazy)
-    → me < places → is_holder (standing me).stage ≡ false → s.owed me ≡ [] → lazy.poisoned ≡ true
+cleared-stands : (needs : Needs) (places : ℕ) (row : ℕ → ℕ) (standing : ℕ → Place) (state : AbstractState) (me : ℕ) (s : Refines needs places row standing state)
+    → me < places → is_holder (standing me).stage ≡ false → s.owed me ≡ [] → state.poisoned ≡ true
     → Refines needs places (updated row 0 (word_number count_bits (settled_word 0 0))) (updated standing me (record (standing me) { stage = Quiet }))
-    (record lazy { poisoned = false })
-cleared-stands needs places row standing lazy me s here none nothing poisoned =
+    (record state { poisoned = false })
+cleared-stands needs places row standing state me s here none nothing poisoned =
     let barren = s.main.barren poisoned in
-    let unheld : s.holder == 0 ≡ true = nobody-holds needs places row standing lazy s (ap is_empty barren.1) in
+    let unheld : s.holder == 0 ≡ true = nobody-holds needs places row standing state s (ap is_empty barren.1) in
     let number : ℕ = word_number count_bits (settled_word 0 0) in
     let place : Place = record (standing me) { stage = Quiet } in
-    let seats = seats-next places standing lazy me place s.seats here refl in
-    let stages = stages-next needs (line_of row) (line_of row) standing lazy.count lazy.count lazy.line lazy.line s.cut s.cut
+    let seats = seats-next places standing state me place s.seats here refl in
+    let stages = stages-next needs (line_of row) (line_of row) standing state.count state.count state.line state.line s.cut s.cut
     s.holder s.holder s.owed s.owed s.worth s.worth me place s.stages
-    tt tt (λ gives. absurd (cc)) tt nothing (sym none ∙ s.stages.one me) (λ is. absurd (not-holder needs places row standing lazy me s none is))
+    tt tt (λ gives. absurd (cc)) tt nothing (sym none ∙ s.stages.one me) (λ is. absurd (not-holder needs places row standing state me s none is))
     (λ other differs out. out) (λ other differs. s.stages.own other) (λ other differs. refl) (λ other differs. refl)
     (λ other differs. refl) (λ other differs. s.stages.holding other) in
     record {
@@ -294,45 +277,45 @@ cleared-stands needs places row standing lazy me s here none nothing poisoned =
       shower = s.shower;
       worth = s.worth;
       free = s.free;
-      main = main-now needs (record lazy { poisoned = false }) s.holder (settled_word 0 0) (omega arith) (omega arith)
+      main = main-now needs (record state { poisoned = false }) s.holder (settled_word 0 0) (omega arith) (omega arith)
           (sym barren.0) (sym (ap (newest 0) barren.1)) (sym (ap not unheld)) refl (λ now. absurd (cc)) s.main.bounded s.main.closed s.main.settled;
-      line = subst (λ (w : ℕ → LineWord). IsLine w lazy.line s.cut s.uncut) (sym (line-main row number)) s.line;
+      line = subst (λ (w : ℕ → LineWord). IsLine w state.line s.cut s.uncut) (sym (line-main row number)) s.line;
       seats = record { held = seats.held; within = seats.within; beyond = seats.beyond };
-      answers = answers-main places row number lazy.shown s.answers;
-      debts = subst (λ (w : ℕ → LineWord). AreDebts w lazy.due s.owed s.shower s.worth) (sym (line-main row number)) s.debts;
-      stages = subst (λ (w : ℕ → LineWord). AreStages needs w (updated standing me place) lazy.count lazy.line s.cut s.holder s.owed s.worth)
+      answers = answers-main places row number state.shown s.answers;
+      debts = subst (λ (w : ℕ → LineWord). AreDebts w state.due s.owed s.shower s.worth) (sym (line-main row number)) s.debts;
+      stages = subst (λ (w : ℕ → LineWord). AreStages needs w (updated standing me place) state.count state.line s.cut s.holder s.owed s.worth)
           (sym (line-main row number)) stages;
     }
 
 -- Whoever clears poison does so in one exchange, or finds none
-pub step-Clear : (needs : Needs) → AreNeeds needs → needs.top < 2 ^ count_bits → (places : ℕ) (row : ℕ → ℕ) (standing : ℕ → Place) (lazy : Lazy) (me : ℕ)
-    → places < 65536 → me < places → (s : Refines needs places row standing lazy)
-    → (standing me).stage ≡ Clear → StepRefines needs places row standing lazy me Clear
-step-Clear needs lawful wide places row standing lazy me room here s at =
+pub step-Clear : (needs : Needs) → AreNeeds needs → needs.top < 2 ^ count_bits → (places : ℕ) (row : ℕ → ℕ) (standing : ℕ → Place) (state : AbstractState) (me : ℕ)
+    → places < 65536 → me < places → (s : Refines needs places row standing state)
+    → (standing me).stage ≡ Clear → StepRefines needs places row standing state me Clear
+step-Clear needs lawful wide places row standing state me room here s at =
     let none : is_holder (standing me).stage ≡ false = ap is_holder at in
     let nothing : s.owed me ≡ [] = subst (λ (stage : Stage). IsShowing (s.owed me) (s.worth me) stage) at (s.stages.showing me) in
     elim (cases_Bool (row 0 == word_number count_bits poisoned_word)) [
       | inl same ↦
           let is : main_of row ≡ poisoned_word = main-found (row 0) poisoned_word (omega arith) (omega arith) same in
-          let poisoned : lazy.poisoned ≡ true = sym s.main.poison ∙ ap (λ (w : Word). w.is_poisoned) is in
+          let poisoned : state.poisoned ≡ true = sym s.main.poison ∙ ap (λ (w : Word). w.is_poisoned) is in
           record {
             events = Cleared ∷ [];
-            last = record lazy { poisoned = false };
+            last = record state { poisoned = false };
             run = (poisoned, refl);
             names = rw same refl;
             calm = λ semaphore. refl;
             inside = omega arith;
-            stands = rw same (cleared-stands needs places row standing lazy me s here none nothing poisoned);
+            stands = rw same (cleared-stands needs places row standing state me s here none nothing poisoned);
           }
       | inr differs ↦ record {
         events = NotCleared ∷ [];
-        last = lazy;
-        run = (never-poisoned needs places row standing lazy s differs, refl);
+        last = state;
+        run = (never-poisoned needs places row standing state s differs, refl);
         names = rw differs refl;
         calm = λ semaphore. refl;
         inside = omega arith;
-        stands = rw differs (loaded needs places row (updated standing me (record (standing me) { stage = Quiet })) lazy 0
-            (moved needs places row standing lazy me s (record (standing me) { stage = Quiet }) here refl
-            tt tt (λ gives. absurd (cc)) tt nothing (sym none) (λ is. absurd (not-holder needs places row standing lazy me s none is))));
+        stands = rw differs (loaded needs places row (updated standing me (record (standing me) { stage = Quiet })) state 0
+            (moved needs places row standing state me s (record (standing me) { stage = Quiet }) here refl
+            tt tt (λ gives. absurd (cc)) tt nothing (sym none) (λ is. absurd (not-holder needs places row standing state me s none is))));
       }
     ]

@@ -13,6 +13,7 @@ use Rattle.saa_word_steps.specs.declared.place.Place.{Place}
 use Rattle.saa_word_steps.specs.declared.place.Ask.{Ask}
 use Rattle.saa_word_steps.specs.declared.place.Afterwards.{Afterwards}
 use Rattle.saa_word_steps.specs.declared.place.Afterwards.TheVariants.{Ends, Again}
+use Rattle.saa_word_steps.specs.declared.place.Given.{Given}
 use Rattle.saa_word_steps.specs.declared.place.Back.{Back}
 use Rattle.saa_word_steps.specs.declared.place.Back.TheVariants.{Tells, Ends as EndsCall, Takes}
 use Rattle.saa_word_steps.specs.declared.place.Taking.{Taking}
@@ -23,10 +24,10 @@ use Rattle.saa_word_steps.specs.declared.place.Registration.TheVariants.{Slot}
 use Rattle.saa_word_steps.specs.declared.operation.Operation.TheVariants.{Exchange}
 use Rattle.saa_word_steps.specs.declared.place.Next.{Next}
 use Rattle.saa_word_steps.specs.declared.place.Next.TheVariants.{Waits}
-use Rattle.saa_word_steps.specs.Needs.{Needs, fits_count, left_count}
-use Rattle.saa_word_steps.specs.Lazy.{Lazy, is_in, held_by}
-use Rattle.saa_word_steps.specs.Steps.{word_at, operation_of, next_of, finished, granted, decided, gave_nothing, given_to, given, shown_all, dropped, looked_at, closing, taken_answer, flagging, poisoning, poisoned_word, flagged_word}
-use Rattle.saa_word_steps.proofs.LazyRuns.{waits-none}
+use Rattle.saa_word_steps.specs.Needs.{Needs, fits_count}
+use Rattle.saa_word_steps.specs.AbstractState.{AbstractState, is_in, held_by}
+use Rattle.saa_word_steps.specs.Steps.{left_from, word_at, operation_of, next_of, finished, granted, decided, gave_nothing, given_to, given, shown_all, dropped, looked_at, closing, taken_answer, flagging, poisoning, poisoned_word, flagged_word}
+use Rattle.saa_word_steps.proofs.AbstractRuns.{waits-none}
 use Rattle.saa_word_proofs.specs.Refinement.{main_of, is_slot, IsAlone, Refines}
 use Rattle.saa_word_proofs.specs.StepRefinement.{row_after}
 use Rattle.saa_word_proofs.specs.Blocking.{IsOwnedAndFlagged, IsBlockedAt}
@@ -71,13 +72,13 @@ on-nothing place Tells = refl
 on-nothing place EndsCall = refl
 on-nothing place (Takes request) = refl
 
-on-left : (place : Place) (request : ℕ) (seen : Word) (left : Option ℕ) → GoesOn (given_to place request seen left)
-on-left place request seen None = on-nothing place place.back
-on-left place request seen (Some left) = refl
+on-left : (place : Place) (what : Given) (seen : Word) (left : Option ℕ) → GoesOn (given_to place what seen left)
+on-left place what seen None = on-nothing place place.back
+on-left place what seen (Some left) = refl
 
-on-given : (needs : Needs) (place : Place) (request : ℕ) (seen : Word) → GoesOn (given needs place request seen)
-on-given needs place request seen =
-    either seen.is_poisoned _ _ (on-nothing place place.back) (on-left place request seen (left_count needs seen.count request))
+on-given : (needs : Needs) (place : Place) (what : Given) (seen : Word) → GoesOn (given needs place what seen)
+on-given needs place what seen =
+    either seen.is_poisoned _ _ (on-nothing place place.back) (on-left place what seen (left_from needs seen.count what))
 
 -- behind the last answer that is shown, and with an answer that is dropped
 on-shown : (place : Place) (afterwards : Afterwards) → GoesOn (shown_all place afterwards)
@@ -131,11 +132,11 @@ goes-on needs me place (AskExchange ask seen) found other =
 goes-on needs me place (Prepare request seen) found other = refl
 goes-on needs me place (Join request seen) found other =
     either (found == word_number count_bits seen) _ _ refl (on-decided needs place (record { request = request; joins = true }) (word_of count_bits found))
-goes-on needs me place (ReleaseLoad request) found other = on-given needs place request (word_of count_bits found)
-goes-on needs me place (ReleaseExchange request seen) found other =
+goes-on needs me place (ReleaseLoad what) found other = on-given needs place what (word_of count_bits found)
+goes-on needs me place (ReleaseExchange what seen) found other =
     either (found == word_number count_bits seen) _ _
     (either (not (seen.tail == 0) && not seen.is_flagged) _ _ refl (on-finished place place.back))
-    (on-given needs place request (word_of count_bits found))
+    (on-given needs place what (word_of count_bits found))
 goes-on needs me place (BackLoad seen current newer) found other = refl
 goes-on needs me place (BackStore seen current newer line) found other = either (line.older == 0) _ _ refl refl
 goes-on needs me place (Forward seen current count) found other = on-looked needs place seen current count (line_word_of found)
@@ -204,57 +205,57 @@ none-shown needs place taking (Some value) small waits =
     absurd (cc)
 
 -- who is held and has no answer to take is in the line, or its answer is to be shown
-held-else : (lazy : Lazy) (me : ℕ) → held_by me lazy ≡ 1 → lazy.shown me ≡ None → (is_in me lazy.line || is_some (lazy.due me)) ≡ true
-held-else lazy me held none =
-    let nothing : one_if (is_some (lazy.shown me)) ≡ 0 = ap (λ (a : Option ℕ). one_if (is_some a)) none in
-    elim (cases_Bool (is_in me lazy.line)) [
+held-else : (state : AbstractState) (me : ℕ) → held_by me state ≡ 1 → state.shown me ≡ None → (is_in me state.line || is_some (state.due me)) ≡ true
+held-else state me held none =
+    let nothing : one_if (is_some (state.shown me)) ≡ 0 = ap (λ (a : Option ℕ). one_if (is_some a)) none in
+    elim (cases_Bool (is_in me state.line)) [
       | inl some ↦ rw some refl
       | inr out ↦
-          elim (cases_Bool (is_some (lazy.due me))) [
+          elim (cases_Bool (is_some (state.due me))) [
             | inl due ↦ rw (out, due) refl
-            | inr undue ↦ absurd (omega (arith, held, nothing, waits-none me lazy.line out, ap one_if undue))
+            | inr undue ↦ absurd (omega (arith, held, nothing, waits-none me state.line out, ap one_if undue))
           ]
     ]
 
 -- a place that is registered in the line and finds no answer
-takes-none : (needs : Needs) (places : ℕ) (row : ℕ → ℕ) (standing : ℕ → Place) (lazy : Lazy) (me : ℕ) → me < places
-    → Refines needs places row standing lazy → (taking : Taking) → is_slot (standing me).registration ≡ true
+takes-none : (needs : Needs) (places : ℕ) (row : ℕ → ℕ) (standing : ℕ → Place) (state : AbstractState) (me : ℕ) → me < places
+    → Refines needs places row standing state → (taking : Taking) → is_slot (standing me).registration ≡ true
     → taken_answer needs (standing me) taking (answer_of (row (places + me + 1) % 65536)) ≡ Waits
-    → ((is_in me lazy.line || is_some (lazy.due me)) ≡ true) × (row_after row (operation_of needs places me (Take taking)) ≡ row)
-takes-none needs places row standing lazy me here s taking slot waits =
-    let number : row (places + me + 1) ≡ answer_number (lazy.shown me) = s.answers.words me here in
-    let none : lazy.shown me ≡ None =
-    none-shown needs (standing me) taking (lazy.shown me) (s.answers.small me)
+    → ((is_in me state.line || is_some (state.due me)) ≡ true) × (row_after row (operation_of needs places me (Take taking)) ≡ row)
+takes-none needs places row standing state me here s taking slot waits =
+    let number : row (places + me + 1) ≡ answer_number (state.shown me) = s.answers.words me here in
+    let none : state.shown me ≡ None =
+    none-shown needs (standing me) taking (state.shown me) (s.answers.small me)
     (ap (λ (n : ℕ). taken_answer needs (standing me) taking (answer_of (n % 65536))) (sym number) ∙ waits) in
     let empty : row (places + me + 1) ≡ 0 = number ∙ ap answer_number none in
-    (held-else lazy me (s.seats.held me ∙ ap one_if slot) none, updated-same row (places + me + 1) 0 (sym empty))
+    (held-else state me (s.seats.held me ∙ ap one_if slot) none, updated-same row (places + me + 1) 0 (sym empty))
 
 -- A step that is answered that it waits
-pub only-stalls : (needs : Needs) (places : ℕ) (row : ℕ → ℕ) (standing : ℕ → Place) (lazy : Lazy) (me : ℕ) → me < places
-    → Refines needs places row standing lazy → (stage : Stage) → (standing me).stage ≡ stage
+pub only-stalls : (needs : Needs) (places : ℕ) (row : ℕ → ℕ) (standing : ℕ → Place) (state : AbstractState) (me : ℕ) → me < places
+    → Refines needs places row standing state → (stage : Stage) → (standing me).stage ≡ stage
     → next_of needs me (standing me) stage (row (word_at (operation_of needs places me stage))) ≡ Waits
-    → IsBlockedAt lazy me (main_of row) stage × (row_after row (operation_of needs places me stage) ≡ row)
-only-stalls needs places row standing lazy me here s (Take Awaits) at waits =
+    → IsBlockedAt state me (main_of row) stage × (row_after row (operation_of needs places me stage) ≡ row)
+only-stalls needs places row standing state me here s (Take Awaits) at waits =
     let slot : is_slot (standing me).registration ≡ true =
     subst (λ stage. IsAlone needs (standing me).registration (standing me).back stage) at (s.stages.alone me) in
-    takes-none needs places row standing lazy me here s Awaits slot waits
-only-stalls needs places row standing lazy me here s (Take (Gives request)) at waits =
+    takes-none needs places row standing state me here s Awaits slot waits
+only-stalls needs places row standing state me here s (Take (Gives request)) at waits =
     let slot : (standing me).registration ≡ Slot request =
     subst (λ stage. IsAlone needs (standing me).registration (standing me).back stage) at (s.stages.alone me) in
-    let both = takes-none needs places row standing lazy me here s (Gives request) (ap is_slot slot) waits in
-    let out : is_in me lazy.line ≡ false = apart-at needs places row standing lazy me s (Take (Gives request)) at refl in
-    (sym (ap (λ (b : Bool). b || is_some (lazy.due me)) out) ∙ both.0, both.1)
-only-stalls needs places row standing lazy me here s FlagLoad at waits =
+    let both = takes-none needs places row standing state me here s (Gives request) (ap is_slot slot) waits in
+    let out : is_in me state.line ≡ false = apart-at needs places row standing state me s (Take (Gives request)) at refl in
+    (sym (ap (λ (b : Bool). b || is_some (state.due me)) out) ∙ both.0, both.1)
+only-stalls needs places row standing state me here s FlagLoad at waits =
     (flag-stalls (standing me) (main_of row) waits, updated-same row 0 (row 0) refl)
-only-stalls needs places row standing lazy me here s (FlagExchange seen) at waits =
+only-stalls needs places row standing state me here s (FlagExchange seen) at waits =
     let both = second-waits (row 0 == word_number count_bits seen) _ _ refl waits in
     (flag-stalls (standing me) (main_of row) both.1, not-exchanged row (word_number count_bits seen) (word_number count_bits (flagged_word seen)) both.0)
-only-stalls needs places row standing lazy me here s PoisonLoad at waits =
+only-stalls needs places row standing state me here s PoisonLoad at waits =
     (poison-stalls (standing me) (main_of row) waits, updated-same row 0 (row 0) refl)
-only-stalls needs places row standing lazy me here s (PoisonExchange seen) at waits =
+only-stalls needs places row standing state me here s (PoisonExchange seen) at waits =
     let both = second-waits (row 0 == word_number count_bits seen) _ _ (either (seen.tail == 0) _ _ (on-finished (standing me) (standing me).back) refl) waits in
     (poison-stalls (standing me) (main_of row) both.1, not-exchanged row (word_number count_bits seen) (word_number count_bits poisoned_word) both.0)
-only-stalls needs places row standing lazy me here s stage at waits =
+only-stalls needs places row standing state me here s stage at waits =
     let goes = goes-on needs me (standing me) stage (row (word_at (operation_of needs places me stage))) refl in
     let wrong : false ≡ true = sym goes ∙ ap says_wait waits in
     absurd (cc)

@@ -6,7 +6,7 @@ use Rattle.saa_core_words.specs.declared.line_word.LineWord.{LineWord}
 use Rattle.saa_core_words.specs.Words.{count_bits}
 use Rattle.saa_word_steps.specs.declared.place.Place.{Place}
 use Rattle.saa_word_steps.specs.Needs.{Needs}
-use Rattle.saa_word_steps.specs.Lazy.{Lazy, opening}
+use Rattle.saa_word_steps.specs.AbstractState.{AbstractState, opening}
 use Rattle.saa_word_proofs.specs.Refinement.{main_of, line_of, newest, IsBehind, is_slot, Refines}
 use Rattle.saa_word_proofs.specs.Promises.{idle_place, opening_row, AreAsking, IsMet, newest_first, Observes}
 use Rattle.saa_word_proofs.proofs.RefinementLemmas.Poisoning.{poisoned-number}
@@ -35,25 +35,25 @@ asks-append words [] rest one other = other
 asks-append words (asker ∷ front) rest one other = (one.0, asks-append words front rest one.1 other)
 
 -- What stands in the words
-pub says-so : (needs : Needs) (places : ℕ) (row : ℕ → ℕ) (standing : ℕ → Place) (lazy : Lazy) → Refines needs places row standing lazy
-    → Observes needs places row lazy
-says-so needs places row standing lazy s =
+pub says-so : (needs : Needs) (places : ℕ) (row : ℕ → ℕ) (standing : ℕ → Place) (state : AbstractState) → Refines needs places row standing state
+    → Observes needs places row state
+says-so needs places row standing state s =
     let free : (main_of row).is_flagged ≡ false → s.holder == 0 ≡ true = λ clear. not-false (s.holder == 0) (sym s.main.flag ∙ clear) in
     record {
       count = s.main.count;
       poisoned = s.main.poison;
       whole = s.main.whole;
-      exact = λ poisoned. poisoned-number needs places row standing lazy s poisoned;
+      exact = λ poisoned. poisoned-number needs places row standing state s poisoned;
       requests = subst (λ (l : List (ℕ × ℕ)). AreAsking (line_of row) l) (sym s.line.parts)
           (asks-append (line_of row) s.cut s.uncut (behind-asks (line_of row) 0 s.cut s.line.granted) (behind-asks (line_of row) 0 s.uncut s.line.stays));
       shown = s.answers.words;
       line = λ clear.
-          let whole : lazy.line ≡ s.uncut = s.line.parts ∙ ap (λ (l : List (ℕ × ℕ)). l ++ s.uncut) (s.free (free clear)) in
-          let behind : IsBehind (line_of row) 0 lazy.line = subst (λ (l : List (ℕ × ℕ)). IsBehind (line_of row) 0 l) (sym whole) s.line.stays in
-          let met : IsMet (line_of row) (newest 0 lazy.line) (newest_first lazy.line) =
-          subst (λ (l : List ℕ). IsMet (line_of row) (newest 0 lazy.line) l) (append-nil (newest_first lazy.line))
-          (line-met (line_of row) 0 lazy.line [] behind refl) in
-          subst (λ (n : ℕ). IsMet (line_of row) n (newest_first lazy.line)) (sym s.main.tail) met;
+          let whole : state.line ≡ s.uncut = s.line.parts ∙ ap (λ (l : List (ℕ × ℕ)). l ++ s.uncut) (s.free (free clear)) in
+          let behind : IsBehind (line_of row) 0 state.line = subst (λ (l : List (ℕ × ℕ)). IsBehind (line_of row) 0 l) (sym whole) s.line.stays in
+          let met : IsMet (line_of row) (newest 0 state.line) (newest_first state.line) =
+          subst (λ (l : List ℕ). IsMet (line_of row) (newest 0 state.line) l) (append-nil (newest_first state.line))
+          (line-met (line_of row) 0 state.line [] behind refl) in
+          subst (λ (n : ℕ). IsMet (line_of row) n (newest_first state.line)) (sym s.main.tail) met;
       closed = λ clear. s.main.closed (free clear);
       settled = λ clear. s.main.settled (s.main.closed (free clear));
       bounded = s.main.bounded;

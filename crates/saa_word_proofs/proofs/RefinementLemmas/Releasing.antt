@@ -6,23 +6,71 @@ use Rattle.saa_core_words.specs.declared.word.Word.{Word}
 use Rattle.saa_core_words.specs.declared.line_word.LineWord.{LineWord}
 use Rattle.saa_core_words.specs.Words.{count_bits, word_number}
 use Rattle.saa_word_steps.specs.declared.place.Place.{Place}
+use Rattle.saa_word_steps.specs.declared.place.Given.{Given}
+use Rattle.saa_word_steps.specs.declared.place.Given.TheVariants.{Asked, AllButAShare}
 use Rattle.saa_word_steps.specs.declared.place.Back.{Back}
 use Rattle.saa_word_steps.specs.declared.place.Back.TheVariants.{Tells, Ends, Takes}
 use Rattle.saa_word_steps.specs.declared.place.Stage.{Stage}
 use Rattle.saa_word_steps.specs.declared.place.Stage.TheVariants.{Quiet, ReleaseLoad, ReleaseExchange, BackLoad}
-use Rattle.saa_word_steps.specs.Needs.{Needs, AreNeeds, left_count}
-use Rattle.saa_word_steps.specs.declared.event.Event.TheVariants.{Gave, GaveNothing}
-use Rattle.saa_word_steps.specs.Lazy.{Lazy, IsEnabled, is_empty, count_or, IsSettledAt}
-use Rattle.saa_word_steps.specs.Steps.{IsRanged, gave_nothing, given, given_to, released}
+use Rattle.saa_word_steps.specs.Needs.{Needs, AreNeeds}
+use Rattle.saa_word_steps.specs.AbstractState.{AbstractState, IsEnabled, after_event, is_empty, count_or, IsSettledAt}
+use Rattle.saa_word_steps.specs.Steps.{IsRanged, left_from, gave_nothing, given_to, released}
+use Rattle.saa_word_steps.proofs.Giving.{left-share, left-shrinks}
 use Rattle.saa_word_proofs.specs.Refinement.{updated, main_of, line_of, newest, is_holder, takes_back, gives_up, IsAlone, IsOwn, IsShowing, IsHolding, IsLine, AreDebts, AreStages, Refines}
-use Rattle.saa_word_proofs.specs.StepRefinement.{StepRefines, place_after, left_events}
+use Rattle.saa_word_proofs.specs.StepRefinement.{StepRefines, gave, gave_not, left_events, named, never_poisons, place_after}
 use Rattle.saa_word_proofs.proofs.RefinementLemmas.Lists.{newest-empty}
 use Rattle.saa_word_proofs.proofs.RefinementLemmas.Frames.{holding-frame, stages-next}
-use Rattle.saa_word_proofs.proofs.RefinementLemmas.Rows.{moved, loaded, main-found, line-main, seats-next, count-small, tail-small}
+use Rattle.saa_word_proofs.proofs.RefinementLemmas.Rows.{moved, main-found, line-main, seats-next, count-small, tail-small}
 use Rattle.saa_word_proofs.proofs.RefinementLemmas.Holders.{main-now, never-barren}
-use Rattle.saa_word_proofs.proofs.RefinementLemmas.Outcomes.{Outcome, not-holder, answers-main}
+use Rattle.saa_word_proofs.proofs.RefinementLemmas.Outcomes.{Outcome, not-holder, answers-main, only-looked}
 use Rattle.saa_word_proofs.proofs.RefinementLemmas.Flagging.{link-some, not-true, apart-holders}
 use Rattle.saa_word_proofs.proofs.RefinementLemmas.Ending.{end_stage, ended, ended-ranged, ended-alone, ended-apart, ended-own, ended-showing, ended-holder, returning-any}
+
+-- What a place gives back, and whether it has it
+
+-- that it isn't held is enabled where it isn't, and changes nothing
+nothing-enabled : (needs : Needs) (state : AbstractState) (me : ℕ) (what : Given) → (state.poisoned ≡ false → left_from needs state.count what ≡ None)
+    → IsEnabled needs state me (gave_not what)
+nothing-enabled needs state me (Asked request) none = none
+nothing-enabled needs state me AllButAShare none =
+    λ owned.
+    let nothing : left_from needs state.count AllButAShare ≡ None = none owned.0 in
+    let share : left_from needs state.count AllButAShare ≡ Some 1 = rw (owned.2, owned.1) refl in
+    absurd (cc)
+
+nothing-after : (needs : Needs) (state : AbstractState) (me : ℕ) (what : Given) → after_event needs state me (gave_not what) ≡ state
+nothing-after needs state me (Asked request) = refl
+nothing-after needs state me AllButAShare = refl
+
+nothing-named : (what : Given) → named (gave_not what ∷ []) ≡ gave_not what ∷ []
+nothing-named (Asked request) = refl
+nothing-named AllButAShare = refl
+
+nothing-calm : (what : Given) → never_poisons (gave_not what ∷ []) ≡ true
+nothing-calm (Asked request) = refl
+nothing-calm AllButAShare = refl
+
+-- what is left is the count behind its event
+gave-enabled : (needs : Needs) (state : AbstractState) (me : ℕ) (what : Given) (left : ℕ) → state.poisoned ≡ false
+    → left_from needs state.count what ≡ Some left → IsEnabled needs state me (gave what)
+gave-enabled needs state me (Asked request) left calm is = (calm, (left, is))
+gave-enabled needs state me AllButAShare left calm is =
+    let share = left-share needs state.count left is in (calm, share.1.0, share.1.1)
+
+gave-after : (needs : Needs) (state : AbstractState) (me : ℕ) (what : Given) (left : ℕ) → left_from needs state.count what ≡ Some left
+    → after_event needs state me (gave what) ≡ record state { count = left; unclosed = not (is_empty state.line) || state.unclosed }
+gave-after needs state me (Asked request) left is =
+    ap (λ (n : ℕ). record state { count = n; unclosed = not (is_empty state.line) || state.unclosed }) (ap (count_or state.count) is)
+gave-after needs state me AllButAShare left is =
+    ap (λ (n : ℕ). record state { count = n; unclosed = not (is_empty state.line) || state.unclosed }) (sym (left-share needs state.count left is).0)
+
+gave-named : (what : Given) → named (gave what ∷ []) ≡ gave what ∷ []
+gave-named (Asked request) = refl
+gave-named AllButAShare = refl
+
+gave-calm : (what : Given) → never_poisons (gave what ∷ []) ≡ true
+gave-calm (Asked request) = refl
+gave-calm AllButAShare = refl
 
 -- a place that gave nothing back is in no call
 quiet-nothing : (place : Place) (back : Back) → place_after place (gave_nothing place back) ≡ record place { stage = Quiet }
@@ -31,66 +79,57 @@ quiet-nothing place Ends = refl
 quiet-nothing place (Takes request) = refl
 
 -- A release of what isn't held, or of a poisoned lock
-nothing-outcome : (needs : Needs) (places : ℕ) (row : ℕ → ℕ) (standing : ℕ → Place) (lazy : Lazy) (me : ℕ)
-    → me < places → (s : Refines needs places row standing lazy) → is_holder (standing me).stage ≡ false → s.owed me ≡ []
-    → (request : ℕ) → IsEnabled needs lazy me (GaveNothing request)
-    → Outcome needs places row standing lazy me (gave_nothing (standing me) (standing me).back) (GaveNothing request ∷ [])
-nothing-outcome needs places row standing lazy me here s none nothing request allowed = record {
-  events = GaveNothing request ∷ [];
-  last = lazy;
-  run = (allowed, refl);
-  names = refl;
-  calm = λ semaphore. refl;
-  stands = subst (λ (p : Place). Refines needs places row (updated standing me p) lazy) (sym (quiet-nothing (standing me) (standing me).back))
-      (moved needs places row standing lazy me s (record (standing me) { stage = Quiet }) here refl
-      tt tt (λ gives. absurd (cc)) tt nothing (sym none) (λ it. absurd (not-holder needs places row standing lazy me s none it)));
+nothing-outcome : (needs : Needs) (places : ℕ) (row : ℕ → ℕ) (standing : ℕ → Place) (state : AbstractState) (me : ℕ)
+    → me < places → (s : Refines needs places row standing state) → is_holder (standing me).stage ≡ false → s.owed me ≡ []
+    → (what : Given) → IsEnabled needs state me (gave_not what)
+    → Outcome needs places row standing state me (gave_nothing (standing me) (standing me).back) (gave_not what ∷ [])
+nothing-outcome needs places row standing state me here s none nothing what allowed = record {
+  events = gave_not what ∷ [];
+  last = state;
+  run = (allowed, nothing-after needs state me what);
+  names = nothing-named what;
+  calm = λ semaphore. nothing-calm what;
+  stands = subst (λ (p : Place). Refines needs places row (updated standing me p) state) (sym (quiet-nothing (standing me) (standing me).back))
+      (moved needs places row standing state me s (record (standing me) { stage = Quiet }) here refl
+      tt tt (λ gives. absurd (cc)) tt nothing (sym none) (λ it. absurd (not-holder needs places row standing state me s none it)));
 }
 
 -- A release that is decided by the main word as it stands
-given-outcome : (needs : Needs) (places : ℕ) (row : ℕ → ℕ) (standing : ℕ → Place) (lazy : Lazy) (me : ℕ)
-    → me < places → (s : Refines needs places row standing lazy) → is_holder (standing me).stage ≡ false → s.owed me ≡ []
-    → takes_back (standing me).back ≡ false → (request : ℕ) (poisoned : Bool) (left : Option ℕ)
-    → (main_of row).is_poisoned ≡ poisoned → left_count needs (main_of row).count request ≡ left
-    → Outcome needs places row standing lazy me
-    (if poisoned then gave_nothing (standing me) (standing me).back else given_to (standing me) request (main_of row) left)
-    (if poisoned then GaveNothing request ∷ [] else left_events request left)
-given-outcome needs places row standing lazy me here s none nothing ends request true left mark is =
-    nothing-outcome needs places row standing lazy me here s none nothing request
-    (λ calm. let wrong : true ≡ false = sym mark ∙ s.main.poison ∙ calm in absurd (cc))
-given-outcome needs places row standing lazy me here s none nothing ends request false None mark is =
-    nothing-outcome needs places row standing lazy me here s none nothing request
-    (λ calm. ap (λ (n : ℕ). left_count needs n request) (sym s.main.count) ∙ is)
-given-outcome needs places row standing lazy me here s none nothing ends request false (Some left) mark is = record {
+given-outcome : (needs : Needs) (places : ℕ) (row : ℕ → ℕ) (standing : ℕ → Place) (state : AbstractState) (me : ℕ)
+    → me < places → (s : Refines needs places row standing state) → is_holder (standing me).stage ≡ false → s.owed me ≡ []
+    → takes_back (standing me).back ≡ false → (what : Given) (poisoned : Bool) (left : Option ℕ)
+    → (main_of row).is_poisoned ≡ poisoned → left_from needs (main_of row).count what ≡ left
+    → Outcome needs places row standing state me
+    (if poisoned then gave_nothing (standing me) (standing me).back else given_to (standing me) what (main_of row) left)
+    (if poisoned then gave_not what ∷ [] else left_events what left)
+given-outcome needs places row standing state me here s none nothing ends what true left mark is =
+    nothing-outcome needs places row standing state me here s none nothing what
+    (nothing-enabled needs state me what (λ calm. let wrong : true ≡ false = sym mark ∙ s.main.poison ∙ calm in absurd (cc)))
+given-outcome needs places row standing state me here s none nothing ends what false None mark is =
+    nothing-outcome needs places row standing state me here s none nothing what
+    (nothing-enabled needs state me what (λ calm. ap (λ (n : ℕ). left_from needs n what) (sym s.main.count) ∙ is))
+given-outcome needs places row standing state me here s none nothing ends what false (Some left) mark is = record {
   events = [];
-  last = lazy;
+  last = state;
   run = refl;
   names = refl;
   calm = λ semaphore. refl;
-  stands = moved needs places row standing lazy me s (record (standing me) { stage = ReleaseExchange request (main_of row) }) here refl
+  stands = moved needs places row standing state me s (record (standing me) { stage = ReleaseExchange what (main_of row) }) here refl
       (count-small (row 0)) (tail-small (row 0), (left, is), mark, ends) (λ gives. absurd (cc)) tt nothing (sym none)
-      (λ it. absurd (not-holder needs places row standing lazy me s none it));
+      (λ it. absurd (not-holder needs places row standing state me s none it));
 }
 
 -- Whoever is to give back looks at the main word
-pub step-ReleaseLoad : (needs : Needs) → AreNeeds needs → needs.top < 2 ^ count_bits → (places : ℕ) (row : ℕ → ℕ) (standing : ℕ → Place) (lazy : Lazy) (me : ℕ)
-    → places < 65536 → me < places → (s : Refines needs places row standing lazy)
-    → (request : ℕ) → (standing me).stage ≡ ReleaseLoad request → StepRefines needs places row standing lazy me (ReleaseLoad request)
-step-ReleaseLoad needs lawful wide places row standing lazy me room here s request at =
+pub step-ReleaseLoad : (needs : Needs) → AreNeeds needs → needs.top < 2 ^ count_bits → (places : ℕ) (row : ℕ → ℕ) (standing : ℕ → Place) (state : AbstractState) (me : ℕ)
+    → places < 65536 → me < places → (s : Refines needs places row standing state)
+    → (what : Given) → (standing me).stage ≡ ReleaseLoad what → StepRefines needs places row standing state me (ReleaseLoad what)
+step-ReleaseLoad needs lawful wide places row standing state me room here s what at =
     let ends : takes_back (standing me).back ≡ false =
     subst (λ stage. IsAlone needs (standing me).registration (standing me).back stage) at (s.stages.alone me) in
-    let out = given-outcome needs places row standing lazy me here s (ap is_holder at)
+    let out = given-outcome needs places row standing state me here s (ap is_holder at)
     (subst (λ stage. IsShowing (s.owed me) (s.worth me) stage) at (s.stages.showing me)) ends
-    request (main_of row).is_poisoned (left_count needs (main_of row).count request) refl refl in
-    record {
-      events = out.events;
-      last = out.last;
-      run = out.run;
-      names = out.names;
-      calm = out.calm;
-      inside = omega arith;
-      stands = loaded needs places row (updated standing me (place_after (standing me) (given needs (standing me) request (main_of row))))
-          out.last 0 out.stands;
-    }
+    what (main_of row).is_poisoned (left_from needs (main_of row).count what) refl refl in
+    only-looked needs places row standing state me (ReleaseLoad what) out refl refl refl refl
 
 -- a line that isn't opened is empty
 unopened : (line : List (ℕ × ℕ)) (other : Bool) → not (is_empty line) || other ≡ false → line ≡ []
@@ -98,30 +137,30 @@ unopened [] other closed = refl
 unopened (asker ∷ rest) other closed = absurd (cc)
 
 -- Something is given back: the count falls; whoever holds the flag afterwards, and what this place does then, is said by the premises
-given-back : (needs : Needs) → AreNeeds needs → needs.top < 2 ^ count_bits → (places : ℕ) (row : ℕ → ℕ) (standing : ℕ → Place) (lazy : Lazy) (me : ℕ)
-    → me < places → (s : Refines needs places row standing lazy)
-    → (request left : ℕ) (seen : Word) → seen.tail < 65536 → seen.is_poisoned ≡ false → main_of row ≡ seen → left_count needs seen.count request ≡ Some left
+given-back : (needs : Needs) → AreNeeds needs → needs.top < 2 ^ count_bits → (places : ℕ) (row : ℕ → ℕ) (standing : ℕ → Place) (state : AbstractState) (me : ℕ)
+    → me < places → (s : Refines needs places row standing state)
+    → (what : Given) (left : ℕ) (seen : Word) → seen.tail < 65536 → seen.is_poisoned ≡ false → main_of row ≡ seen → left_from needs seen.count what ≡ Some left
     → (stage : Stage) (holder : ℕ)
     → IsRanged needs stage → IsAlone needs (standing me).registration (standing me).back stage → gives_up (standing me).back stage ≡ false
     → ((word : LineWord) → IsOwn word stage) → IsShowing (s.owed me) (s.worth me) stage
     → is_holder stage ≡ (holder == me + 1)
-    → (holder ≡ me + 1 → IsHolding needs (line_of row) me left lazy.line s.cut stage)
+    → (holder ≡ me + 1 → IsHolding needs (line_of row) me left state.line s.cut stage)
     → ((other : ℕ) → (other ≡ me → ⊥) → (s.holder == other + 1) ≡ (holder == other + 1))
     → (seen.is_flagged || not (seen.tail == 0)) ≡ not (holder == 0)
-    → ((holder == 0) ≡ true → (is_empty lazy.line ≡ true) × (s.holder == 0 ≡ true))
-    → Refines needs places (updated row 0 (word_number count_bits (released needs seen request))) (updated standing me (record (standing me) { stage = stage }))
-    (record lazy { count = left; unclosed = not (is_empty lazy.line) || lazy.unclosed })
-given-back needs lawful wide places row standing lazy me here s request left seen tail_small clean is left_is stage holder ranged alone stays own showing
+    → ((holder == 0) ≡ true → (is_empty state.line ≡ true) × (s.holder == 0 ≡ true))
+    → Refines needs places (updated row 0 (word_number count_bits (released needs seen what))) (updated standing me (record (standing me) { stage = stage }))
+    (record state { count = left; unclosed = not (is_empty state.line) || state.unclosed })
+given-back needs lawful wide places row standing state me here s what left seen tail_small clean is left_is stage holder ranged alone stays own showing
     one holding ones flag nobody =
-    let tail : seen.tail ≡ newest 0 lazy.line = ap (λ (w : Word). w.tail) (sym is) ∙ s.main.tail in
-    let count : seen.count ≡ lazy.count = ap (λ (w : Word). w.count) (sym is) ∙ s.main.count in
-    let calm : lazy.poisoned ≡ false = sym s.main.poison ∙ ap (λ (w : Word). w.is_poisoned) is ∙ clean in
-    let less : left ≤ seen.count = lawful.shrinks seen.count request left left_is in
-    let word : Word = released needs seen request in
+    let tail : seen.tail ≡ newest 0 state.line = ap (λ (w : Word). w.tail) (sym is) ∙ s.main.tail in
+    let count : seen.count ≡ state.count = ap (λ (w : Word). w.count) (sym is) ∙ s.main.count in
+    let calm : state.poisoned ≡ false = sym s.main.poison ∙ ap (λ (w : Word). w.is_poisoned) is ∙ clean in
+    let less : left ≤ seen.count = left-shrinks needs lawful seen.count what left left_is in
+    let word : Word = released needs seen what in
     let word_count : word.count ≡ left = rw left_is refl in
     let number : ℕ = word_number count_bits word in
     let place : Place = record (standing me) { stage = stage } in
-    let after : Lazy = record lazy { count = left; unclosed = not (is_empty lazy.line) || lazy.unclosed } in
+    let after : AbstractState = record state { count = left; unclosed = not (is_empty state.line) || state.unclosed } in
     record {
       holder = holder;
       cut = s.cut;
@@ -134,27 +173,23 @@ given-back needs lawful wide places row standing lazy me here s request left see
           (omega (arith, word_count, less, count, s.main.bounded, wide)) tail_small word_count tail flag (sym calm) (never-barren needs after calm)
           (omega (arith, less, count, s.main.bounded))
           (λ free. rw (nobody free).0 (s.main.closed (nobody free).1))
-          (λ closed. subst (λ (l : List (ℕ × ℕ)). IsSettledAt needs left l) (sym (unopened lazy.line lazy.unclosed closed)) tt);
-      line = subst (λ (w : ℕ → LineWord). IsLine w lazy.line s.cut s.uncut) (sym (line-main row number)) s.line;
+          (λ closed. subst (λ (l : List (ℕ × ℕ)). IsSettledAt needs left l) (sym (unopened state.line state.unclosed closed)) tt);
+      line = subst (λ (w : ℕ → LineWord). IsLine w state.line s.cut s.uncut) (sym (line-main row number)) s.line;
       seats =
-          let seats = seats-next places standing lazy me place s.seats here refl in
+          let seats = seats-next places standing state me place s.seats here refl in
           record { held = seats.held; within = seats.within; beyond = seats.beyond };
-      answers = answers-main places row number lazy.shown s.answers;
-      debts = subst (λ (w : ℕ → LineWord). AreDebts w lazy.due s.owed s.shower s.worth) (sym (line-main row number)) s.debts;
-      stages = subst (λ (w : ℕ → LineWord). AreStages needs w (updated standing me place) left lazy.line s.cut holder s.owed s.worth)
+      answers = answers-main places row number state.shown s.answers;
+      debts = subst (λ (w : ℕ → LineWord). AreDebts w state.due s.owed s.shower s.worth) (sym (line-main row number)) s.debts;
+      stages = subst (λ (w : ℕ → LineWord). AreStages needs w (updated standing me place) left state.line s.cut holder s.owed s.worth)
           (sym (line-main row number))
-          (stages-next needs (line_of row) (line_of row) standing lazy.count left lazy.line lazy.line s.cut s.cut s.holder holder s.owed s.owed
+          (stages-next needs (line_of row) (line_of row) standing state.count left state.line state.line s.cut s.cut s.holder holder s.owed s.owed
           s.worth s.worth me place s.stages ranged alone
           (λ gives. let wrong : true ≡ false = sym gives ∙ stays in absurd (cc))
           (own (line_of row me)) showing one holding
           (λ other apart out. out) (λ other apart. s.stages.own other) (λ other apart. refl) (λ other apart. refl) ones
-          (λ other apart it. holding-frame needs (line_of row) (line_of row) other lazy.count left lazy.line lazy.line [] s.cut (standing other).stage
-          (omega (arith, less, count)) (sym (append-nil lazy.line)) refl (λ one there. refl) (s.stages.holding other it)));
+          (λ other apart it. holding-frame needs (line_of row) (line_of row) other state.count left state.line state.line [] s.cut (standing other).stage
+          (omega (arith, less, count)) (sym (append-nil state.line)) refl (λ one there. refl) (s.stages.holding other it)));
     }
-
--- what is given back lowers the object's count
-gave-count : (needs : Needs) (count request left : ℕ) → left_count needs count request ≡ Some left → count_or count (left_count needs count request) ≡ left
-gave-count needs count request left is = rw is refl
 
 -- a mark and a tail that set a flag, or none
 no-flag : (tail_none flagged : Bool) → (not tail_none && not flagged) ≡ false → (flagged || not tail_none) ≡ flagged
@@ -175,57 +210,54 @@ no-tail false true test clear = absurd (cc)
 no-tail false false test clear = absurd (cc)
 
 -- Whoever gives back lowers the count, and works on the line where somebody waits and nobody does
-pub step-ReleaseExchange : (needs : Needs) → AreNeeds needs → needs.top < 2 ^ count_bits → (places : ℕ) (row : ℕ → ℕ) (standing : ℕ → Place) (lazy : Lazy) (me : ℕ)
-    → places < 65536 → me < places → (s : Refines needs places row standing lazy)
-    → (request : ℕ) (seen : Word) → (standing me).stage ≡ ReleaseExchange request seen
-    → StepRefines needs places row standing lazy me (ReleaseExchange request seen)
-step-ReleaseExchange needs lawful wide places row standing lazy me room here s request seen at =
+pub step-ReleaseExchange : (needs : Needs) → AreNeeds needs → needs.top < 2 ^ count_bits → (places : ℕ) (row : ℕ → ℕ) (standing : ℕ → Place) (state : AbstractState) (me : ℕ)
+    → places < 65536 → me < places → (s : Refines needs places row standing state)
+    → (what : Given) (seen : Word) → (standing me).stage ≡ ReleaseExchange what seen
+    → StepRefines needs places row standing state me (ReleaseExchange what seen)
+step-ReleaseExchange needs lawful wide places row standing state me room here s what seen at =
     let back : Back = (standing me).back in
-    let alone : IsAlone needs (standing me).registration back (ReleaseExchange request seen) =
+    let alone : IsAlone needs (standing me).registration back (ReleaseExchange what seen) =
     subst (λ stage. IsAlone needs (standing me).registration back stage) at (s.stages.alone me) in
     let returning = returning-any (standing me).registration back alone.3 in
-    let ranged : IsRanged needs (ReleaseExchange request seen) = subst (λ stage. IsRanged needs stage) at (s.stages.ranged me) in
+    let ranged : IsRanged needs (ReleaseExchange what seen) = subst (λ stage. IsRanged needs stage) at (s.stages.ranged me) in
     let none : is_holder (standing me).stage ≡ false = ap is_holder at in
     let nothing : s.owed me ≡ [] = subst (λ stage. IsShowing (s.owed me) (s.worth me) stage) at (s.stages.showing me) in
     let left : ℕ = alone.1.0 in
     elim (cases_Bool (row 0 == word_number count_bits seen)) [
       | inl same ↦
           let is : main_of row ≡ seen = main-found (row 0) seen ranged alone.0 same in
-          let tail : seen.tail ≡ newest 0 lazy.line = ap (λ (w : Word). w.tail) (sym is) ∙ s.main.tail in
-          let empty : seen.tail == 0 ≡ is_empty lazy.line = ap (λ (n : ℕ). n == 0) tail ∙ newest-empty lazy.line in
+          let tail : seen.tail ≡ newest 0 state.line = ap (λ (w : Word). w.tail) (sym is) ∙ s.main.tail in
+          let empty : seen.tail == 0 ≡ is_empty state.line = ap (λ (n : ℕ). n == 0) tail ∙ newest-empty state.line in
           let flagged : seen.is_flagged ≡ not (s.holder == 0) = ap (λ (w : Word). w.is_flagged) (sym is) ∙ s.main.flag in
-          let calm : lazy.poisoned ≡ false = sym s.main.poison ∙ ap (λ (w : Word). w.is_poisoned) is ∙ alone.2 in
-          let left_now : left_count needs lazy.count request ≡ Some left =
-          ap (λ (n : ℕ). left_count needs n request) (sym s.main.count ∙ ap (λ (w : Word). w.count) is) ∙ alone.1.1 in
-          let word : Word = released needs seen request in
+          let calm : state.poisoned ≡ false = sym s.main.poison ∙ ap (λ (w : Word). w.is_poisoned) is ∙ alone.2 in
+          let left_now : left_from needs state.count what ≡ Some left =
+          ap (λ (n : ℕ). left_from needs n what) (sym s.main.count ∙ ap (λ (w : Word). w.count) is) ∙ alone.1.1 in
+          let word : Word = released needs seen what in
           let word_count : word.count ≡ left = rw alone.1.1 refl in
-          let counting : ℕ → Lazy = λ n. record lazy { count = n; unclosed = not (is_empty lazy.line) || lazy.unclosed } in
-          let after : Lazy = counting left in
-          let run_is : counting (count_or lazy.count (left_count needs lazy.count request)) ≡ after =
-          ap counting (gave-count needs lazy.count request left left_now) in
+          let after : AbstractState = record state { count = left; unclosed = not (is_empty state.line) || state.unclosed } in
           elim (cases_Bool (not (seen.tail == 0) && not seen.is_flagged)) [
             | inl takes ↦
                 let both = sets-flag (seen.tail == 0) seen.is_flagged takes in
                 let nobody : s.holder == 0 ≡ true = not-true (s.holder == 0) (sym flagged ∙ both.1) in
-                let some : is_empty lazy.line ≡ false = sym empty ∙ both.0 in
-                let less : left ≤ seen.count = lawful.shrinks seen.count request left alone.1.1 in
+                let some : is_empty state.line ≡ false = sym empty ∙ both.0 in
+                let less : left ≤ seen.count = left-shrinks needs lawful seen.count what left alone.1.1 in
                 record {
-                  events = Gave request ∷ [];
+                  events = gave what ∷ [];
                   last = after;
-                  run = ((calm, (left, left_now)), run_is);
-                  names = rw same refl;
-                  calm = λ semaphore. refl;
+                  run = (gave-enabled needs state me what left calm left_now, gave-after needs state me what left left_now);
+                  names = rw same (gave-named what);
+                  calm = λ semaphore. gave-calm what;
                   inside = omega arith;
-                  stands = rw (same, takes) (given-back needs lawful wide places row standing lazy me here s request left seen alone.0 alone.2 is alone.1.1
+                  stands = rw (same, takes) (given-back needs lawful wide places row standing state me here s what left seen alone.0 alone.2 is alone.1.1
                       (BackLoad word word.tail 0) (me + 1) (omega (arith, word_count, less, ranged)) returning alone.3 (λ word. tt) nothing
                       (sym (number_same (me + 1)))
                       (λ it. (
                         record {
-                          front = lazy.line;
+                          front = state.line;
                           behind = [];
                           joined = [];
-                          parts = sym (append-nil lazy.line);
-                          tail = tail ∙ ap (newest 0) (sym (append-nil lazy.line));
+                          parts = sym (append-nil state.line);
+                          tail = tail ∙ ap (newest 0) (sym (append-nil state.line));
                           count = omega (arith, word_count);
                         },
                         s.free nobody,
@@ -237,34 +269,24 @@ step-ReleaseExchange needs lawful wide places row standing lazy me room here s r
                 }
             | inr ends ↦
                 record {
-                  events = Gave request ∷ [];
+                  events = gave what ∷ [];
                   last = after;
-                  run = ((calm, (left, left_now)), run_is);
-                  names = rw same refl;
-                  calm = λ semaphore. refl;
+                  run = (gave-enabled needs state me what left calm left_now, gave-after needs state me what left left_now);
+                  names = rw same (gave-named what);
+                  calm = λ semaphore. gave-calm what;
                   inside = omega arith;
                   stands = rw (same, ends, ended (standing me) back)
-                      (given-back needs lawful wide places row standing lazy me here s request left seen alone.0 alone.2 is alone.1.1
+                      (given-back needs lawful wide places row standing state me here s what left seen alone.0 alone.2 is alone.1.1
                       (end_stage back) s.holder (ended-ranged needs back) (ended-alone needs (standing me).registration back returning)
                       (ended-apart back ∙ alone.3) (λ word. ended-own word back) (ended-showing (s.owed me) (s.worth me) back nothing)
                       (ended-holder back ∙ sym none ∙ s.stages.one me)
-                      (λ it. absurd (not-holder needs places row standing lazy me s none it)) (λ other apart. refl)
+                      (λ it. absurd (not-holder needs places row standing state me s none it)) (λ other apart. refl)
                       (no-flag (seen.tail == 0) seen.is_flagged ends ∙ flagged)
                       (λ free. (sym empty ∙ no-tail (seen.tail == 0) seen.is_flagged ends (flagged ∙ ap not free), free)));
                 }
           ]
       | inr differs ↦
-          let out = given-outcome needs places row standing lazy me here s none nothing alone.3
-          request (main_of row).is_poisoned (left_count needs (main_of row).count request) refl refl in
-          record {
-            events = out.events;
-            last = out.last;
-            run = out.run;
-            names = rw differs out.names;
-            calm = out.calm;
-            inside = omega arith;
-            stands = rw differs
-                (loaded needs places row (updated standing me (place_after (standing me) (given needs (standing me) request (main_of row))))
-                out.last 0 out.stands);
-          }
+          let out = given-outcome needs places row standing state me here s none nothing alone.3
+          what (main_of row).is_poisoned (left_from needs (main_of row).count what) refl refl in
+          only-looked needs places row standing state me (ReleaseExchange what seen) out refl (rw differs refl) (rw differs refl) (rw differs refl)
     ]

@@ -14,7 +14,7 @@ use Rattle.saa_word_steps.specs.declared.place.Back.{Back}
 use Rattle.saa_word_steps.specs.declared.place.Stage.{Stage}
 use Rattle.saa_word_steps.specs.declared.place.Stage.TheVariants.{Quiet, ReadLoad, AskLoad, AskExchange, Prepare, Join, ReleaseLoad, ReleaseExchange, BackLoad, BackStore, Forward, CutToClose, CutToGoRound, Close, Empty, GoRound, ShowLoad, ShowStore, Take, FlagLoad, FlagExchange, LookLoad, LookStore, Unlink, DropTail, PoisonLoad, PoisonExchange, Clear}
 use Rattle.saa_word_steps.specs.Needs.{Needs}
-use Rattle.saa_word_steps.specs.Lazy.{Lazy, is_in, held_by}
+use Rattle.saa_word_steps.specs.AbstractState.{AbstractState, is_in, held_by}
 use Rattle.saa_word_steps.specs.Steps.{IsRanged, IsSmall}
 use Rattle.saa_word_proofs.specs.Refinement.{updated, line_of, is_slot, is_holder, gives_up, IsAlone, IsOwn, IsShowing, IsHolding, AreSeats, Refines}
 use Rattle.saa_word_proofs.proofs.RefinementLemmas.Lists.{each-updated, all-same, updated-same, updated-at, updated-other}
@@ -102,30 +102,30 @@ own-any needs registration back (PoisonExchange seen) word alone slot = tt
 own-any needs registration back Clear word alone slot = tt
 
 -- a place that is registered as it was leaves the seats as they are
-pub seats-next : (places : ℕ) (standing : ℕ → Place) (lazy : Lazy) (me : ℕ) (place : Place) → AreSeats places standing lazy → me < places
-    → is_slot place.registration ≡ is_slot (standing me).registration → AreSeats places (updated standing me place) lazy
-seats-next places standing lazy me place was here same = record {
-  held = each-updated (λ (n : ℕ) (p : Place). held_by n lazy ≡ one_if (is_slot p.registration)) standing me place
+pub seats-next : (places : ℕ) (standing : ℕ → Place) (state : AbstractState) (me : ℕ) (place : Place) → AreSeats places standing state → me < places
+    → is_slot place.registration ≡ is_slot (standing me).registration → AreSeats places (updated standing me place) state
+seats-next places standing state me place was here same = record {
+  held = each-updated (λ (n : ℕ) (p : Place). held_by n state ≡ one_if (is_slot p.registration)) standing me place
       (was.held me ∙ ap one_if (sym same)) (λ other apart. was.held other);
   within = each-updated (λ (n : ℕ) (p : Place). is_slot p.registration ≡ true → n < places) standing me place (λ slot. here) (λ other apart. was.within other);
   beyond = each-updated (λ (n : ℕ) (p : Place). places ≤ n → p.stage ≡ Quiet) standing me place (λ out. absurd (omega (arith, out, here))) (λ other apart. was.beyond other);
 }
 
 -- who takes its own answer next stands in no line
-pub apart-at : (needs : Needs) (places : ℕ) (row : ℕ → ℕ) (standing : ℕ → Place) (lazy : Lazy) (me : ℕ) → Refines needs places row standing lazy
-    → (stage : Stage) → (standing me).stage ≡ stage → gives_up (standing me).back stage ≡ true → is_in me lazy.line ≡ false
-apart-at needs places row standing lazy me s stage at gives = s.stages.apart me (ap (gives_up (standing me).back) at ∙ gives)
+pub apart-at : (needs : Needs) (places : ℕ) (row : ℕ → ℕ) (standing : ℕ → Place) (state : AbstractState) (me : ℕ) → Refines needs places row standing state
+    → (stage : Stage) → (standing me).stage ≡ stage → gives_up (standing me).back stage ≡ true → is_in me state.line ≡ false
+apart-at needs places row standing state me s stage at gives = s.stages.apart me (ap (gives_up (standing me).back) at ∙ gives)
 
 -- A step that leaves words and object as they are
-pub moved : (needs : Needs) (places : ℕ) (row : ℕ → ℕ) (standing : ℕ → Place) (lazy : Lazy) (me : ℕ) (s : Refines needs places row standing lazy) (place : Place)
+pub moved : (needs : Needs) (places : ℕ) (row : ℕ → ℕ) (standing : ℕ → Place) (state : AbstractState) (me : ℕ) (s : Refines needs places row standing state) (place : Place)
     → me < places → is_slot place.registration ≡ is_slot (standing me).registration
     → IsRanged needs place.stage → IsAlone needs place.registration place.back place.stage
-    → (gives_up place.back place.stage ≡ true → is_in me lazy.line ≡ false)
+    → (gives_up place.back place.stage ≡ true → is_in me state.line ≡ false)
     → IsOwn (line_of row me) place.stage → IsShowing (s.owed me) (s.worth me) place.stage
     → is_holder place.stage ≡ is_holder (standing me).stage
-    → (s.holder ≡ me + 1 → IsHolding needs (line_of row) me lazy.count lazy.line s.cut place.stage)
-    → Refines needs places row (updated standing me place) lazy
-moved needs places row standing lazy me s place here same ranged alone apart own showing holder holding = record {
+    → (s.holder ≡ me + 1 → IsHolding needs (line_of row) me state.count state.line s.cut place.stage)
+    → Refines needs places row (updated standing me place) state
+moved needs places row standing state me s place here same ranged alone apart own showing holder holding = record {
   holder = s.holder;
   cut = s.cut;
   uncut = s.uncut;
@@ -135,17 +135,17 @@ moved needs places row standing lazy me s place here same ranged alone apart own
   free = s.free;
   main = s.main;
   line = s.line;
-  seats = seats-next places standing lazy me place s.seats here same;
+  seats = seats-next places standing state me place s.seats here same;
   answers = s.answers;
   debts = s.debts;
-  stages = stages-next needs (line_of row) (line_of row) standing lazy.count lazy.count lazy.line lazy.line s.cut s.cut s.holder s.holder s.owed s.owed
+  stages = stages-next needs (line_of row) (line_of row) standing state.count state.count state.line state.line s.cut s.cut s.holder s.holder s.owed s.owed
       s.worth s.worth me place s.stages ranged alone apart own showing (holder ∙ s.stages.one me) holding
       (λ other differs out. out)
       (λ other differs. s.stages.own other) (λ other differs. refl) (λ other differs. refl) (λ other differs. refl) (λ other differs. s.stages.holding other);
 }
 
 -- a step that only loads leaves the row
-pub loaded : (needs : Needs) (places : ℕ) (row : ℕ → ℕ) (standing : ℕ → Place) (lazy : Lazy) (at : ℕ)
-    → Refines needs places row standing lazy → Refines needs places (updated row at (row at)) standing lazy
-loaded needs places row standing lazy at s =
-    subst (λ (r : ℕ → ℕ). Refines needs places r standing lazy) (sym (updated-same row at (row at) refl)) s
+pub loaded : (needs : Needs) (places : ℕ) (row : ℕ → ℕ) (standing : ℕ → Place) (state : AbstractState) (at : ℕ)
+    → Refines needs places row standing state → Refines needs places (updated row at (row at)) standing state
+loaded needs places row standing state at s =
+    subst (λ (r : ℕ → ℕ). Refines needs places r standing state) (sym (updated-same row at (row at) refl)) s

@@ -12,9 +12,9 @@ use Rattle.saa_word_steps.specs.declared.place.Afterwards.TheVariants.{Ends, Aga
 use Rattle.saa_word_steps.specs.declared.place.Stage.{Stage}
 use Rattle.saa_word_steps.specs.declared.place.Stage.TheVariants.{Quiet, ShowLoad, ShowStore}
 use Rattle.saa_word_steps.specs.Needs.{Needs, AreNeeds}
-use Rattle.saa_word_steps.specs.Lazy.{Lazy, is_in, waits_times, held_by, with_answer}
+use Rattle.saa_word_steps.specs.AbstractState.{AbstractState, is_in, waits_times, held_by, with_answer}
 use Rattle.saa_word_steps.specs.Steps.{IsRanged}
-use Rattle.saa_word_steps.proofs.LazyRuns.{waits-some}
+use Rattle.saa_word_steps.proofs.AbstractRuns.{waits-some}
 use Rattle.saa_word_proofs.specs.Refinement.{updated, line_of, newest, IsBehind, is_slot, is_holder, gives_up, IsAlone, IsOwn, IsShowing, IsHolding, IsMain, IsLine, AreSeats, AreAnswers, AreDebts, Refines}
 use Rattle.saa_word_proofs.specs.StepRefinement.{StepRefines}
 use Rattle.saa_word_proofs.proofs.RefinementLemmas.Lists.{each-updated, updated-at, updated-other, newest-last, in-some, in-append, times-append, split-last, behind-frame, behind-front, behind-rest}
@@ -27,16 +27,16 @@ slot-of true some = refl
 slot-of false some = absurd (omega (arith, some))
 
 -- whoever stands in a line is one of the places
-pub line-inside : (needs : Needs) (places : ℕ) (row : ℕ → ℕ) (standing : ℕ → Place) (lazy : Lazy) (s : Refines needs places row standing lazy) (other : ℕ)
-    → 0 < waits_times other lazy.line → other < places
-line-inside needs places row standing lazy s other there =
+pub line-inside : (needs : Needs) (places : ℕ) (row : ℕ → ℕ) (standing : ℕ → Place) (state : AbstractState) (s : Refines needs places row standing state) (other : ℕ)
+    → 0 < waits_times other state.line → other < places
+line-inside needs places row standing state s other there =
     s.seats.within other (slot-of (is_slot (standing other).registration) (omega (arith, there, s.seats.held other)))
 
 -- so is whoever is owed an answer
-pub due-inside : (needs : Needs) (places : ℕ) (row : ℕ → ℕ) (standing : ℕ → Place) (lazy : Lazy) (s : Refines needs places row standing lazy) (place other : ℕ)
+pub due-inside : (needs : Needs) (places : ℕ) (row : ℕ → ℕ) (standing : ℕ → Place) (state : AbstractState) (s : Refines needs places row standing state) (place other : ℕ)
     → is_in other (s.owed place) ≡ true → other < places
-due-inside needs places row standing lazy s place other there =
-    let due : one_if (is_some (lazy.due other)) ≡ 1 = ap (λ (a : Option ℕ). one_if (is_some a)) (s.debts.due_to place other there).1 in
+due-inside needs places row standing state s place other there =
+    let due : one_if (is_some (state.due other)) ≡ 1 = ap (λ (a : Option ℕ). one_if (is_some a)) (s.debts.due_to place other there).1 in
     s.seats.within other (slot-of (is_slot (standing other).registration) (omega (arith, due, s.seats.held other)))
 
 -- what the holder knows is so of the store that follows a load
@@ -74,11 +74,11 @@ ranged-store needs current other next value Ends h = h
 ranged-store needs current other next value (Again seen) h = h
 
 -- The line word of the newest that is owed is looked at
-pub step-ShowLoad : (needs : Needs) → AreNeeds needs → needs.top < 2 ^ count_bits → (places : ℕ) (row : ℕ → ℕ) (standing : ℕ → Place) (lazy : Lazy) (me : ℕ)
-    → places < 65536 → me < places → (s : Refines needs places row standing lazy)
+pub step-ShowLoad : (needs : Needs) → AreNeeds needs → needs.top < 2 ^ count_bits → (places : ℕ) (row : ℕ → ℕ) (standing : ℕ → Place) (state : AbstractState) (me : ℕ)
+    → places < 65536 → me < places → (s : Refines needs places row standing state)
     → (current value : ℕ) (afterwards : Afterwards) → (standing me).stage ≡ ShowLoad current value afterwards
-    → StepRefines needs places row standing lazy me (ShowLoad current value afterwards)
-step-ShowLoad needs lawful wide places row standing lazy me room here s current value afterwards at =
+    → StepRefines needs places row standing state me (ShowLoad current value afterwards)
+step-ShowLoad needs lawful wide places row standing state me room here s current value afterwards at =
     let stage : Stage = ShowLoad current value afterwards in
     let alone : IsAlone needs (standing me).registration (standing me).back stage =
     subst (λ stage. IsAlone needs (standing me).registration (standing me).back stage) at (s.stages.alone me) in
@@ -93,18 +93,18 @@ step-ShowLoad needs lawful wide places row standing lazy me room here s current 
     let next : ℕ = (line_word_of (row current)).older in
     record {
       events = [];
-      last = lazy;
+      last = state;
       run = refl;
       names = refl;
       calm = λ semaphore. refl;
-      inside = omega (arith, link, due-inside needs places row standing lazy s me split.last.0 (in-some split.last.0 (s.owed me) there));
-      stands = loaded needs places row (updated standing me (record (standing me) { stage = ShowStore current next value afterwards })) lazy current
-          (moved needs places row standing lazy me s (record (standing me) { stage = ShowStore current next value afterwards }) here refl
-          (ranged-load needs current current next value afterwards ranged) alone (apart-at needs places row standing lazy me s stage at) tt
+      inside = omega (arith, link, due-inside needs places row standing state s me split.last.0 (in-some split.last.0 (s.owed me) there));
+      stands = loaded needs places row (updated standing me (record (standing me) { stage = ShowStore current next value afterwards })) state current
+          (moved needs places row standing state me s (record (standing me) { stage = ShowStore current next value afterwards }) here refl
+          (ranged-load needs current current next value afterwards ranged) alone (apart-at needs places row standing state me s stage at) tt
           (split.before, split.last, split.is, link, older, showing.2)
           (holder-load current current next value afterwards ∙ ap is_holder (sym at))
-          (λ it. after-load needs (line_of row) me lazy.count lazy.line s.cut current current next value afterwards
-          (subst (λ stage. IsHolding needs (line_of row) me lazy.count lazy.line s.cut stage) at (s.stages.holding me it))));
+          (λ it. after-load needs (line_of row) me state.count state.line s.cut current current next value afterwards
+          (subst (λ stage. IsHolding needs (line_of row) me state.count state.line s.cut stage) at (s.stages.holding me it))));
     }
 
 -- An answer word is written: the line words and the main word stay
@@ -113,13 +113,13 @@ line-answer row places at number place inside some =
     ap line_word_of (row-other row (places + at) number (place + 1) (λ is. absurd (omega (arith, is, inside, some))))
 
 -- the line words link the line once an answer word was written
-pub line-shown : (needs : Needs) (places : ℕ) (row : ℕ → ℕ) (standing : ℕ → Place) (lazy : Lazy) (s : Refines needs places row standing lazy) (at number : ℕ)
-    → 0 < at → IsLine (line_of (updated row (places + at) number)) lazy.line s.cut s.uncut
-line-shown needs places row standing lazy s at number some =
+pub line-shown : (needs : Needs) (places : ℕ) (row : ℕ → ℕ) (standing : ℕ → Place) (state : AbstractState) (s : Refines needs places row standing state) (at number : ℕ)
+    → 0 < at → IsLine (line_of (updated row (places + at) number)) state.line s.cut s.uncut
+line-shown needs places row standing state s at number some =
     let new : ℕ → LineWord = line_of (updated row (places + at) number) in
-    let same : (place : ℕ) → 0 < waits_times place lazy.line → new place ≡ line_of row place =
-    λ place there. line-answer row places at number place (line-inside needs places row standing lazy s place there) some in
-    let fields : (place : ℕ) → 0 < waits_times place lazy.line → ((new place).request ≡ (line_of row place).request) × ((new place).older ≡ (line_of row place).older) =
+    let same : (place : ℕ) → 0 < waits_times place state.line → new place ≡ line_of row place =
+    λ place there. line-answer row places at number place (line-inside needs places row standing state s place there) some in
+    let fields : (place : ℕ) → 0 < waits_times place state.line → ((new place).request ≡ (line_of row place).request) × ((new place).older ≡ (line_of row place).older) =
     λ place there. (ap (λ (w : LineWord). w.request) (same place there), ap (λ (w : LineWord). w.older) (same place there)) in
     record {
       parts = s.line.parts;
@@ -131,9 +131,9 @@ line-shown needs places row standing lazy s at number some =
     }
 
 -- and each place's own line word says what it did
-pub own-shown : (needs : Needs) (places : ℕ) (row : ℕ → ℕ) (standing : ℕ → Place) (lazy : Lazy) (s : Refines needs places row standing lazy) (at number : ℕ)
+pub own-shown : (needs : Needs) (places : ℕ) (row : ℕ → ℕ) (standing : ℕ → Place) (state : AbstractState) (s : Refines needs places row standing state) (at number : ℕ)
     → 0 < at → (other : ℕ) → IsOwn (line_of (updated row (places + at) number) other) (standing other).stage
-own-shown needs places row standing lazy s at number some other =
+own-shown needs places row standing state s at number some other =
     elim (cases_Bool (nat_lt other places)) [
       | inl inside ↦
           let within : other < places = grind (arith, nat_tests, inside) in
@@ -144,18 +144,18 @@ own-shown needs places row standing lazy s at number some other =
     ]
 
 -- and what the holder knows of the line is so
-pub holding-shown : (needs : Needs) (places : ℕ) (row : ℕ → ℕ) (standing : ℕ → Place) (lazy : Lazy) (s : Refines needs places row standing lazy) (at number : ℕ)
-    → 0 < at → (place : ℕ) (stage : Stage) → IsHolding needs (line_of row) place lazy.count lazy.line s.cut stage
-    → IsHolding needs (line_of (updated row (places + at) number)) place lazy.count lazy.line s.cut stage
-holding-shown needs places row standing lazy s at number some mine stage h =
-    holding-frame needs (line_of row) (line_of (updated row (places + at) number)) mine lazy.count lazy.count lazy.line lazy.line [] s.cut stage (omega arith)
-    (sym (append-nil lazy.line)) refl (λ place there. line-answer row places at number place (line-inside needs places row standing lazy s place there) some) h
+pub holding-shown : (needs : Needs) (places : ℕ) (row : ℕ → ℕ) (standing : ℕ → Place) (state : AbstractState) (s : Refines needs places row standing state) (at number : ℕ)
+    → 0 < at → (place : ℕ) (stage : Stage) → IsHolding needs (line_of row) place state.count state.line s.cut stage
+    → IsHolding needs (line_of (updated row (places + at) number)) place state.count state.line s.cut stage
+holding-shown needs places row standing state s at number some mine stage h =
+    holding-frame needs (line_of row) (line_of (updated row (places + at) number)) mine state.count state.count state.line state.line [] s.cut stage (omega arith)
+    (sym (append-nil state.line)) refl (λ place there. line-answer row places at number place (line-inside needs places row standing state s place there) some) h
 
 -- an object whose answers alone changed has the same main word
-pub main-shown : (needs : Needs) (places : ℕ) (row : ℕ → ℕ) (standing : ℕ → Place) (lazy : Lazy) (s : Refines needs places row standing lazy) (at number : ℕ)
-    (due shown : ℕ → Option ℕ) → 0 < at → IsMain needs (updated row (places + at) number 0) (record lazy { due = due; shown = shown }) s.holder
-main-shown needs places row standing lazy s at number due shown some =
-    subst (λ (n : ℕ). IsMain needs n (record lazy { due = due; shown = shown }) s.holder) (sym (row-other row (places + at) number 0 (λ is. absurd (omega (arith, is, some)))))
+pub main-shown : (needs : Needs) (places : ℕ) (row : ℕ → ℕ) (standing : ℕ → Place) (state : AbstractState) (s : Refines needs places row standing state) (at number : ℕ)
+    (due shown : ℕ → Option ℕ) → 0 < at → IsMain needs (updated row (places + at) number 0) (record state { due = due; shown = shown }) s.holder
+main-shown needs places row standing state s at number due shown some =
+    subst (λ (n : ℕ). IsMain needs n (record state { due = due; shown = shown }) s.holder) (sym (row-other row (places + at) number 0 (λ is. absurd (omega (arith, is, some)))))
     (record {
       whole = s.main.whole;
       count = s.main.count;
@@ -169,34 +169,34 @@ main-shown needs places row standing lazy s at number due shown some =
     })
 
 -- an answer that is shown holds its place as it did
-held-shown : (needs : Needs) (places : ℕ) (row : ℕ → ℕ) (standing : ℕ → Place) (lazy : Lazy) (s : Refines needs places row standing lazy) (asker value : ℕ)
-    → lazy.due asker ≡ Some value → (other : ℕ)
-    → held_by other (record lazy { due = with_answer asker None lazy.due; shown = with_answer asker (lazy.due asker) lazy.shown }) ≡ one_if (is_slot (standing other).registration)
-held-shown needs places row standing lazy s asker value due other =
+held-shown : (needs : Needs) (places : ℕ) (row : ℕ → ℕ) (standing : ℕ → Place) (state : AbstractState) (s : Refines needs places row standing state) (asker value : ℕ)
+    → state.due asker ≡ Some value → (other : ℕ)
+    → held_by other (record state { due = with_answer asker None state.due; shown = with_answer asker (state.due asker) state.shown }) ≡ one_if (is_slot (standing other).registration)
+held-shown needs places row standing state s asker value due other =
     elim (cases_Bool (other == asker)) [
       | inl same ↦
           let is : other ≡ asker = same_number other asker same in
-          let due_other : one_if (is_some (lazy.due other)) ≡ 1 = ap (λ (n : ℕ). one_if (is_some (lazy.due n))) is ∙ ap (λ (a : Option ℕ). one_if (is_some a)) due in
-          let due_asker : one_if (is_some (lazy.due asker)) ≡ 1 = ap (λ (a : Option ℕ). one_if (is_some a)) due in
+          let due_other : one_if (is_some (state.due other)) ≡ 1 = ap (λ (n : ℕ). one_if (is_some (state.due n))) is ∙ ap (λ (a : Option ℕ). one_if (is_some a)) due in
+          let due_asker : one_if (is_some (state.due asker)) ≡ 1 = ap (λ (a : Option ℕ). one_if (is_some a)) due in
           rw same (omega (arith, s.seats.held other, due_other, due_asker, one_if-le (is_slot (standing other).registration)))
       | inr apart ↦ rw apart (s.seats.held other)
     ]
 
 -- the same seats, for other answers that hold each place as they did
-seats-shown : (needs : Needs) (places : ℕ) (row : ℕ → ℕ) (standing : ℕ → Place) (lazy last : Lazy) (s : Refines needs places row standing lazy) (me : ℕ) (place : Place)
+seats-shown : (needs : Needs) (places : ℕ) (row : ℕ → ℕ) (standing : ℕ → Place) (state last : AbstractState) (s : Refines needs places row standing state) (me : ℕ) (place : Place)
     → me < places → is_slot place.registration ≡ is_slot (standing me).registration
     → ((other : ℕ) → held_by other last ≡ one_if (is_slot (standing other).registration)) → AreSeats places (updated standing me place) last
-seats-shown needs places row standing lazy last s me place here same held = record {
+seats-shown needs places row standing state last s me place here same held = record {
   held = each-updated (λ (n : ℕ) (p : Place). held_by n last ≡ one_if (is_slot p.registration)) standing me place (held me ∙ ap one_if (sym same)) (λ other apart. held other);
   within = each-updated (λ (n : ℕ) (p : Place). is_slot p.registration ≡ true → n < places) standing me place (λ slot. here) (λ other apart. s.seats.within other);
   beyond = each-updated (λ (n : ℕ) (p : Place). places ≤ n → p.stage ≡ Quiet) standing me place (λ out. absurd (omega (arith, out, here))) (λ other apart. s.seats.beyond other);
 }
 
 -- the answer words once an answer is shown
-answers-shown : (needs : Needs) (places : ℕ) (row : ℕ → ℕ) (standing : ℕ → Place) (lazy : Lazy) (s : Refines needs places row standing lazy)
-    (asker value : ℕ) → lazy.due asker ≡ Some value → value < 256
-    → AreAnswers places (updated row (places + (asker + 1)) (answer_number (Some value))) (with_answer asker (lazy.due asker) lazy.shown)
-answers-shown needs places row standing lazy s asker value due fits = record {
+answers-shown : (needs : Needs) (places : ℕ) (row : ℕ → ℕ) (standing : ℕ → Place) (state : AbstractState) (s : Refines needs places row standing state)
+    (asker value : ℕ) → state.due asker ≡ Some value → value < 256
+    → AreAnswers places (updated row (places + (asker + 1)) (answer_number (Some value))) (with_answer asker (state.due asker) state.shown)
+answers-shown needs places row standing state s asker value due fits = record {
   words = λ place inside.
       elim (cases_Bool (place == asker)) [
         | inl same ↦
@@ -218,10 +218,10 @@ answers-shown needs places row standing lazy s asker value due fits = record {
 }
 
 -- what is owed once the newest of what a place owed is shown
-debts-shown : (needs : Needs) (places : ℕ) (row : ℕ → ℕ) (standing : ℕ → Place) (lazy : Lazy) (s : Refines needs places row standing lazy) (me : ℕ)
+debts-shown : (needs : Needs) (places : ℕ) (row : ℕ → ℕ) (standing : ℕ → Place) (state : AbstractState) (s : Refines needs places row standing state) (me : ℕ)
     (before : List (ℕ × ℕ)) (asker : ℕ × ℕ) (number : ℕ) → s.owed me ≡ before ++ asker ∷ []
-    → AreDebts (line_of (updated row (places + (asker.0 + 1)) number)) (with_answer asker.0 None lazy.due) (updated s.owed me before) s.shower s.worth
-debts-shown needs places row standing lazy s me before asker number is =
+    → AreDebts (line_of (updated row (places + (asker.0 + 1)) number)) (with_answer asker.0 None state.due) (updated s.owed me before) s.shower s.worth
+debts-shown needs places row standing state s me before asker number is =
     let new : ℕ → LineWord = line_of (updated row (places + (asker.0 + 1)) number) in
     let whole : (other : ℕ) → waits_times other (s.owed me) ≡ waits_times other before + waits_times other (asker ∷ []) =
     λ other. ap (λ (l : List (ℕ × ℕ)). waits_times other l) is ∙ times-append other before (asker ∷ []) in
@@ -240,7 +240,7 @@ debts-shown needs places row standing lazy s me before asker number is =
     record {
       due_to = each-updated
           (λ (place : ℕ) (l : List (ℕ × ℕ)). (other : ℕ) → is_in other l ≡ true
-          → (s.shower other ≡ place) × (with_answer asker.0 None lazy.due other ≡ Some (s.worth place)))
+          → (s.shower other ≡ place) × (with_answer asker.0 None state.due other ≡ Some (s.worth place)))
           s.owed me before
           (λ other there. let was = s.debts.due_to me other (still other there) in (was.0, rw (gone other there) was.1))
           (λ place apart other there.
@@ -268,10 +268,10 @@ debts-shown needs places row standing lazy s me before asker number is =
           (λ other. omega (arith, s.debts.once me other, whole other)) (λ place apart other. s.debts.once place other);
       small = s.debts.small;
       links = each-updated (λ (place : ℕ) (l : List (ℕ × ℕ)). IsBehind new 0 l) s.owed me before
-          (behind-frame (line_of row) new 0 before (λ place there. fields place (due-inside needs places row standing lazy s me place (still place (in-some place before there))))
+          (behind-frame (line_of row) new 0 before (λ place there. fields place (due-inside needs places row standing state s me place (still place (in-some place before there))))
           (behind-front (line_of row) 0 before (asker ∷ []) (subst (λ (l : List (ℕ × ℕ)). IsBehind (line_of row) 0 l) is (s.debts.links me))))
           (λ other apart. behind-frame (line_of row) new 0 (s.owed other)
-          (λ place there. fields place (due-inside needs places row standing lazy s other place (in-some place (s.owed other) there))) (s.debts.links other));
+          (λ place there. fields place (due-inside needs places row standing state s other place (in-some place (s.owed other) there))) (s.debts.links other));
     }
   where
     fields : (place : ℕ) → place < places
@@ -290,22 +290,22 @@ debts-shown needs places row standing lazy s me before asker number is =
         ]
 
 -- An answer is shown, whatever the place does next
-pub shown : (needs : Needs) (places : ℕ) (row : ℕ → ℕ) (standing : ℕ → Place) (lazy : Lazy) (me : ℕ)
-    → me < places → (s : Refines needs places row standing lazy) (before : List (ℕ × ℕ)) (asker : ℕ × ℕ) → s.owed me ≡ before ++ asker ∷ []
+pub shown : (needs : Needs) (places : ℕ) (row : ℕ → ℕ) (standing : ℕ → Place) (state : AbstractState) (me : ℕ)
+    → me < places → (s : Refines needs places row standing state) (before : List (ℕ × ℕ)) (asker : ℕ × ℕ) → s.owed me ≡ before ++ asker ∷ []
     → (stage : Stage) → IsRanged needs stage → IsAlone needs (standing me).registration (standing me).back stage
-    → (gives_up (standing me).back stage ≡ true → is_in me lazy.line ≡ false) → ((word : LineWord) → IsOwn word stage) → IsShowing before (s.worth me) stage
+    → (gives_up (standing me).back stage ≡ true → is_in me state.line ≡ false) → ((word : LineWord) → IsOwn word stage) → IsShowing before (s.worth me) stage
     → is_holder stage ≡ is_holder (standing me).stage
-    → (s.holder ≡ me + 1 → IsHolding needs (line_of row) me lazy.count lazy.line s.cut stage)
+    → (s.holder ≡ me + 1 → IsHolding needs (line_of row) me state.count state.line s.cut stage)
     → Refines needs places (updated row (places + (asker.0 + 1)) (answer_number (Some (s.worth me)))) (updated standing me (record (standing me) { stage = stage }))
-    (record lazy { due = with_answer asker.0 None lazy.due; shown = with_answer asker.0 (lazy.due asker.0) lazy.shown })
-shown needs places row standing lazy me here s before asker is stage ranged alone apart own showing holder holding =
+    (record state { due = with_answer asker.0 None state.due; shown = with_answer asker.0 (state.due asker.0) state.shown })
+shown needs places row standing state me here s before asker is stage ranged alone apart own showing holder holding =
     let number : ℕ = answer_number (Some (s.worth me)) in
     let place : Place = record (standing me) { stage = stage } in
     let some : 0 < asker.0 + 1 = omega arith in
     let mine : is_in asker.0 (s.owed me) ≡ true =
     in-some asker.0 (s.owed me) (omega (arith, ap (λ (l : List (ℕ × ℕ)). waits_times asker.0 l) is, times-append asker.0 before (asker ∷ []), one_if-same asker.0)) in
-    let due : lazy.due asker.0 ≡ Some (s.worth me) = (s.debts.due_to me asker.0 mine).1 in
-    let last : Lazy = record lazy { due = with_answer asker.0 None lazy.due; shown = with_answer asker.0 (lazy.due asker.0) lazy.shown } in
+    let due : state.due asker.0 ≡ Some (s.worth me) = (s.debts.due_to me asker.0 mine).1 in
+    let last : AbstractState = record state { due = with_answer asker.0 None state.due; shown = with_answer asker.0 (state.due asker.0) state.shown } in
     record {
       holder = s.holder;
       cut = s.cut;
@@ -314,19 +314,19 @@ shown needs places row standing lazy me here s before asker is stage ranged alon
       shower = s.shower;
       worth = s.worth;
       free = s.free;
-      main = main-shown needs places row standing lazy s (asker.0 + 1) number (with_answer asker.0 None lazy.due) (with_answer asker.0 (lazy.due asker.0) lazy.shown) some;
-      line = line-shown needs places row standing lazy s (asker.0 + 1) number some;
-      seats = seats-shown needs places row standing lazy last s me place here refl (held-shown needs places row standing lazy s asker.0 (s.worth me) due);
-      answers = answers-shown needs places row standing lazy s asker.0 (s.worth me) due (s.debts.small me);
-      debts = debts-shown needs places row standing lazy s me before asker number is;
-      stages = stages-next needs (line_of row) (line_of (updated row (places + (asker.0 + 1)) number)) standing lazy.count lazy.count lazy.line lazy.line s.cut s.cut
+      main = main-shown needs places row standing state s (asker.0 + 1) number (with_answer asker.0 None state.due) (with_answer asker.0 (state.due asker.0) state.shown) some;
+      line = line-shown needs places row standing state s (asker.0 + 1) number some;
+      seats = seats-shown needs places row standing state last s me place here refl (held-shown needs places row standing state s asker.0 (s.worth me) due);
+      answers = answers-shown needs places row standing state s asker.0 (s.worth me) due (s.debts.small me);
+      debts = debts-shown needs places row standing state s me before asker number is;
+      stages = stages-next needs (line_of row) (line_of (updated row (places + (asker.0 + 1)) number)) standing state.count state.count state.line state.line s.cut s.cut
           s.holder s.holder s.owed (updated s.owed me before) s.worth s.worth me place s.stages
           ranged alone apart (own (line_of (updated row (places + (asker.0 + 1)) number) me))
           (subst (λ (l : List (ℕ × ℕ)). IsShowing l (s.worth me) stage) (sym (updated-at s.owed me before)) showing)
           (holder ∙ s.stages.one me)
-          (λ it. holding-shown needs places row standing lazy s (asker.0 + 1) number some me stage (holding it))
+          (λ it. holding-shown needs places row standing state s (asker.0 + 1) number some me stage (holding it))
           (λ other differs out. out)
-          (λ other differs. own-shown needs places row standing lazy s (asker.0 + 1) number some other)
+          (λ other differs. own-shown needs places row standing state s (asker.0 + 1) number some other)
           (λ other differs. updated-other s.owed me before other (number_other other me differs)) (λ other differs. refl) (λ other differs. refl)
-          (λ other differs it. holding-shown needs places row standing lazy s (asker.0 + 1) number some other (standing other).stage (s.stages.holding other it));
+          (λ other differs it. holding-shown needs places row standing state s (asker.0 + 1) number some other (standing other).stage (s.stages.holding other it));
     }

@@ -1,5 +1,5 @@
 -- A step that waits is no event.
-use Rattle.std.proofs.Common.{◌≡◌, ℕ, ◌^◌, ◌%◌, ◌<◌, true, false, not, ◌||◌, ◌==◌, List, [], Option, Some, None, refl, sym, ap, subst, ◌∙◌}
+use Rattle.std.proofs.Common.{◌≡◌, ℕ, ◌^◌, ◌%◌, ◌<◌, true, false, not, ◌||◌, ◌==◌, [], Option, Some, None, refl, sym, ap, subst, ◌∙◌}
 use Rattle.saa_core_spec.specs.Held.{Exclusive}
 use Rattle.saa_core_words.specs.declared.word.Word.{Word}
 use Rattle.saa_core_words.specs.Words.{count_bits, word_number, word_of, answer_of, lock_count}
@@ -7,12 +7,11 @@ use Rattle.saa_word_steps.specs.declared.place.Place.{Place}
 use Rattle.saa_word_steps.specs.declared.place.Taking.{Taking}
 use Rattle.saa_word_steps.specs.declared.place.Taking.TheVariants.{Tries, Awaits, Gives}
 use Rattle.saa_word_steps.specs.declared.place.Stage.{Stage}
-use Rattle.saa_word_steps.specs.declared.place.Stage.TheVariants.{Quiet, ReadLoad, AskLoad, AskExchange, Prepare, Join, ReleaseLoad, ReleaseExchange, BackLoad, BackStore, Forward, CutToClose, CutToGoRound, Close, Empty, GoRound, ShowLoad, ShowStore, Take, FlagLoad, FlagExchange, LookLoad, LookStore, Unlink, DropTail, PoisonLoad, PoisonExchange, Clear}
+use Rattle.saa_word_steps.specs.declared.place.Stage.TheVariants.{Take, FlagLoad, FlagExchange, PoisonLoad, PoisonExchange}
 use Rattle.saa_word_steps.specs.declared.place.Next.{Next}
 use Rattle.saa_word_steps.specs.declared.place.Next.TheVariants.{Going, Waits, Done}
-use Rattle.saa_word_steps.specs.declared.event.Event.{Event}
 use Rattle.saa_word_steps.specs.Needs.{Needs, AreNeeds}
-use Rattle.saa_word_steps.specs.Lazy.{Lazy}
+use Rattle.saa_word_steps.specs.AbstractState.{AbstractState}
 use Rattle.saa_word_steps.specs.Steps.{word_at, operation_of, next_of, taken_answer, poisoning}
 use Rattle.saa_word_proofs.specs.Refinement.{updated, Refines}
 use Rattle.saa_word_proofs.specs.StepRefinement.{StepRefines, named_at, place_after, poisoning_events, row_after, taken_events}
@@ -49,35 +48,35 @@ unnamed needs me place stage found waits =
 -- What it is
 
 -- a step as it is known, by how its place goes on: one that waits is no event
-silent-by : (needs : Needs) (places : ℕ) (row : ℕ → ℕ) (standing : ℕ → Place) (lazy : Lazy) (me : ℕ) → me < places
-    → Refines needs places row standing lazy → (made : StepRefines needs places row standing lazy me (standing me).stage)
+silent-by : (needs : Needs) (places : ℕ) (row : ℕ → ℕ) (standing : ℕ → Place) (state : AbstractState) (me : ℕ) → me < places
+    → Refines needs places row standing state → (made : StepRefines needs places row standing state me (standing me).stage)
     → (next : Next) → next_of needs me (standing me) (standing me).stage (row (word_at (operation_of needs places me (standing me).stage))) ≡ next
-    → (other : StepRefines needs places row standing lazy me (standing me).stage) × (next ≡ Waits → other.events ≡ [])
-silent-by needs places row standing lazy me here s made (Going place) is = (made, λ waits. absurd (cc))
-silent-by needs places row standing lazy me here s made (Done place answer) is = (made, λ waits. absurd (cc))
-silent-by needs places row standing lazy me here s made Waits is =
+    → (other : StepRefines needs places row standing state me (standing me).stage) × (next ≡ Waits → other.events ≡ [])
+silent-by needs places row standing state me here s made (Going place) is = (made, λ waits. absurd (cc))
+silent-by needs places row standing state me here s made (Done place answer) is = (made, λ waits. absurd (cc))
+silent-by needs places row standing state me here s made Waits is =
     let stage : Stage = (standing me).stage in
-    let only = only-stalls needs places row standing lazy me here s stage refl is in
-    let same : Refines needs places row (updated standing me (standing me)) lazy =
-    subst (λ (f : ℕ → Place). Refines needs places row f lazy) (sym (updated-same standing me (standing me) refl)) s in (
+    let only = only-stalls needs places row standing state me here s stage refl is in
+    let same : Refines needs places row (updated standing me (standing me)) state =
+    subst (λ (f : ℕ → Place). Refines needs places row f state) (sym (updated-same standing me (standing me) refl)) s in (
       record {
         events = [];
-        last = lazy;
+        last = state;
         run = refl;
         names = sym (unnamed needs me (standing me) stage (row (word_at (operation_of needs places me stage))) is);
         calm = λ semaphore. refl;
         inside = made.inside;
         stands =
-            subst (λ (n : Next). Refines needs places (row_after row (operation_of needs places me stage)) (updated standing me (place_after (standing me) n)) lazy) (sym is)
-            (subst (λ (r : ℕ → ℕ). Refines needs places r (updated standing me (standing me)) lazy) (sym only.1) same);
+            subst (λ (n : Next). Refines needs places (row_after row (operation_of needs places me stage)) (updated standing me (place_after (standing me) n)) state) (sym is)
+            (subst (λ (r : ℕ → ℕ). Refines needs places r (updated standing me (standing me)) state) (sym only.1) same);
       },
       λ waits. refl,
     )
 
-pub silent-step : (needs : Needs) → AreNeeds needs → needs.top < 2 ^ count_bits → (places : ℕ) (row : ℕ → ℕ) (standing : ℕ → Place) (lazy : Lazy) (me : ℕ)
-    → places < 65536 → me < places → Refines needs places row standing lazy
-    → (made : StepRefines needs places row standing lazy me (standing me).stage)
+pub silent-step : (needs : Needs) → AreNeeds needs → needs.top < 2 ^ count_bits → (places : ℕ) (row : ℕ → ℕ) (standing : ℕ → Place) (state : AbstractState) (me : ℕ)
+    → places < 65536 → me < places → Refines needs places row standing state
+    → (made : StepRefines needs places row standing state me (standing me).stage)
     × (next_of needs me (standing me) (standing me).stage (row (word_at (operation_of needs places me (standing me).stage))) ≡ Waits → made.events ≡ [])
-silent-step needs lawful wide places row standing lazy me room here s =
-    silent-by needs places row standing lazy me here s (step needs lawful wide places row standing lazy me room here s (standing me).stage refl)
+silent-step needs lawful wide places row standing state me room here s =
+    silent-by needs places row standing state me here s (step needs lawful wide places row standing state me room here s (standing me).stage refl)
     (next_of needs me (standing me) (standing me).stage (row (word_at (operation_of needs places me (standing me).stage)))) refl

@@ -6,8 +6,10 @@ use Rattle.saa_core_spec.specs.declared.lock.Mode.{Mode}
 use Rattle.saa_core_spec.specs.declared.lock.Mode.TheVariants.{Exclusive as ModeExclusive, Shared as ModeShared, WaitExclusive, WaitShared}
 use Rattle.saa_core_words.specs.Words.{count_bits}
 use Rattle.saa_word_steps.specs.declared.call.WordCall.{WordCall}
-use Rattle.saa_word_steps.specs.declared.call.WordCall.TheVariants.{Try, Register, Release, Available, TryLock, TryShare, RegisterMode, ReleaseLock, ReleaseShare, PoisonLock, ClearPoison, IsFree, IsLocked, IsShared, IsPoisoned, TryPoll, Poll, Cancel}
+use Rattle.saa_word_steps.specs.declared.call.WordCall.TheVariants.{Try, Register, Release, Available, TryLock, TryShare, RegisterMode, ReleaseLock, ReleaseShare, Downgrade, PoisonLock, ClearPoison, IsFree, IsLocked, IsShared, IsPoisoned, TryPoll, Poll, Cancel}
 use Rattle.saa_word_steps.specs.declared.place.Place.{Place}
+use Rattle.saa_word_steps.specs.declared.place.Given.{Given}
+use Rattle.saa_word_steps.specs.declared.place.Given.TheVariants.{Asked, AllButAShare}
 use Rattle.saa_word_steps.specs.declared.place.Back.TheVariants.{Tells, Ends, Takes}
 use Rattle.saa_word_steps.specs.declared.place.Ask.{Ask}
 use Rattle.saa_word_steps.specs.declared.place.Reading.{Reading}
@@ -18,7 +20,7 @@ use Rattle.saa_word_steps.specs.declared.place.Taking.{Taking}
 use Rattle.saa_word_steps.specs.declared.place.Taking.TheVariants.{Tries, Awaits}
 use Rattle.saa_word_steps.specs.declared.place.Stage.TheVariants.{Quiet, ReadLoad, AskLoad, ReleaseLoad, Take, FlagLoad, PoisonLoad, Clear}
 use Rattle.saa_word_steps.specs.Needs.{Needs}
-use Rattle.saa_word_steps.specs.Lazy.{Lazy}
+use Rattle.saa_word_steps.specs.AbstractState.{AbstractState}
 use Rattle.saa_word_steps.specs.Steps.{IsRanged, is_taken, is_idle, mode_number, polled_as, cancelled_as, registered_as, started}
 use Rattle.saa_word_proofs.specs.Refinement.{updated, line_of, is_slot, is_holder, gives_up, IsAlone, IsOwn, IsShowing, Refines}
 use Rattle.saa_word_proofs.specs.StepRefinement.{place_after}
@@ -30,21 +32,21 @@ use Rattle.saa_word_proofs.proofs.RefinementLemmas.Outcomes.{not-holder}
 -- All stand together still
 
 -- a place that starts: no word was looked at, and no event happened
-begun : (needs : Needs) (places : ℕ) (row : ℕ → ℕ) (standing : ℕ → Place) (lazy : Lazy) (me : ℕ) (s : Refines needs places row standing lazy) (place : Place)
+begun : (needs : Needs) (places : ℕ) (row : ℕ → ℕ) (standing : ℕ → Place) (state : AbstractState) (me : ℕ) (s : Refines needs places row standing state) (place : Place)
     → me < places → (standing me).stage ≡ Quiet → is_slot place.registration ≡ is_slot (standing me).registration
     → IsRanged needs place.stage → IsAlone needs place.registration place.back place.stage → gives_up place.back place.stage ≡ false
     → IsOwn (line_of row me) place.stage → ((owed : List (ℕ × ℕ)) (worth : ℕ) → owed ≡ [] → IsShowing owed worth place.stage) → is_holder place.stage ≡ false
-    → Refines needs places row (updated standing me place) lazy
-begun needs places row standing lazy me s place here quiet same ranged alone keeps own showing none =
-    moved needs places row standing lazy me s place here same ranged alone
+    → Refines needs places row (updated standing me place) state
+begun needs places row standing state me s place here quiet same ranged alone keeps own showing none =
+    moved needs places row standing state me s place here same ranged alone
     (λ gives. (let wrong : true ≡ false = sym gives ∙ keeps in absurd (cc))) own
     (showing (s.owed me) (s.worth me) (subst (λ stage. IsShowing (s.owed me) (s.worth me) stage) quiet (s.stages.showing me))) (none ∙ ap is_holder (sym quiet))
-    (λ it. absurd (not-holder needs places row standing lazy me s (ap is_holder quiet) it))
+    (λ it. absurd (not-holder needs places row standing state me s (ap is_holder quiet) it))
 
 -- a call that is done at once leaves its place as it was
-same-place : (needs : Needs) (places : ℕ) (row : ℕ → ℕ) (standing : ℕ → Place) (lazy : Lazy) (me : ℕ) → Refines needs places row standing lazy
-    → Refines needs places row (updated standing me (standing me)) lazy
-same-place needs places row standing lazy me s = subst (λ (f : ℕ → Place). Refines needs places row f lazy) (sym (updated-same standing me (standing me) refl)) s
+same-place : (needs : Needs) (places : ℕ) (row : ℕ → ℕ) (standing : ℕ → Place) (state : AbstractState) (me : ℕ) → Refines needs places row standing state
+    → Refines needs places row (updated standing me (standing me)) state
+same-place needs places row standing state me s = subst (λ (f : ℕ → Place). Refines needs places row f state) (sym (updated-same standing me (standing me) refl)) s
 
 -- who isn't registered holds no place
 idle-slot : (registration : Registration) → is_idle registration ≡ true → is_slot registration ≡ false
@@ -60,125 +62,126 @@ mode-small WaitExclusive = omega arith
 mode-small WaitShared = omega arith
 
 -- a reading call that starts
-reading-starts : (needs : Needs) (places : ℕ) (row : ℕ → ℕ) (standing : ℕ → Place) (lazy : Lazy) (me : ℕ) (s : Refines needs places row standing lazy)
+reading-starts : (needs : Needs) (places : ℕ) (row : ℕ → ℕ) (standing : ℕ → Place) (state : AbstractState) (me : ℕ) (s : Refines needs places row standing state)
     → me < places → (standing me).stage ≡ Quiet → (reading : Reading)
-    → Refines needs places row (updated standing me (record (standing me) { stage = ReadLoad reading })) lazy
-reading-starts needs places row standing lazy me s here quiet reading =
-    begun needs places row standing lazy me s (record (standing me) { stage = ReadLoad reading }) here quiet refl tt tt refl tt (λ owed worth nothing. nothing) refl
+    → Refines needs places row (updated standing me (record (standing me) { stage = ReadLoad reading })) state
+reading-starts needs places row standing state me s here quiet reading =
+    begun needs places row standing state me s (record (standing me) { stage = ReadLoad reading }) here quiet refl tt tt refl tt (λ owed worth nothing. nothing) refl
 
 -- an ask that starts
-ask-starts : (needs : Needs) (places : ℕ) (row : ℕ → ℕ) (standing : ℕ → Place) (lazy : Lazy) (me : ℕ) (s : Refines needs places row standing lazy)
+ask-starts : (needs : Needs) (places : ℕ) (row : ℕ → ℕ) (standing : ℕ → Place) (state : AbstractState) (me : ℕ) (s : Refines needs places row standing state)
     → me < places → (standing me).stage ≡ Quiet → (ask : Ask) → ask.request < 65536 → (ask.joins ≡ true → is_slot (standing me).registration ≡ false)
-    → Refines needs places row (updated standing me (record (standing me) { stage = AskLoad ask })) lazy
-ask-starts needs places row standing lazy me s here quiet ask small idle =
-    begun needs places row standing lazy me s (record (standing me) { stage = AskLoad ask }) here quiet refl tt (small, idle) refl tt
+    → Refines needs places row (updated standing me (record (standing me) { stage = AskLoad ask })) state
+ask-starts needs places row standing state me s here quiet ask small idle =
+    begun needs places row standing state me s (record (standing me) { stage = AskLoad ask }) here quiet refl tt (small, idle) refl tt
     (λ owed worth nothing. nothing) refl
 
 -- a try that starts
-try-starts : (needs : Needs) (places : ℕ) (row : ℕ → ℕ) (standing : ℕ → Place) (lazy : Lazy) (me : ℕ) (s : Refines needs places row standing lazy)
+try-starts : (needs : Needs) (places : ℕ) (row : ℕ → ℕ) (standing : ℕ → Place) (state : AbstractState) (me : ℕ) (s : Refines needs places row standing state)
     → me < places → (standing me).stage ≡ Quiet → (request : ℕ) → request < 65536
-    → Refines needs places row (updated standing me (record (standing me) { stage = AskLoad (record { request = request; joins = false }) })) lazy
-try-starts needs places row standing lazy me s here quiet request small =
-    ask-starts needs places row standing lazy me s here quiet (record { request = request; joins = false }) small (λ joins. absurd (cc))
+    → Refines needs places row (updated standing me (record (standing me) { stage = AskLoad (record { request = request; joins = false }) })) state
+try-starts needs places row standing state me s here quiet request small =
+    ask-starts needs places row standing state me s here quiet (record { request = request; joins = false }) small (λ joins. absurd (cc))
 
 -- a registration that starts
-register-starts : (needs : Needs) (places : ℕ) (row : ℕ → ℕ) (standing : ℕ → Place) (lazy : Lazy) (me : ℕ) (s : Refines needs places row standing lazy)
+register-starts : (needs : Needs) (places : ℕ) (row : ℕ → ℕ) (standing : ℕ → Place) (state : AbstractState) (me : ℕ) (s : Refines needs places row standing state)
     → me < places → (standing me).stage ≡ Quiet → (request : ℕ) → request < 65536
-    → Refines needs places row (updated standing me (place_after (standing me) (registered_as (standing me) request))) lazy
-register-starts needs places row standing lazy me s here quiet request small =
+    → Refines needs places row (updated standing me (place_after (standing me) (registered_as (standing me) request))) state
+register-starts needs places row standing state me s here quiet request small =
     elim (cases_Bool (is_idle (standing me).registration)) [
-      | inl idle ↦ rw idle (ask-starts needs places row standing lazy me s here quiet (record { request = request; joins = true }) small
+      | inl idle ↦ rw idle (ask-starts needs places row standing state me s here quiet (record { request = request; joins = true }) small
           (λ joins. idle-slot (standing me).registration idle))
-      | inr refused ↦ rw refused (same-place needs places row standing lazy me s)
+      | inr refused ↦ rw refused (same-place needs places row standing state me s)
     ]
 
 -- a release that starts
-release-starts : (needs : Needs) (places : ℕ) (row : ℕ → ℕ) (standing : ℕ → Place) (lazy : Lazy) (me : ℕ) (s : Refines needs places row standing lazy)
-    → me < places → (standing me).stage ≡ Quiet → (request : ℕ)
-    → Refines needs places row (updated standing me (record (standing me) { stage = ReleaseLoad request; back = Tells })) lazy
-release-starts needs places row standing lazy me s here quiet request =
-    begun needs places row standing lazy me s (record (standing me) { stage = ReleaseLoad request; back = Tells }) here quiet refl tt refl refl tt
+release-starts : (needs : Needs) (places : ℕ) (row : ℕ → ℕ) (standing : ℕ → Place) (state : AbstractState) (me : ℕ) (s : Refines needs places row standing state)
+    → me < places → (standing me).stage ≡ Quiet → (what : Given)
+    → Refines needs places row (updated standing me (record (standing me) { stage = ReleaseLoad what; back = Tells })) state
+release-starts needs places row standing state me s here quiet what =
+    begun needs places row standing state me s (record (standing me) { stage = ReleaseLoad what; back = Tells }) here quiet refl tt refl refl tt
     (λ owed worth nothing. nothing) refl
 
 -- a poll that starts; it doesn't give up what it is registered as
-poll-starts : (needs : Needs) (places : ℕ) (row : ℕ → ℕ) (standing : ℕ → Place) (lazy : Lazy) (me : ℕ) (s : Refines needs places row standing lazy) (taking : Taking)
+poll-starts : (needs : Needs) (places : ℕ) (row : ℕ → ℕ) (standing : ℕ → Place) (state : AbstractState) (me : ℕ) (s : Refines needs places row standing state) (taking : Taking)
     → me < places → (standing me).stage ≡ Quiet → (registration : Registration) → (standing me).registration ≡ registration
     → (is_slot registration ≡ true → IsAlone needs (standing me).registration (standing me).back (Take taking)) → gives_up (standing me).back (Take taking) ≡ false
-    → Refines needs places row (updated standing me (place_after (standing me) (polled_as (standing me) taking registration))) lazy
-poll-starts needs places row standing lazy me s taking here quiet Idle is alone keeps = same-place needs places row standing lazy me s
-poll-starts needs places row standing lazy me s taking here quiet (Once value request) is alone keeps =
-    moved needs places row standing lazy me s (record (standing me) { registration = Idle }) here (ap is_slot (sym is)) (s.stages.ranged me)
+    → Refines needs places row (updated standing me (place_after (standing me) (polled_as (standing me) taking registration))) state
+poll-starts needs places row standing state me s taking here quiet Idle is alone keeps = same-place needs places row standing state me s
+poll-starts needs places row standing state me s taking here quiet (Once value request) is alone keeps =
+    moved needs places row standing state me s (record (standing me) { registration = Idle }) here (ap is_slot (sym is)) (s.stages.ranged me)
     (subst (λ stage. IsAlone needs Idle (standing me).back stage) (sym quiet) tt) (s.stages.apart me) (s.stages.own me) (s.stages.showing me) refl
     (s.stages.holding me)
-poll-starts needs places row standing lazy me s taking here quiet (Slot request) is alone keeps =
-    begun needs places row standing lazy me s (record (standing me) { stage = Take taking }) here quiet refl tt (alone refl) keeps tt
+poll-starts needs places row standing state me s taking here quiet (Slot request) is alone keeps =
+    begun needs places row standing state me s (record (standing me) { stage = Take taking }) here quiet refl tt (alone refl) keeps tt
     (λ owed worth nothing. nothing) refl
 
 -- a cancel that starts: it gives back what it was granted, or looks for itself in the line
-cancel-starts : (needs : Needs) (places : ℕ) (row : ℕ → ℕ) (standing : ℕ → Place) (lazy : Lazy) (me : ℕ) (s : Refines needs places row standing lazy)
+cancel-starts : (needs : Needs) (places : ℕ) (row : ℕ → ℕ) (standing : ℕ → Place) (state : AbstractState) (me : ℕ) (s : Refines needs places row standing state)
     → me < places → (standing me).stage ≡ Quiet → (registration : Registration) → (standing me).registration ≡ registration
-    → Refines needs places row (updated standing me (place_after (standing me) (cancelled_as needs (standing me) registration))) lazy
-cancel-starts needs places row standing lazy me s here quiet Idle is = same-place needs places row standing lazy me s
-cancel-starts needs places row standing lazy me s here quiet (Once value request) is =
+    → Refines needs places row (updated standing me (place_after (standing me) (cancelled_as needs (standing me) registration))) state
+cancel-starts needs places row standing state me s here quiet Idle is = same-place needs places row standing state me s
+cancel-starts needs places row standing state me s here quiet (Once value request) is =
     elim (cases_Bool (is_taken_up needs request value)) [
-      | inl up ↦ rw up (begun needs places row standing lazy me s (record (standing me) { registration = Idle; stage = ReleaseLoad request; back = Ends }) here quiet
+      | inl up ↦ rw up (begun needs places row standing state me s (record (standing me) { registration = Idle; stage = ReleaseLoad (Asked request); back = Ends }) here quiet
           (ap is_slot (sym is)) tt refl refl tt (λ owed worth nothing. nothing) refl)
-      | inr free ↦ rw free (begun needs places row standing lazy me s (record (standing me) { registration = Idle; stage = Quiet }) here quiet
+      | inr free ↦ rw free (begun needs places row standing state me s (record (standing me) { registration = Idle; stage = Quiet }) here quiet
           (ap is_slot (sym is)) tt tt refl tt (λ owed worth nothing. nothing) refl)
     ]
-cancel-starts needs places row standing lazy me s here quiet (Slot request) is =
-    begun needs places row standing lazy me s (record (standing me) { stage = FlagLoad; back = Takes request }) here quiet refl tt is refl tt
+cancel-starts needs places row standing state me s here quiet (Slot request) is =
+    begun needs places row standing state me s (record (standing me) { stage = FlagLoad; back = Takes request }) here quiet refl tt is refl tt
     (λ owed worth nothing. nothing) refl
 
 -- A call that starts leaves all standing together
-pub starts : (needs : Needs) → needs.top < 2 ^ count_bits → (places : ℕ) (row : ℕ → ℕ) (standing : ℕ → Place) (lazy : Lazy) (me : ℕ) (call : WordCall)
-    → me < places → Refines needs places row standing lazy → (standing me).stage ≡ Quiet → is_taken needs.is_lock call ≡ true
-    → Refines needs places row (updated standing me (place_after (standing me) (started needs (standing me) call))) lazy
-starts needs wide places row standing lazy me (Try count) here s quiet taken =
+pub starts : (needs : Needs) → needs.top < 2 ^ count_bits → (places : ℕ) (row : ℕ → ℕ) (standing : ℕ → Place) (state : AbstractState) (me : ℕ) (call : WordCall)
+    → me < places → Refines needs places row standing state → (standing me).stage ≡ Quiet → is_taken needs.is_lock call ≡ true
+    → Refines needs places row (updated standing me (place_after (standing me) (started needs (standing me) call))) state
+starts needs wide places row standing state me (Try count) here s quiet taken =
     elim (cases_Bool (nat_lt needs.top count)) [
-      | inl more ↦ rw more (same-place needs places row standing lazy me s)
+      | inl more ↦ rw more (same-place needs places row standing state me s)
       | inr fits ↦
           let small : count ≤ needs.top = grind (arith, nat_tests, fits) in
-          rw fits (try-starts needs places row standing lazy me s here quiet count (omega (arith, small, wide)))
+          rw fits (try-starts needs places row standing state me s here quiet count (omega (arith, small, wide)))
     ]
-starts needs wide places row standing lazy me (Register count) here s quiet taken =
+starts needs wide places row standing state me (Register count) here s quiet taken =
     elim (cases_Bool (nat_lt needs.top count)) [
-      | inl more ↦ rw more (same-place needs places row standing lazy me s)
+      | inl more ↦ rw more (same-place needs places row standing state me s)
       | inr fits ↦
           let small : count ≤ needs.top = grind (arith, nat_tests, fits) in
-          rw fits (register-starts needs places row standing lazy me s here quiet count (omega (arith, small, wide)))
+          rw fits (register-starts needs places row standing state me s here quiet count (omega (arith, small, wide)))
     ]
-starts needs wide places row standing lazy me (Release count) here s quiet taken =
+starts needs wide places row standing state me (Release count) here s quiet taken =
     elim (cases_Bool (nat_lt needs.top count)) [
-      | inl more ↦ rw more (same-place needs places row standing lazy me s)
+      | inl more ↦ rw more (same-place needs places row standing state me s)
       | inr fits ↦
           elim (cases_Bool (count == 0)) [
-            | inl nothing ↦ rw (fits, nothing) (same-place needs places row standing lazy me s)
-            | inr some ↦ rw (fits, some) (release-starts needs places row standing lazy me s here quiet count)
+            | inl nothing ↦ rw (fits, nothing) (same-place needs places row standing state me s)
+            | inr some ↦ rw (fits, some) (release-starts needs places row standing state me s here quiet (Asked count))
           ]
     ]
-starts needs wide places row standing lazy me Available here s quiet taken = reading-starts needs places row standing lazy me s here quiet ReadsAvailable
-starts needs wide places row standing lazy me TryLock here s quiet taken = try-starts needs places row standing lazy me s here quiet 0 (omega arith)
-starts needs wide places row standing lazy me TryShare here s quiet taken = try-starts needs places row standing lazy me s here quiet 1 (omega arith)
-starts needs wide places row standing lazy me (RegisterMode mode) here s quiet taken =
-    register-starts needs places row standing lazy me s here quiet (mode_number mode) (mode-small mode)
-starts needs wide places row standing lazy me ReleaseLock here s quiet taken = release-starts needs places row standing lazy me s here quiet 0
-starts needs wide places row standing lazy me ReleaseShare here s quiet taken = release-starts needs places row standing lazy me s here quiet 1
-starts needs wide places row standing lazy me PoisonLock here s quiet taken =
-    begun needs places row standing lazy me s (record (standing me) { stage = PoisonLoad; back = Tells }) here quiet refl tt (taken, refl) refl tt
+starts needs wide places row standing state me Available here s quiet taken = reading-starts needs places row standing state me s here quiet ReadsAvailable
+starts needs wide places row standing state me TryLock here s quiet taken = try-starts needs places row standing state me s here quiet 0 (omega arith)
+starts needs wide places row standing state me TryShare here s quiet taken = try-starts needs places row standing state me s here quiet 1 (omega arith)
+starts needs wide places row standing state me (RegisterMode mode) here s quiet taken =
+    register-starts needs places row standing state me s here quiet (mode_number mode) (mode-small mode)
+starts needs wide places row standing state me ReleaseLock here s quiet taken = release-starts needs places row standing state me s here quiet (Asked 0)
+starts needs wide places row standing state me ReleaseShare here s quiet taken = release-starts needs places row standing state me s here quiet (Asked 1)
+starts needs wide places row standing state me Downgrade here s quiet taken = release-starts needs places row standing state me s here quiet AllButAShare
+starts needs wide places row standing state me PoisonLock here s quiet taken =
+    begun needs places row standing state me s (record (standing me) { stage = PoisonLoad; back = Tells }) here quiet refl tt (taken, refl) refl tt
     (λ owed worth nothing. nothing) refl
-starts needs wide places row standing lazy me ClearPoison here s quiet taken =
-    begun needs places row standing lazy me s (record (standing me) { stage = Clear }) here quiet refl tt tt refl tt (λ owed worth nothing. nothing) refl
-starts needs wide places row standing lazy me IsFree here s quiet taken = reading-starts needs places row standing lazy me s here quiet ReadsFree
-starts needs wide places row standing lazy me IsLocked here s quiet taken = reading-starts needs places row standing lazy me s here quiet ReadsLocked
-starts needs wide places row standing lazy me IsShared here s quiet taken = reading-starts needs places row standing lazy me s here quiet ReadsShared
-starts needs wide places row standing lazy me IsPoisoned here s quiet taken = reading-starts needs places row standing lazy me s here quiet ReadsPoisoned
-starts needs wide places row standing lazy me TryPoll here s quiet taken =
-    poll-starts needs places row standing lazy me s Tries here quiet (standing me).registration refl (λ slot. slot) refl
-starts needs wide places row standing lazy me Poll here s quiet taken =
-    poll-starts needs places row standing lazy me s Awaits here quiet (standing me).registration refl (λ slot. slot) refl
-starts needs wide places row standing lazy me Cancel here s quiet taken =
-    cancel-starts needs places row standing lazy me s here quiet (standing me).registration refl
+starts needs wide places row standing state me ClearPoison here s quiet taken =
+    begun needs places row standing state me s (record (standing me) { stage = Clear }) here quiet refl tt tt refl tt (λ owed worth nothing. nothing) refl
+starts needs wide places row standing state me IsFree here s quiet taken = reading-starts needs places row standing state me s here quiet ReadsFree
+starts needs wide places row standing state me IsLocked here s quiet taken = reading-starts needs places row standing state me s here quiet ReadsLocked
+starts needs wide places row standing state me IsShared here s quiet taken = reading-starts needs places row standing state me s here quiet ReadsShared
+starts needs wide places row standing state me IsPoisoned here s quiet taken = reading-starts needs places row standing state me s here quiet ReadsPoisoned
+starts needs wide places row standing state me TryPoll here s quiet taken =
+    poll-starts needs places row standing state me s Tries here quiet (standing me).registration refl (λ slot. slot) refl
+starts needs wide places row standing state me Poll here s quiet taken =
+    poll-starts needs places row standing state me s Awaits here quiet (standing me).registration refl (λ slot. slot) refl
+starts needs wide places row standing state me Cancel here s quiet taken =
+    cancel-starts needs places row standing state me s here quiet (standing me).registration refl
 
 -- What has been named
 
@@ -234,6 +237,7 @@ call-begun needs place TryShare quiet = (refl, refl)
 call-begun needs place (RegisterMode mode) quiet = register-begun needs place (RegisterMode mode) (mode_number mode) quiet refl
 call-begun needs place ReleaseLock quiet = (refl, refl)
 call-begun needs place ReleaseShare quiet = (refl, refl)
+call-begun needs place Downgrade quiet = (refl, refl)
 call-begun needs place PoisonLock quiet = (refl, refl, refl)
 call-begun needs place ClearPoison quiet = (refl, refl)
 call-begun needs place IsFree quiet = (refl, refl)

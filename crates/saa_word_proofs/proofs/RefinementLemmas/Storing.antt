@@ -8,7 +8,7 @@ use Rattle.saa_core_words.specs.Words.{line_number}
 use Rattle.saa_core_words.proofs.Words.{line_word-read}
 use Rattle.saa_word_steps.specs.declared.place.Place.{Place}
 use Rattle.saa_word_steps.specs.Needs.{Needs}
-use Rattle.saa_word_steps.specs.Lazy.{Lazy, waits_times}
+use Rattle.saa_word_steps.specs.AbstractState.{AbstractState, waits_times}
 use Rattle.saa_word_proofs.specs.Refinement.{updated, line_of, newest, IsBehind, Work, IsAt, IsBack, IsPassed, IsLine, Refines}
 use Rattle.saa_word_proofs.proofs.RefinementLemmas.Lists.{split-last, newest-last, times-append, behind-frame, behind-rest, ahead-frame, ahead-cons}
 use Rattle.saa_word_proofs.proofs.RefinementLemmas.Frames.{newest-stands, work-front}
@@ -97,30 +97,30 @@ newer-line words new line cut uncut at request older others is =
         ]
 
 -- The holder has written the newer link of the last of the front
-pub record IsStored (places : ℕ) (row : ℕ → ℕ) (lazy : Lazy) (cut uncut : List (ℕ × ℕ)) (seen : Word) (current newer : ℕ) (line : LineWord)
-    (was : Work lazy.count lazy.line seen) : Type 0 where
+pub record IsStored (places : ℕ) (row : ℕ → ℕ) (state : AbstractState) (cut uncut : List (ℕ × ℕ)) (seen : Word) (current newer : ℕ) (line : LineWord)
+    (was : Work state.count state.line seen) : Type 0 where
   pub link : current ≡ pred current + 1
   pub inside : pred current < places
-  pub waits : 0 < waits_times (pred current) lazy.line
+  pub waits : 0 < waits_times (pred current) state.line
   pub written : line_of (updated row (pred current + 1) (line_number (record line { newer = newer }))) (pred current) ≡ record line { newer = newer }
-  pub linked : IsLine (line_of (updated row (pred current + 1) (line_number (record line { newer = newer })))) lazy.line cut uncut
-  pub walk : IsWalked (line_of (updated row (pred current + 1) (line_number (record line { newer = newer })))) lazy.count lazy.line seen current line.older was
+  pub linked : IsLine (line_of (updated row (pred current + 1) (line_number (record line { newer = newer })))) state.line cut uncut
+  pub walk : IsWalked (line_of (updated row (pred current + 1) (line_number (record line { newer = newer })))) state.count state.line seen current line.older was
 
 -- what the last of the front, whose line word it knows, becomes by such a store
-pub stored : (needs : Needs) (places : ℕ) (row : ℕ → ℕ) (standing : ℕ → Place) (lazy : Lazy) (s : Refines needs places row standing lazy)
-    (seen : Word) (current newer : ℕ) (line : LineWord) (work : Work lazy.count lazy.line seen) → places < 65536 → s.cut ≡ []
+pub stored : (needs : Needs) (places : ℕ) (row : ℕ → ℕ) (standing : ℕ → Place) (state : AbstractState) (s : Refines needs places row standing state)
+    (seen : Word) (current newer : ℕ) (line : LineWord) (work : Work state.count state.line seen) → places < 65536 → s.cut ≡ []
     → IsBack (line_of row) work.front work.behind current newer → line ≡ line_of row (pred current)
-    → IsStored places row lazy s.cut s.uncut seen current newer line work
-stored needs places row standing lazy s seen current newer line work room uncut back is =
+    → IsStored places row state s.cut s.uncut seen current newer line work
+stored needs places row standing state s seen current newer line work room uncut back is =
     let there = newest-stands work.front current back.1 back.0 in
-    let waits = work-front lazy.count lazy.line seen work (pred current) there.0 in
-    let seat = in-line places standing lazy (pred current) s.seats waits in
+    let waits = work-front state.count state.line seen work (pred current) there.0 in
+    let seat = in-line places standing state (pred current) s.seats waits in
     let number : ℕ = line_number (record line { newer = newer }) in
     let new : ℕ → LineWord = line_of (updated row (pred current + 1) number) in
     let others : (place : ℕ) → (place ≡ pred current → ⊥) → new place ≡ line_of row place = line-other row (pred current) number in
     let small : (line.request < 65536) × (line.older < 65536) × (line.newer < 65536) =
     subst (λ (w : LineWord). (w.request < 65536) × (w.older < 65536) × (w.newer < 65536)) (sym is) (line-room (row (pred current + 1))) in
-    let newer_small : newer < 65536 = rw back.2 (oldest-room places standing lazy seen work s.seats room) in
+    let newer_small : newer < 65536 = rw back.2 (oldest-room places standing state seen work s.seats room) in
     let written : new (pred current) ≡ record line { newer = newer } =
     line-at row (pred current) number ∙ line_word-read (record line { newer = newer }) small.0 small.1 newer_small in
     record {
@@ -128,10 +128,10 @@ stored needs places row standing lazy s seen current newer line work room uncut 
       inside = seat.0;
       waits = waits;
       written = written;
-      linked = newer-line (line_of row) new lazy.line s.cut s.uncut (pred current)
+      linked = newer-line (line_of row) new state.line s.cut s.uncut (pred current)
           (ap (λ (w : LineWord). w.request) written ∙ ap (λ (w : LineWord). w.request) is)
           (ap (λ (w : LineWord). w.older) written ∙ ap (λ (w : LineWord). w.older) is) others s.line;
-      walk = subst (λ (older : ℕ). IsWalked new lazy.count lazy.line seen current older work) (ap (λ (w : LineWord). w.older) (sym is))
-          (walked (line_of row) new lazy.count lazy.line seen current newer work back (linked-all (line_of row) lazy.line s.cut s.uncut s.line uncut)
+      walk = subst (λ (older : ℕ). IsWalked new state.count state.line seen current older work) (ap (λ (w : LineWord). w.older) (sym is))
+          (walked (line_of row) new state.count state.line seen current newer work back (linked-all (line_of row) state.line s.cut s.uncut s.line uncut)
           (omega (arith, seat.2)) (ap (λ (w : LineWord). w.newer) written) others);
     }

@@ -9,6 +9,7 @@ use Rattle.saa_core_words.specs.declared.line_word.LineWord.{LineWord}
 use Rattle.saa_core_words.specs.Words.{count_bits, answer_number, answer_of}
 use Rattle.saa_core_words.proofs.Words.{answer-read}
 use Rattle.saa_word_steps.specs.declared.place.Place.{Place}
+use Rattle.saa_word_steps.specs.declared.place.Given.TheVariants.{Asked}
 use Rattle.saa_word_steps.specs.declared.place.Registration.{Registration}
 use Rattle.saa_word_steps.specs.declared.place.Registration.TheVariants.{Idle}
 use Rattle.saa_word_steps.specs.declared.place.Afterwards.{Afterwards}
@@ -24,7 +25,7 @@ use Rattle.saa_word_steps.specs.declared.place.Next.{Next}
 use Rattle.saa_word_steps.specs.declared.place.Next.TheVariants.{Going, Done}
 use Rattle.saa_word_steps.specs.Needs.{Needs, AreNeeds}
 use Rattle.saa_word_steps.specs.declared.event.Event.TheVariants.{Showed, Took, NotReady}
-use Rattle.saa_word_steps.specs.Lazy.{Lazy, is_empty, is_in, waits_times, held_by, with_answer}
+use Rattle.saa_word_steps.specs.AbstractState.{AbstractState, is_empty, is_in, waits_times, held_by, with_answer}
 use Rattle.saa_word_steps.specs.Steps.{IsRanged, shown_all, going, taken_answer}
 use Rattle.saa_word_proofs.specs.Refinement.{updated, line_of, newest, is_slot, is_holder, takes_back, gives_up, IsReturning, IsAlone, IsOwn, IsShowing, IsHolding, AreAnswers, Refines}
 use Rattle.saa_word_proofs.specs.StepRefinement.{StepRefines, place_after, taken_events}
@@ -53,25 +54,25 @@ walk-holding needs words me held line cut current next value seen h =
     )
 
 -- The newest answer that is owed is shown
-pub step-ShowStore : (needs : Needs) → AreNeeds needs → needs.top < 2 ^ count_bits → (places : ℕ) (row : ℕ → ℕ) (standing : ℕ → Place) (lazy : Lazy) (me : ℕ)
-    → places < 65536 → me < places → (s : Refines needs places row standing lazy)
+pub step-ShowStore : (needs : Needs) → AreNeeds needs → needs.top < 2 ^ count_bits → (places : ℕ) (row : ℕ → ℕ) (standing : ℕ → Place) (state : AbstractState) (me : ℕ)
+    → places < 65536 → me < places → (s : Refines needs places row standing state)
     → (current next value : ℕ) (afterwards : Afterwards) → (standing me).stage ≡ ShowStore current next value afterwards
-    → StepRefines needs places row standing lazy me (ShowStore current next value afterwards)
-step-ShowStore needs lawful wide places row standing lazy me room here s current next value afterwards at =
+    → StepRefines needs places row standing state me (ShowStore current next value afterwards)
+step-ShowStore needs lawful wide places row standing state me room here s current next value afterwards at =
     let stage : Stage = ShowStore current next value afterwards in
     let alone : IsReturning (standing me).registration (standing me).back =
     subst (λ stage. IsAlone needs (standing me).registration (standing me).back stage) at (s.stages.alone me) in
-    let apart : takes_back (standing me).back ≡ true → is_in me lazy.line ≡ false = apart-at needs places row standing lazy me s stage at in
+    let apart : takes_back (standing me).back ≡ true → is_in me state.line ≡ false = apart-at needs places row standing state me s stage at in
     let ranged : IsRanged needs stage = subst (λ stage. IsRanged needs stage) at (s.stages.ranged me) in
     let showing : IsShowing (s.owed me) (s.worth me) stage = subst (λ stage. IsShowing (s.owed me) (s.worth me) stage) at (s.stages.showing me) in
-    let holding : s.holder ≡ me + 1 → IsHolding needs (line_of row) me lazy.count lazy.line s.cut stage =
-    λ it. subst (λ stage. IsHolding needs (line_of row) me lazy.count lazy.line s.cut stage) at (s.stages.holding me it) in
+    let holding : s.holder ≡ me + 1 → IsHolding needs (line_of row) me state.count state.line s.cut stage =
+    λ it. subst (λ stage. IsHolding needs (line_of row) me state.count state.line s.cut stage) at (s.stages.holding me it) in
     let before : List (ℕ × ℕ) = showing.0 in
     let asker : ℕ × ℕ = showing.1 in
     let mine : is_in asker.0 (s.owed me) ≡ true =
     in-some asker.0 (s.owed me) (omega (arith, ap (λ (l : List (ℕ × ℕ)). waits_times asker.0 l) showing.2, times-append asker.0 before (asker ∷ []), one_if-same asker.0)) in
-    let due : lazy.due asker.0 ≡ Some (s.worth me) = (s.debts.due_to me asker.0 mine).1 in
-    let last : Lazy = record lazy { due = with_answer asker.0 None lazy.due; shown = with_answer asker.0 (lazy.due asker.0) lazy.shown } in
+    let due : state.due asker.0 ≡ Some (s.worth me) = (s.debts.due_to me asker.0 mine).1 in
+    let last : AbstractState = record state { due = with_answer asker.0 None state.due; shown = with_answer asker.0 (state.due asker.0) state.shown } in
     let row_is : updated row (places + current) (answer_number (Some value)) ≡ updated row (places + (asker.0 + 1)) (answer_number (Some (s.worth me))) =
     ap (λ (n : ℕ). updated row (places + n) (answer_number (Some value))) showing.3
     ∙ ap (λ (n : ℕ). updated row (places + (asker.0 + 1)) (answer_number (Some n))) showing.5 in
@@ -79,14 +80,14 @@ step-ShowStore needs lawful wide places row standing lazy me room here s current
     let nothing : next == 0 ≡ true → before ≡ [] = λ done. empty-nil before (sym empty ∙ done) in
     let place : Place = place_after (standing me) (if next == 0 then shown_all (standing me) afterwards else going (standing me) (ShowLoad next value afterwards)) in
     let then_stands : (goes : Stage) → place ≡ record (standing me) { stage = goes } → IsRanged needs goes
-    → IsAlone needs (standing me).registration (standing me).back goes → (gives_up (standing me).back goes ≡ true → is_in me lazy.line ≡ false)
+    → IsAlone needs (standing me).registration (standing me).back goes → (gives_up (standing me).back goes ≡ true → is_in me state.line ≡ false)
     → ((word : LineWord) → IsOwn word goes) → IsShowing before (s.worth me) goes → is_holder goes ≡ is_holder stage
-    → (s.holder ≡ me + 1 → IsHolding needs (line_of row) me lazy.count lazy.line s.cut goes)
+    → (s.holder ≡ me + 1 → IsHolding needs (line_of row) me state.count state.line s.cut goes)
     → Refines needs places (updated row (places + current) (answer_number (Some value))) (updated standing me place) last =
     λ goes is goes_ranged goes_alone goes_apart goes_own goes_showing goes_holder goes_holding.
     subst (λ (r : ℕ → ℕ). Refines needs places r (updated standing me place) last) (sym row_is)
     (subst (λ (p : Place). Refines needs places (updated row (places + (asker.0 + 1)) (answer_number (Some (s.worth me)))) (updated standing me p) last) (sym is)
-    (shown needs places row standing lazy me here s before asker showing.2 goes goes_ranged goes_alone goes_apart goes_own goes_showing
+    (shown needs places row standing state me here s before asker showing.2 goes goes_ranged goes_alone goes_apart goes_own goes_showing
     (goes_holder ∙ ap is_holder (sym at)) goes_holding)) in
     record {
       events = Showed asker.0 ∷ [];
@@ -94,39 +95,39 @@ step-ShowStore needs lawful wide places row standing lazy me room here s current
       run = (ap is_some due, refl);
       names = refl;
       calm = λ semaphore. refl;
-      inside = omega (arith, showing.3, due-inside needs places row standing lazy s me asker.0 mine);
+      inside = omega (arith, showing.3, due-inside needs places row standing state s me asker.0 mine);
       stands =
           elim (cases_Bool (next == 0)) [
-            | inl done ↦ at-end needs places row standing lazy me s current next value afterwards before last done (nothing done) ranged alone apart holding then_stands
+            | inl done ↦ at-end needs places row standing state me s current next value afterwards before last done (nothing done) ranged alone apart holding then_stands
             | inr more ↦ then_stands (ShowLoad next value afterwards) (rw more refl)
                 (ranged-store needs current next next value afterwards ranged) alone apart (λ word. tt)
                 (sym showing.4, sym empty ∙ more, showing.5) (holder-store current next next value afterwards)
-                (λ it. after-store needs (line_of row) me lazy.count lazy.line s.cut current next next value afterwards (holding it))
+                (λ it. after-store needs (line_of row) me state.count state.line s.cut current next next value afterwards (holding it))
           ];
     }
   where
-    at-end : (needs : Needs) (places : ℕ) (row : ℕ → ℕ) (standing : ℕ → Place) (lazy : Lazy) (me : ℕ) (s : Refines needs places row standing lazy)
-        (current next value : ℕ) (afterwards : Afterwards) (before : List (ℕ × ℕ)) (last : Lazy) → next == 0 ≡ true → before ≡ []
+    at-end : (needs : Needs) (places : ℕ) (row : ℕ → ℕ) (standing : ℕ → Place) (state : AbstractState) (me : ℕ) (s : Refines needs places row standing state)
+        (current next value : ℕ) (afterwards : Afterwards) (before : List (ℕ × ℕ)) (last : AbstractState) → next == 0 ≡ true → before ≡ []
         → IsRanged needs (ShowStore current next value afterwards) → IsReturning (standing me).registration (standing me).back
-        → (takes_back (standing me).back ≡ true → is_in me lazy.line ≡ false)
-        → (s.holder ≡ me + 1 → IsHolding needs (line_of row) me lazy.count lazy.line s.cut (ShowStore current next value afterwards))
+        → (takes_back (standing me).back ≡ true → is_in me state.line ≡ false)
+        → (s.holder ≡ me + 1 → IsHolding needs (line_of row) me state.count state.line s.cut (ShowStore current next value afterwards))
         → ((goes : Stage) → place_after (standing me) (if next == 0 then shown_all (standing me) afterwards else going (standing me) (ShowLoad next value afterwards))
         ≡ record (standing me) { stage = goes } → IsRanged needs goes
-        → IsAlone needs (standing me).registration (standing me).back goes → (gives_up (standing me).back goes ≡ true → is_in me lazy.line ≡ false)
+        → IsAlone needs (standing me).registration (standing me).back goes → (gives_up (standing me).back goes ≡ true → is_in me state.line ≡ false)
         → ((word : LineWord) → IsOwn word goes) → IsShowing before (s.worth me) goes → is_holder goes ≡ is_holder (ShowStore current next value afterwards)
-        → (s.holder ≡ me + 1 → IsHolding needs (line_of row) me lazy.count lazy.line s.cut goes)
+        → (s.holder ≡ me + 1 → IsHolding needs (line_of row) me state.count state.line s.cut goes)
         → Refines needs places (updated row (places + current) (answer_number (Some value)))
         (updated standing me (place_after (standing me) (if next == 0 then shown_all (standing me) afterwards else going (standing me) (ShowLoad next value afterwards)))) last)
         → Refines needs places (updated row (places + current) (answer_number (Some value)))
         (updated standing me (place_after (standing me) (if next == 0 then shown_all (standing me) afterwards else going (standing me) (ShowLoad next value afterwards)))) last
-    at-end needs places row standing lazy me s current next value Ends before last done nothing ranged alone apart holding goes =
+    at-end needs places row standing state me s current next value Ends before last done nothing ranged alone apart holding goes =
         let back : Back = (standing me).back in
         goes (end_stage back) (rw done (ended (standing me) back)) (ended-ranged needs back) (ended-alone needs (standing me).registration back alone)
         (λ gives. apart (sym (ended-apart back) ∙ gives)) (λ word. ended-own word back) (ended-showing before (s.worth me) back nothing) (ended-holder back)
         (λ it. absurd (holding it))
-    at-end needs places row standing lazy me s current next value (Again seen) before last done nothing ranged alone apart holding goes =
+    at-end needs places row standing state me s current next value (Again seen) before last done nothing ranged alone apart holding goes =
         goes (BackLoad seen seen.tail 0) (rw done refl) ranged alone apart (λ word. tt) nothing refl
-        (λ it. walk-holding needs (line_of row) me lazy.count lazy.line s.cut current next value seen (holding it))
+        (λ it. walk-holding needs (line_of row) me state.count state.line s.cut current next value seen (holding it))
 
 -- an answer word is read as the answer that it shows
 pub answer-again : (answer : Option ℕ) → ((value : ℕ) → answer ≡ Some value → value < 256) → answer_of (answer_number answer % 65536) ≡ answer
@@ -136,19 +137,19 @@ answer-again (Some value) small =
     ap answer_of kept ∙ answer-read (Some value) small
 
 -- a place that takes its answer is held no more
-held-taken : (needs : Needs) (places : ℕ) (row : ℕ → ℕ) (standing : ℕ → Place) (lazy : Lazy) (s : Refines needs places row standing lazy)
-    (me value : ℕ) (place : Place) → is_slot (standing me).registration ≡ true → lazy.shown me ≡ Some value → is_slot place.registration ≡ false → (other : ℕ)
-    → held_by other (record lazy { shown = with_answer me None lazy.shown }) ≡ one_if (is_slot (updated standing me place other).registration)
-held-taken needs places row standing lazy s me value place slot is idle =
-    each-updated (λ (n : ℕ) (p : Place). held_by n (record lazy { shown = with_answer me None lazy.shown }) ≡ one_if (is_slot p.registration))
+held-taken : (needs : Needs) (places : ℕ) (row : ℕ → ℕ) (standing : ℕ → Place) (state : AbstractState) (s : Refines needs places row standing state)
+    (me value : ℕ) (place : Place) → is_slot (standing me).registration ≡ true → state.shown me ≡ Some value → is_slot place.registration ≡ false → (other : ℕ)
+    → held_by other (record state { shown = with_answer me None state.shown }) ≡ one_if (is_slot (updated standing me place other).registration)
+held-taken needs places row standing state s me value place slot is idle =
+    each-updated (λ (n : ℕ) (p : Place). held_by n (record state { shown = with_answer me None state.shown }) ≡ one_if (is_slot p.registration))
     standing me place
     (rw (number_same me) (omega (arith, s.seats.held me, ap one_if slot, ap one_if idle, ap (λ (a : Option ℕ). one_if (is_some a)) is)))
     (λ other apart. rw (number_other other me apart) (s.seats.held other))
 
 -- the answer words once an answer is taken
-answers-taken : (needs : Needs) (places : ℕ) (row : ℕ → ℕ) (standing : ℕ → Place) (lazy : Lazy) (s : Refines needs places row standing lazy) (me : ℕ)
-    → AreAnswers places (updated row (places + (me + 1)) 0) (with_answer me None lazy.shown)
-answers-taken needs places row standing lazy s me = record {
+answers-taken : (needs : Needs) (places : ℕ) (row : ℕ → ℕ) (standing : ℕ → Place) (state : AbstractState) (s : Refines needs places row standing state) (me : ℕ)
+    → AreAnswers places (updated row (places + (me + 1)) 0) (with_answer me None state.shown)
+answers-taken needs places row standing state s me = record {
   words = λ place inside.
       elim (cases_Bool (place == me)) [
         | inl same ↦
@@ -167,14 +168,14 @@ answers-taken needs places row standing lazy s me = record {
 }
 
 -- An answer is taken, whatever the place does next
-taken : (needs : Needs) (places : ℕ) (row : ℕ → ℕ) (standing : ℕ → Place) (lazy : Lazy) (me value : ℕ)
-    → me < places → (s : Refines needs places row standing lazy) → is_slot (standing me).registration ≡ true → is_holder (standing me).stage ≡ false
-    → lazy.shown me ≡ Some value
+taken : (needs : Needs) (places : ℕ) (row : ℕ → ℕ) (standing : ℕ → Place) (state : AbstractState) (me value : ℕ)
+    → me < places → (s : Refines needs places row standing state) → is_slot (standing me).registration ≡ true → is_holder (standing me).stage ≡ false
+    → state.shown me ≡ Some value
     → (place : Place) → is_slot place.registration ≡ false → IsRanged needs place.stage → IsAlone needs place.registration place.back place.stage
     → gives_up place.back place.stage ≡ false → ((word : LineWord) → IsOwn word place.stage) → IsShowing (s.owed me) (s.worth me) place.stage
     → is_holder place.stage ≡ false
-    → Refines needs places (updated row (places + me + 1) 0) (updated standing me place) (record lazy { shown = with_answer me None lazy.shown })
-taken needs places row standing lazy me value here s slot none is place idle ranged alone apart own showing free =
+    → Refines needs places (updated row (places + me + 1) 0) (updated standing me place) (record state { shown = with_answer me None state.shown })
+taken needs places row standing state me value here s slot none is place idle ranged alone apart own showing free =
     let some : 0 < me + 1 = omega arith in
     let index : places + (me + 1) ≡ places + me + 1 = omega arith in
     let new : ℕ → LineWord = line_of (updated row (places + (me + 1)) 0) in
@@ -182,7 +183,7 @@ taken needs places row standing lazy me value here s slot none is place idle ran
     λ other inside.
     let same = line-answer row places (me + 1) 0 other inside some in
     (ap (λ (w : LineWord). w.request) same, ap (λ (w : LineWord). w.older) same) in
-    subst (λ (n : ℕ). Refines needs places (updated row n 0) (updated standing me place) (record lazy { shown = with_answer me None lazy.shown })) index (record {
+    subst (λ (n : ℕ). Refines needs places (updated row n 0) (updated standing me place) (record state { shown = with_answer me None state.shown })) index (record {
       holder = s.holder;
       cut = s.cut;
       uncut = s.uncut;
@@ -190,32 +191,32 @@ taken needs places row standing lazy me value here s slot none is place idle ran
       shower = s.shower;
       worth = s.worth;
       free = s.free;
-      main = main-shown needs places row standing lazy s (me + 1) 0 lazy.due (with_answer me None lazy.shown) some;
-      line = line-shown needs places row standing lazy s (me + 1) 0 some;
+      main = main-shown needs places row standing state s (me + 1) 0 state.due (with_answer me None state.shown) some;
+      line = line-shown needs places row standing state s (me + 1) 0 some;
       seats = record {
-        held = held-taken needs places row standing lazy s me value place slot is idle;
+        held = held-taken needs places row standing state s me value place slot is idle;
         within = each-updated (λ (n : ℕ) (p : Place). is_slot p.registration ≡ true → n < places) standing me place (λ slot. here)
             (λ other differs. s.seats.within other);
         beyond = each-updated (λ (n : ℕ) (p : Place). places ≤ n → p.stage ≡ Quiet) standing me place (λ out. absurd (omega (arith, out, here)))
             (λ other differs. s.seats.beyond other);
       };
-      answers = answers-taken needs places row standing lazy s me;
+      answers = answers-taken needs places row standing state s me;
       debts = record {
         due_to = s.debts.due_to;
         paid_by = s.debts.paid_by;
         once = s.debts.once;
         small = s.debts.small;
         links = λ other. behind-frame (line_of row) new 0 (s.owed other)
-            (λ one there. fields one (due-inside needs places row standing lazy s other one (in-some one (s.owed other) there))) (s.debts.links other);
+            (λ one there. fields one (due-inside needs places row standing state s other one (in-some one (s.owed other) there))) (s.debts.links other);
       };
-      stages = stages-next needs (line_of row) new standing lazy.count lazy.count lazy.line lazy.line s.cut s.cut s.holder s.holder s.owed s.owed
+      stages = stages-next needs (line_of row) new standing state.count state.count state.line state.line s.cut s.cut s.holder s.holder s.owed s.owed
           s.worth s.worth me place s.stages
           ranged alone (λ gives. let wrong : true ≡ false = sym gives ∙ apart in absurd (cc)) (own (new me)) showing (free ∙ sym none ∙ s.stages.one me)
-          (λ it. absurd (not-holder needs places row standing lazy me s none it))
+          (λ it. absurd (not-holder needs places row standing state me s none it))
           (λ other differs out. out)
-          (λ other differs. own-shown needs places row standing lazy s (me + 1) 0 some other)
+          (λ other differs. own-shown needs places row standing state s (me + 1) 0 some other)
           (λ other differs. refl) (λ other differs. refl) (λ other differs. refl)
-          (λ other differs it. holding-shown needs places row standing lazy s (me + 1) 0 some other (standing other).stage (s.stages.holding other it));
+          (λ other differs it. holding-shown needs places row standing state s (me + 1) 0 some other (standing other).stage (s.stages.holding other it));
     })
 
 -- whoever has joined and has no answer waits, or its answer is due
@@ -238,54 +239,54 @@ take-slot needs registration back Awaits alone = alone
 take-slot needs registration back (Gives request) alone = ap is_slot alone
 
 -- an answer that isn't there yet leaves the row, and a place that stays as it is leaves the whole
-stays : (needs : Needs) (places : ℕ) (row : ℕ → ℕ) (standing : ℕ → Place) (lazy : Lazy) (me at : ℕ) → Refines needs places row standing lazy → row at ≡ 0
-    → Refines needs places (updated row at 0) (updated standing me (standing me)) lazy
-stays needs places row standing lazy me at s number =
-    subst (λ (r : ℕ → ℕ). Refines needs places r (updated standing me (standing me)) lazy) (sym (updated-same row at 0 (sym number)))
-    (subst (λ (f : ℕ → Place). Refines needs places row f lazy) (sym (updated-same standing me (standing me) refl)) s)
+stays : (needs : Needs) (places : ℕ) (row : ℕ → ℕ) (standing : ℕ → Place) (state : AbstractState) (me at : ℕ) → Refines needs places row standing state → row at ≡ 0
+    → Refines needs places (updated row at 0) (updated standing me (standing me)) state
+stays needs places row standing state me at s number =
+    subst (λ (r : ℕ → ℕ). Refines needs places r (updated standing me (standing me)) state) (sym (updated-same row at 0 (sym number)))
+    (subst (λ (f : ℕ → Place). Refines needs places row f state) (sym (updated-same standing me (standing me) refl)) s)
 
 -- the step of a place that takes its answer, by the answer that it is shown
-takes : (needs : Needs) (places : ℕ) (row : ℕ → ℕ) (standing : ℕ → Place) (lazy : Lazy) (me : ℕ)
-    → me < places → (s : Refines needs places row standing lazy) → is_slot (standing me).registration ≡ true → is_holder (standing me).stage ≡ false
-    → s.owed me ≡ [] → (taking : Taking) (answer : Option ℕ) → lazy.shown me ≡ answer → row (places + me + 1) ≡ answer_number answer
-    → Outcome needs places (updated row (places + me + 1) 0) standing lazy me (taken_answer needs (standing me) taking answer) (taken_events taking answer)
-takes needs places row standing lazy me here s slot none nothing Tries (Some value) is number = record {
+takes : (needs : Needs) (places : ℕ) (row : ℕ → ℕ) (standing : ℕ → Place) (state : AbstractState) (me : ℕ)
+    → me < places → (s : Refines needs places row standing state) → is_slot (standing me).registration ≡ true → is_holder (standing me).stage ≡ false
+    → s.owed me ≡ [] → (taking : Taking) (answer : Option ℕ) → state.shown me ≡ answer → row (places + me + 1) ≡ answer_number answer
+    → Outcome needs places (updated row (places + me + 1) 0) standing state me (taken_answer needs (standing me) taking answer) (taken_events taking answer)
+takes needs places row standing state me here s slot none nothing Tries (Some value) is number = record {
   events = Took value ∷ [];
-  last = record lazy { shown = with_answer me None lazy.shown };
+  last = record state { shown = with_answer me None state.shown };
   run = (is, refl);
   names = refl;
   calm = λ semaphore. refl;
-  stands = taken needs places row standing lazy me value here s slot none is (record (standing me) { registration = Idle; stage = Quiet })
+  stands = taken needs places row standing state me value here s slot none is (record (standing me) { registration = Idle; stage = Quiet })
       refl tt tt refl (λ word. tt) nothing refl;
 }
-takes needs places row standing lazy me here s slot none nothing Awaits (Some value) is number = record {
+takes needs places row standing state me here s slot none nothing Awaits (Some value) is number = record {
   events = Took value ∷ [];
-  last = record lazy { shown = with_answer me None lazy.shown };
+  last = record state { shown = with_answer me None state.shown };
   run = (is, refl);
   names = refl;
   calm = λ semaphore. refl;
-  stands = taken needs places row standing lazy me value here s slot none is (record (standing me) { registration = Idle; stage = Quiet })
+  stands = taken needs places row standing state me value here s slot none is (record (standing me) { registration = Idle; stage = Quiet })
       refl tt tt refl (λ word. tt) nothing refl;
 }
-takes needs places row standing lazy me here s slot none nothing (Gives request) (Some value) is number = record {
+takes needs places row standing state me here s slot none nothing (Gives request) (Some value) is number = record {
   events = Took value ∷ [];
-  last = record lazy { shown = with_answer me None lazy.shown };
+  last = record state { shown = with_answer me None state.shown };
   run = (is, refl);
   names = refl;
   calm = λ semaphore. refl;
   stands =
-      let drops : Place = record (standing me) { registration = Idle; stage = ReleaseLoad request; back = EndsCall } in
+      let drops : Place = record (standing me) { registration = Idle; stage = ReleaseLoad (Asked request); back = EndsCall } in
       let quiet : Place = record (standing me) { registration = Idle; stage = Quiet } in
-      either (λ (p : Place). Refines needs places (updated row (places + me + 1) 0) (updated standing me p) (record lazy { shown = with_answer me None lazy.shown }))
+      either (λ (p : Place). Refines needs places (updated row (places + me + 1) 0) (updated standing me p) (record state { shown = with_answer me None state.shown }))
       (standing me) (value == granted_value && not (needs.takes request == 0)) (Going drops) (Done quiet Ended)
-      (taken needs places row standing lazy me value here s slot none is drops refl tt refl refl (λ word. tt) nothing refl)
-      (taken needs places row standing lazy me value here s slot none is quiet refl tt tt refl (λ word. tt) nothing refl);
+      (taken needs places row standing state me value here s slot none is drops refl tt refl refl (λ word. tt) nothing refl)
+      (taken needs places row standing state me value here s slot none is quiet refl tt tt refl (λ word. tt) nothing refl);
 }
-takes needs places row standing lazy me here s slot none nothing Tries None is number = record {
+takes needs places row standing state me here s slot none nothing Tries None is number = record {
   events = NotReady ∷ [];
-  last = lazy;
+  last = state;
   run = (
-    not-yet (is_in me lazy.line) (is_some (lazy.due me)) (waits_times me lazy.line) (in-some me lazy.line)
+    not-yet (is_in me state.line) (is_some (state.due me)) (waits_times me state.line) (in-some me state.line)
         (omega (arith, s.seats.held me, ap one_if slot, ap (λ (a : Option ℕ). one_if (is_some a)) is)),
     refl,
   );
@@ -293,40 +294,40 @@ takes needs places row standing lazy me here s slot none nothing Tries None is n
   calm = λ semaphore. refl;
   stands =
       let quiet : Place = record (standing me) { stage = Quiet } in
-      subst (λ (r : ℕ → ℕ). Refines needs places r (updated standing me quiet) lazy) (sym (updated-same row (places + me + 1) 0 (sym number)))
-      (moved needs places row standing lazy me s quiet here refl tt tt (λ gives. absurd (cc)) tt nothing (sym none)
-      (λ it. absurd (not-holder needs places row standing lazy me s none it)));
+      subst (λ (r : ℕ → ℕ). Refines needs places r (updated standing me quiet) state) (sym (updated-same row (places + me + 1) 0 (sym number)))
+      (moved needs places row standing state me s quiet here refl tt tt (λ gives. absurd (cc)) tt nothing (sym none)
+      (λ it. absurd (not-holder needs places row standing state me s none it)));
 }
-takes needs places row standing lazy me here s slot none nothing Awaits None is number = record {
+takes needs places row standing state me here s slot none nothing Awaits None is number = record {
   events = [];
-  last = lazy;
+  last = state;
   run = refl;
   names = refl;
   calm = λ semaphore. refl;
-  stands = stays needs places row standing lazy me (places + me + 1) s number;
+  stands = stays needs places row standing state me (places + me + 1) s number;
 }
-takes needs places row standing lazy me here s slot none nothing (Gives request) None is number = record {
+takes needs places row standing state me here s slot none nothing (Gives request) None is number = record {
   events = [];
-  last = lazy;
+  last = state;
   run = refl;
   names = refl;
   calm = λ semaphore. refl;
-  stands = stays needs places row standing lazy me (places + me + 1) s number;
+  stands = stays needs places row standing state me (places + me + 1) s number;
 }
 
 -- A place takes its answer, or finds none
-pub step-Take : (needs : Needs) → AreNeeds needs → needs.top < 2 ^ count_bits → (places : ℕ) (row : ℕ → ℕ) (standing : ℕ → Place) (lazy : Lazy) (me : ℕ)
-    → places < 65536 → me < places → (s : Refines needs places row standing lazy)
-    → (taking : Taking) → (standing me).stage ≡ Take taking → StepRefines needs places row standing lazy me (Take taking)
-step-Take needs lawful wide places row standing lazy me room here s taking at =
+pub step-Take : (needs : Needs) → AreNeeds needs → needs.top < 2 ^ count_bits → (places : ℕ) (row : ℕ → ℕ) (standing : ℕ → Place) (state : AbstractState) (me : ℕ)
+    → places < 65536 → me < places → (s : Refines needs places row standing state)
+    → (taking : Taking) → (standing me).stage ≡ Take taking → StepRefines needs places row standing state me (Take taking)
+step-Take needs lawful wide places row standing state me room here s taking at =
     let alone : IsAlone needs (standing me).registration (standing me).back (Take taking) =
     subst (λ stage. IsAlone needs (standing me).registration (standing me).back stage) at (s.stages.alone me) in
     let slot : is_slot (standing me).registration ≡ true = take-slot needs (standing me).registration (standing me).back taking alone in
     let nothing : s.owed me ≡ [] = subst (λ stage. IsShowing (s.owed me) (s.worth me) stage) at (s.stages.showing me) in
-    let number : row (places + me + 1) ≡ answer_number (lazy.shown me) = s.answers.words me here in
-    let answer_is : answer_of (row (places + me + 1) % 65536) ≡ lazy.shown me =
-    ap (λ (n : ℕ). answer_of (n % 65536)) number ∙ answer-again (lazy.shown me) (s.answers.small me) in
-    let out = takes needs places row standing lazy me here s slot (ap is_holder at) nothing taking (lazy.shown me) refl number in
+    let number : row (places + me + 1) ≡ answer_number (state.shown me) = s.answers.words me here in
+    let answer_is : answer_of (row (places + me + 1) % 65536) ≡ state.shown me =
+    ap (λ (n : ℕ). answer_of (n % 65536)) number ∙ answer-again (state.shown me) (s.answers.small me) in
+    let out = takes needs places row standing state me here s slot (ap is_holder at) nothing taking (state.shown me) refl number in
     record {
       events = out.events;
       last = out.last;

@@ -15,7 +15,7 @@ use Rattle.saa_word_steps.specs.declared.call.Answer.TheVariants.{Unit as Ended}
 use Rattle.saa_word_steps.specs.declared.place.Next.{Next}
 use Rattle.saa_word_steps.specs.Needs.{Needs, AreNeeds}
 use Rattle.saa_word_steps.specs.declared.event.Event.TheVariants.{Left}
-use Rattle.saa_word_steps.specs.Lazy.{Lazy, IsRun, IsSettledAt, is_empty, waits_times}
+use Rattle.saa_word_steps.specs.AbstractState.{AbstractState, IsRun, IsSettledAt, is_empty, waits_times}
 use Rattle.saa_word_steps.specs.Steps.{IsRanged, no_line, dropped_word, left_line, done, walking}
 use Rattle.saa_word_proofs.specs.Refinement.{updated, main_of, line_of, newest, IsBehind, IsAhead, is_holder, IsAlone, IsShowing, Work, IsAdded, IsAt, IsFound, IsHolding, IsMain, IsLeaving, IsOwn, gives_up, Refines}
 use Rattle.saa_word_proofs.specs.StepRefinement.{StepRefines, of_place, place_after}
@@ -40,10 +40,10 @@ work-left me held older line seen work found some = record {
 }
 
 -- the main word of a line that a place has left, where somebody is behind that
-main-left : (needs : Needs) (number : ℕ) (lazy : Lazy) (holder : ℕ) (before after : List (ℕ × ℕ)) (gone : ℕ × ℕ)
-    → IsMain needs number lazy holder → lazy.poisoned ≡ false → ((holder == 0) ≡ true → ⊥) → lazy.line ≡ before ++ gone ∷ after → is_empty after ≡ false
-    → IsMain needs number (left lazy (before ++ after)) holder
-main-left needs number lazy holder before after gone was calm held parts some =
+main-left : (needs : Needs) (number : ℕ) (state : AbstractState) (holder : ℕ) (before after : List (ℕ × ℕ)) (gone : ℕ × ℕ)
+    → IsMain needs number state holder → state.poisoned ≡ false → ((holder == 0) ≡ true → ⊥) → state.line ≡ before ++ gone ∷ after → is_empty after ≡ false
+    → IsMain needs number (left state (before ++ after)) holder
+main-left needs number state holder before after gone was calm held parts some =
     let waits : is_empty (before ++ after) ≡ false = some-rest before after some in
     record {
       whole = was.whole;
@@ -52,7 +52,7 @@ main-left needs number lazy holder before after gone was calm held parts some =
           ∙ sym (newest-rest 0 before after some);
       flag = was.flag;
       poison = was.poison;
-      barren = never-barren needs (left lazy (before ++ after)) calm;
+      barren = never-barren needs (left state (before ++ after)) calm;
       bounded = was.bounded;
       closed = λ free. absurd (held free);
       settled = λ closed. let wrong : true ≡ false = ap not (sym waits) ∙ closed in absurd (cc);
@@ -63,26 +63,26 @@ main-left needs number lazy holder before after gone was calm held parts some =
     some-rest (asker ∷ rest) behind there = refl
 
 -- What unlinking leaves, for any stage that the holder goes on at
-unlinking : (needs : Needs) (places : ℕ) (row : ℕ → ℕ) (standing : ℕ → Place) (lazy : Lazy) (me : ℕ) (s : Refines needs places row standing lazy)
-    (seen : Word) (work : Work lazy.count lazy.line seen) (newer older : ℕ) (line : LineWord) (found : IsFound me work.front older) (next : Stage)
+unlinking : (needs : Needs) (places : ℕ) (row : ℕ → ℕ) (standing : ℕ → Place) (state : AbstractState) (me : ℕ) (s : Refines needs places row standing state)
+    (seen : Word) (work : Work state.count state.line seen) (newer older : ℕ) (line : LineWord) (found : IsFound me work.front older) (next : Stage)
     → me < places → is_holder (standing me).stage ≡ true → s.cut ≡ [] → IsAt (line_of row) work.behind newer → line ≡ line_of row (pred newer)
     → IsRanged needs next → IsAlone needs Idle EndsCall next → gives_up EndsCall next ≡ false → ((word : LineWord) → IsOwn word next)
     → IsShowing (s.owed me) (s.worth me) next → is_holder next ≡ true
     → ((new : ℕ → LineWord) → IsAhead new work.behind
-    → IsHolding needs new me lazy.count (found.0 ++ (work.behind ++ work.joined)) [] next)
+    → IsHolding needs new me state.count (found.0 ++ (work.behind ++ work.joined)) [] next)
     → Refines needs places (updated row newer (line_number (record line { older = older })))
-    (updated standing me (record (left_line (standing me)) { stage = next })) (left lazy (found.0 ++ (work.behind ++ work.joined)))
-unlinking needs places row standing lazy me s seen work newer older line found next here holds none at word ranged alone stays own showing holder holding =
-    let mine : s.holder ≡ me + 1 = flag-held needs places row standing lazy me s holds in
-    let calm : lazy.poisoned ≡ false = calm-held needs places row standing lazy me s mine in
+    (updated standing me (record (left_line (standing me)) { stage = next })) (left state (found.0 ++ (work.behind ++ work.joined)))
+unlinking needs places row standing state me s seen work newer older line found next here holds none at word ranged alone stays own showing holder holding =
+    let mine : s.holder ≡ me + 1 = flag-held needs places row standing state me s holds in
+    let calm : state.poisoned ≡ false = calm-held needs places row standing state me s mine in
     let before : List (ℕ × ℕ) = found.0 in
     let after : List (ℕ × ℕ) = work.behind ++ work.joined in
-    let parts : lazy.line ≡ before ++ (me, found.1) ∷ after = found-parts me lazy.count older lazy.line seen work found in
-    let linked = linked-all (line_of row) lazy.line s.cut s.uncut s.line none in
+    let parts : state.line ≡ before ++ (me, found.1) ∷ after = found-parts me state.count older state.line seen work found in
+    let linked = linked-all (line_of row) state.line s.cut s.uncut s.line none in
     let there = oldest-stands work.behind newer at.1 at.0 in
-    let waits = work-behind lazy.count lazy.line seen work (pred newer) there.0 in
-    let seat = in-line places standing lazy (pred newer) s.seats waits in
-    let look : IsLooked (line_of row) lazy.count lazy.line seen work newer = looked (line_of row) lazy.count lazy.line seen work newer linked at in
+    let waits = work-behind state.count state.line seen work (pred newer) there.0 in
+    let seat = in-line places standing state (pred newer) s.seats waits in
+    let look : IsLooked (line_of row) state.count state.line seen work newer = looked (line_of row) state.count state.line seen work newer linked at in
     let place : pred newer ≡ look.asker.0 = omega (arith, look.link) in
     let behind_is : after ≡ look.asker ∷ (look.rest ++ work.joined) = ap (λ (l : List (ℕ × ℕ)). l ++ work.joined) look.behind in
     let number : ℕ = line_number (record line { older = older }) in
@@ -90,18 +90,18 @@ unlinking needs places row standing lazy me s seen work newer older line found n
     let others : (other : ℕ) → (other ≡ pred newer → ⊥) → new other ≡ line_of row other = line-other row (pred newer) number in
     let small : (line.request < 65536) × (line.older < 65536) × (line.newer < 65536) =
     subst (λ (w : LineWord). (w.request < 65536) × (w.older < 65536) × (w.newer < 65536)) (sym word) (line-room (row (pred newer + 1))) in
-    let older_small : older < 65536 = rw found.3 (found-room row lazy.line before after (me, found.1) linked parts) in
+    let older_small : older < 65536 = rw found.3 (found-room row state.line before after (me, found.1) linked parts) in
     let written : new (pred newer) ≡ record line { older = older } =
     line-at row (pred newer) number ∙ line_word-read (record line { older = older }) small.0 older_small small.2 in
     let written_there : new look.asker.0 ≡ record line { older = older } =
     subst (λ (n : ℕ). new n ≡ record line { older = older }) place written in
-    let whole : lazy.line ≡ before ++ (me, found.1) ∷ (look.asker ∷ (look.rest ++ work.joined)) =
+    let whole : state.line ≡ before ++ (me, found.1) ∷ (look.asker ∷ (look.rest ++ work.joined)) =
     parts ∙ ap (λ (l : List (ℕ × ℕ)). before ++ (me, found.1) ∷ l) behind_is in
     let links : IsBehind new 0 (before ++ after) =
     subst (λ (l : List (ℕ × ℕ)). IsBehind new 0 (before ++ l)) (sym behind_is)
     (unlinked (line_of row) new before (look.rest ++ work.joined) (me, found.1) look.asker
     (subst (λ (l : List (ℕ × ℕ)). IsBehind (line_of row) 0 l) whole linked)
-    (omega (arith, seat.2, ap (λ (n : ℕ). waits_times n lazy.line) place, ap (λ (l : List (ℕ × ℕ)). waits_times look.asker.0 l) whole))
+    (omega (arith, seat.2, ap (λ (n : ℕ). waits_times n state.line) place, ap (λ (l : List (ℕ × ℕ)). waits_times look.asker.0 l) whole))
     (ap (λ (w : LineWord). w.request) (written_there) ∙ ap (λ (w : LineWord). w.request) word ∙ ap (λ (n : ℕ). (line_of row n).request) place)
     (ap (λ (w : LineWord). w.older) written_there ∙ found.3)
     (λ other apart. others other (λ is. apart (is ∙ place)))) in
@@ -110,40 +110,40 @@ unlinking needs places row standing lazy me s seen work newer older line found n
     (λ other stands.
     newer-same (line_of row) new (pred newer) (ap (λ (w : LineWord). w.newer) written ∙ ap (λ (w : LineWord). w.newer) word) others other)
     at.2 in
-    let main : IsMain needs (row 0) (left lazy (before ++ after)) s.holder =
-    main-left needs (row 0) lazy s.holder before after (me, found.1) s.main calm (λ free. omega (arith, mine, same_number s.holder 0 free)) parts
+    let main : IsMain needs (row 0) (left state (before ++ after)) s.holder =
+    main-left needs (row 0) state s.holder before after (me, found.1) s.main calm (λ free. omega (arith, mine, same_number s.holder 0 free)) parts
     (some-append work.behind work.joined at.1) in
     subst (λ (link : ℕ).
-    Refines needs places (updated row link number) (updated standing me (record (left_line (standing me)) { stage = next })) (left lazy (before ++ after)))
+    Refines needs places (updated row link number) (updated standing me (record (left_line (standing me)) { stage = next })) (left state (before ++ after)))
     (sym there.1)
-    (leaving needs places row standing lazy me s (pred newer + 1) number found.1 next before after s.holder here (omega (arith, seat.0)) mine parts
-    (λ other out. others other (λ is. omega (arith, waits, ap (λ (n : ℕ). waits_times n lazy.line) is, in-no other lazy.line out)))
+    (leaving needs places row standing state me s (pred newer + 1) number found.1 next before after s.holder here (omega (arith, seat.0)) mine parts
+    (λ other out. others other (λ is. omega (arith, waits, ap (λ (n : ℕ). waits_times n state.line) is, in-no other state.line out)))
     links
-    (subst (λ (n : ℕ). IsMain needs n (left lazy (before ++ after)) s.holder)
+    (subst (λ (n : ℕ). IsMain needs n (left state (before ++ after)) s.holder)
     (sym (row-other row (pred newer + 1) number 0 (λ is. omega (arith, is)))) main)
     ranged alone stays (own (new me)) showing (holder ∙ sym (ap (λ (n : ℕ). n == me + 1) mine ∙ number_same (me + 1)))
     (λ is. holding new ahead) (λ other differs. refl))
 
 -- Where somebody is behind the holder, the first of those is linked to whoever is before the holder
-pub step-Unlink : (needs : Needs) → AreNeeds needs → needs.top < 2 ^ count_bits → (places : ℕ) (row : ℕ → ℕ) (standing : ℕ → Place) (lazy : Lazy) (me : ℕ)
-    → places < 65536 → me < places → (s : Refines needs places row standing lazy)
+pub step-Unlink : (needs : Needs) → AreNeeds needs → needs.top < 2 ^ count_bits → (places : ℕ) (row : ℕ → ℕ) (standing : ℕ → Place) (state : AbstractState) (me : ℕ)
+    → places < 65536 → me < places → (s : Refines needs places row standing state)
     → (seen : Word) (newer : ℕ) (line : LineWord) (older : ℕ) → (standing me).stage ≡ Unlink seen newer line older
-    → StepRefines needs places row standing lazy me (Unlink seen newer line older)
-step-Unlink needs lawful wide places row standing lazy me room here s seen newer line older at =
-    let knows = flag-knows needs places row standing lazy me s (Unlink seen newer line older) at refl in
+    → StepRefines needs places row standing state me (Unlink seen newer line older)
+step-Unlink needs lawful wide places row standing state me room here s seen newer line older at =
+    let knows = flag-knows needs places row standing state me s (Unlink seen newer line older) at refl in
     let ranged = subst (λ (stage : Stage). IsRanged needs stage) at (s.stages.ranged me) in
     let showing = subst (λ (stage : Stage). IsShowing (s.owed me) (s.worth me) stage) at (s.stages.showing me) in
-    let work : Work lazy.count lazy.line seen = knows.0 in
+    let work : Work state.count state.line seen = knows.0 in
     let before : List (ℕ × ℕ) = knows.2.0 in
     let after : List (ℕ × ℕ) = work.behind ++ work.joined in
-    let parts : lazy.line ≡ before ++ (me, knows.2.1) ∷ after = found-parts me lazy.count older lazy.line seen work knows.2 in
+    let parts : state.line ≡ before ++ (me, knows.2.1) ∷ after = found-parts me state.count older state.line seen work knows.2 in
     let there = oldest-stands work.behind newer knows.3.1 knows.3.0 in
-    let seat = in-line places standing lazy (pred newer) s.seats (work-behind lazy.count lazy.line seen work (pred newer) there.0) in
-    let work_now : Work lazy.count (before ++ after) seen = work-left me lazy.count older lazy.line seen work knows.2 knows.3.1 in
+    let seat = in-line places standing state (pred newer) s.seats (work-behind state.count state.line seen work (pred newer) there.0) in
+    let work_now : Work state.count (before ++ after) seen = work-left me state.count older state.line seen work knows.2 knows.3.1 in
     record {
       events = Left ∷ [];
-      last = left lazy (before ++ after);
-      run = left-run needs lazy me knows.2.1 before after parts (found-once places standing lazy me knows.2.1 before after s.seats parts);
+      last = left state (before ++ after);
+      run = left-run needs state me knows.2.1 before after parts (found-once places standing state me knows.2.1 before after s.seats parts);
       names = refl;
       calm = λ semaphore. refl;
       inside = omega (arith, there.1, seat.0);
@@ -152,7 +152,7 @@ step-Unlink needs lawful wide places row standing lazy me room here s seen newer
             | inl first ↦
                 let nobody : before ≡ [] = front-none before older knows.2.3 first in
                 rw first
-                (unlinking needs places row standing lazy me s seen work newer older line knows.2 (Forward seen newer seen.count) here (ap is_holder at)
+                (unlinking needs places row standing state me s seen work newer older line knows.2 (Forward seen newer seen.count) here (ap is_holder at)
                 knows.1 knows.3 knows.4 (ranged, ranged) tt refl (λ word. tt) showing refl
                 (λ new ahead. (
                   work_now,
@@ -162,45 +162,45 @@ step-Unlink needs lawful wide places row standing lazy me room here s seen newer
                 )))
             | inr others ↦
                 rw others
-                (unlinking needs places row standing lazy me s seen work newer older line knows.2 (BackLoad seen older newer) here (ap is_holder at)
+                (unlinking needs places row standing state me s seen work newer older line knows.2 (BackLoad seen older newer) here (ap is_holder at)
                 knows.1 knows.3 knows.4 ranged tt refl (λ word. tt) showing refl
                 (λ new ahead. (work_now, refl, (knows.2.3, front-some before older knows.2.3 others, knows.3.0, ahead))))
           ];
     }
 
 -- What dropping the tail leaves, for any stage that the holder goes on at: the flag is kept where somebody waits
-dropping : (needs : Needs) (places : ℕ) (row : ℕ → ℕ) (standing : ℕ → Place) (lazy : Lazy) (me : ℕ) (s : Refines needs places row standing lazy)
+dropping : (needs : Needs) (places : ℕ) (row : ℕ → ℕ) (standing : ℕ → Place) (state : AbstractState) (me : ℕ) (s : Refines needs places row standing state)
     (seen : Word) (older request : ℕ) (before : List (ℕ × ℕ)) (stage : Stage) (next : ℕ)
-    → me < places → s.holder ≡ me + 1 → s.cut ≡ [] → main_of row ≡ seen → lazy.line ≡ before ++ (me, request) ∷ [] → older ≡ newest 0 before
+    → me < places → s.holder ≡ me + 1 → s.cut ≡ [] → main_of row ≡ seen → state.line ≡ before ++ (me, request) ∷ [] → older ≡ newest 0 before
     → IsRanged needs stage → IsAlone needs Idle EndsCall stage → gives_up EndsCall stage ≡ false → ((word : LineWord) → IsOwn word stage)
     → IsShowing (s.owed me) (s.worth me) stage → is_holder stage ≡ (next == me + 1)
-    → (next ≡ me + 1 → IsHolding needs (line_of row) me lazy.count before [] stage)
+    → (next ≡ me + 1 → IsHolding needs (line_of row) me state.count before [] stage)
     → ((other : ℕ) → (other ≡ me → ⊥) → (s.holder == other + 1) ≡ (next == other + 1)) → (older == 0) ≡ (next == 0)
     → Refines needs places (updated row 0 (word_number count_bits (dropped_word seen older)))
-    (updated standing me (record (left_line (standing me)) { stage = stage })) (left lazy before)
-dropping needs places row standing lazy me s seen older request before stage next here mine none found parts is ranged alone stays own showing holder holding
+    (updated standing me (record (left_line (standing me)) { stage = stage })) (left state before)
+dropping needs places row standing state me s seen older request before stage next here mine none found parts is ranged alone stays own showing holder holding
     others flag =
-    let calm : lazy.poisoned ≡ false = calm-held needs places row standing lazy me s mine in
-    let linked = linked-all (line_of row) lazy.line s.cut s.uncut s.line none in
+    let calm : state.poisoned ≡ false = calm-held needs places row standing state me s mine in
+    let linked = linked-all (line_of row) state.line s.cut s.uncut s.line none in
     let linked_front : IsBehind (line_of row) 0 before =
     behind-front (line_of row) 0 before ((me, request) ∷ []) (subst (λ (l : List (ℕ × ℕ)). IsBehind (line_of row) 0 l) parts linked) in
-    let older_small : older < 65536 = rw is (found-room row lazy.line before [] (me, request) linked parts) in
+    let older_small : older < 65536 = rw is (found-room row state.line before [] (me, request) linked parts) in
     let number : ℕ = word_number count_bits (dropped_word seen older) in
     let whole : before ≡ before ++ [] = sym (append-nil before) in
-    let main : IsMain needs number (left lazy before) next =
-    main-now needs (left lazy before) next (dropped_word seen older) (subst (λ (w : Word). w.count < 64) found (count-small (row 0))) older_small
+    let main : IsMain needs number (left state before) next =
+    main-now needs (left state before) next (dropped_word seen older) (subst (λ (w : Word). w.count < 64) found (count-small (row 0))) older_small
     (sym (ap (λ (w : Word). w.count) found) ∙ s.main.count) is (ap not flag)
-    (sym (ap (λ (w : Word). w.is_poisoned) found) ∙ s.main.poison) (never-barren needs (left lazy before) calm) s.main.bounded
+    (sym (ap (λ (w : Word). w.is_poisoned) found) ∙ s.main.poison) (never-barren needs (left state before) calm) s.main.bounded
     (λ free. ap (λ (l : List (ℕ × ℕ)). not (is_empty l)) (front-none before older is (flag ∙ free)))
-    (λ closed. subst (λ (l : List (ℕ × ℕ)). IsSettledAt needs lazy.count l) (sym (nobody-left before closed)) tt) in
+    (λ closed. subst (λ (l : List (ℕ × ℕ)). IsSettledAt needs state.count l) (sym (nobody-left before closed)) tt) in
     subst (λ (l : List (ℕ × ℕ)).
-    Refines needs places (updated row 0 number) (updated standing me (record (left_line (standing me)) { stage = stage })) (left lazy l)) (sym whole)
-    (leaving needs places row standing lazy me s 0 number request stage before [] next here (omega arith) mine parts
+    Refines needs places (updated row 0 number) (updated standing me (record (left_line (standing me)) { stage = stage })) (left state l)) (sym whole)
+    (leaving needs places row standing state me s 0 number request stage before [] next here (omega arith) mine parts
     (λ other out. ap (λ (words : ℕ → LineWord). words other) (line-main row number))
     (rw (line-main row number) (subst (λ (l : List (ℕ × ℕ)). IsBehind (line_of row) 0 l) whole linked_front))
-    (subst (λ (l : List (ℕ × ℕ)). IsMain needs number (left lazy l) next) whole main)
+    (subst (λ (l : List (ℕ × ℕ)). IsMain needs number (left state l) next) whole main)
     ranged alone stays (own (line_of (updated row 0 number) me)) showing holder
-    (λ keeps. rw (line-main row number) (subst (λ (l : List (ℕ × ℕ)). IsHolding needs (line_of row) me lazy.count l [] stage) whole (holding keeps)))
+    (λ keeps. rw (line-main row number) (subst (λ (l : List (ℕ × ℕ)). IsHolding needs (line_of row) me state.count l [] stage) whole (holding keeps)))
     others)
   where
     nobody-left : (line : List (ℕ × ℕ)) → not (is_empty line) ≡ false → line ≡ []
@@ -208,19 +208,19 @@ dropping needs places row standing lazy me s seen older request before stage nex
     nobody-left (asker ∷ rest) closed = absurd (cc)
 
 -- the exchange succeeds: the holder was the newest, and nobody is behind it
-dropped-step : (needs : Needs) (places : ℕ) (row : ℕ → ℕ) (standing : ℕ → Place) (lazy : Lazy) (me : ℕ) → me < places
-    → (s : Refines needs places row standing lazy) → (seen : Word) (older : ℕ) → row 0 == word_number count_bits seen ≡ true → s.holder ≡ me + 1
+dropped-step : (needs : Needs) (places : ℕ) (row : ℕ → ℕ) (standing : ℕ → Place) (state : AbstractState) (me : ℕ) → me < places
+    → (s : Refines needs places row standing state) → (seen : Word) (older : ℕ) → row 0 == word_number count_bits seen ≡ true → s.holder ≡ me + 1
     → IsRanged needs (DropTail seen older) → IsAlone needs (standing me).registration (standing me).back (DropTail seen older) → s.owed me ≡ []
-    → IsHolding needs (line_of row) me lazy.count lazy.line s.cut (DropTail seen older)
-    → StepRefines needs places row standing lazy me (DropTail seen older)
-dropped-step needs places row standing lazy me here s seen older same mine ranged alone nothing knows =
-    let work : Work lazy.count lazy.line seen = knows.0 in
+    → IsHolding needs (line_of row) me state.count state.line s.cut (DropTail seen older)
+    → StepRefines needs places row standing state me (DropTail seen older)
+dropped-step needs places row standing state me here s seen older same mine ranged alone nothing knows =
+    let work : Work state.count state.line seen = knows.0 in
     let before : List (ℕ × ℕ) = knows.2.0 in
     let request : ℕ = knows.2.1 in
     let found : main_of row ≡ seen = main-found (row 0) seen ranged alone.1 same in
-    let parts : lazy.line ≡ before ++ (me, request) ∷ work.joined =
-    found-parts me lazy.count older lazy.line seen work knows.2 ∙ ap (λ (l : List (ℕ × ℕ)). before ++ (me, request) ∷ (l ++ work.joined)) knows.3 in
-    let once : waits_times me lazy.line ≡ 1 = found-once places standing lazy me request before work.joined s.seats parts in
+    let parts : state.line ≡ before ++ (me, request) ∷ work.joined =
+    found-parts me state.count older state.line seen work knows.2 ∙ ap (λ (l : List (ℕ × ℕ)). before ++ (me, request) ∷ (l ++ work.joined)) knows.3 in
+    let once : waits_times me state.line ≡ 1 = found-once places standing state me request before work.joined s.seats parts in
     let tail : seen.tail ≡ me + 1 =
     work.tail ∙ ap (λ (l : List (ℕ × ℕ)). newest 0 (work.front ++ l)) knows.3 ∙ ap (newest 0) (append-nil work.front ∙ knows.2.2)
     ∙ newest-last 0 before (me, request) in
@@ -229,12 +229,12 @@ dropped-step needs places row standing lazy me here s seen older same mine range
     (ap (newest 0) (sym parts) ∙ sym s.main.tail ∙ ap (λ (w : Word). w.tail) found ∙ tail) in
     let number : ℕ = word_number count_bits (dropped_word seen older) in
     let after : Next = if older == 0 then done (left_line (standing me)) Ended else walking (left_line (standing me)) (dropped_word seen older) in
-    let line : lazy.line ≡ before ++ (me, request) ∷ [] = parts ∙ ap (λ (l : List (ℕ × ℕ)). before ++ (me, request) ∷ l) alone_there in
+    let line : state.line ≡ before ++ (me, request) ∷ [] = parts ∙ ap (λ (l : List (ℕ × ℕ)). before ++ (me, request) ∷ l) alone_there in
     record {
       events = Left ∷ [];
-      last = left lazy before;
-      run = subst (λ (l : List (ℕ × ℕ)). IsRun needs lazy (of_place me (Left ∷ [])) (left lazy l)) (append-nil before)
-          (left-run needs lazy me request before [] line once);
+      last = left state before;
+      run = subst (λ (l : List (ℕ × ℕ)). IsRun needs state (of_place me (Left ∷ [])) (left state l)) (append-nil before)
+          (left-run needs state me request before [] line once);
       names = rw same refl;
       calm = λ semaphore. refl;
       inside = omega arith;
@@ -242,15 +242,15 @@ dropped-step needs places row standing lazy me here s seen older same mine range
           rw same
           (elim (cases_Bool (older == 0)) [
             | inl first ↦
-                subst (λ (n : Next). Refines needs places (updated row 0 number) (updated standing me (place_after (standing me) n)) (left lazy before))
+                subst (λ (n : Next). Refines needs places (updated row 0 number) (updated standing me (place_after (standing me) n)) (left state before))
                 (let is : done (left_line (standing me)) Ended ≡ after = rw first refl in is)
-                (dropping needs places row standing lazy me s seen older request before Quiet 0 here mine knows.1 found line knows.2.3
+                (dropping needs places row standing state me s seen older request before Quiet 0 here mine knows.1 found line knows.2.3
                 tt tt refl (λ word. tt) nothing (sym (nobody me)) (λ is. absurd (omega (arith, is)))
                 (λ other apart. holder-none s.holder me other mine apart) first)
             | inr others ↦
-                subst (λ (n : Next). Refines needs places (updated row 0 number) (updated standing me (place_after (standing me) n)) (left lazy before))
+                subst (λ (n : Next). Refines needs places (updated row 0 number) (updated standing me (place_after (standing me) n)) (left state before))
                 (let is : walking (left_line (standing me)) (dropped_word seen older) ≡ after = rw others refl in is)
-                (dropping needs places row standing lazy me s seen older request before (BackLoad (dropped_word seen older) older 0) s.holder
+                (dropping needs places row standing state me s seen older request before (BackLoad (dropped_word seen older) older 0) s.holder
                 here mine knows.1 found line knows.2.3
                 ranged tt refl (λ word. tt) nothing (sym (ap (λ (n : ℕ). n == me + 1) mine ∙ number_same (me + 1)))
                 (λ keeps. (
@@ -270,30 +270,30 @@ dropped-step needs places row standing lazy me here s seen older same mine range
     }
 
 -- the exchange fails: another word stands there, and the holder looks for itself again from that
-looks-again : (needs : Needs) (places : ℕ) (row : ℕ → ℕ) (standing : ℕ → Place) (lazy : Lazy) (me : ℕ) → me < places
-    → (s : Refines needs places row standing lazy) → (seen : Word) (older : ℕ) → (standing me).stage ≡ DropTail seen older
+looks-again : (needs : Needs) (places : ℕ) (row : ℕ → ℕ) (standing : ℕ → Place) (state : AbstractState) (me : ℕ) → me < places
+    → (s : Refines needs places row standing state) → (seen : Word) (older : ℕ) → (standing me).stage ≡ DropTail seen older
     → row 0 == word_number count_bits seen ≡ false → IsLeaving (standing me).registration (standing me).back → s.owed me ≡ []
-    → IsHolding needs (line_of row) me lazy.count lazy.line s.cut (DropTail seen older)
-    → StepRefines needs places row standing lazy me (DropTail seen older)
-looks-again needs places row standing lazy me here s seen older at differs leaves nothing knows =
+    → IsHolding needs (line_of row) me state.count state.line s.cut (DropTail seen older)
+    → StepRefines needs places row standing state me (DropTail seen older)
+looks-again needs places row standing state me here s seen older at differs leaves nothing knows =
     let next : Place = record (standing me) { stage = LookLoad (main_of row) (main_of row).tail 0 no_line } in
-    let some : is_empty lazy.line ≡ false = holding-some needs (line_of row) me lazy.count lazy.line s.cut (DropTail seen older) knows in
+    let some : is_empty state.line ≡ false = holding-some needs (line_of row) me state.count state.line s.cut (DropTail seen older) knows in
     record {
       events = [];
-      last = lazy;
+      last = state;
       run = refl;
       names = rw differs refl;
       calm = λ semaphore. refl;
       inside = omega arith;
-      stands = rw differs (loaded needs places row (updated standing me next) lazy 0
-          (moved needs places row standing lazy me s next here refl (count-small (row 0)) leaves (λ gives. absurd (cc)) tt nothing (ap is_holder (sym at))
+      stands = rw differs (loaded needs places row (updated standing me next) state 0
+          (moved needs places row standing state me s next here refl (count-small (row 0)) leaves (λ gives. absurd (cc)) tt nothing (ap is_holder (sym at))
           (λ is. (
             record {
-              front = lazy.line;
+              front = state.line;
               behind = [];
               joined = [];
-              parts = sym (append-nil lazy.line);
-              tail = s.main.tail ∙ ap (newest 0) (sym (append-nil lazy.line));
+              parts = sym (append-nil state.line);
+              tail = s.main.tail ∙ ap (newest 0) (sym (append-nil state.line));
               count = omega (arith, s.main.count);
             },
             knows.1,
@@ -304,17 +304,17 @@ looks-again needs places row standing lazy me here s seen older at differs leave
     }
 
 -- Where nobody is behind the holder, the tail is whoever is before it
-pub step-DropTail : (needs : Needs) → AreNeeds needs → needs.top < 2 ^ count_bits → (places : ℕ) (row : ℕ → ℕ) (standing : ℕ → Place) (lazy : Lazy) (me : ℕ)
-    → places < 65536 → me < places → (s : Refines needs places row standing lazy)
+pub step-DropTail : (needs : Needs) → AreNeeds needs → needs.top < 2 ^ count_bits → (places : ℕ) (row : ℕ → ℕ) (standing : ℕ → Place) (state : AbstractState) (me : ℕ)
+    → places < 65536 → me < places → (s : Refines needs places row standing state)
     → (seen : Word) (older : ℕ) → (standing me).stage ≡ DropTail seen older
-    → StepRefines needs places row standing lazy me (DropTail seen older)
-step-DropTail needs lawful wide places row standing lazy me room here s seen older at =
-    let mine : s.holder ≡ me + 1 = flag-held needs places row standing lazy me s (ap is_holder at) in
-    let knows = flag-knows needs places row standing lazy me s (DropTail seen older) at refl in
+    → StepRefines needs places row standing state me (DropTail seen older)
+step-DropTail needs lawful wide places row standing state me room here s seen older at =
+    let mine : s.holder ≡ me + 1 = flag-held needs places row standing state me s (ap is_holder at) in
+    let knows = flag-knows needs places row standing state me s (DropTail seen older) at refl in
     let ranged = subst (λ (stage : Stage). IsRanged needs stage) at (s.stages.ranged me) in
     let alone = subst (λ (stage : Stage). IsAlone needs (standing me).registration (standing me).back stage) at (s.stages.alone me) in
     let nothing = subst (λ (stage : Stage). IsShowing (s.owed me) (s.worth me) stage) at (s.stages.showing me) in
     elim (cases_Bool (row 0 == word_number count_bits seen)) [
-      | inl same ↦ dropped-step needs places row standing lazy me here s seen older same mine ranged alone nothing knows
-      | inr differs ↦ looks-again needs places row standing lazy me here s seen older at differs alone.0 nothing knows
+      | inl same ↦ dropped-step needs places row standing state me here s seen older same mine ranged alone nothing knows
+      | inr differs ↦ looks-again needs places row standing state me here s seen older at differs alone.0 nothing knows
     ]

@@ -9,7 +9,7 @@ use Rattle.saa_core_words.specs.Words.{count_bits, line_number, line_word_of}
 use Rattle.saa_word_steps.specs.declared.place.Place.{Place}
 use Rattle.saa_word_steps.specs.declared.place.Stage.TheVariants.{BackLoad, BackStore, Forward, CutToClose, Close, Empty}
 use Rattle.saa_word_steps.specs.Needs.{Needs, AreNeeds, fits_count}
-use Rattle.saa_word_steps.specs.Lazy.{Lazy, IsSettledAt, takes_of, is_empty}
+use Rattle.saa_word_steps.specs.AbstractState.{AbstractState, IsSettledAt, takes_of, is_empty}
 use Rattle.saa_word_steps.specs.Steps.{IsRanged, IsRangedNext, next_of}
 use Rattle.saa_word_steps.proofs.Ranges.{next-ranged}
 use Rattle.saa_word_proofs.specs.Refinement.{updated, line_of, newest, is_holder, IsAlone, IsShowing, Work, IsAdded, IsAt, Refines}
@@ -21,50 +21,50 @@ use Rattle.saa_word_proofs.proofs.RefinementLemmas.Storing.{IsStored, stored}
 use Rattle.saa_word_proofs.proofs.RefinementLemmas.Linking.{flag-held, flag-knows, apart-by, in-line, relinked, IsLooked, looked, linked-all, tail-room}
 
 -- The line word of the last of the front is loaded, before it is linked to those behind it
-pub step-BackLoad : (needs : Needs) → AreNeeds needs → needs.top < 2 ^ count_bits → (places : ℕ) (row : ℕ → ℕ) (standing : ℕ → Place) (lazy : Lazy) (me : ℕ)
-    → places < 65536 → me < places → (s : Refines needs places row standing lazy)
+pub step-BackLoad : (needs : Needs) → AreNeeds needs → needs.top < 2 ^ count_bits → (places : ℕ) (row : ℕ → ℕ) (standing : ℕ → Place) (state : AbstractState) (me : ℕ)
+    → places < 65536 → me < places → (s : Refines needs places row standing state)
     → (seen : Word) (current newer : ℕ) → (standing me).stage ≡ BackLoad seen current newer
-    → StepRefines needs places row standing lazy me (BackLoad seen current newer)
-step-BackLoad needs lawful wide places row standing lazy me room here s seen current newer at =
-    let knows = flag-knows needs places row standing lazy me s (BackLoad seen current newer) at refl in
+    → StepRefines needs places row standing state me (BackLoad seen current newer)
+step-BackLoad needs lawful wide places row standing state me room here s seen current newer at =
+    let knows = flag-knows needs places row standing state me s (BackLoad seen current newer) at refl in
     let there = newest-stands knows.0.front current knows.2.1 knows.2.0 in
-    let seat = in-line places standing lazy (pred current) s.seats (work-front lazy.count lazy.line seen knows.0 (pred current) there.0) in
+    let seat = in-line places standing state (pred current) s.seats (work-front state.count state.line seen knows.0 (pred current) there.0) in
     let next : Place = record (standing me) { stage = BackStore seen current newer (line_word_of (row current)) } in
     record {
       events = [];
-      last = lazy;
+      last = state;
       run = refl;
       names = refl;
       calm = λ semaphore. refl;
       inside = omega (arith, there.1, seat.0);
-      stands = loaded needs places row (updated standing me next) lazy current
-          (moved needs places row standing lazy me s next here refl
+      stands = loaded needs places row (updated standing me next) state current
+          (moved needs places row standing state me s next here refl
           (subst (λ stage. IsRanged needs stage) at (s.stages.ranged me))
           (subst (λ stage. IsAlone needs (standing me).registration (standing me).back stage) at (s.stages.alone me))
-          (apart-at needs places row standing lazy me s (BackLoad seen current newer) at) tt
+          (apart-at needs places row standing state me s (BackLoad seen current newer) at) tt
           (subst (λ stage. IsShowing (s.owed me) (s.worth me) stage) at (s.stages.showing me)) (ap is_holder (sym at))
           (λ is. (knows.0, knows.1, knows.2, ap (λ (n : ℕ). line_word_of (row n)) there.1)));
     }
 
 -- It is written with the link to the one behind it; the walk goes on to the one before, or turns at the oldest
-pub step-BackStore : (needs : Needs) → AreNeeds needs → needs.top < 2 ^ count_bits → (places : ℕ) (row : ℕ → ℕ) (standing : ℕ → Place) (lazy : Lazy) (me : ℕ)
-    → places < 65536 → me < places → (s : Refines needs places row standing lazy)
+pub step-BackStore : (needs : Needs) → AreNeeds needs → needs.top < 2 ^ count_bits → (places : ℕ) (row : ℕ → ℕ) (standing : ℕ → Place) (state : AbstractState) (me : ℕ)
+    → places < 65536 → me < places → (s : Refines needs places row standing state)
     → (seen : Word) (current newer : ℕ) (line : LineWord) → (standing me).stage ≡ BackStore seen current newer line
-    → StepRefines needs places row standing lazy me (BackStore seen current newer line)
-step-BackStore needs lawful wide places row standing lazy me room here s seen current newer line at =
-    let knows = flag-knows needs places row standing lazy me s (BackStore seen current newer line) at refl in
-    let flag = flag-held needs places row standing lazy me s (ap is_holder at) in
-    let store : IsStored places row lazy s.cut s.uncut seen current newer line knows.0 =
-    stored needs places row standing lazy s seen current newer line knows.0 room knows.1 knows.2 knows.3 in
-    let work : Work lazy.count lazy.line seen = store.walk.work in
+    → StepRefines needs places row standing state me (BackStore seen current newer line)
+step-BackStore needs lawful wide places row standing state me room here s seen current newer line at =
+    let knows = flag-knows needs places row standing state me s (BackStore seen current newer line) at refl in
+    let flag = flag-held needs places row standing state me s (ap is_holder at) in
+    let store : IsStored places row state s.cut s.uncut seen current newer line knows.0 =
+    stored needs places row standing state s seen current newer line knows.0 room knows.1 knows.2 knows.3 in
+    let work : Work state.count state.line seen = store.walk.work in
     let number : ℕ = line_number (record line { newer = newer }) in
     let ranged = subst (λ stage. IsRanged needs stage) at (s.stages.ranged me) in
     let alone = subst (λ stage. IsAlone needs (standing me).registration (standing me).back stage) at (s.stages.alone me) in
-    let apart = apart-at needs places row standing lazy me s (BackStore seen current newer line) at in
+    let apart = apart-at needs places row standing state me s (BackStore seen current newer line) at in
     let showing = subst (λ stage. IsShowing (s.owed me) (s.worth me) stage) at (s.stages.showing me) in
     record {
       events = [];
-      last = lazy;
+      last = state;
       run = refl;
       names = refl;
       calm = λ semaphore. refl;
@@ -76,9 +76,9 @@ step-BackStore needs lawful wide places row standing lazy me room here s seen cu
                 empty-nil work.front (sym (newest-empty work.front) ∙ ap (λ (n : ℕ). n == 0) (sym store.walk.before) ∙ none) in
                 rw none
                 (subst (λ (link : ℕ).
-                Refines needs places (updated row link number) (updated standing me (record (standing me) { stage = Forward seen current seen.count })) lazy)
+                Refines needs places (updated row link number) (updated standing me (record (standing me) { stage = Forward seen current seen.count })) state)
                 (sym store.link)
-                (relinked needs places row standing lazy me s (Forward seen current seen.count) (pred current) number s.cut s.uncut here flag store.waits
+                (relinked needs places row standing state me s (Forward seen current seen.count) (pred current) number s.cut s.uncut here flag store.waits
                 store.linked
                 (ranged, ranged) alone apart tt showing refl
                 (work, knows.1, subst (λ l. IsAdded needs seen l seen.count) (sym nobody) (tt, omega arith), store.walk.behind)))
@@ -87,9 +87,9 @@ step-BackStore needs lawful wide places row standing lazy me room here s seen cu
                 sym (newest-empty work.front) ∙ ap (λ (n : ℕ). n == 0) (sym store.walk.before) ∙ some in
                 rw some
                 (subst (λ (link : ℕ).
-                Refines needs places (updated row link number) (updated standing me (record (standing me) { stage = BackLoad seen line.older current })) lazy)
+                Refines needs places (updated row link number) (updated standing me (record (standing me) { stage = BackLoad seen line.older current })) state)
                 (sym store.link)
-                (relinked needs places row standing lazy me s (BackLoad seen line.older current) (pred current) number s.cut s.uncut here flag store.waits
+                (relinked needs places row standing state me s (BackLoad seen line.older current) (pred current) number s.cut s.uncut here flag store.waits
                 store.linked
                 ranged alone apart tt showing refl
                 (work, knows.1, (store.walk.before, somebody, store.walk.behind.0, store.walk.behind.2))))
@@ -131,38 +131,38 @@ passed needs words held line seen current count work added look fits differs =
     )
 
 -- Whoever fits is passed; the line is emptied where all fit, and cut and closed at the first who does not
-pub step-Forward : (needs : Needs) → AreNeeds needs → needs.top < 2 ^ count_bits → (places : ℕ) (row : ℕ → ℕ) (standing : ℕ → Place) (lazy : Lazy) (me : ℕ)
-    → places < 65536 → me < places → (s : Refines needs places row standing lazy)
+pub step-Forward : (needs : Needs) → AreNeeds needs → needs.top < 2 ^ count_bits → (places : ℕ) (row : ℕ → ℕ) (standing : ℕ → Place) (state : AbstractState) (me : ℕ)
+    → places < 65536 → me < places → (s : Refines needs places row standing state)
     → (seen : Word) (current count : ℕ) → (standing me).stage ≡ Forward seen current count
-    → StepRefines needs places row standing lazy me (Forward seen current count)
-step-Forward needs lawful wide places row standing lazy me room here s seen current count at =
-    let knows = flag-knows needs places row standing lazy me s (Forward seen current count) at refl in
-    let work : Work lazy.count lazy.line seen = knows.0 in
+    → StepRefines needs places row standing state me (Forward seen current count)
+step-Forward needs lawful wide places row standing state me room here s seen current count at =
+    let knows = flag-knows needs places row standing state me s (Forward seen current count) at refl in
+    let work : Work state.count state.line seen = knows.0 in
     let there = oldest-stands work.behind current knows.3.1 knows.3.0 in
-    let seat = in-line places standing lazy (pred current) s.seats (work-behind lazy.count lazy.line seen work (pred current) there.0) in
+    let seat = in-line places standing state (pred current) s.seats (work-behind state.count state.line seen work (pred current) there.0) in
     let found : LineWord = line_word_of (row current) in
     let is : found ≡ line_of row (pred current) = ap (λ (n : ℕ). line_word_of (row n)) there.1 in
-    let look : IsLooked (line_of row) lazy.count lazy.line seen work current =
-    looked (line_of row) lazy.count lazy.line seen work current (linked-all (line_of row) lazy.line s.cut s.uncut s.line knows.1) knows.3 in
+    let look : IsLooked (line_of row) state.count state.line seen work current =
+    looked (line_of row) state.count state.line seen work current (linked-all (line_of row) state.line s.cut s.uncut s.line knows.1) knows.3 in
     let older : found.older ≡ newest 0 work.front = ap (λ (w : LineWord). w.older) is ∙ look.older in
     let request : found.request ≡ look.asker.1 = ap (λ (w : LineWord). w.request) is ∙ look.request in
-    let tail : seen.tail < 65536 = tail-room places standing lazy seen work s.seats room knows.3.1 in
+    let tail : seen.tail < 65536 = tail-room places standing state seen work s.seats room knows.3.1 in
     let ranged : IsRangedNext needs (next_of needs me (standing me) (Forward seen current count) (row current)) =
     next-ranged needs lawful wide me (standing me) (Forward seen current count) (row current) (s.stages.ranged me)
     (subst (λ stage. IsRanged needs stage) at (s.stages.ranged me)) in
     let alone = subst (λ stage. IsAlone needs (standing me).registration (standing me).back stage) at (s.stages.alone me) in
-    let apart = apart-at needs places row standing lazy me s (Forward seen current count) at in
+    let apart = apart-at needs places row standing state me s (Forward seen current count) at in
     let showing : s.owed me ≡ [] = subst (λ stage. IsShowing (s.owed me) (s.worth me) stage) at (s.stages.showing me) in
     record {
       events = [];
-      last = lazy;
+      last = state;
       run = refl;
       names = refl;
       calm = λ semaphore. refl;
       inside = omega (arith, there.1, seat.0);
       stands =
           loaded needs places row
-          (updated standing me (place_after (standing me) (next_of needs me (standing me) (Forward seen current count) (row current)))) lazy current
+          (updated standing me (place_after (standing me) (next_of needs me (standing me) (Forward seen current count) (row current)))) state current
           (elim (cases_Bool (fits_count needs count found.request)) [
             | inl fits ↦
                 let fits_there : fits_count needs count (line_of row (pred current)).request ≡ true =
@@ -171,7 +171,7 @@ step-Forward needs lawful wide places row standing lazy me room here s seen curr
                   | inl last ↦
                       let range : IsRanged needs (Empty seen current (count + needs.takes found.request) found) = rw (fits, last) at ranged in
                       rw (fits, last)
-                      (moved needs places row standing lazy me s (record (standing me) { stage = Empty seen current (count + needs.takes found.request) found })
+                      (moved needs places row standing state me s (record (standing me) { stage = Empty seen current (count + needs.takes found.request) found })
                       here refl range (tail, alone) apart tt showing (ap is_holder (sym at))
                       (λ holder. (
                         work,
@@ -185,9 +185,9 @@ step-Forward needs lawful wide places row standing lazy me room here s seen curr
                       )))
                   | inr differs ↦
                       let range : IsRanged needs (Forward seen found.newer (count + needs.takes found.request)) = rw (fits, differs) at ranged in
-                      let after = passed needs (line_of row) lazy.count lazy.line seen current count work knows.2 look fits_there differs in
+                      let after = passed needs (line_of row) state.count state.line seen current count work knows.2 look fits_there differs in
                       rw (fits, differs)
-                      (moved needs places row standing lazy me s (record (standing me) { stage = Forward seen found.newer (count + needs.takes found.request) })
+                      (moved needs places row standing state me s (record (standing me) { stage = Forward seen found.newer (count + needs.takes found.request) })
                       here refl range alone apart tt showing (ap is_holder (sym at))
                       (λ holder. (
                         after.0,
@@ -203,7 +203,7 @@ step-Forward needs lawful wide places row standing lazy me room here s seen curr
                       let nobody : work.front ≡ [] =
                       empty-nil work.front (sym (newest-empty work.front) ∙ ap (λ (n : ℕ). n == 0) (sym older) ∙ none) in
                       rw (unfit, none)
-                      (moved needs places row standing lazy me s (record (standing me) { stage = Close seen count 0 })
+                      (moved needs places row standing state me s (record (standing me) { stage = Close seen count 0 })
                       here refl range (tail, alone) apart tt showing (ap is_holder (sym at))
                       (λ holder. (
                         work,
@@ -216,7 +216,7 @@ step-Forward needs lawful wide places row standing lazy me room here s seen curr
                   | inr some ↦
                       let range : IsRanged needs (CutToClose seen current count found) = rw (unfit, some) at ranged in
                       rw (unfit, some)
-                      (moved needs places row standing lazy me s (record (standing me) { stage = CutToClose seen current count found })
+                      (moved needs places row standing state me s (record (standing me) { stage = CutToClose seen current count found })
                       here refl range alone apart tt showing (ap is_holder (sym at))
                       (λ holder. (work, knows.1, knows.2, knows.3, is, unfit)))
                 ]

@@ -13,6 +13,7 @@ use Rattle.saa_word_steps.specs.declared.place.Reading.TheVariants.{Available as
 use Rattle.saa_word_steps.specs.declared.place.Taking.{Taking}
 use Rattle.saa_word_steps.specs.declared.place.Taking.TheVariants.{Tries, Awaits}
 use Rattle.saa_word_steps.specs.declared.place.Place.{Place}
+use Rattle.saa_word_steps.specs.declared.place.Given.TheVariants.{Asked, AllButAShare}
 use Rattle.saa_word_steps.specs.declared.place.Registration.{Registration}
 use Rattle.saa_word_steps.specs.declared.place.Registration.TheVariants.{Idle, Once, Slot}
 use Rattle.saa_word_steps.specs.declared.place.Stage.TheVariants.{Quiet, ReadLoad, AskLoad, ReleaseLoad, Take, FlagLoad, PoisonLoad, Clear}
@@ -21,11 +22,11 @@ use Rattle.saa_word_steps.specs.declared.place.Next.TheVariants.{Going, Done}
 use Rattle.saa_word_steps.specs.declared.call.Answer.{Answer}
 use Rattle.saa_word_steps.specs.declared.call.Answer.TheVariants.{Bool as Says, Taken, Unit as SaysNothing}
 use Rattle.saa_word_steps.specs.declared.call.WordCall.{WordCall}
-use Rattle.saa_word_steps.specs.declared.call.WordCall.TheVariants.{Try, Register, Release, Available, TryLock, TryShare, RegisterMode, ReleaseLock, ReleaseShare, PoisonLock, ClearPoison, IsFree, IsLocked, IsShared, IsPoisoned, TryPoll, Poll, Cancel}
+use Rattle.saa_word_steps.specs.declared.call.WordCall.TheVariants.{Try, Register, Release, Available, TryLock, TryShare, RegisterMode, ReleaseLock, ReleaseShare, Downgrade, PoisonLock, ClearPoison, IsFree, IsLocked, IsShared, IsPoisoned, TryPoll, Poll, Cancel}
 use Rattle.saa_word_steps.specs.Needs.{Needs, AreNeeds}
 use Rattle.saa_word_steps.specs.declared.event.Event.{Event}
 use Rattle.saa_word_steps.specs.Steps.{needs_of, is_taken, is_idle, going, started, tried_as, registered_as, released_as, polled_as, cancelled_as, mode_number}
-use Rattle.saa_word_steps.proofs.LazyRuns.{permits-lawful}
+use Rattle.saa_word_steps.proofs.AbstractRuns.{permits-lawful}
 use Rattle.saa_word_steps.proofs.LockNeeds.{locks-lawful}
 use Rattle.saa_word_proofs.specs.Refinement.{updated, Refines}
 use Rattle.saa_word_proofs.specs.StepRefinement.{place_after}
@@ -41,7 +42,7 @@ use Rattle.saa_word_proofs.proofs.SoloLemmas.Givings.{release-large, release-non
 use Rattle.saa_word_proofs.proofs.SoloLemmas.Cancels.{cancel-idle, cancel-once}
 use Rattle.saa_word_proofs.proofs.SoloLemmas.PollsAlone.{poll-once, poll-idle}
 use Rattle.saa_word_proofs.proofs.SoloLemmas.Along.{Arrives, from-start}
-use Rattle.saa_word_proofs.proofs.SoloLemmas.Endings.{IsOver, Beside, end-try, end-register, end-release, end-try_poll, end-poll, end-read, end-poison, end-clear, end-cancel-once, end-cancel-slot}
+use Rattle.saa_word_proofs.proofs.SoloLemmas.Endings.{IsOver, Beside, end-try, end-register, end-release, end-downgrade, end-try_poll, end-poll, end-read, end-poison, end-clear, end-cancel-once, end-cancel-slot}
 
 -- the needs of any rules are those of a form
 pub rules-lawful : (rules : Rules) → AreNeeds (needs_of rules)
@@ -57,12 +58,12 @@ quiet-put first me place quiet is other =
 
 -- what is known as a call starts
 starting : (rules : Rules) (places me : ℕ) (now : Moment) (s : Object) (b : Begins rules places me now s)
-    → Starts (needs_of rules) places me now.standing b.lazy s
+    → Starts (needs_of rules) places me now.standing b.state s
 starting rules places me now s b = record {
   here = b.here;
   mirrors = b.mirrors;
   seats = b.stands.seats;
-  paid = (at-rest (needs_of rules) places now.row now.standing b.lazy b.stands b.quiet).paid;
+  paid = (at-rest (needs_of rules) places now.row now.standing b.state b.stands b.quiet).paid;
   bounded = b.stands.main.bounded;
   barren = b.stands.main.barren;
 }
@@ -78,16 +79,16 @@ ByStart needs places me steps now answer last start =
 begin-done : (rules : Rules) (places me : ℕ) (is_sync : Bool) (call : WordCall) (now : Moment) (s : Object) (b : Begins rules places me now s) (steps : ℕ) (answer : Answer) (last : Moment)
     → is_taken (needs_of rules).is_lock call ≡ true → IsCalledAlone (needs_of rules) places me call steps now answer last
     → (place : Place) (said : Answer) → started (needs_of rules) (now.standing me) call ≡ Done place said
-    → Answers (needs_of rules) places me is_sync call (updated now.standing me place) s b.lazy said
+    → Answers (needs_of rules) places me is_sync call (updated now.standing me place) s b.state said
     → Agrees (needs_of rules) places me is_sync call s answer last
 begin-done rules places me is_sync call now s b steps answer last taken h place said is answers =
     let needs : Needs = needs_of rules in
     let was : Place = now.standing me in
     let done : (steps ≡ 0) × (said ≡ answer) × (put me (Done place said) now ≡ last) = subst (ByStart needs places me steps now answer last) is h in
     let ended : Agrees needs places me is_sync call s answer (put me (Done place said) now) = record {
-      lazy = b.lazy;
-      stands = subst (λ (next : Next). Refines needs places now.row (updated now.standing me (place_after was next)) b.lazy) is
-          (starts needs b.small places now.row now.standing b.lazy me call b.here b.stands (b.quiet me) taken);
+      state = b.state;
+      stands = subst (λ (next : Next). Refines needs places now.row (updated now.standing me (place_after was next)) b.state) is
+          (starts needs b.small places now.row now.standing b.state me call b.here b.stands (b.quiet me) taken);
       quiet = quiet-put now.standing me place b.quiet
           (subst (λ (next : Next). IsBegun needs call was.registration next) is (call-begun needs was call (b.quiet me)));
       mirrors = answers.mirrors;
@@ -99,28 +100,28 @@ begin-done rules places me is_sync call now s b steps answer last taken h place 
 begin-going : (rules : Rules) (places me : ℕ) (is_sync : Bool) (call : WordCall) (now : Moment) (s : Object) (b : Begins rules places me now s) (steps : ℕ) (answer : Answer) (last : Moment)
     → is_taken (needs_of rules).is_lock call ≡ true → IsCalledAlone (needs_of rules) places me call steps now answer last
     → (place : Place) → started (needs_of rules) (now.standing me) call ≡ Going place
-    → ((e : IsOver rules places me call now.standing b.lazy s place.registration answer last)
-    → Beside rules places me is_sync call now.standing s e.arrived.lazy answer last)
+    → ((e : IsOver rules places me call now.standing b.state s place.registration answer last)
+    → Beside rules places me is_sync call now.standing s e.arrived.state answer last)
     → Agrees (needs_of rules) places me is_sync call s answer last
 begin-going rules places me is_sync call now s b steps answer last taken h place is beside =
     let needs : Needs = needs_of rules in
-    let arrived : Arrives needs places me b.lazy now.standing call (now.standing me).registration place.registration answer last =
-    from-start needs (rules-lawful rules) b.small places me b.room b.here call place b.lazy answer last steps now b.stands (b.quiet me) taken is
+    let arrived : Arrives needs places me b.state now.standing call (now.standing me).registration place.registration answer last =
+    from-start needs (rules-lawful rules) b.small places me b.room b.here call place b.state answer last steps now b.stands (b.quiet me) taken is
     (subst (ByStart needs places me steps now answer last) is h) in
     let quiet : IsQuiet last.standing =
     subst (λ (f : ℕ → Place). IsQuiet f) (sym arrived.others) (quiet-put now.standing me (last.standing me) b.quiet arrived.quiet) in
     let answers = beside (record {
       taken = taken;
       starts = starting rules places me now s b;
-      closed = (at-rest needs places now.row now.standing b.lazy b.stands b.quiet).closed;
+      closed = (at-rest needs places now.row now.standing b.state b.stands b.quiet).closed;
       arrived = arrived;
-      rest = at-rest needs places last.row last.standing arrived.lazy arrived.stands quiet;
+      rest = at-rest needs places last.row last.standing arrived.state arrived.stands quiet;
     }) in
     record {
-      lazy = arrived.lazy;
+      state = arrived.state;
       stands = arrived.stands;
       quiet = quiet;
-      mirrors = subst (λ (f : ℕ → Place). Mirrors needs places f arrived.lazy (called needs.is_lock me is_sync call s).state) (sym arrived.others) answers.mirrors;
+      mirrors = subst (λ (f : ℕ → Place). Mirrors needs places f arrived.state (called needs.is_lock me is_sync call s).state) (sym arrived.others) answers.mirrors;
       same = sym answers.same;
     }
 
@@ -135,7 +136,7 @@ Asks needs call ask =
 abbrev Gives : Needs → WordCall → ℕ → Type 0
 Gives needs call given =
     (registered : Registration) (names : List Event) (answer : Answer) → IsAnswered needs call registered names answer
-    → (event : Event) × (names ≡ event ∷ []) × (release_named given event ≡ Some answer)
+    → (event : Event) × (names ≡ event ∷ []) × (release_named (Asked given) event ≡ Some answer)
 
 abbrev Reads : Needs → WordCall → Reading → Type 0
 Reads needs call reading =
@@ -154,7 +155,7 @@ begin-tries rules places me is_sync call now s b steps answer last taken h reque
     begin-going rules places me is_sync call now s b steps answer last taken h (record (now.standing me) { stage = AskLoad ask }) is
     (λ e.
     let one = asks (now.standing me).registration e.arrived.names answer e.arrived.answered in
-    end-try rules places me is_sync call now.standing b.lazy s (now.standing me).registration answer last e ask asked refl refl one.0 one.1 one.2)
+    end-try rules places me is_sync call now.standing b.state s (now.standing me).registration answer last e ask asked refl refl one.0 one.1 one.2)
 
 -- a registration
 begin-registers : (rules : Rules) (places me : ℕ) (is_sync : Bool) (call : WordCall) (now : Moment) (s : Object) (b : Begins rules places me now s) (steps : ℕ) (answer : Answer) (last : Moment)
@@ -173,12 +174,12 @@ begin-registers rules places me is_sync call now s b steps answer last taken h r
           (is ∙ ap (λ (b : Bool). if b then going was (AskLoad ask) else Done was (Says false)) idle)
           (λ e.
           let one = asks was.registration e.arrived.names answer e.arrived.answered in
-          end-register rules places me is_sync call now.standing b.lazy s was.registration answer last e ask asked refl (idle-is was.registration idle) within
+          end-register rules places me is_sync call now.standing b.state s was.registration answer last e ask asked refl (idle-is was.registration idle) within
           one.0 one.1 one.2)
       | inr busy ↦
           begin-done rules places me is_sync call now s b steps answer last taken h was (Says false)
           (is ∙ ap (λ (b : Bool). if b then going was (AskLoad ask) else Done was (Says false)) busy)
-          (register-busy rules places me is_sync call now.standing b.lazy s ask was (starting rules places me now s b) asked refl taken busy refl)
+          (register-busy rules places me is_sync call now.standing b.state s ask was (starting rules places me now s b) asked refl taken busy refl)
     ]
   where
     idle-is : (registration : Registration) → is_idle registration ≡ true → registration ≡ Idle
@@ -189,14 +190,14 @@ begin-registers rules places me is_sync call now s b steps answer last taken h r
 -- a release
 begin-releases : (rules : Rules) (places me : ℕ) (is_sync : Bool) (call : WordCall) (now : Moment) (s : Object) (b : Begins rules places me now s) (steps : ℕ) (answer : Answer) (last : Moment)
     → is_taken (needs_of rules).is_lock call ≡ true → IsCalledAlone (needs_of rules) places me call steps now answer last
-    → (given : ℕ) → given_by call ≡ Some given → Gives (needs_of rules) call given → ((needs_of rules).is_lock ≡ false → given == 0 ≡ false)
-    → started (needs_of rules) (now.standing me) call ≡ released_as (now.standing me) given
+    → (given : ℕ) → given_by call ≡ Some (Asked given) → Gives (needs_of rules) call given → ((needs_of rules).is_lock ≡ false → given == 0 ≡ false)
+    → started (needs_of rules) (now.standing me) call ≡ released_as (now.standing me) (Asked given)
     → Agrees (needs_of rules) places me is_sync call s answer last
 begin-releases rules places me is_sync call now s b steps answer last taken h given gives names some is =
-    begin-going rules places me is_sync call now s b steps answer last taken h (record (now.standing me) { stage = ReleaseLoad given; back = Tells }) is
+    begin-going rules places me is_sync call now s b steps answer last taken h (record (now.standing me) { stage = ReleaseLoad (Asked given); back = Tells }) is
     (λ e.
     let one = names (now.standing me).registration e.arrived.names answer e.arrived.answered in
-    end-release rules places me is_sync call now.standing b.lazy s (now.standing me).registration answer last e given gives some refl one.0 one.1 one.2)
+    end-release rules places me is_sync call now.standing b.state s (now.standing me).registration answer last e given gives some refl one.0 one.1 one.2)
 
 -- a reading
 begin-reads : (rules : Rules) (places me : ℕ) (is_sync : Bool) (call : WordCall) (now : Moment) (s : Object) (b : Begins rules places me now s) (steps : ℕ) (answer : Answer) (last : Moment)
@@ -208,25 +209,25 @@ begin-reads rules places me is_sync call now s b steps answer last taken h readi
     begin-going rules places me is_sync call now s b steps answer last taken h (record (now.standing me) { stage = ReadLoad reading }) is
     (λ e.
     let one = names (now.standing me).registration e.arrived.names answer e.arrived.answered in
-    end-read rules places me is_sync call now.standing b.lazy s (now.standing me).registration answer last e reading looks refl one.0 one.1 one.2)
+    end-read rules places me is_sync call now.standing b.state s (now.standing me).registration answer last e reading looks refl one.0 one.1 one.2)
 
 -- polls: only who joined the line has steps to make
 begin-polled : (rules : Rules) (places me : ℕ) (is_sync : Bool) (call : WordCall) (now : Moment) (s : Object) (b : Begins rules places me now s) (steps : ℕ) (answer : Answer) (last : Moment)
     → is_taken (needs_of rules).is_lock call ≡ true → IsCalledAlone (needs_of rules) places me call steps now answer last
     → (taking : Taking) → taken_by call ≡ Some taking → started (needs_of rules) (now.standing me) call ≡ polled_as (now.standing me) taking (now.standing me).registration
-    → ((e : IsOver rules places me call now.standing b.lazy s (now.standing me).registration answer last)
-    → Beside rules places me is_sync call now.standing s e.arrived.lazy answer last)
+    → ((e : IsOver rules places me call now.standing b.state s (now.standing me).registration answer last)
+    → Beside rules places me is_sync call now.standing s e.arrived.state answer last)
     → (registration : Registration) → (now.standing me).registration ≡ registration
     → Agrees (needs_of rules) places me is_sync call s answer last
 begin-polled rules places me is_sync call now s b steps answer last taken h taking takes start ends Idle is =
     begin-done rules places me is_sync call now s b steps answer last taken h (now.standing me) (Taken (Err NotRegistered))
     (start ∙ ap (polled_as (now.standing me) taking) is)
-    (poll-idle rules places me is_sync call now.standing b.lazy s taking (now.standing me) (starting rules places me now s b) takes is refl)
+    (poll-idle rules places me is_sync call now.standing b.state s taking (now.standing me) (starting rules places me now s b) takes is refl)
 begin-polled rules places me is_sync call now s b steps answer last taken h taking takes start ends (Once value request) is =
     let place : Place = record (now.standing me) { registration = Idle } in
     begin-done rules places me is_sync call now s b steps answer last taken h place (Taken (Ok (value == granted_value)))
     (start ∙ ap (polled_as (now.standing me) taking) is)
-    (poll-once rules places me is_sync call now.standing b.lazy s taking value request place (starting rules places me now s b) takes is refl)
+    (poll-once rules places me is_sync call now.standing b.state s taking value request place (starting rules places me now s b) takes is refl)
 begin-polled rules places me is_sync call now s b steps answer last taken h taking takes start ends (Slot request) is =
     begin-going rules places me is_sync call now s b steps answer last taken h (record (now.standing me) { stage = Take taking })
     (start ∙ ap (polled_as (now.standing me) taking) is) ends
@@ -239,11 +240,11 @@ begin-cancel : (rules : Rules) (places me : ℕ) (is_sync : Bool) (now : Moment)
 begin-cancel rules places me is_sync now s b steps answer last taken h Idle is =
     begin-done rules places me is_sync Cancel now s b steps answer last taken h (now.standing me) SaysNothing
     (ap (cancelled_as (needs_of rules) (now.standing me)) is)
-    (cancel-idle rules places me is_sync now.standing b.lazy s (now.standing me) (starting rules places me now s b) is refl)
+    (cancel-idle rules places me is_sync now.standing b.state s (now.standing me) (starting rules places me now s b) is refl)
 begin-cancel rules places me is_sync now s b steps answer last taken h (Once value request) is =
     let needs : Needs = needs_of rules in
     let was : Place = now.standing me in
-    let giving : Place = record was { registration = Idle; stage = ReleaseLoad request; back = EndsCall } in
+    let giving : Place = record was { registration = Idle; stage = ReleaseLoad (Asked request); back = EndsCall } in
     let kept : Place = record was { registration = Idle; stage = Quiet } in
     elim (cases_Bool (is_taken_up needs request value)) [
       | inl took ↦
@@ -253,15 +254,15 @@ begin-cancel rules places me is_sync now s b steps answer last taken h (Once val
           let cancelled : IsCancelled needs (Once value request) e.arrived.names =
           subst (λ (r : Registration). IsCancelled needs r e.arrived.names) is e.arrived.answered.1 in
           subst
-          (λ (a : Answer). (o : IsOver rules places me Cancel now.standing b.lazy s Idle a last) → IsDropped request o.arrived.names
-          → Beside rules places me is_sync Cancel now.standing s o.arrived.lazy a last)
+          (λ (a : Answer). (o : IsOver rules places me Cancel now.standing b.state s Idle a last) → IsDropped request o.arrived.names
+          → Beside rules places me is_sync Cancel now.standing s o.arrived.state a last)
           (sym e.arrived.answered.0)
-          (λ o drops. end-cancel-once rules places me is_sync now.standing b.lazy s Idle last o value request is took refl drops)
+          (λ o drops. end-cancel-once rules places me is_sync now.standing b.state s Idle last o value request is took refl drops)
           e cancelled.1)
       | inr keeps ↦
           begin-done rules places me is_sync Cancel now s b steps answer last taken h kept SaysNothing
           (ap (cancelled_as needs was) is ∙ ap (λ (b : Bool). if b then Going giving else Done kept SaysNothing) keeps)
-          (cancel-once rules places me is_sync now.standing b.lazy s value request kept (starting rules places me now s b) is keeps refl)
+          (cancel-once rules places me is_sync now.standing b.state s value request kept (starting rules places me now s b) is keeps refl)
     ]
 begin-cancel rules places me is_sync now s b steps answer last taken h (Slot request) is =
     let needs : Needs = needs_of rules in
@@ -270,10 +271,10 @@ begin-cancel rules places me is_sync now s b steps answer last taken h (Slot req
     (ap (cancelled_as needs was) is)
     (λ e.
     subst
-    (λ (a : Answer). (o : IsOver rules places me Cancel now.standing b.lazy s was.registration a last) → IsCancelled needs (Slot request) o.arrived.names
-    → Beside rules places me is_sync Cancel now.standing s o.arrived.lazy a last)
+    (λ (a : Answer). (o : IsOver rules places me Cancel now.standing b.state s was.registration a last) → IsCancelled needs (Slot request) o.arrived.names
+    → Beside rules places me is_sync Cancel now.standing s o.arrived.state a last)
     (sym e.arrived.answered.0)
-    (λ o cancelled. end-cancel-slot rules places me is_sync now.standing b.lazy s was.registration last o request is cancelled)
+    (λ o cancelled. end-cancel-slot rules places me is_sync now.standing b.state s was.registration last o request is cancelled)
     e (subst (λ (r : Registration). IsCancelled needs r e.arrived.names) is e.arrived.answered.1))
 
 -- a call of a lock is none of a semaphore
@@ -290,7 +291,7 @@ alone rules places me is_sync (Try count) now s b steps answer last taken h =
       | inl large ↦
           begin-done rules places me is_sync (Try count) now s b steps answer last taken h was (Says false)
           (ap (λ (b : Bool). if b then Done was (Says false) else tried_as was count) large)
-          (try-large rules places me is_sync count now.standing b.lazy s was (starting rules places me now s b) taken large refl)
+          (try-large rules places me is_sync count now.standing b.state s was (starting rules places me now s b) taken large refl)
       | inr within ↦
           begin-tries rules places me is_sync (Try count) now s b steps answer last taken h count refl (λ registered names answer a. a)
           (ap (λ (b : Bool). if b then Done was (Says false) else tried_as was count) within)
@@ -301,7 +302,7 @@ alone rules places me is_sync (Register count) now s b steps answer last taken h
       | inl large ↦
           begin-done rules places me is_sync (Register count) now s b steps answer last taken h was (Says false)
           (ap (λ (b : Bool). if b then Done was (Says false) else registered_as was count) large)
-          (register-large rules places me is_sync count now.standing b.lazy s was (starting rules places me now s b) taken large refl)
+          (register-large rules places me is_sync count now.standing b.state s was (starting rules places me now s b) taken large refl)
       | inr within ↦
           begin-registers rules places me is_sync (Register count) now s b steps answer last taken h count refl (λ registered names answer a. a)
           (λ semaphore. within) (ap (λ (b : Bool). if b then Done was (Says false) else registered_as was count) within)
@@ -311,19 +312,19 @@ alone rules places me is_sync (Release count) now s b steps answer last taken h 
     elim (cases_Bool (nat_lt (needs_of rules).top count)) [
       | inl large ↦
           begin-done rules places me is_sync (Release count) now s b steps answer last taken h was (Says false)
-          (ap (λ (b : Bool). if b then Done was (Says false) else (if count == 0 then Done was (Says true) else released_as was count)) large)
-          (release-large rules places me is_sync count now.standing b.lazy s was (starting rules places me now s b) taken large refl)
+          (ap (λ (b : Bool). if b then Done was (Says false) else (if count == 0 then Done was (Says true) else released_as was (Asked count))) large)
+          (release-large rules places me is_sync count now.standing b.state s was (starting rules places me now s b) taken large refl)
       | inr within ↦
-          let fits : started (needs_of rules) was (Release count) ≡ (if count == 0 then Done was (Says true) else released_as was count) =
-          ap (λ (b : Bool). if b then Done was (Says false) else (if count == 0 then Done was (Says true) else released_as was count)) within in
+          let fits : started (needs_of rules) was (Release count) ≡ (if count == 0 then Done was (Says true) else released_as was (Asked count)) =
+          ap (λ (b : Bool). if b then Done was (Says false) else (if count == 0 then Done was (Says true) else released_as was (Asked count))) within in
           elim (cases_Bool (count == 0)) [
             | inl nothing ↦
                 begin-done rules places me is_sync (Release count) now s b steps answer last taken h was (Says true)
-                (fits ∙ ap (λ (b : Bool). if b then Done was (Says true) else released_as was count) nothing)
-                (release-none rules places me is_sync count now.standing b.lazy s was (starting rules places me now s b) taken nothing refl)
+                (fits ∙ ap (λ (b : Bool). if b then Done was (Says true) else released_as was (Asked count)) nothing)
+                (release-none rules places me is_sync count now.standing b.state s was (starting rules places me now s b) taken nothing refl)
             | inr some ↦
                 begin-releases rules places me is_sync (Release count) now s b steps answer last taken h count refl (λ registered names answer a. a)
-                (λ semaphore. some) (fits ∙ ap (λ (b : Bool). if b then Done was (Says true) else released_as was count) some)
+                (λ semaphore. some) (fits ∙ ap (λ (b : Bool). if b then Done was (Says true) else released_as was (Asked count)) some)
           ]
     ]
 alone rules places me is_sync Available now s b steps answer last taken h =
@@ -341,16 +342,21 @@ alone rules places me is_sync ReleaseLock now s b steps answer last taken h =
 alone rules places me is_sync ReleaseShare now s b steps answer last taken h =
     begin-releases rules places me is_sync ReleaseShare now s b steps answer last taken h 1 refl (λ registered names answer a. a)
     (no-semaphore (needs_of rules).is_lock taken) refl
+alone rules places me is_sync Downgrade now s b steps answer last taken h =
+    begin-going rules places me is_sync Downgrade now s b steps answer last taken h (record (now.standing me) { stage = ReleaseLoad AllButAShare; back = Tells }) refl
+    (λ e.
+    let one = e.arrived.answered in
+    end-downgrade rules places me is_sync now.standing b.state s (now.standing me).registration answer last e refl one.0 one.1 one.2)
 alone rules places me is_sync PoisonLock now s b steps answer last taken h =
     begin-going rules places me is_sync PoisonLock now s b steps answer last taken h (record (now.standing me) { stage = PoisonLoad; back = Tells }) refl
     (λ e.
     let one = e.arrived.answered in
-    end-poison rules places me is_sync now.standing b.lazy s (now.standing me).registration answer last e refl one.0 one.1 one.2)
+    end-poison rules places me is_sync now.standing b.state s (now.standing me).registration answer last e refl one.0 one.1 one.2)
 alone rules places me is_sync ClearPoison now s b steps answer last taken h =
     begin-going rules places me is_sync ClearPoison now s b steps answer last taken h (record (now.standing me) { stage = Clear }) refl
     (λ e.
     let one = e.arrived.answered in
-    end-clear rules places me is_sync now.standing b.lazy s (now.standing me).registration answer last e refl one.0 one.1 one.2)
+    end-clear rules places me is_sync now.standing b.state s (now.standing me).registration answer last e refl one.0 one.1 one.2)
 alone rules places me is_sync IsFree now s b steps answer last taken h =
     begin-reads rules places me is_sync IsFree now s b steps answer last taken h ReadsFree refl (λ registered names answer a. a) refl
 alone rules places me is_sync IsLocked now s b steps answer last taken h =
@@ -363,13 +369,13 @@ alone rules places me is_sync TryPoll now s b steps answer last taken h =
     begin-polled rules places me is_sync TryPoll now s b steps answer last taken h Tries refl refl
     (λ e.
     let one = e.arrived.answered in
-    end-try_poll rules places me is_sync now.standing b.lazy s (now.standing me).registration answer last e refl one.0 one.1 one.2)
+    end-try_poll rules places me is_sync now.standing b.state s (now.standing me).registration answer last e refl one.0 one.1 one.2)
     (now.standing me).registration refl
 alone rules places me is_sync Poll now s b steps answer last taken h =
     begin-polled rules places me is_sync Poll now s b steps answer last taken h Awaits refl refl
     (λ e.
     let one = e.arrived.answered in
-    end-poll rules places me is_sync now.standing b.lazy s (now.standing me).registration answer last e one.0 one.1 one.2)
+    end-poll rules places me is_sync now.standing b.state s (now.standing me).registration answer last e one.0 one.1 one.2)
     (now.standing me).registration refl
 alone rules places me is_sync Cancel now s b steps answer last taken h =
     begin-cancel rules places me is_sync now s b steps answer last taken h (now.standing me).registration refl

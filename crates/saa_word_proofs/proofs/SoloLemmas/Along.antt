@@ -13,7 +13,7 @@ use Rattle.saa_word_steps.specs.declared.call.Answer.{Answer}
 use Rattle.saa_word_steps.specs.declared.call.WordCall.{WordCall}
 use Rattle.saa_word_steps.specs.Needs.{Needs, AreNeeds}
 use Rattle.saa_word_steps.specs.declared.event.Event.{Event}
-use Rattle.saa_word_steps.specs.Lazy.{Lazy, IsRun}
+use Rattle.saa_word_steps.specs.AbstractState.{AbstractState, IsRun}
 use Rattle.saa_word_steps.specs.Steps.{is_taken, word_at, operation_of, started}
 use Rattle.saa_word_proofs.specs.Refinement.{updated, Refines}
 use Rattle.saa_word_proofs.specs.StepRefinement.{StepRefines, of_place, named, named_at, place_after, row_after}
@@ -36,35 +36,35 @@ updated-twice old at one two =
     ])
 
 -- the events since the call started, and those of them that answers name
-pub record SoFar (needs : Needs) (me : ℕ) (start lazy : Lazy) (names : List Event) : Type 0 where
+pub record SoFar (needs : Needs) (me : ℕ) (start state : AbstractState) (names : List Event) : Type 0 where
   pub events : List Event
-  pub run : IsRun needs start (of_place me events) lazy
+  pub run : IsRun needs start (of_place me events) state
   pub named : named events ≡ names
 
 -- The call of a place that was registered so is done: it has answered what its events name. Behind its start the place was registered
 -- as `was`, and its events say what it is now
-pub record Arrives (needs : Needs) (places me : ℕ) (start : Lazy) (first : ℕ → Place) (call : WordCall) (registered was : Registration) (answer : Answer) (last : Moment) : Type 0 where
-  pub lazy : Lazy
-  pub stands : Refines needs places last.row last.standing lazy
+pub record Arrives (needs : Needs) (places me : ℕ) (start : AbstractState) (first : ℕ → Place) (call : WordCall) (registered was : Registration) (answer : Answer) (last : Moment) : Type 0 where
+  pub state : AbstractState
+  pub stands : Refines needs places last.row last.standing state
   pub names : List Event
-  pub far : SoFar needs me start lazy names
+  pub far : SoFar needs me start state names
   pub answered : IsAnswered needs call registered names answer
   pub left : (last.standing me).registration ≡ left_behind names (asked_by call) was
   pub quiet : (last.standing me).stage ≡ Quiet
   pub others : last.standing ≡ updated first me (last.standing me)
 
 -- how a call goes on behind a step, where what it does then is known
-goes : (needs : Needs) (places me : ℕ) (call : WordCall) (registered was : Registration) (steps : ℕ) (first : ℕ → Place) (now : Moment) (row : ℕ → ℕ) (start lazy : Lazy) (stage : Stage) (names : List Event) (answer : Answer) (last : Moment)
-    → ((next : Moment) → Refines needs places next.row next.standing lazy → IsUnder needs call registered (next.standing me).back (next.standing me).stage names
+goes : (needs : Needs) (places me : ℕ) (call : WordCall) (registered was : Registration) (steps : ℕ) (first : ℕ → Place) (now : Moment) (row : ℕ → ℕ) (start state : AbstractState) (stage : Stage) (names : List Event) (answer : Answer) (last : Moment)
+    → ((next : Moment) → Refines needs places next.row next.standing state → IsUnder needs call registered (next.standing me).back (next.standing me).stage names
     → (next.standing me).registration ≡ left_behind names (asked_by call) was → next.standing ≡ updated first me (next.standing me)
     → IsDoneIn needs places me steps next answer last → Arrives needs places me start first call registered was answer last)
-    → (next : Next) → SoFar needs me start lazy names → now.standing ≡ updated first me (now.standing me)
+    → (next : Next) → SoFar needs me start state names → now.standing ≡ updated first me (now.standing me)
     → IsUnderNext needs call registered (now.standing me).back stage names next → IsLeft (now.standing me).registration (left_behind names (asked_by call) was) next
-    → Refines needs places row (updated now.standing me (place_after (now.standing me) next)) lazy
+    → Refines needs places row (updated now.standing me (place_after (now.standing me) next)) state
     → IsEither next (IsDoneIn needs places me steps (put me next (record now { row = row })) answer last)
     (λ said. (steps ≡ 0) × (said ≡ answer) × (put me next (record now { row = row }) ≡ last))
     → Arrives needs places me start first call registered was answer last
-goes needs places me call registered was steps first now row start lazy stage names answer last rest (Going place) far others under left s h =
+goes needs places me call registered was steps first now row start state stage names answer last rest (Going place) far others under left s h =
     let here : updated now.standing me place me ≡ place = updated-at now.standing me place in
     let changed : updated now.standing me place ≡ updated first me (updated now.standing me place me) =
     ap (λ (f : ℕ → Place). updated f me place) others ∙ updated-twice first me (now.standing me) place
@@ -72,14 +72,14 @@ goes needs places me call registered was steps first now row start lazy stage na
     rest (put me (Going place) (record now { row = row })) s
     (subst (λ (p : Place). IsUnder needs call registered p.back p.stage names) (sym here) under)
     (ap (λ (p : Place). p.registration) here ∙ left) changed h
-goes needs places me call registered was steps first now row start lazy stage names answer last rest Waits far others under left s h = absurd h
-goes needs places me call registered was steps first now row start lazy stage names answer last rest (Done place said) far others under left s h =
+goes needs places me call registered was steps first now row start state stage names answer last rest Waits far others under left s h = absurd h
+goes needs places me call registered was steps first now row start state stage names answer last rest (Done place said) far others under left s h =
     let here : updated now.standing me place me ≡ place = updated-at now.standing me place in
     let changed : updated now.standing me place ≡ updated first me (updated now.standing me place me) =
     ap (λ (f : ℕ → Place). updated f me place) others ∙ updated-twice first me (now.standing me) place
     ∙ ap (λ (p : Place). updated first me p) (sym here) in
     let arrived : Arrives needs places me start first call registered was answer (put me (Done place said) (record now { row = row })) = record {
-      lazy = lazy;
+      state = state;
       stands = s;
       names = names;
       far = far;
@@ -91,21 +91,21 @@ goes needs places me call registered was steps first now row start lazy stage na
     subst (λ (m : Moment). Arrives needs places me start first call registered was answer m) h.2 arrived
 
 along : (needs : Needs) → AreNeeds needs → needs.top < 2 ^ count_bits → (places me : ℕ) → places < 65536 → me < places
-    → (call : WordCall) (registered was : Registration) (first : ℕ → Place) (start : Lazy) (answer : Answer) (last : Moment)
-    → (steps : ℕ) (now : Moment) (lazy : Lazy) (names : List Event) → SoFar needs me start lazy names
-    → Refines needs places now.row now.standing lazy → IsUnder needs call registered (now.standing me).back (now.standing me).stage names
+    → (call : WordCall) (registered was : Registration) (first : ℕ → Place) (start : AbstractState) (answer : Answer) (last : Moment)
+    → (steps : ℕ) (now : Moment) (state : AbstractState) (names : List Event) → SoFar needs me start state names
+    → Refines needs places now.row now.standing state → IsUnder needs call registered (now.standing me).back (now.standing me).stage names
     → (now.standing me).registration ≡ left_behind names (asked_by call) was → now.standing ≡ updated first me (now.standing me)
     → IsDoneIn needs places me steps now answer last → Arrives needs places me start first call registered was answer last
-along needs lawful small places me room here call registered was first start answer last zero now lazy names far s under same others h = absurd h
-along needs lawful small places me room here call registered was first start answer last (suc more) now lazy names far s under same others h =
+along needs lawful small places me room here call registered was first start answer last zero now state names far s under same others h = absurd h
+along needs lawful small places me room here call registered was first start answer last (suc more) now state names far s under same others h =
     let stage : Stage = (now.standing me).stage in
     let asks : Option Ask = asked_by call in
     let found : ℕ = now.row (word_at (operation_of needs places me stage)) in
-    let made : StepRefines needs places now.row now.standing lazy me stage =
-    step needs lawful small places now.row now.standing lazy me room here s stage refl in
+    let made : StepRefines needs places now.row now.standing state me stage =
+    step needs lawful small places now.row now.standing state me room here s stage refl in
     let farther : SoFar needs me start made.last (names ++ named_at needs stage found) = record {
       events = far.events ++ made.events;
-      run = run-append needs me far.events made.events start lazy made.last far.run made.run;
+      run = run-append needs me far.events made.events start state made.last far.run made.run;
       named = named-append far.events made.events ∙ (λ i. far.named i ++ made.names i);
     } in
     let behind : left_behind (named_at needs stage found) asks (now.standing me).registration ≡ left_behind (names ++ named_at needs stage found) asks was =
@@ -123,19 +123,19 @@ along needs lawful small places me room here call registered was first start ans
 
 -- A call that has steps to make, from its start
 pub from-start : (needs : Needs) → AreNeeds needs → needs.top < 2 ^ count_bits → (places me : ℕ) → places < 65536 → me < places
-    → (call : WordCall) (place : Place) (lazy : Lazy) (answer : Answer) (last : Moment) (steps : ℕ) (now : Moment)
-    → Refines needs places now.row now.standing lazy → (now.standing me).stage ≡ Quiet → is_taken needs.is_lock call ≡ true
+    → (call : WordCall) (place : Place) (state : AbstractState) (answer : Answer) (last : Moment) (steps : ℕ) (now : Moment)
+    → Refines needs places now.row now.standing state → (now.standing me).stage ≡ Quiet → is_taken needs.is_lock call ≡ true
     → started needs (now.standing me) call ≡ Going place → IsDoneIn needs places me steps (put me (Going place) now) answer last
-    → Arrives needs places me lazy now.standing call (now.standing me).registration place.registration answer last
-from-start needs lawful small places me room here call place lazy answer last steps now s quiet taken is h =
+    → Arrives needs places me state now.standing call (now.standing me).registration place.registration answer last
+from-start needs lawful small places me room here call place state answer last steps now s quiet taken is h =
     let registered : Registration = (now.standing me).registration in
     let at : updated now.standing me place me ≡ place = updated-at now.standing me place in
-    let stands : Refines needs places now.row (updated now.standing me place) lazy =
-    subst (λ (next : Next). Refines needs places now.row (updated now.standing me (place_after (now.standing me) next)) lazy) is
-    (starts needs small places now.row now.standing lazy me call here s quiet taken) in
+    let stands : Refines needs places now.row (updated now.standing me place) state =
+    subst (λ (next : Next). Refines needs places now.row (updated now.standing me (place_after (now.standing me) next)) state) is
+    (starts needs small places now.row now.standing state me call here s quiet taken) in
     let under : IsUnder needs call registered place.back place.stage [] =
     subst (λ (next : Next). IsBegun needs call registered next) is (call-begun needs (now.standing me) call quiet) in
-    along needs lawful small places me room here call registered place.registration now.standing lazy answer last steps (put me (Going place) now) lazy []
+    along needs lawful small places me room here call registered place.registration now.standing state answer last steps (put me (Going place) now) state []
     (record { events = []; run = refl; named = refl }) stands
     (subst (λ (p : Place). IsUnder needs call registered p.back p.stage []) (sym at) under)
     (ap (λ (p : Place). p.registration) at)

@@ -21,7 +21,7 @@ use Rattle.saa_word_steps.specs.declared.call.WordCall.{WordCall}
 use Rattle.saa_word_steps.specs.declared.call.WordCall.TheVariants.{Try, Register}
 use Rattle.saa_word_steps.specs.Needs.{Needs, lock_at, fits_count}
 use Rattle.saa_word_steps.specs.declared.event.Event.TheVariants.{Got, Refused, Joined, AskedPoisoned}
-use Rattle.saa_word_steps.specs.Lazy.{Lazy, IsEnabled, after_event, is_empty, must_wait}
+use Rattle.saa_word_steps.specs.AbstractState.{AbstractState, IsEnabled, after_event, is_empty, must_wait}
 use Rattle.saa_word_steps.specs.Steps.{needs_of, is_taken, tried_answer, is_idle as is_free}
 use Rattle.saa_word_proofs.specs.Refinement.{updated}
 use Rattle.saa_word_proofs.specs.Calls.{asked_by}
@@ -38,13 +38,13 @@ nobody-waits needs [] = refl
 nobody-waits needs (asker ∷ rest) = refl
 
 -- whether an ask is granted at once
-granted-test : (needs : Needs) (places : ℕ) (standing : ℕ → Place) (lazy : Lazy) (s : Object) (request : ℕ) → Mirrors needs places standing lazy s
-    → lazy.poisoned ≡ false → is_granted_at_once s (needs.read request) ≡ not (must_wait needs lazy request)
-granted-test needs places standing lazy s request m calm =
-    let nobody : is_nobody s.line ≡ is_empty lazy.line = ap is_nobody m.line ∙ nobody-waits needs lazy.line in
-    let fitting : fits s.held (needs.read request) ≡ fits_count needs lazy.count request =
-    ap (λ (h : Held). fits h (needs.read request)) (m.held ∙ held-calm needs lazy calm) in
-    (λ i. nobody i && fitting i) ∙ either (is_empty lazy.line) (fits_count needs lazy.count request)
+granted-test : (needs : Needs) (places : ℕ) (standing : ℕ → Place) (state : AbstractState) (s : Object) (request : ℕ) → Mirrors needs places standing state s
+    → state.poisoned ≡ false → is_granted_at_once s (needs.read request) ≡ not (must_wait needs state request)
+granted-test needs places standing state s request m calm =
+    let nobody : is_nobody s.line ≡ is_empty state.line = ap is_nobody m.line ∙ nobody-waits needs state.line in
+    let fitting : fits s.held (needs.read request) ≡ fits_count needs state.count request =
+    ap (λ (h : Held). fits h (needs.read request)) (m.held ∙ held-calm needs state calm) in
+    (λ i. nobody i && fitting i) ∙ either (is_empty state.line) (fits_count needs state.count request)
   where
     either : (nobody fitting : Bool) → (nobody && fitting) ≡ not (not nobody || not fitting)
     either true true = refl
@@ -52,22 +52,22 @@ granted-test needs places standing lazy s request m calm =
     either false fitting = refl
 
 -- what was got is granted, and what waits or is refused isn't
-got-test : (needs : Needs) (places me : ℕ) (standing : ℕ → Place) (lazy : Lazy) (s : Object) (request : ℕ) → Mirrors needs places standing lazy s
-    → IsEnabled needs lazy me (Got request) → is_granted_at_once s (needs.read request) ≡ true
-got-test needs places me standing lazy s request m allowed =
-    let free : must_wait needs lazy request ≡ false = rw (allowed.1, allowed.2) refl in
-    granted-test needs places standing lazy s request m allowed.0 ∙ ap not free
+got-test : (needs : Needs) (places me : ℕ) (standing : ℕ → Place) (state : AbstractState) (s : Object) (request : ℕ) → Mirrors needs places standing state s
+    → IsEnabled needs state me (Got request) → is_granted_at_once s (needs.read request) ≡ true
+got-test needs places me standing state s request m allowed =
+    let free : must_wait needs state request ≡ false = rw (allowed.1, allowed.2) refl in
+    granted-test needs places standing state s request m allowed.0 ∙ ap not free
 
-waits-test : (needs : Needs) (places : ℕ) (standing : ℕ → Place) (lazy : Lazy) (s : Object) (request : ℕ) → Mirrors needs places standing lazy s
-    → lazy.poisoned ≡ false → must_wait needs lazy request ≡ true → is_granted_at_once s (needs.read request) ≡ false
-waits-test needs places standing lazy s request m calm waits = granted-test needs places standing lazy s request m calm ∙ ap not waits
+waits-test : (needs : Needs) (places : ℕ) (standing : ℕ → Place) (state : AbstractState) (s : Object) (request : ℕ) → Mirrors needs places standing state s
+    → state.poisoned ≡ false → must_wait needs state request ≡ true → is_granted_at_once s (needs.read request) ≡ false
+waits-test needs places standing state s request m calm waits = granted-test needs places standing state s request m calm ∙ ap not waits
 
 -- a poisoned lock grants nothing
-poisoned-test : (needs : Needs) (places : ℕ) (standing : ℕ → Place) (lazy : Lazy) (s : Object) (request : Request) → Mirrors needs places standing lazy s
-    → lazy.poisoned ≡ true → is_granted_at_once s request ≡ false
-poisoned-test needs places standing lazy s request m poisoned =
+poisoned-test : (needs : Needs) (places : ℕ) (standing : ℕ → Place) (state : AbstractState) (s : Object) (request : Request) → Mirrors needs places standing state s
+    → state.poisoned ≡ true → is_granted_at_once s request ≡ false
+poisoned-test needs places standing state s request m poisoned =
     let unfit : fits s.held request ≡ false =
-    ap (λ (h : Held). fits h request) (m.held ∙ held-poisoned needs lazy poisoned) ∙ fits-poisoned request in
+    ap (λ (h : Held). fits h request) (m.held ∙ held-poisoned needs state poisoned) ∙ fits-poisoned request in
     rw unfit (and-false (is_nobody s.line))
   where
     and-false : (b : Bool) → (b && false) ≡ false
@@ -75,30 +75,30 @@ poisoned-test needs places standing lazy s request m poisoned =
     and-false false = refl
 
 -- what the object holds once something is got
-got-held : (rules : Rules) (places me : ℕ) (standing : ℕ → Place) (lazy : Lazy) (s : Object) (request : ℕ) → Mirrors (needs_of rules) places standing lazy s
-    → IsEnabled (needs_of rules) lazy me (Got request)
-    → plus s.held ((needs_of rules).read request) ≡ held_at (needs_of rules) (after_event (needs_of rules) lazy me (Got request))
-got-held rules places me standing lazy s request m allowed =
+got-held : (rules : Rules) (places me : ℕ) (standing : ℕ → Place) (state : AbstractState) (s : Object) (request : ℕ) → Mirrors (needs_of rules) places standing state s
+    → IsEnabled (needs_of rules) state me (Got request)
+    → plus s.held ((needs_of rules).read request) ≡ held_at (needs_of rules) (after_event (needs_of rules) state me (Got request))
+got-held rules places me standing state s request m allowed =
     let needs : Needs = needs_of rules in
-    ap (λ (h : Held). plus h (needs.read request)) (m.held ∙ held-calm needs lazy allowed.0)
-    ∙ plus-at rules lazy.count request allowed.2
-    ∙ sym (held-calm needs (after_event needs lazy me (Got request)) allowed.0)
+    ap (λ (h : Held). plus h (needs.read request)) (m.held ∙ held-calm needs state allowed.0)
+    ∙ plus-at rules state.count request allowed.2
+    ∙ sym (held-calm needs (after_event needs state me (Got request)) allowed.0)
 
 -- Tries
 
 -- whether the object is poisoned
-poison-at : (rules : Rules) (lazy : Lazy) → ((needs_of rules).is_lock ≡ false → lazy.poisoned ≡ false)
-    → is_poisoned (held_at (needs_of rules) lazy) ≡ lazy.poisoned
-poison-at (Permits bound) lazy calm = rw (calm refl) refl
-poison-at Modes lazy calm = either lazy.poisoned
+poison-at : (rules : Rules) (state : AbstractState) → ((needs_of rules).is_lock ≡ false → state.poisoned ≡ false)
+    → is_poisoned (held_at (needs_of rules) state) ≡ state.poisoned
+poison-at (Permits bound) state calm = rw (calm refl) refl
+poison-at Modes state calm = either state.poisoned
   where
-    either : (poisoned : Bool) → is_poisoned (if poisoned then OfLock Poisoned else OfLock (lock_at lazy.count)) ≡ poisoned
+    either : (poisoned : Bool) → is_poisoned (if poisoned then OfLock Poisoned else OfLock (lock_at state.count)) ≡ poisoned
     either true = refl
     either false =
-        elim (cases_Bool (lazy.count == 0)) [
+        elim (cases_Bool (state.count == 0)) [
           | inl none ↦ rw none refl
           | inr some ↦
-              elim (cases_Bool (lazy.count == 63)) [
+              elim (cases_Bool (state.count == 63)) [
                 | inl one ↦ rw (some, one) refl
                 | inr several ↦ rw (some, several) refl
               ]
@@ -112,76 +112,76 @@ says-refused : (is_lock : Bool) → trying_says is_lock false false ≡ (if is_l
 says-refused true = refl
 says-refused false = refl
 
-pub try-got : (rules : Rules) (places me : ℕ) (is_sync : Bool) (call : WordCall) (standing : ℕ → Place) (lazy : Lazy) (s : Object) (ask : Ask) (place : Place)
-    → Starts (needs_of rules) places me standing lazy s → asked_by call ≡ Some ask → ask.joins ≡ false → is_taken (needs_of rules).is_lock call ≡ true
-    → IsEnabled (needs_of rules) lazy me (Got ask.request) → place.registration ≡ (standing me).registration
+pub try-got : (rules : Rules) (places me : ℕ) (is_sync : Bool) (call : WordCall) (standing : ℕ → Place) (state : AbstractState) (s : Object) (ask : Ask) (place : Place)
+    → Starts (needs_of rules) places me standing state s → asked_by call ≡ Some ask → ask.joins ≡ false → is_taken (needs_of rules).is_lock call ≡ true
+    → IsEnabled (needs_of rules) state me (Got ask.request) → place.registration ≡ (standing me).registration
     → Answers (needs_of rules) places me is_sync call (updated standing me place) s
-    (after_event (needs_of rules) lazy me (Got ask.request)) (tried_answer (needs_of rules) true)
-try-got rules places me is_sync call standing lazy s ask place h asks joins taken allowed same =
+    (after_event (needs_of rules) state me (Got ask.request)) (tried_answer (needs_of rules) true)
+try-got rules places me is_sync call standing state s ask place h asks joins taken allowed same =
     let needs : Needs = needs_of rules in
     let m = h.mirrors in
-    let test : is_granted_at_once s (needs.read ask.request) ≡ true = got-test needs places me standing lazy s ask.request m allowed in
+    let test : is_granted_at_once s (needs.read ask.request) ≡ true = got-test needs places me standing state s ask.request m allowed in
     let got : tried s (needs.read ask.request) ≡ record { state = record s { held = plus s.held (needs.read ask.request) }; reply = true } = rw test refl in
-    answers-by needs places me is_sync call (updated standing me place) s (after_event needs lazy me (Got ask.request)) (tried_answer needs true)
+    answers-by needs places me is_sync call (updated standing me place) s (after_event needs state me (Got ask.request)) (tried_answer needs true)
     (tried_by needs.is_lock s (record { state = record s { held = plus s.held (needs.read ask.request) }; reply = true }))
     (try-call rules me is_sync call s ask asks joins taken ∙ ap (λ (a : After Bool). tried_by needs.is_lock s a) got)
-    (mirrors-held needs places standing lazy (after_event needs lazy me (Got ask.request)) s (plus s.held (needs.read ask.request)) s.line me place m
-    (got-held rules places me standing lazy s ask.request m allowed) m.line refl same)
+    (mirrors-held needs places standing state (after_event needs state me (Got ask.request)) s (plus s.held (needs.read ask.request)) s.line me place m
+    (got-held rules places me standing state s ask.request m allowed) m.line refl same)
     (says-got needs.is_lock (is_poisoned s.held))
 
 -- a try that changes nothing
-tried-nothing : (rules : Rules) (places me : ℕ) (is_sync : Bool) (call : WordCall) (standing : ℕ → Place) (lazy : Lazy) (s : Object) (ask : Ask) (place : Place) (answer : Answer)
-    → Starts (needs_of rules) places me standing lazy s → asked_by call ≡ Some ask → ask.joins ≡ false → is_taken (needs_of rules).is_lock call ≡ true
+tried-nothing : (rules : Rules) (places me : ℕ) (is_sync : Bool) (call : WordCall) (standing : ℕ → Place) (state : AbstractState) (s : Object) (ask : Ask) (place : Place) (answer : Answer)
+    → Starts (needs_of rules) places me standing state s → asked_by call ≡ Some ask → ask.joins ≡ false → is_taken (needs_of rules).is_lock call ≡ true
     → is_granted_at_once s ((needs_of rules).read ask.request) ≡ false → place.registration ≡ (standing me).registration
-    → trying_says (needs_of rules).is_lock false lazy.poisoned ≡ answer
-    → Answers (needs_of rules) places me is_sync call (updated standing me place) s lazy answer
-tried-nothing rules places me is_sync call standing lazy s ask place answer h asks joins taken test same says =
+    → trying_says (needs_of rules).is_lock false state.poisoned ≡ answer
+    → Answers (needs_of rules) places me is_sync call (updated standing me place) s state answer
+tried-nothing rules places me is_sync call standing state s ask place answer h asks joins taken test same says =
     let needs : Needs = needs_of rules in
     let m = h.mirrors in
     let nothing : tried s (needs.read ask.request) ≡ record { state = s; reply = false } = rw test refl in
-    let poison : is_poisoned s.held ≡ lazy.poisoned =
-    ap is_poisoned m.held ∙ poison-at rules lazy (λ semaphore. calm-semaphore needs places me standing lazy s h semaphore) in
-    answers-by needs places me is_sync call (updated standing me place) s lazy answer (tried_by needs.is_lock s (record { state = s; reply = false }))
+    let poison : is_poisoned s.held ≡ state.poisoned =
+    ap is_poisoned m.held ∙ poison-at rules state (λ semaphore. calm-semaphore needs places me standing state s h semaphore) in
+    answers-by needs places me is_sync call (updated standing me place) s state answer (tried_by needs.is_lock s (record { state = s; reply = false }))
     (try-call rules me is_sync call s ask asks joins taken ∙ ap (λ (a : After Bool). tried_by needs.is_lock s a) nothing)
-    (mirrors-same needs places standing lazy s me place m same)
+    (mirrors-same needs places standing state s me place m same)
     (ap (λ (b : Bool). trying_says needs.is_lock false b) poison ∙ says)
 
-pub try-refused : (rules : Rules) (places me : ℕ) (is_sync : Bool) (call : WordCall) (standing : ℕ → Place) (lazy : Lazy) (s : Object) (ask : Ask) (place : Place)
-    → Starts (needs_of rules) places me standing lazy s → asked_by call ≡ Some ask → ask.joins ≡ false → is_taken (needs_of rules).is_lock call ≡ true
-    → IsEnabled (needs_of rules) lazy me (Refused ask.request) → place.registration ≡ (standing me).registration
-    → Answers (needs_of rules) places me is_sync call (updated standing me place) s lazy (tried_answer (needs_of rules) false)
-try-refused rules places me is_sync call standing lazy s ask place h asks joins taken allowed same =
+pub try-refused : (rules : Rules) (places me : ℕ) (is_sync : Bool) (call : WordCall) (standing : ℕ → Place) (state : AbstractState) (s : Object) (ask : Ask) (place : Place)
+    → Starts (needs_of rules) places me standing state s → asked_by call ≡ Some ask → ask.joins ≡ false → is_taken (needs_of rules).is_lock call ≡ true
+    → IsEnabled (needs_of rules) state me (Refused ask.request) → place.registration ≡ (standing me).registration
+    → Answers (needs_of rules) places me is_sync call (updated standing me place) s state (tried_answer (needs_of rules) false)
+try-refused rules places me is_sync call standing state s ask place h asks joins taken allowed same =
     let needs : Needs = needs_of rules in
-    tried-nothing rules places me is_sync call standing lazy s ask place (tried_answer needs false) h asks joins taken
-    (waits-test needs places standing lazy s ask.request h.mirrors allowed.0 allowed.1) same
+    tried-nothing rules places me is_sync call standing state s ask place (tried_answer needs false) h asks joins taken
+    (waits-test needs places standing state s ask.request h.mirrors allowed.0 allowed.1) same
     (ap (λ (b : Bool). trying_says needs.is_lock false b) allowed.0 ∙ says-refused needs.is_lock)
 
-pub try-poisoned : (rules : Rules) (places me : ℕ) (is_sync : Bool) (call : WordCall) (standing : ℕ → Place) (lazy : Lazy) (s : Object) (ask : Ask) (place : Place)
-    → Starts (needs_of rules) places me standing lazy s → asked_by call ≡ Some ask → ask.joins ≡ false → is_taken (needs_of rules).is_lock call ≡ true
-    → IsEnabled (needs_of rules) lazy me AskedPoisoned → place.registration ≡ (standing me).registration
-    → Answers (needs_of rules) places me is_sync call (updated standing me place) s lazy (Tried (try_answer false true))
-try-poisoned rules places me is_sync call standing lazy s ask place h asks joins taken allowed same =
+pub try-poisoned : (rules : Rules) (places me : ℕ) (is_sync : Bool) (call : WordCall) (standing : ℕ → Place) (state : AbstractState) (s : Object) (ask : Ask) (place : Place)
+    → Starts (needs_of rules) places me standing state s → asked_by call ≡ Some ask → ask.joins ≡ false → is_taken (needs_of rules).is_lock call ≡ true
+    → IsEnabled (needs_of rules) state me AskedPoisoned → place.registration ≡ (standing me).registration
+    → Answers (needs_of rules) places me is_sync call (updated standing me place) s state (Tried (try_answer false true))
+try-poisoned rules places me is_sync call standing state s ask place h asks joins taken allowed same =
     let needs : Needs = needs_of rules in
-    tried-nothing rules places me is_sync call standing lazy s ask place (Tried (try_answer false true)) h asks joins taken
-    (poisoned-test needs places standing lazy s (needs.read ask.request) h.mirrors allowed) same
+    tried-nothing rules places me is_sync call standing state s ask place (Tried (try_answer false true)) h asks joins taken
+    (poisoned-test needs places standing state s (needs.read ask.request) h.mirrors allowed) same
     (λ i. trying_says ((h.barren allowed).2 i) false (allowed i))
 
 -- a try of more than there is never fits
-pub try-large : (rules : Rules) (places me : ℕ) (is_sync : Bool) (count : ℕ) (standing : ℕ → Place) (lazy : Lazy) (s : Object) (place : Place)
-    → Starts (needs_of rules) places me standing lazy s → is_taken (needs_of rules).is_lock (Try count) ≡ true
+pub try-large : (rules : Rules) (places me : ℕ) (is_sync : Bool) (count : ℕ) (standing : ℕ → Place) (state : AbstractState) (s : Object) (place : Place)
+    → Starts (needs_of rules) places me standing state s → is_taken (needs_of rules).is_lock (Try count) ≡ true
     → nat_lt (needs_of rules).top count ≡ true → place.registration ≡ (standing me).registration
-    → Answers (needs_of rules) places me is_sync (Try count) (updated standing me place) s lazy (Says false)
-try-large (Permits bound) places me is_sync count standing lazy s place h taken large same =
+    → Answers (needs_of rules) places me is_sync (Try count) (updated standing me place) s state (Says false)
+try-large (Permits bound) places me is_sync count standing state s place h taken large same =
     let needs : Needs = needs_of (Permits bound) in
-    let calm : lazy.poisoned ≡ false = calm-semaphore needs places me standing lazy s h refl in
-    let unfit : nat_le (lazy.count + count) bound ≡ false = grind (arith, nat_tests) in
-    try-refused (Permits bound) places me is_sync (Try count) standing lazy s (record { request = count; joins = false }) place h refl refl refl
-    (calm, rw unfit (or-true (not (is_empty lazy.line)))) same
+    let calm : state.poisoned ≡ false = calm-semaphore needs places me standing state s h refl in
+    let unfit : nat_le (state.count + count) bound ≡ false = grind (arith, nat_tests) in
+    try-refused (Permits bound) places me is_sync (Try count) standing state s (record { request = count; joins = false }) place h refl refl refl
+    (calm, rw unfit (or-true (not (is_empty state.line)))) same
   where
     or-true : (b : Bool) → (b || true) ≡ true
     or-true true = refl
     or-true false = refl
-try-large Modes places me is_sync count standing lazy s place h taken large same = absurd (cc)
+try-large Modes places me is_sync count standing state s place h taken large same = absurd (cc)
 
 -- Registrations
 
@@ -196,30 +196,30 @@ slots-room (entry ∷ book) zero within free = omega (arith, slots-le book, ap o
 slots-room (entry ∷ book) (suc place) within free = omega (arith, slots-room book place (omega (arith, within)) free, one_if-le (holds_slot entry))
 
 -- there is room for a place that is idle
-room-test : (needs : Needs) (places me : ℕ) (standing : ℕ → Place) (lazy : Lazy) (s : Object) → Mirrors needs places standing lazy s → me < places
+room-test : (needs : Needs) (places me : ℕ) (standing : ℕ → Place) (state : AbstractState) (s : Object) → Mirrors needs places standing state s → me < places
     → entry_at s.book me ≡ Idle → used s == s.room ≡ false
-room-test needs places me standing lazy s m here idle =
+room-test needs places me standing state s m here idle =
     let less : slots_in s.book < length s.book = slots-room s.book me (rw m.names here) (ap holds_slot idle) in
     let below : used s < s.room = omega (arith, less, m.names, m.room, m.alone) in
     grind (arith, nat_tests)
 
 -- what speaks against a registration
-refused-test : (rules : Rules) (places me : ℕ) (standing : ℕ → Place) (lazy : Lazy) (s : Object) (request : ℕ) → Starts (needs_of rules) places me standing lazy s
+refused-test : (rules : Rules) (places me : ℕ) (standing : ℕ → Place) (state : AbstractState) (s : Object) (request : ℕ) → Starts (needs_of rules) places me standing state s
     → (not (is_idle (entry_at s.book me)) || asks_too_much s.held ((needs_of rules).read request))
     ≡ (not (is_idle (entry_at s.book me)) || (not (needs_of rules).is_lock && nat_lt (needs_of rules).top request))
-refused-test rules places me standing lazy s request h =
+refused-test rules places me standing state s request h =
     let needs : Needs = needs_of rules in
     ap (λ (b : Bool). not (is_idle (entry_at s.book me)) || b)
     (ap (λ (t : Held). asks_too_much t (needs.read request)) h.mirrors.held
-    ∙ asks-at rules lazy request (λ semaphore. calm-semaphore needs places me standing lazy s h semaphore))
+    ∙ asks-at rules state request (λ semaphore. calm-semaphore needs places me standing state s h semaphore))
 
 -- nothing does where the place is idle, and asks for no more than there is
-free-test : (rules : Rules) (places me : ℕ) (standing : ℕ → Place) (lazy : Lazy) (s : Object) (request : ℕ) → Starts (needs_of rules) places me standing lazy s
+free-test : (rules : Rules) (places me : ℕ) (standing : ℕ → Place) (state : AbstractState) (s : Object) (request : ℕ) → Starts (needs_of rules) places me standing state s
     → entry_at s.book me ≡ Idle → ((needs_of rules).is_lock ≡ false → nat_lt (needs_of rules).top request ≡ false)
     → (not (is_idle (entry_at s.book me)) || asks_too_much s.held ((needs_of rules).read request)) ≡ false
-free-test rules places me standing lazy s request h idle small =
+free-test rules places me standing state s request h idle small =
     let needs : Needs = needs_of rules in
-    refused-test rules places me standing lazy s request h
+    refused-test rules places me standing state s request h
     ∙ ap (λ (e : Entry). not (is_idle e) || (not needs.is_lock && nat_lt needs.top request)) idle
     ∙ either needs.is_lock (nat_lt needs.top request) small
   where
@@ -228,13 +228,13 @@ free-test rules places me standing lazy s request h idle small =
     either false large small = small refl
 
 -- a registration that is answered at once
-register-answered : (rules : Rules) (places me : ℕ) (is_sync : Bool) (call : WordCall) (standing : ℕ → Place) (lazy now : Lazy) (s : Object) (ask : Ask) (held : Held) (value : ℕ) (place : Place)
-    → Starts (needs_of rules) places me standing lazy s → asked_by call ≡ Some ask → ask.joins ≡ true → is_taken (needs_of rules).is_lock call ≡ true
+register-answered : (rules : Rules) (places me : ℕ) (is_sync : Bool) (call : WordCall) (standing : ℕ → Place) (state now : AbstractState) (s : Object) (ask : Ask) (held : Held) (value : ℕ) (place : Place)
+    → Starts (needs_of rules) places me standing state s → asked_by call ≡ Some ask → ask.joins ≡ true → is_taken (needs_of rules).is_lock call ≡ true
     → (not (is_idle (entry_at s.book me)) || asks_too_much s.held ((needs_of rules).read ask.request)) ≡ false
     → answer_at_once s ((needs_of rules).read ask.request) ≡ Some (record { state = record s { held = held }; reply = value })
-    → held ≡ held_at (needs_of rules) now → now.line ≡ lazy.line → now.shown ≡ lazy.shown → place.registration ≡ Once value ask.request
+    → held ≡ held_at (needs_of rules) now → now.line ≡ state.line → now.shown ≡ state.shown → place.registration ≡ Once value ask.request
     → Answers (needs_of rules) places me is_sync call (updated standing me place) s now (Says true)
-register-answered rules places me is_sync call standing lazy now s ask held value place h asks joins taken free answered holds line shown once =
+register-answered rules places me is_sync call standing state now s ask held value place h asks joins taken free answered holds line shown once =
     let needs : Needs = needs_of rules in
     let m = h.mirrors in
     let request : Request = needs.read ask.request in
@@ -242,103 +242,103 @@ register-answered rules places me is_sync call standing lazy now s ask held valu
     answers-by needs places me is_sync call (updated standing me place) s now (Says true) (registered_by (record { state = left; reply = Ok true }))
     (register-call rules me is_sync call s ask asks joins taken
     ∙ (λ i. registered_by (registered_of s me request is_sync (free i) (answered i) (used s == s.room))))
-    (mirrors-set needs places standing lazy now s held s.line (Answered value request is_sync false) me place is_sync m h.here
+    (mirrors-set needs places standing state now s held s.line (Answered value request is_sync false) me place is_sync m h.here
     holds (m.line ∙ ap (waiters needs) (sym line)) (λ other apart. ap (λ (f : ℕ → Option ℕ). f other) shown)
     (sym (ap (λ (r : Registration). entry_of needs r (now.shown me) is_sync) once)))
     refl
 
-pub register-got : (rules : Rules) (places me : ℕ) (is_sync : Bool) (call : WordCall) (standing : ℕ → Place) (lazy : Lazy) (s : Object) (ask : Ask) (place : Place)
-    → Starts (needs_of rules) places me standing lazy s → asked_by call ≡ Some ask → ask.joins ≡ true → is_taken (needs_of rules).is_lock call ≡ true
-    → IsEnabled (needs_of rules) lazy me (Got ask.request)
+pub register-got : (rules : Rules) (places me : ℕ) (is_sync : Bool) (call : WordCall) (standing : ℕ → Place) (state : AbstractState) (s : Object) (ask : Ask) (place : Place)
+    → Starts (needs_of rules) places me standing state s → asked_by call ≡ Some ask → ask.joins ≡ true → is_taken (needs_of rules).is_lock call ≡ true
+    → IsEnabled (needs_of rules) state me (Got ask.request)
     → (standing me).registration ≡ IsIdle → ((needs_of rules).is_lock ≡ false → nat_lt (needs_of rules).top ask.request ≡ false)
     → place.registration ≡ Once 0 ask.request
     → Answers (needs_of rules) places me is_sync call (updated standing me place) s
-    (after_event (needs_of rules) lazy me (Got ask.request)) (Says true)
-register-got rules places me is_sync call standing lazy s ask place h asks joins taken allowed idle small once =
+    (after_event (needs_of rules) state me (Got ask.request)) (Says true)
+register-got rules places me is_sync call standing state s ask place h asks joins taken allowed idle small once =
     let needs : Needs = needs_of rules in
     let m = h.mirrors in
     let request : Request = needs.read ask.request in
-    let test : is_granted_at_once s request ≡ true = got-test needs places me standing lazy s ask.request m allowed in
+    let test : is_granted_at_once s request ≡ true = got-test needs places me standing state s ask.request m allowed in
     let grants : granted_at_once s request ≡ Some (record { state = record s { held = plus s.held request }; reply = 0 }) = rw test refl in
-    register-answered rules places me is_sync call standing lazy (after_event needs lazy me (Got ask.request)) s ask (plus s.held request) 0 place
+    register-answered rules places me is_sync call standing state (after_event needs state me (Got ask.request)) s ask (plus s.held request) 0 place
     h asks joins taken
-    (free-test rules places me standing lazy s ask.request h (idle-entry needs places me standing lazy s m h.here idle) small)
-    (ap (λ (t : Held). answer_when s t request) m.held ∙ answer-at rules lazy s request allowed.0 ∙ grants)
-    (got-held rules places me standing lazy s ask.request m allowed) refl refl once
+    (free-test rules places me standing state s ask.request h (idle-entry needs places me standing state s m h.here idle) small)
+    (ap (λ (t : Held). answer_when s t request) m.held ∙ answer-at rules state s request allowed.0 ∙ grants)
+    (got-held rules places me standing state s ask.request m allowed) refl refl once
 
-pub register-poisoned : (rules : Rules) (places me : ℕ) (is_sync : Bool) (call : WordCall) (standing : ℕ → Place) (lazy : Lazy) (s : Object) (ask : Ask) (place : Place)
-    → Starts (needs_of rules) places me standing lazy s → asked_by call ≡ Some ask → ask.joins ≡ true → is_taken (needs_of rules).is_lock call ≡ true
-    → IsEnabled (needs_of rules) lazy me AskedPoisoned
+pub register-poisoned : (rules : Rules) (places me : ℕ) (is_sync : Bool) (call : WordCall) (standing : ℕ → Place) (state : AbstractState) (s : Object) (ask : Ask) (place : Place)
+    → Starts (needs_of rules) places me standing state s → asked_by call ≡ Some ask → ask.joins ≡ true → is_taken (needs_of rules).is_lock call ≡ true
+    → IsEnabled (needs_of rules) state me AskedPoisoned
     → (standing me).registration ≡ IsIdle → place.registration ≡ Once 2 ask.request
-    → Answers (needs_of rules) places me is_sync call (updated standing me place) s lazy (Says true)
-register-poisoned rules places me is_sync call standing lazy s ask place h asks joins taken allowed idle once =
+    → Answers (needs_of rules) places me is_sync call (updated standing me place) s state (Says true)
+register-poisoned rules places me is_sync call standing state s ask place h asks joins taken allowed idle once =
     let needs : Needs = needs_of rules in
     let m = h.mirrors in
     let request : Request = needs.read ask.request in
-    register-answered rules places me is_sync call standing lazy lazy s ask s.held 2 place h asks joins taken
-    (free-test rules places me standing lazy s ask.request h (idle-entry needs places me standing lazy s m h.here idle)
+    register-answered rules places me is_sync call standing state state s ask s.held 2 place h asks joins taken
+    (free-test rules places me standing state s ask.request h (idle-entry needs places me standing state s m h.here idle)
     (λ semaphore. let wrong : false ≡ true = sym semaphore ∙ (h.barren allowed).2 in absurd (cc)))
-    (ap (λ (t : Held). answer_when s t request) (m.held ∙ held-poisoned needs lazy allowed))
+    (ap (λ (t : Held). answer_when s t request) (m.held ∙ held-poisoned needs state allowed))
     m.held refl refl once
 
-pub register-joined : (rules : Rules) (places me : ℕ) (is_sync : Bool) (call : WordCall) (standing : ℕ → Place) (lazy : Lazy) (s : Object) (ask : Ask) (place : Place)
-    → Starts (needs_of rules) places me standing lazy s → asked_by call ≡ Some ask → ask.joins ≡ true → is_taken (needs_of rules).is_lock call ≡ true
-    → IsEnabled (needs_of rules) lazy me (Joined ask.request)
+pub register-joined : (rules : Rules) (places me : ℕ) (is_sync : Bool) (call : WordCall) (standing : ℕ → Place) (state : AbstractState) (s : Object) (ask : Ask) (place : Place)
+    → Starts (needs_of rules) places me standing state s → asked_by call ≡ Some ask → ask.joins ≡ true → is_taken (needs_of rules).is_lock call ≡ true
+    → IsEnabled (needs_of rules) state me (Joined ask.request)
     → (standing me).registration ≡ IsIdle → ((needs_of rules).is_lock ≡ false → nat_lt (needs_of rules).top ask.request ≡ false)
     → place.registration ≡ Slot ask.request
     → Answers (needs_of rules) places me is_sync call (updated standing me place) s
-    (after_event (needs_of rules) lazy me (Joined ask.request)) (Says true)
-register-joined rules places me is_sync call standing lazy s ask place h asks joins taken allowed idle small slot =
+    (after_event (needs_of rules) state me (Joined ask.request)) (Says true)
+register-joined rules places me is_sync call standing state s ask place h asks joins taken allowed idle small slot =
     let needs : Needs = needs_of rules in
     let m = h.mirrors in
     let request : Request = needs.read ask.request in
-    let entry : entry_at s.book me ≡ Idle = idle-entry needs places me standing lazy s m h.here idle in
-    let free : (not (is_idle (entry_at s.book me)) || asks_too_much s.held request) ≡ false = free-test rules places me standing lazy s ask.request h entry small in
-    let test : is_granted_at_once s request ≡ false = waits-test needs places standing lazy s ask.request m allowed.0 allowed.1 in
+    let entry : entry_at s.book me ≡ Idle = idle-entry needs places me standing state s m h.here idle in
+    let free : (not (is_idle (entry_at s.book me)) || asks_too_much s.held request) ≡ false = free-test rules places me standing state s ask.request h entry small in
+    let test : is_granted_at_once s request ≡ false = waits-test needs places standing state s ask.request m allowed.0 allowed.1 in
     let waits : granted_at_once s request ≡ None = rw test refl in
     let nothing : answer_at_once s request ≡ None =
-    ap (λ (t : Held). answer_when s t request) m.held ∙ answer-at rules lazy s request allowed.0 ∙ waits in
-    let room : used s == s.room ≡ false = room-test needs places me standing lazy s m h.here entry in
-    answers-by needs places me is_sync call (updated standing me place) s (after_event needs lazy me (Joined ask.request)) (Says true)
+    ap (λ (t : Held). answer_when s t request) m.held ∙ answer-at rules state s request allowed.0 ∙ waits in
+    let room : used s == s.room ≡ false = room-test needs places me standing state s m h.here entry in
+    answers-by needs places me is_sync call (updated standing me place) s (after_event needs state me (Joined ask.request)) (Says true)
     (registered_by (record { state = joined s me request is_sync; reply = Ok true }))
     (register-call rules me is_sync call s ask asks joins taken
     ∙ (λ i. registered_by (registered_of s me request is_sync (free i) (nothing i) (room i))))
-    (mirrors-set needs places standing lazy (after_event needs lazy me (Joined ask.request)) s s.held (s.line ++ (me, request) ∷ []) (Waiting request is_sync) me place is_sync m h.here
-    m.held (ap (λ (l : List Waiter). l ++ (me, request) ∷ []) m.line ∙ sym (waiters-append needs lazy.line ((me, ask.request) ∷ [])))
+    (mirrors-set needs places standing state (after_event needs state me (Joined ask.request)) s s.held (s.line ++ (me, request) ∷ []) (Waiting request is_sync) me place is_sync m h.here
+    m.held (ap (λ (l : List Waiter). l ++ (me, request) ∷ []) m.line ∙ sym (waiters-append needs state.line ((me, ask.request) ∷ [])))
     (λ other apart. refl)
     (λ i. entry_of needs (sym slot i) (sym allowed.4 i) is_sync))
     refl
 
 -- a registration that is refused
-register-refused : (rules : Rules) (places me : ℕ) (is_sync : Bool) (call : WordCall) (standing : ℕ → Place) (lazy : Lazy) (s : Object) (ask : Ask) (place : Place)
-    → Starts (needs_of rules) places me standing lazy s → asked_by call ≡ Some ask → ask.joins ≡ true → is_taken (needs_of rules).is_lock call ≡ true
+register-refused : (rules : Rules) (places me : ℕ) (is_sync : Bool) (call : WordCall) (standing : ℕ → Place) (state : AbstractState) (s : Object) (ask : Ask) (place : Place)
+    → Starts (needs_of rules) places me standing state s → asked_by call ≡ Some ask → ask.joins ≡ true → is_taken (needs_of rules).is_lock call ≡ true
     → (not (is_idle (entry_at s.book me)) || (not (needs_of rules).is_lock && nat_lt (needs_of rules).top ask.request)) ≡ true
     → place.registration ≡ (standing me).registration
-    → Answers (needs_of rules) places me is_sync call (updated standing me place) s lazy (Says false)
-register-refused rules places me is_sync call standing lazy s ask place h asks joins taken refused same =
+    → Answers (needs_of rules) places me is_sync call (updated standing me place) s state (Says false)
+register-refused rules places me is_sync call standing state s ask place h asks joins taken refused same =
     let needs : Needs = needs_of rules in
     let request : Request = needs.read ask.request in
     let test : (not (is_idle (entry_at s.book me)) || asks_too_much s.held request) ≡ true =
-    refused-test rules places me standing lazy s ask.request h ∙ refused in
-    answers-by needs places me is_sync call (updated standing me place) s lazy (Says false) (registered_by (record { state = s; reply = Ok false }))
+    refused-test rules places me standing state s ask.request h ∙ refused in
+    answers-by needs places me is_sync call (updated standing me place) s state (Says false) (registered_by (record { state = s; reply = Ok false }))
     (register-call rules me is_sync call s ask asks joins taken
     ∙ (λ i. registered_by (registered_of s me request is_sync (test i) (answer_at_once s request) (used s == s.room))))
-    (mirrors-same needs places standing lazy s me place h.mirrors same)
+    (mirrors-same needs places standing state s me place h.mirrors same)
     refl
 
 -- it is for more than there is
-pub register-large : (rules : Rules) (places me : ℕ) (is_sync : Bool) (count : ℕ) (standing : ℕ → Place) (lazy : Lazy) (s : Object) (place : Place)
-    → Starts (needs_of rules) places me standing lazy s → is_taken (needs_of rules).is_lock (Register count) ≡ true
+pub register-large : (rules : Rules) (places me : ℕ) (is_sync : Bool) (count : ℕ) (standing : ℕ → Place) (state : AbstractState) (s : Object) (place : Place)
+    → Starts (needs_of rules) places me standing state s → is_taken (needs_of rules).is_lock (Register count) ≡ true
     → nat_lt (needs_of rules).top count ≡ true → place.registration ≡ (standing me).registration
-    → Answers (needs_of rules) places me is_sync (Register count) (updated standing me place) s lazy (Says false)
-register-large (Permits bound) places me is_sync count standing lazy s place h taken large same =
-    register-refused (Permits bound) places me is_sync (Register count) standing lazy s (record { request = count; joins = true }) place h refl refl refl
+    → Answers (needs_of rules) places me is_sync (Register count) (updated standing me place) s state (Says false)
+register-large (Permits bound) places me is_sync count standing state s place h taken large same =
+    register-refused (Permits bound) places me is_sync (Register count) standing state s (record { request = count; joins = true }) place h refl refl refl
     (rw large (or-true (not (is_idle (entry_at s.book me))))) same
   where
     or-true : (b : Bool) → (b || true) ≡ true
     or-true true = refl
     or-true false = refl
-register-large Modes places me is_sync count standing lazy s place h taken large same = absurd (cc)
+register-large Modes places me is_sync count standing state s place h taken large same = absurd (cc)
 
 -- it is of a place that isn't idle
 busy-entry : (needs : Needs) (registration : Registration) (shown : Option ℕ) (is_sync : Bool) → is_free registration ≡ false
@@ -348,14 +348,14 @@ busy-entry needs (Once value request) shown is_sync busy = refl
 busy-entry needs (Slot request) None is_sync busy = refl
 busy-entry needs (Slot request) (Some value) is_sync busy = refl
 
-pub register-busy : (rules : Rules) (places me : ℕ) (is_sync : Bool) (call : WordCall) (standing : ℕ → Place) (lazy : Lazy) (s : Object) (ask : Ask) (place : Place)
-    → Starts (needs_of rules) places me standing lazy s → asked_by call ≡ Some ask → ask.joins ≡ true → is_taken (needs_of rules).is_lock call ≡ true
+pub register-busy : (rules : Rules) (places me : ℕ) (is_sync : Bool) (call : WordCall) (standing : ℕ → Place) (state : AbstractState) (s : Object) (ask : Ask) (place : Place)
+    → Starts (needs_of rules) places me standing state s → asked_by call ≡ Some ask → ask.joins ≡ true → is_taken (needs_of rules).is_lock call ≡ true
     → is_free (standing me).registration ≡ false → place.registration ≡ (standing me).registration
-    → Answers (needs_of rules) places me is_sync call (updated standing me place) s lazy (Says false)
-register-busy rules places me is_sync call standing lazy s ask place h asks joins taken busy same =
+    → Answers (needs_of rules) places me is_sync call (updated standing me place) s state (Says false)
+register-busy rules places me is_sync call standing state s ask place h asks joins taken busy same =
     let needs : Needs = needs_of rules in
     let entry = h.mirrors.entries me h.here in
     let test : is_idle (entry_at s.book me) ≡ false =
-    ap is_idle entry.1 ∙ busy-entry needs (standing me).registration (lazy.shown me) entry.0 busy in
-    register-refused rules places me is_sync call standing lazy s ask place h asks joins taken
+    ap is_idle entry.1 ∙ busy-entry needs (standing me).registration (state.shown me) entry.0 busy in
+    register-refused rules places me is_sync call standing state s ask place h asks joins taken
     (ap (λ (b : Bool). not b || (not needs.is_lock && nat_lt needs.top ask.request)) test) same

@@ -5,7 +5,7 @@ use Rattle.saa_word_steps.specs.declared.place.Place.{Place}
 use Rattle.saa_word_steps.specs.declared.place.Registration.{Registration}
 use Rattle.saa_word_steps.specs.declared.place.Registration.TheVariants.{Idle as IsIdle}
 use Rattle.saa_word_steps.specs.Needs.{Needs}
-use Rattle.saa_word_steps.specs.Lazy.{Lazy, opening}
+use Rattle.saa_word_steps.specs.AbstractState.{AbstractState, opening}
 use Rattle.saa_word_proofs.specs.Mirrors.{waiters, entry_of, held_at, Mirrors}
 
 -- the entries of so many places, from a place on
@@ -29,23 +29,23 @@ book-entry needs standing shown from (suc more) (suc place) within =
     ∙ ap (λ (n : ℕ). entry_of needs (standing n).registration (shown n) false) same
 
 -- there is one for each moment
-pub mirrored : (needs : Needs) (places : ℕ) (standing : ℕ → Place) (lazy : Lazy) → (s : Object) × Mirrors needs places standing lazy s
-mirrored needs places standing lazy = (
+pub mirrored : (needs : Needs) (places : ℕ) (standing : ℕ → Place) (state : AbstractState) → (s : Object) × Mirrors needs places standing state s
+mirrored needs places standing state = (
   record {
-    held = held_at needs lazy;
-    line = waiters needs lazy.line;
-    book = book_from needs standing lazy.shown 0 places;
+    held = held_at needs state;
+    line = waiters needs state.line;
+    book = book_from needs standing state.shown 0 places;
     outside = 0;
     room = places;
   },
   record {
     held = refl;
     line = refl;
-    names = book-length needs standing lazy.shown 0 places;
+    names = book-length needs standing state.shown 0 places;
     entries = λ place within. (
       false,
-      book-entry needs standing lazy.shown 0 places place within
-          ∙ ap (λ (n : ℕ). entry_of needs (standing n).registration (lazy.shown n) false) (omega arith),
+      book-entry needs standing state.shown 0 places place within
+          ∙ ap (λ (n : ℕ). entry_of needs (standing n).registration (state.shown n) false) (omega arith),
     );
     room = refl;
     alone = refl;

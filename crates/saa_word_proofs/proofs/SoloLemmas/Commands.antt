@@ -16,6 +16,7 @@ use Rattle.saa_word_steps.specs.declared.rules.Rules.{Rules}
 use Rattle.saa_word_steps.specs.declared.rules.Rules.TheVariants.{Permits, Modes}
 use Rattle.saa_word_steps.specs.declared.place.Ask.{Ask}
 use Rattle.saa_word_steps.specs.declared.place.Taking.{Taking}
+use Rattle.saa_word_steps.specs.declared.place.Given.TheVariants.{Asked}
 use Rattle.saa_word_steps.specs.declared.call.Answer.{Answer}
 use Rattle.saa_word_steps.specs.declared.call.Answer.TheVariants.{Bool as Says, Tried, Taken, Unit as SaysNothing}
 use Rattle.saa_word_steps.specs.declared.call.WordCall.{WordCall}
@@ -107,7 +108,7 @@ abbrev pub given_back_by : After Bool → After Answer
 given_back_by after = record { state = after.state; reply = Says after.reply }
 
 pub release-call : (rules : Rules) (me : ℕ) (is_sync : Bool) (call : WordCall) (s : Object) (given : ℕ)
-    → given_by call ≡ Some given → is_taken (needs_of rules).is_lock call ≡ true
+    → given_by call ≡ Some (Asked given) → is_taken (needs_of rules).is_lock call ≡ true
     → called (needs_of rules).is_lock me is_sync call s ≡ given_back_by (given_back s ((needs_of rules).read given))
 release-call (Permits bound) me is_sync (Release count) s given gives taken =
     let same : count ≡ given = cc in

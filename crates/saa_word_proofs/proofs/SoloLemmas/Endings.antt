@@ -12,16 +12,17 @@ use Rattle.saa_word_steps.specs.declared.place.Reading.{Reading}
 use Rattle.saa_word_steps.specs.declared.place.Taking.{Taking}
 use Rattle.saa_word_steps.specs.declared.place.Taking.TheVariants.{Tries, Awaits}
 use Rattle.saa_word_steps.specs.declared.place.Place.{Place}
+use Rattle.saa_word_steps.specs.declared.place.Given.TheVariants.{Asked, AllButAShare}
 use Rattle.saa_word_steps.specs.declared.place.Registration.{Registration}
 use Rattle.saa_word_steps.specs.declared.place.Registration.TheVariants.{Idle, Once, Slot}
 use Rattle.saa_word_steps.specs.declared.call.Answer.{Answer}
 use Rattle.saa_word_steps.specs.declared.call.Answer.TheVariants.{Bool as Says, Tried, Taken, Unit as SaysNothing}
 use Rattle.saa_word_steps.specs.declared.call.WordCall.{WordCall}
-use Rattle.saa_word_steps.specs.declared.call.WordCall.TheVariants.{PoisonLock, ClearPoison, TryPoll, Poll, Cancel}
+use Rattle.saa_word_steps.specs.declared.call.WordCall.TheVariants.{Downgrade, PoisonLock, ClearPoison, TryPoll, Poll, Cancel}
 use Rattle.saa_word_steps.specs.Needs.{Needs}
 use Rattle.saa_word_steps.specs.declared.event.Event.{Event}
-use Rattle.saa_word_steps.specs.declared.event.Event.TheVariants.{Got, Refused, AskedPoisoned, Joined, Left, Gave, GaveNothing, Poisoned, NotPoisoned, Cleared, NotCleared, NotReady, Took, Read}
-use Rattle.saa_word_steps.specs.Lazy.{Lazy, IsEnabled, after_event, count_or, is_in}
+use Rattle.saa_word_steps.specs.declared.event.Event.TheVariants.{Got, Refused, AskedPoisoned, Joined, Left, Gave, GaveNothing, Lowered, NotLowered, Poisoned, NotPoisoned, Cleared, NotCleared, NotReady, Took, Read}
+use Rattle.saa_word_steps.specs.AbstractState.{AbstractState, IsEnabled, after_event, count_or, is_in}
 use Rattle.saa_word_steps.specs.Steps.{is_taken, needs_of, tried_answer, read_as}
 use Rattle.saa_word_proofs.specs.Refinement.{updated}
 use Rattle.saa_word_proofs.specs.Calls.{asked_by, given_by, read_by, taken_by, ask_named, release_named, read_named, poll_named, poison_named, clear_named, is_taken_up, IsDropped, IsCancelled}
@@ -31,46 +32,46 @@ use Rattle.saa_word_proofs.proofs.SoloLemmas.Asks.{try-got, try-refused, try-poi
 use Rattle.saa_word_proofs.proofs.SoloLemmas.Givings.{release-gave, release-nothing}
 use Rattle.saa_word_proofs.proofs.SoloLemmas.Cancels.{cancel-once-gave, cancel-once-nothing, cancel-took, cancel-took-gave, cancel-took-nothing, cancel-left}
 use Rattle.saa_word_proofs.proofs.SoloLemmas.PollsAlone.{poll-took, poll-not_ready}
-use Rattle.saa_word_proofs.proofs.SoloLemmas.Locks.{reads, poison-done, poison-refused, clear-done, clear-refused}
+use Rattle.saa_word_proofs.proofs.SoloLemmas.Locks.{reads, downgrade-done, downgrade-refused, poison-done, poison-refused, clear-done, clear-refused}
 use Rattle.saa_word_proofs.proofs.SoloLemmas.Events.{no-events, IsFirst, first-event, settles, tells}
 use Rattle.saa_word_proofs.specs.Registering.{left_behind}
 use Rattle.saa_word_proofs.proofs.SoloLemmas.Along.{Arrives}
 
 -- What is known of both ends of a call that moved alone
-pub record IsOver (rules : Rules) (places me : ℕ) (call : WordCall) (first : ℕ → Place) (start : Lazy) (s : Object) (was : Registration) (answer : Answer) (last : Moment) : Type 0 where
+pub record IsOver (rules : Rules) (places me : ℕ) (call : WordCall) (first : ℕ → Place) (start : AbstractState) (s : Object) (was : Registration) (answer : Answer) (last : Moment) : Type 0 where
   pub taken : is_taken (needs_of rules).is_lock call ≡ true
   pub starts : Starts (needs_of rules) places me first start s
   pub closed : start.unclosed ≡ false
   pub arrived : Arrives (needs_of rules) places me start first call (first me).registration was answer last
-  pub rest : IsAtRest (needs_of rules) last.row arrived.lazy
+  pub rest : IsAtRest (needs_of rules) last.row arrived.state
 
 -- the sequential object beside the place as it is at the end
-abbrev pub Beside : Rules → ℕ → ℕ → Bool → WordCall → (ℕ → Place) → Object → Lazy → Answer → Moment → Type 0
-Beside rules places me is_sync call first s lazy answer last = Answers (needs_of rules) places me is_sync call (updated first me (last.standing me)) s lazy answer
+abbrev pub Beside : Rules → ℕ → ℕ → Bool → WordCall → (ℕ → Place) → Object → AbstractState → Answer → Moment → Type 0
+Beside rules places me is_sync call first s state answer last = Answers (needs_of rules) places me is_sync call (updated first me (last.standing me)) s state answer
 
 -- the first of its events, and what it is registered as behind all of them
-came-first : (rules : Rules) (places me : ℕ) (call : WordCall) (first : ℕ → Place) (start : Lazy) (s : Object) (was : Registration) (answer : Answer) (last : Moment)
+came-first : (rules : Rules) (places me : ℕ) (call : WordCall) (first : ℕ → Place) (start : AbstractState) (s : Object) (was : Registration) (answer : Answer) (last : Moment)
     (e : IsOver rules places me call first start s was answer last) (event : Event) (more : List Event) → e.arrived.names ≡ event ∷ more
-    → IsFirst (needs_of rules) me start event more e.arrived.lazy
+    → IsFirst (needs_of rules) me start event more e.arrived.state
 came-first rules places me call first start s was answer last e event more is =
-    first-event (needs_of rules) me e.arrived.far.events event more start e.arrived.lazy e.closed e.starts.paid (e.arrived.far.named ∙ is) e.arrived.far.run
+    first-event (needs_of rules) me e.arrived.far.events event more start e.arrived.state e.closed e.starts.paid (e.arrived.far.named ∙ is) e.arrived.far.run
 
-left-as : (rules : Rules) (places me : ℕ) (call : WordCall) (first : ℕ → Place) (start : Lazy) (s : Object) (was : Registration) (answer : Answer) (last : Moment)
+left-as : (rules : Rules) (places me : ℕ) (call : WordCall) (first : ℕ → Place) (start : AbstractState) (s : Object) (was : Registration) (answer : Answer) (last : Moment)
     (e : IsOver rules places me call first start s was answer last) (names : List Event) (asks : Option Ask) → e.arrived.names ≡ names → asked_by call ≡ asks
     → (last.standing me).registration ≡ left_behind names asks was
 left-as rules places me call first start s was answer last e names asks is same = e.arrived.left ∙ (λ i. left_behind (is i) (same i) was)
 
 -- a call whose one event opens nothing and makes nothing due
-only : (rules : Rules) (places me : ℕ) (is_sync : Bool) (call : WordCall) (first : ℕ → Place) (start : Lazy) (s : Object) (was : Registration) (answer : Answer) (last : Moment)
+only : (rules : Rules) (places me : ℕ) (is_sync : Bool) (call : WordCall) (first : ℕ → Place) (start : AbstractState) (s : Object) (was : Registration) (answer : Answer) (last : Moment)
     (e : IsOver rules places me call first start s was answer last) (event : Event) (said : Answer) → e.arrived.names ≡ event ∷ [] → said ≡ answer
     → (after_event (needs_of rules) start me event).unclosed ≡ false → ((place : ℕ) → (after_event (needs_of rules) start me event).due place ≡ None)
     → (IsEnabled (needs_of rules) start me event → Beside rules places me is_sync call first s (after_event (needs_of rules) start me event) said last)
-    → Beside rules places me is_sync call first s e.arrived.lazy answer last
+    → Beside rules places me is_sync call first s e.arrived.state answer last
 only rules places me is_sync call first start s was answer last e event said is says closed paid beside =
     let f = came-first rules places me call first start s was answer last e event [] is in
-    let same : after_event (needs_of rules) start me event ≡ e.arrived.lazy =
-    no-events (needs_of rules) me f.rest (after_event (needs_of rules) start me event) e.arrived.lazy closed paid f.names f.run in
-    subst (λ (z : Lazy). Beside rules places me is_sync call first s z answer last) same
+    let same : after_event (needs_of rules) start me event ≡ e.arrived.state =
+    no-events (needs_of rules) me f.rest (after_event (needs_of rules) start me event) e.arrived.state closed paid f.names f.run in
+    subst (λ (z : AbstractState). Beside rules places me is_sync call first s z answer last) same
     (subst (λ (a : Answer). Beside rules places me is_sync call first s (after_event (needs_of rules) start me event) a last) says (beside f.allowed))
 
 -- what an event names under a test, it names where that holds
@@ -93,10 +94,10 @@ some-same one other is = cc
 -- Asks
 
 -- a try
-pub end-try : (rules : Rules) (places me : ℕ) (is_sync : Bool) (call : WordCall) (first : ℕ → Place) (start : Lazy) (s : Object) (was : Registration) (answer : Answer) (last : Moment)
+pub end-try : (rules : Rules) (places me : ℕ) (is_sync : Bool) (call : WordCall) (first : ℕ → Place) (start : AbstractState) (s : Object) (was : Registration) (answer : Answer) (last : Moment)
     (e : IsOver rules places me call first start s was answer last) (ask : Ask) → asked_by call ≡ Some ask → ask.joins ≡ false → was ≡ (first me).registration
     → (event : Event) → e.arrived.names ≡ event ∷ [] → ask_named (needs_of rules) ask event ≡ Some answer
-    → Beside rules places me is_sync call first s e.arrived.lazy answer last
+    → Beside rules places me is_sync call first s e.arrived.state answer last
 end-try rules places me is_sync call first start s was answer last e ask asks tries kept (Got request) names says =
     let needs : Needs = needs_of rules in
     let both = named-if (request == ask.request) (if ask.joins then Says true else tried_answer needs true) answer says in
@@ -132,11 +133,11 @@ end-try rules places me is_sync call first start s was answer last e ask asks tr
 end-try rules places me is_sync call first start s was answer last e ask asks tries kept _ names says = absurd (cc)
 
 -- a registration
-pub end-register : (rules : Rules) (places me : ℕ) (is_sync : Bool) (call : WordCall) (first : ℕ → Place) (start : Lazy) (s : Object) (was : Registration) (answer : Answer) (last : Moment)
+pub end-register : (rules : Rules) (places me : ℕ) (is_sync : Bool) (call : WordCall) (first : ℕ → Place) (start : AbstractState) (s : Object) (was : Registration) (answer : Answer) (last : Moment)
     (e : IsOver rules places me call first start s was answer last) (ask : Ask) → asked_by call ≡ Some ask → ask.joins ≡ true
     → (first me).registration ≡ Idle → ((needs_of rules).is_lock ≡ false → nat_lt (needs_of rules).top ask.request ≡ false)
     → (event : Event) → e.arrived.names ≡ event ∷ [] → ask_named (needs_of rules) ask event ≡ Some answer
-    → Beside rules places me is_sync call first s e.arrived.lazy answer last
+    → Beside rules places me is_sync call first s e.arrived.state answer last
 end-register rules places me is_sync call first start s was answer last e ask asks joins idle within (Got request) names says =
     let needs : Needs = needs_of rules in
     let both = named-if (request == ask.request) (if ask.joins then Says true else tried_answer needs true) answer says in
@@ -172,17 +173,17 @@ end-register rules places me is_sync call first start s was answer last e ask as
 -- Releases
 
 -- what was given back lets the front of the line go, until the object is at rest
-gave-settles : (needs : Needs) (me : ℕ) (lazy last : Lazy) (row : ℕ → ℕ) (request : ℕ) (f : IsFirst needs me lazy (Gave request) [] last)
-    → ((place : ℕ) → lazy.due place ≡ None) → IsAtRest needs row last → Settles needs f.allowed.1.0 lazy.line lazy.shown last
-gave-settles needs me lazy last row request f paid rests =
-    subst (λ (n : ℕ). Settles needs n lazy.line lazy.shown last) (ap (count_or lazy.count) f.allowed.1.1)
-    (settles needs me f.rest (after_event needs lazy me (Gave request)) last row f.names f.run paid f.allowed.0 rests)
+gave-settles : (needs : Needs) (me : ℕ) (state last : AbstractState) (row : ℕ → ℕ) (request : ℕ) (f : IsFirst needs me state (Gave request) [] last)
+    → ((place : ℕ) → state.due place ≡ None) → IsAtRest needs row last → Settles needs f.allowed.1.0 state.line state.shown last
+gave-settles needs me state last row request f paid rests =
+    subst (λ (n : ℕ). Settles needs n state.line state.shown last) (ap (count_or state.count) f.allowed.1.1)
+    (settles needs me f.rest (after_event needs state me (Gave request)) last row f.names f.run paid f.allowed.0 rests)
 
-pub end-release : (rules : Rules) (places me : ℕ) (is_sync : Bool) (call : WordCall) (first : ℕ → Place) (start : Lazy) (s : Object) (was : Registration) (answer : Answer) (last : Moment)
-    (e : IsOver rules places me call first start s was answer last) (given : ℕ) → given_by call ≡ Some given
+pub end-release : (rules : Rules) (places me : ℕ) (is_sync : Bool) (call : WordCall) (first : ℕ → Place) (start : AbstractState) (s : Object) (was : Registration) (answer : Answer) (last : Moment)
+    (e : IsOver rules places me call first start s was answer last) (given : ℕ) → given_by call ≡ Some (Asked given)
     → ((needs_of rules).is_lock ≡ false → (given == 0) ≡ false) → was ≡ (first me).registration
-    → (event : Event) → e.arrived.names ≡ event ∷ [] → release_named given event ≡ Some answer
-    → Beside rules places me is_sync call first s e.arrived.lazy answer last
+    → (event : Event) → e.arrived.names ≡ event ∷ [] → release_named (Asked given) event ≡ Some answer
+    → Beside rules places me is_sync call first s e.arrived.state answer last
 end-release rules places me is_sync call first start s was answer last e given gives some kept (Gave request) names says =
     let needs : Needs = needs_of rules in
     let both = named-if (request == given) (Says true) answer says in
@@ -190,9 +191,9 @@ end-release rules places me is_sync call first start s was answer last e given g
     let f = came-first rules places me call first start s was answer last e (Gave given) [] gave in
     let left : (last.standing me).registration ≡ (first me).registration =
     left-as rules places me call first start s was answer last e (Gave given ∷ []) (asked_by call) gave refl ∙ kept in
-    subst (λ (a : Answer). Beside rules places me is_sync call first s e.arrived.lazy a last) both.1
-    (release-gave rules places me is_sync call first start s given f.allowed.1.0 e.arrived.lazy (last.standing me) e.starts gives e.taken some
-    f.allowed.0 f.allowed.1.1 (gave-settles needs me start e.arrived.lazy last.row given f e.starts.paid e.rest) left)
+    subst (λ (a : Answer). Beside rules places me is_sync call first s e.arrived.state a last) both.1
+    (release-gave rules places me is_sync call first start s given f.allowed.1.0 e.arrived.state (last.standing me) e.starts gives e.taken some
+    f.allowed.0 f.allowed.1.1 (gave-settles needs me start e.arrived.state last.row given f e.starts.paid e.rest) left)
 end-release rules places me is_sync call first start s was answer last e given gives some kept (GaveNothing request) names says =
     let both = named-if (request == given) (Says false) answer says in
     let nothing : e.arrived.names ≡ GaveNothing given ∷ [] = names ∙ ap (λ (n : ℕ). GaveNothing n ∷ []) (same_number request given both.0) in
@@ -202,21 +203,41 @@ end-release rules places me is_sync call first start s was answer last e given g
     (λ allowed. release-nothing rules places me is_sync call first start s given (last.standing me) e.starts gives e.taken some allowed left)
 end-release rules places me is_sync call first start s was answer last e given gives some kept _ names says = absurd (cc)
 
+-- Downgrades
+
+pub end-downgrade : (rules : Rules) (places me : ℕ) (is_sync : Bool) (first : ℕ → Place) (start : AbstractState) (s : Object) (was : Registration) (answer : Answer) (last : Moment)
+    (e : IsOver rules places me Downgrade first start s was answer last) → was ≡ (first me).registration
+    → (event : Event) → e.arrived.names ≡ event ∷ [] → release_named AllButAShare event ≡ Some answer
+    → Beside rules places me is_sync Downgrade first s e.arrived.state answer last
+end-downgrade rules places me is_sync first start s was answer last e kept Lowered names says =
+    let needs : Needs = needs_of rules in
+    let f = came-first rules places me Downgrade first start s was answer last e Lowered [] names in
+    subst (λ (a : Answer). Beside rules places me is_sync Downgrade first s e.arrived.state a last) (some-same (Says true) answer says)
+    (downgrade-done rules places me is_sync first start s e.arrived.state (last.standing me) e.starts e.taken f.allowed
+    (settles needs me f.rest (after_event needs start me Lowered) e.arrived.state last.row f.names f.run e.starts.paid f.allowed.0 e.rest)
+    (left-as rules places me Downgrade first start s was answer last e (Lowered ∷ []) None names refl ∙ kept))
+end-downgrade rules places me is_sync first start s was answer last e kept NotLowered names says =
+    only rules places me is_sync Downgrade first start s was answer last e NotLowered (Says false) names (some-same (Says false) answer says)
+    e.closed e.starts.paid
+    (λ allowed. downgrade-refused rules places me is_sync first start s (last.standing me) e.starts e.taken allowed
+    (left-as rules places me Downgrade first start s was answer last e (NotLowered ∷ []) None names refl ∙ kept))
+end-downgrade rules places me is_sync first start s was answer last e kept _ names says = absurd (cc)
+
 -- Polls
 
-end-took : (rules : Rules) (places me : ℕ) (is_sync : Bool) (call : WordCall) (first : ℕ → Place) (start : Lazy) (s : Object) (was : Registration) (answer : Answer) (last : Moment)
+end-took : (rules : Rules) (places me : ℕ) (is_sync : Bool) (call : WordCall) (first : ℕ → Place) (start : AbstractState) (s : Object) (was : Registration) (answer : Answer) (last : Moment)
     (e : IsOver rules places me call first start s was answer last) (taking : Taking) → taken_by call ≡ Some taking
     → (value : ℕ) → e.arrived.names ≡ Took value ∷ [] → Taken (Ok (value == granted_value)) ≡ answer
-    → Beside rules places me is_sync call first s e.arrived.lazy answer last
+    → Beside rules places me is_sync call first s e.arrived.state answer last
 end-took rules places me is_sync call first start s was answer last e taking takes value names says =
     only rules places me is_sync call first start s was answer last e (Took value) (Taken (Ok (value == granted_value))) names says e.closed e.starts.paid
     (λ allowed. poll-took rules places me is_sync call first start s taking value (last.standing me) e.starts takes allowed
     (left-as rules places me call first start s was answer last e (Took value ∷ []) (asked_by call) names refl))
 
-pub end-try_poll : (rules : Rules) (places me : ℕ) (is_sync : Bool) (first : ℕ → Place) (start : Lazy) (s : Object) (was : Registration) (answer : Answer) (last : Moment)
+pub end-try_poll : (rules : Rules) (places me : ℕ) (is_sync : Bool) (first : ℕ → Place) (start : AbstractState) (s : Object) (was : Registration) (answer : Answer) (last : Moment)
     (e : IsOver rules places me TryPoll first start s was answer last) → was ≡ (first me).registration
     → (event : Event) → e.arrived.names ≡ event ∷ [] → poll_named true event ≡ Some answer
-    → Beside rules places me is_sync TryPoll first s e.arrived.lazy answer last
+    → Beside rules places me is_sync TryPoll first s e.arrived.state answer last
 end-try_poll rules places me is_sync first start s was answer last e kept (Took value) names says =
     end-took rules places me is_sync TryPoll first start s was answer last e Tries refl value names (some-same (Taken (Ok (value == granted_value))) answer says)
 end-try_poll rules places me is_sync first start s was answer last e kept NotReady names says =
@@ -226,20 +247,20 @@ end-try_poll rules places me is_sync first start s was answer last e kept NotRea
     (left-as rules places me TryPoll first start s was answer last e (NotReady ∷ []) None names refl ∙ kept))
 end-try_poll rules places me is_sync first start s was answer last e kept _ names says = absurd (cc)
 
-pub end-poll : (rules : Rules) (places me : ℕ) (is_sync : Bool) (first : ℕ → Place) (start : Lazy) (s : Object) (was : Registration) (answer : Answer) (last : Moment)
+pub end-poll : (rules : Rules) (places me : ℕ) (is_sync : Bool) (first : ℕ → Place) (start : AbstractState) (s : Object) (was : Registration) (answer : Answer) (last : Moment)
     (e : IsOver rules places me Poll first start s was answer last)
     → (event : Event) → e.arrived.names ≡ event ∷ [] → poll_named false event ≡ Some answer
-    → Beside rules places me is_sync Poll first s e.arrived.lazy answer last
+    → Beside rules places me is_sync Poll first s e.arrived.state answer last
 end-poll rules places me is_sync first start s was answer last e (Took value) names says =
     end-took rules places me is_sync Poll first start s was answer last e Awaits refl value names (some-same (Taken (Ok (value == granted_value))) answer says)
 end-poll rules places me is_sync first start s was answer last e _ names says = absurd (cc)
 
 -- Reading
 
-pub end-read : (rules : Rules) (places me : ℕ) (is_sync : Bool) (call : WordCall) (first : ℕ → Place) (start : Lazy) (s : Object) (was : Registration) (answer : Answer) (last : Moment)
+pub end-read : (rules : Rules) (places me : ℕ) (is_sync : Bool) (call : WordCall) (first : ℕ → Place) (start : AbstractState) (s : Object) (was : Registration) (answer : Answer) (last : Moment)
     (e : IsOver rules places me call first start s was answer last) (reading : Reading) → read_by call ≡ Some reading → was ≡ (first me).registration
     → (event : Event) → e.arrived.names ≡ event ∷ [] → read_named (needs_of rules) reading event ≡ Some answer
-    → Beside rules places me is_sync call first s e.arrived.lazy answer last
+    → Beside rules places me is_sync call first s e.arrived.state answer last
 end-read rules places me is_sync call first start s was answer last e reading looks kept (Read count poisoned) names says =
     only rules places me is_sync call first start s was answer last e (Read count poisoned) (read_as (needs_of rules) reading count poisoned) names
     (some-same (read_as (needs_of rules) reading count poisoned) answer says) e.closed e.starts.paid
@@ -249,15 +270,15 @@ end-read rules places me is_sync call first start s was answer last e reading lo
 
 -- Poison
 
-pub end-poison : (rules : Rules) (places me : ℕ) (is_sync : Bool) (first : ℕ → Place) (start : Lazy) (s : Object) (was : Registration) (answer : Answer) (last : Moment)
+pub end-poison : (rules : Rules) (places me : ℕ) (is_sync : Bool) (first : ℕ → Place) (start : AbstractState) (s : Object) (was : Registration) (answer : Answer) (last : Moment)
     (e : IsOver rules places me PoisonLock first start s was answer last) → was ≡ (first me).registration
     → (event : Event) → e.arrived.names ≡ event ∷ [] → poison_named event ≡ Some answer
-    → Beside rules places me is_sync PoisonLock first s e.arrived.lazy answer last
+    → Beside rules places me is_sync PoisonLock first s e.arrived.state answer last
 end-poison rules places me is_sync first start s was answer last e kept Poisoned names says =
     let f = came-first rules places me PoisonLock first start s was answer last e Poisoned [] names in
-    let told = tells (needs_of rules) me f.rest start e.arrived.lazy f.names f.run e.closed e.starts.paid e.rest.paid in
-    subst (λ (a : Answer). Beside rules places me is_sync PoisonLock first s e.arrived.lazy a last) (some-same (Says true) answer says)
-    (poison-done rules places me is_sync first start s e.arrived.lazy (last.standing me) e.starts e.taken f.allowed told.0 told.1 told.2
+    let told = tells (needs_of rules) me f.rest start e.arrived.state f.names f.run e.closed e.starts.paid e.rest.paid in
+    subst (λ (a : Answer). Beside rules places me is_sync PoisonLock first s e.arrived.state a last) (some-same (Says true) answer says)
+    (poison-done rules places me is_sync first start s e.arrived.state (last.standing me) e.starts e.taken f.allowed told.0 told.1 told.2
     (left-as rules places me PoisonLock first start s was answer last e (Poisoned ∷ []) None names refl ∙ kept))
 end-poison rules places me is_sync first start s was answer last e kept NotPoisoned names says =
     only rules places me is_sync PoisonLock first start s was answer last e NotPoisoned (Says false) names (some-same (Says false) answer says)
@@ -266,10 +287,10 @@ end-poison rules places me is_sync first start s was answer last e kept NotPoiso
     (left-as rules places me PoisonLock first start s was answer last e (NotPoisoned ∷ []) None names refl ∙ kept))
 end-poison rules places me is_sync first start s was answer last e kept _ names says = absurd (cc)
 
-pub end-clear : (rules : Rules) (places me : ℕ) (is_sync : Bool) (first : ℕ → Place) (start : Lazy) (s : Object) (was : Registration) (answer : Answer) (last : Moment)
+pub end-clear : (rules : Rules) (places me : ℕ) (is_sync : Bool) (first : ℕ → Place) (start : AbstractState) (s : Object) (was : Registration) (answer : Answer) (last : Moment)
     (e : IsOver rules places me ClearPoison first start s was answer last) → was ≡ (first me).registration
     → (event : Event) → e.arrived.names ≡ event ∷ [] → clear_named event ≡ Some answer
-    → Beside rules places me is_sync ClearPoison first s e.arrived.lazy answer last
+    → Beside rules places me is_sync ClearPoison first s e.arrived.state answer last
 end-clear rules places me is_sync first start s was answer last e kept Cleared names says =
     only rules places me is_sync ClearPoison first start s was answer last e Cleared (Says true) names (some-same (Says true) answer says)
     e.closed e.starts.paid
@@ -285,16 +306,16 @@ end-clear rules places me is_sync first start s was answer last e kept _ names s
 -- Cancels
 
 -- a cancel of an answer that was given at once, which took something: its place is idle from its start on
-pub end-cancel-once : (rules : Rules) (places me : ℕ) (is_sync : Bool) (first : ℕ → Place) (start : Lazy) (s : Object) (was : Registration) (last : Moment)
+pub end-cancel-once : (rules : Rules) (places me : ℕ) (is_sync : Bool) (first : ℕ → Place) (start : AbstractState) (s : Object) (was : Registration) (last : Moment)
     (e : IsOver rules places me Cancel first start s was SaysNothing last) (value request : ℕ) → (first me).registration ≡ Once value request
     → is_taken_up (needs_of rules) request value ≡ true → was ≡ Idle → IsDropped request e.arrived.names
-    → Beside rules places me is_sync Cancel first s e.arrived.lazy SaysNothing last
+    → Beside rules places me is_sync Cancel first s e.arrived.state SaysNothing last
 end-cancel-once rules places me is_sync first start s was last e value request once took idle dropped =
     elim dropped [
       | inl gave ↦
           let f = came-first rules places me Cancel first start s was SaysNothing last e (Gave request) [] gave in
-          cancel-once-gave rules places me is_sync first start s value request f.allowed.1.0 e.arrived.lazy (last.standing me) e.starts once took
-          f.allowed.0 f.allowed.1.1 (gave-settles (needs_of rules) me start e.arrived.lazy last.row request f e.starts.paid e.rest)
+          cancel-once-gave rules places me is_sync first start s value request f.allowed.1.0 e.arrived.state (last.standing me) e.starts once took
+          f.allowed.0 f.allowed.1.1 (gave-settles (needs_of rules) me start e.arrived.state last.row request f e.starts.paid e.rest)
           (left-as rules places me Cancel first start s was SaysNothing last e (Gave request ∷ []) None gave refl ∙ idle)
       | inr nothing ↦
           only rules places me is_sync Cancel first start s was SaysNothing last e (GaveNothing request) SaysNothing nothing refl e.closed e.starts.paid
@@ -303,9 +324,9 @@ end-cancel-once rules places me is_sync first start s was last e value request o
     ]
 
 -- a cancel that leaves the line lets the front of it go
-end-left : (rules : Rules) (places me : ℕ) (is_sync : Bool) (first : ℕ → Place) (start : Lazy) (s : Object) (was : Registration) (last : Moment)
+end-left : (rules : Rules) (places me : ℕ) (is_sync : Bool) (first : ℕ → Place) (start : AbstractState) (s : Object) (was : Registration) (last : Moment)
     (e : IsOver rules places me Cancel first start s was SaysNothing last) → e.arrived.names ≡ Left ∷ []
-    → Beside rules places me is_sync Cancel first s e.arrived.lazy SaysNothing last
+    → Beside rules places me is_sync Cancel first s e.arrived.state SaysNothing last
 end-left rules places me is_sync first start s was last e names =
     let needs : Needs = needs_of rules in
     let f = came-first rules places me Cancel first start s was SaysNothing last e Left [] names in
@@ -314,43 +335,43 @@ end-left rules places me is_sync first start s was last e names =
       | inl poisoned ↦ let wrong : false ≡ true = sym (ap (is_in me) (e.starts.barren poisoned).1) ∙ f.allowed in absurd (cc)
       | inr calm ↦ calm
     ] in
-    cancel-left rules places me is_sync first start s e.arrived.lazy (last.standing me) e.starts f.allowed
-    (settles needs me f.rest (after_event needs start me Left) e.arrived.lazy last.row f.names f.run e.starts.paid calm e.rest)
+    cancel-left rules places me is_sync first start s e.arrived.state (last.standing me) e.starts f.allowed
+    (settles needs me f.rest (after_event needs start me Left) e.arrived.state last.row f.names f.run e.starts.paid calm e.rest)
     (left-as rules places me Cancel first start s was SaysNothing last e (Left ∷ []) None names refl)
 
 -- a cancel that takes its answer and gives back what was granted
-end-took-up : (rules : Rules) (places me : ℕ) (is_sync : Bool) (first : ℕ → Place) (start : Lazy) (s : Object) (was : Registration) (last : Moment)
+end-took-up : (rules : Rules) (places me : ℕ) (is_sync : Bool) (first : ℕ → Place) (start : AbstractState) (s : Object) (was : Registration) (last : Moment)
     (e : IsOver rules places me Cancel first start s was SaysNothing last) (request : ℕ) → (first me).registration ≡ Slot request
     → (needs_of rules).takes request ≢ 0 → (rest : List Event) → e.arrived.names ≡ Took granted_value ∷ rest → IsDropped request rest
-    → Beside rules places me is_sync Cancel first s e.arrived.lazy SaysNothing last
+    → Beside rules places me is_sync Cancel first s e.arrived.state SaysNothing last
 end-took-up rules places me is_sync first start s was last e request slot some rest names dropped =
     let needs : Needs = needs_of rules in
-    let took : Lazy = after_event needs start me (Took granted_value) in
+    let took : AbstractState = after_event needs start me (Took granted_value) in
     elim dropped [
       | inl gave ↦
           let is : e.arrived.names ≡ Took granted_value ∷ (Gave request ∷ []) = names ∙ ap (λ (l : List Event). Took granted_value ∷ l) gave in
           let f = came-first rules places me Cancel first start s was SaysNothing last e (Took granted_value) (Gave request ∷ []) is in
-          let g : IsFirst needs me took (Gave request) [] e.arrived.lazy =
-          first-event needs me f.rest (Gave request) [] took e.arrived.lazy e.closed e.starts.paid f.names f.run in
-          cancel-took-gave rules places me is_sync first start s request g.allowed.1.0 e.arrived.lazy (last.standing me) e.starts slot f.allowed some
-          g.allowed.0 g.allowed.1.1 (gave-settles needs me took e.arrived.lazy last.row request g e.starts.paid e.rest)
+          let g : IsFirst needs me took (Gave request) [] e.arrived.state =
+          first-event needs me f.rest (Gave request) [] took e.arrived.state e.closed e.starts.paid f.names f.run in
+          cancel-took-gave rules places me is_sync first start s request g.allowed.1.0 e.arrived.state (last.standing me) e.starts slot f.allowed some
+          g.allowed.0 g.allowed.1.1 (gave-settles needs me took e.arrived.state last.row request g e.starts.paid e.rest)
           (left-as rules places me Cancel first start s was SaysNothing last e (Took granted_value ∷ (Gave request ∷ [])) None is refl)
       | inr nothing ↦
           let is : e.arrived.names ≡ Took granted_value ∷ (GaveNothing request ∷ []) = names ∙ ap (λ (l : List Event). Took granted_value ∷ l) nothing in
           let f = came-first rules places me Cancel first start s was SaysNothing last e (Took granted_value) (GaveNothing request ∷ []) is in
-          let g : IsFirst needs me took (GaveNothing request) [] e.arrived.lazy =
-          first-event needs me f.rest (GaveNothing request) [] took e.arrived.lazy e.closed e.starts.paid f.names f.run in
-          let same : took ≡ e.arrived.lazy = no-events needs me g.rest took e.arrived.lazy e.closed e.starts.paid g.names g.run in
-          subst (λ (z : Lazy). Beside rules places me is_sync Cancel first s z SaysNothing last) same
+          let g : IsFirst needs me took (GaveNothing request) [] e.arrived.state =
+          first-event needs me f.rest (GaveNothing request) [] took e.arrived.state e.closed e.starts.paid f.names f.run in
+          let same : took ≡ e.arrived.state = no-events needs me g.rest took e.arrived.state e.closed e.starts.paid g.names g.run in
+          subst (λ (z : AbstractState). Beside rules places me is_sync Cancel first s z SaysNothing last) same
           (cancel-took-nothing rules places me is_sync first start s request (last.standing me) e.starts slot f.allowed some g.allowed
           (left-as rules places me Cancel first start s was SaysNothing last e (Took granted_value ∷ (GaveNothing request ∷ [])) None is refl))
     ]
 
 -- a cancel of a place that joined the line
-pub end-cancel-slot : (rules : Rules) (places me : ℕ) (is_sync : Bool) (first : ℕ → Place) (start : Lazy) (s : Object) (was : Registration) (last : Moment)
+pub end-cancel-slot : (rules : Rules) (places me : ℕ) (is_sync : Bool) (first : ℕ → Place) (start : AbstractState) (s : Object) (was : Registration) (last : Moment)
     (e : IsOver rules places me Cancel first start s was SaysNothing last) (request : ℕ) → (first me).registration ≡ Slot request
     → IsCancelled (needs_of rules) (Slot request) e.arrived.names
-    → Beside rules places me is_sync Cancel first s e.arrived.lazy SaysNothing last
+    → Beside rules places me is_sync Cancel first s e.arrived.state SaysNothing last
 end-cancel-slot rules places me is_sync first start s was last e request slot cancelled =
     elim cancelled [
       | inl left ↦ end-left rules places me is_sync first start s was last e left

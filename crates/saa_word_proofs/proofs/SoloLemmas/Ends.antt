@@ -20,9 +20,9 @@ use Rattle.saa_word_steps.specs.declared.place.Taking.{Taking}
 use Rattle.saa_word_steps.specs.declared.place.Taking.TheVariants.{Tries, Awaits}
 use Rattle.saa_word_steps.specs.Needs.{Needs, AreNeeds}
 use Rattle.saa_word_steps.specs.declared.event.Event.{Event}
-use Rattle.saa_word_steps.specs.Lazy.{Lazy, is_in, waits_times}
+use Rattle.saa_word_steps.specs.AbstractState.{AbstractState, is_in, waits_times}
 use Rattle.saa_word_steps.specs.Steps.{is_taken, is_idle, going, operation_of, mode_number, polled_as, cancelled_as, registered_as, started}
-use Rattle.saa_word_steps.proofs.LazyRuns.{waits-none}
+use Rattle.saa_word_steps.proofs.AbstractRuns.{waits-none}
 use Rattle.saa_word_proofs.specs.Refinement.{Refines, main_of, is_slot}
 use Rattle.saa_word_proofs.specs.StepRefinement.{place_after, row_after}
 use Rattle.saa_word_proofs.specs.Calls.{is_taken_up, IsUnder, IsBegun}
@@ -92,7 +92,7 @@ finishes : (needs : Needs) → AreNeeds needs → needs.top < 2 ^ count_bits →
 finishes needs lawful wide places me room here call registered asks zero now m small =
     let stage : Stage = (now.standing me).stage in
     let row : ℕ → ℕ = row_after now.row (operation_of needs places me stage) in
-    let lower = lowered needs lawful wide places now.row now.standing m.lazy me m.stands stage refl
+    let lower = lowered needs lawful wide places now.row now.standing m.state me m.stands stage refl
     (in-call needs call registered (now.standing me).back stage m.names m.under) in
     let some = some-left (way places row) (row 0) (step_bound places now.row (now.standing me).back stage) (next_at needs places me now) lower in
     absurd (omega (arith, some, small))
@@ -101,7 +101,7 @@ finishes needs lawful wide places me room here call registered asks (suc most) n
     let row : ℕ → ℕ = row_after now.row (operation_of needs places me stage) in
     let before : ℕ = step_bound places now.row (now.standing me).back stage in
     let next : Next = next_at needs places me now in
-    let lower = lowered needs lawful wide places now.row now.standing m.lazy me m.stands stage refl
+    let lower = lowered needs lawful wide places now.row now.standing m.state me m.stands stage refl
     (in-call needs call registered (now.standing me).back stage m.names m.under) in
     onward needs places me now most next refl
     (λ waits. asks (moves-waits needs places me here call registered now m waits))
@@ -203,16 +203,16 @@ has-answer waits due None none nobody held = absurd (omega (arith, none, held, a
 has-answer waits due (Some value) none nobody held = (value, refl)
 
 -- a poll of a place that isn't in the line is done in one step
-polled : (needs : Needs) (places me : ℕ) (now : Moment) (lazy : Lazy) (most : ℕ) → me < places → Refines needs places now.row now.standing lazy
-    → IsQuiet now.standing → is_in me lazy.line ≡ false → 0 < most
+polled : (needs : Needs) (places me : ℕ) (now : Moment) (state : AbstractState) (most : ℕ) → me < places → Refines needs places now.row now.standing state
+    → IsQuiet now.standing → is_in me state.line ≡ false → 0 < most
     → (registration : Registration) → (now.standing me).registration ≡ registration
     → (place : Place) → polled_as (now.standing me) Awaits registration ≡ Going place
     → Finishes needs places me (put me (polled_as (now.standing me) Awaits registration) now) most
-polled needs places me now lazy most here s quiet absent some Idle is place goes = absurd (cc)
-polled needs places me now lazy most here s quiet absent some (Once value request) is place goes = absurd (cc)
-polled needs places me now lazy most here s quiet absent some (Slot request) is place goes =
-    let rest = at-rest needs places now.row now.standing lazy s quiet in
-    let found = has-answer (waits_times me lazy.line) (lazy.due me) (lazy.shown me) (waits-none me lazy.line absent) (rest.paid me)
+polled needs places me now state most here s quiet absent some Idle is place goes = absurd (cc)
+polled needs places me now state most here s quiet absent some (Once value request) is place goes = absurd (cc)
+polled needs places me now state most here s quiet absent some (Slot request) is place goes =
+    let rest = at-rest needs places now.row now.standing state s quiet in
+    let found = has-answer (waits_times me state.line) (state.due me) (state.shown me) (waits-none me state.line absent) (rest.paid me)
     (s.seats.held me ∙ ap (λ (r : Registration). one_if (is_slot r)) is) in
     done-now needs places me (put me (going (now.standing me) (Take Awaits)) now) most (record (now.standing me) { registration = Idle; stage = Quiet })
     (Taken (Ok (found.0 == 0)))
@@ -220,39 +220,39 @@ polled needs places me now lazy most here s quiet absent some (Slot request) is 
     (λ value it. s.answers.small me value (found.1 ∙ it))) some
 
 -- Whatever call it is
-pub ends : (needs : Needs) → AreNeeds needs → needs.top < 2 ^ count_bits → (places : ℕ) (row : ℕ → ℕ) (standing : ℕ → Place) (lazy : Lazy) (me : ℕ) (call : WordCall)
-    → places < 65536 → me < places → Refines needs places row standing lazy → IsQuiet standing → is_taken needs.is_lock call ≡ true
-    → (call ≡ Poll → is_in me lazy.line ≡ false)
-    → Ends needs places me call (record { row = row; standing = standing }) (8 * length lazy.line + 24)
-ends needs lawful wide places row standing lazy me call room here s quiet taken absent =
+pub ends : (needs : Needs) → AreNeeds needs → needs.top < 2 ^ count_bits → (places : ℕ) (row : ℕ → ℕ) (standing : ℕ → Place) (state : AbstractState) (me : ℕ) (call : WordCall)
+    → places < 65536 → me < places → Refines needs places row standing state → IsQuiet standing → is_taken needs.is_lock call ≡ true
+    → (call ≡ Poll → is_in me state.line ≡ false)
+    → Ends needs places me call (record { row = row; standing = standing }) (8 * length state.line + 24)
+ends needs lawful wide places row standing state me call room here s quiet taken absent =
     let now : Moment = record { row = row; standing = standing } in
     let next : Next = started needs (standing me) call in
-    let way_is = way-length places row (main_of row).tail s.uncut (uncut-way needs places row standing lazy s) in
-    let parts : length lazy.line ≡ length s.cut + length s.uncut = ap length s.line.parts ∙ length-append s.cut s.uncut in
-    let small : 8 * way places row (main_of row).tail + 11 ≤ 8 * length lazy.line + 24 = omega (arith, way_is, parts) in
-    begins needs places me call (standing me).registration now (8 * length lazy.line + 24) next refl (call-begun needs (standing me) call (quiet me))
+    let way_is = way-length places row (main_of row).tail s.uncut (uncut-way needs places row standing state s) in
+    let parts : length state.line ≡ length s.cut + length s.uncut = ap length s.line.parts ∙ length-append s.cut s.uncut in
+    let small : 8 * way places row (main_of row).tail + 11 ≤ 8 * length state.line + 24 = omega (arith, way_is, parts) in
+    begins needs places me call (standing me).registration now (8 * length state.line + 24) next refl (call-begun needs (standing me) call (quiet me))
     (λ place is. by-call call taken absent small place is)
   where
     other : (call : WordCall) → is_taken needs.is_lock call ≡ true → (call ≡ Poll → ⊥)
-        → 8 * way places row (main_of row).tail + 11 ≤ 8 * length lazy.line + 24
+        → 8 * way places row (main_of row).tail + 11 ≤ 8 * length state.line + 24
         → (place : Place) → started needs (standing me) call ≡ Going place
-        → Finishes needs places me (put me (Going place) (record { row = row; standing = standing })) (8 * length lazy.line + 24)
+        → Finishes needs places me (put me (Going place) (record { row = row; standing = standing })) (8 * length state.line + 24)
     other call taken asks small place is =
         let now : Moment = record { row = row; standing = standing } in
-        let few : step_bound places row place.back place.stage ≤ 8 * length lazy.line + 24 =
-        subst (λ (n : Next). IsFew places row (8 * length lazy.line + 24) n) is
-        (start-few needs places row (8 * length lazy.line + 24) (standing me) call small) in
+        let few : step_bound places row place.back place.stage ≤ 8 * length state.line + 24 =
+        subst (λ (n : Next). IsFew places row (8 * length state.line + 24) n) is
+        (start-few needs places row (8 * length state.line + 24) (standing me) call small) in
         let same : step_bound places row ((put me (Going place) now).standing me).back ((put me (Going place) now).standing me).stage
         ≡ step_bound places row place.back place.stage = ap (λ (p : Place). step_bound places row p.back p.stage) (updated-at standing me place) in
-        finishes needs lawful wide places me room here call (standing me).registration asks (8 * length lazy.line + 24) (put me (Going place) now)
-        (moves-first needs wide places me call now lazy s quiet here taken place is) (omega (arith, few, same))
+        finishes needs lawful wide places me room here call (standing me).registration asks (8 * length state.line + 24) (put me (Going place) now)
+        (moves-first needs wide places me call now state s quiet here taken place is) (omega (arith, few, same))
 
-    by-call : (call : WordCall) → is_taken needs.is_lock call ≡ true → (call ≡ Poll → is_in me lazy.line ≡ false)
-        → 8 * way places row (main_of row).tail + 11 ≤ 8 * length lazy.line + 24
+    by-call : (call : WordCall) → is_taken needs.is_lock call ≡ true → (call ≡ Poll → is_in me state.line ≡ false)
+        → 8 * way places row (main_of row).tail + 11 ≤ 8 * length state.line + 24
         → (place : Place) → started needs (standing me) call ≡ Going place
-        → Finishes needs places me (put me (Going place) (record { row = row; standing = standing })) (8 * length lazy.line + 24)
+        → Finishes needs places me (put me (Going place) (record { row = row; standing = standing })) (8 * length state.line + 24)
     by-call Poll taken absent small place is =
         let now : Moment = record { row = row; standing = standing } in
-        subst (λ (n : Next). Finishes needs places me (put me n now) (8 * length lazy.line + 24)) is
-        (polled needs places me now lazy (8 * length lazy.line + 24) here s quiet (absent refl) (omega arith) (standing me).registration refl place is)
+        subst (λ (n : Next). Finishes needs places me (put me n now) (8 * length state.line + 24)) is
+        (polled needs places me now state (8 * length state.line + 24) here s quiet (absent refl) (omega arith) (standing me).registration refl place is)
     by-call call taken absent small place is = other call taken (λ poll. absurd (cc)) small place is

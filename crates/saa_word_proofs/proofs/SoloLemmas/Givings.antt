@@ -10,13 +10,14 @@ use Rattle.saa_core_spec.proofs.Counts.{same_number}
 use Rattle.saa_word_steps.specs.declared.rules.Rules.{Rules}
 use Rattle.saa_word_steps.specs.declared.rules.Rules.TheVariants.{Permits, Modes}
 use Rattle.saa_word_steps.specs.declared.place.Place.{Place}
+use Rattle.saa_word_steps.specs.declared.place.Given.TheVariants.{Asked}
 use Rattle.saa_word_steps.specs.declared.place.Registration.{Registration}
 use Rattle.saa_word_steps.specs.declared.call.Answer.TheVariants.{Bool as Says}
 use Rattle.saa_word_steps.specs.declared.call.WordCall.{WordCall}
 use Rattle.saa_word_steps.specs.declared.call.WordCall.TheVariants.{Release, ReleaseLock, ReleaseShare}
 use Rattle.saa_word_steps.specs.Needs.{Needs, lock_needs, left_count}
 use Rattle.saa_word_steps.specs.declared.event.Event.TheVariants.{GaveNothing}
-use Rattle.saa_word_steps.specs.Lazy.{Lazy, IsEnabled, IsSettledAt, is_in, takes_of, answered_with}
+use Rattle.saa_word_steps.specs.AbstractState.{AbstractState, IsEnabled, IsSettledAt, is_in, takes_of, answered_with}
 use Rattle.saa_word_steps.specs.Steps.{needs_of, is_taken}
 use Rattle.saa_word_proofs.specs.Refinement.{updated, is_slot, AreSeats}
 use Rattle.saa_word_proofs.specs.Calls.{given_by}
@@ -30,15 +31,15 @@ use Rattle.saa_word_proofs.proofs.SoloLemmas.Mirroring.{Starts, Settles, Answers
 -- Settling
 
 -- who waits joined the line, and is shown nothing
-abbrev pub AreWaiting : (ℕ → Place) → Lazy → Type 0
-AreWaiting standing lazy = (place : ℕ) → is_in place lazy.line ≡ true → (is_slot (standing place).registration ≡ true) × (lazy.shown place ≡ None)
+abbrev pub AreWaiting : (ℕ → Place) → AbstractState → Type 0
+AreWaiting standing state = (place : ℕ) → is_in place state.line ≡ true → (is_slot (standing place).registration ≡ true) × (state.shown place ≡ None)
 
 -- the entries of a front are answered and shown, and no others
-pub answered-entries : (value : ℕ) (needs : Needs) (places : ℕ) (standing : ℕ → Place) (lazy : Lazy) (s : Object) (front rest : List (ℕ × ℕ)) (shown : ℕ → Option ℕ)
-    → Mirrors needs places standing lazy s → AreWaiting standing lazy → lazy.line ≡ front ++ rest
-    → ((place : ℕ) → shown place ≡ answered_with value front lazy.shown place)
+pub answered-entries : (value : ℕ) (needs : Needs) (places : ℕ) (standing : ℕ → Place) (state : AbstractState) (s : Object) (front rest : List (ℕ × ℕ)) (shown : ℕ → Option ℕ)
+    → Mirrors needs places standing state s → AreWaiting standing state → state.line ≡ front ++ rest
+    → ((place : ℕ) → shown place ≡ answered_with value front state.shown place)
     → AreEntries needs places standing shown (answered_in value (waiters needs front) s.book)
-answered-entries value needs places standing lazy s front rest shown m waiting parts says other within =
+answered-entries value needs places standing state s front rest shown m waiting parts says other within =
     let h = m.entries other within in
     let entry = entry-answered value needs front s.book other (rw m.names within) in
     elim (cases_Bool (is_in other front)) [
@@ -56,30 +57,30 @@ answered-entries value needs places standing lazy s front rest shown m waiting p
                 ∙ (λ i. entry_of needs (sym slot.1 i) (sym answer i) h.0),
           )
       | inr apart ↦
-          let answer : shown other ≡ lazy.shown other = says other ∙ rw apart refl in
+          let answer : shown other ≡ state.shown other = says other ∙ rw apart refl in
           (h.0, entry ∙ rw apart h.1 ∙ ap (λ (a : Option ℕ). entry_of needs (standing other).registration a h.0) (sym answer))
     ]
 
 -- settling is granting a front and showing it
-pub settling : (rules : Rules) (places : ℕ) (standing : ℕ → Place) (lazy now : Lazy) (s : Object) → Mirrors (needs_of rules) places standing lazy s
-    → lazy.poisoned ≡ false → AreWaiting standing lazy → Settles (needs_of rules) lazy.count lazy.line lazy.shown now
+pub settling : (rules : Rules) (places : ℕ) (standing : ℕ → Place) (state now : AbstractState) (s : Object) → Mirrors (needs_of rules) places standing state s
+    → state.poisoned ≡ false → AreWaiting standing state → Settles (needs_of rules) state.count state.line state.shown now
     → Mirrors (needs_of rules) places standing now (settled s)
-settling rules places standing lazy now s m calm waiting g =
+settling rules places standing state now s m calm waiting g =
     let needs : Needs = needs_of rules in
     let all : List Waiter = waiters needs g.front in
     let behind : Object = record s {
-      held = needs.held (lazy.count + takes_of needs g.front);
+      held = needs.held (state.count + takes_of needs g.front);
       line = waiters needs now.line;
       book = answered_in 0 all s.book;
     } in
     let settles : settled s ≡ behind =
-    settled-front rules lazy.count g.front now.line s (m.held ∙ held-calm needs lazy calm) (m.line ∙ ap (waiters needs) g.parts) g.fits
+    settled-front rules state.count g.front now.line s (m.held ∙ held-calm needs state calm) (m.line ∙ ap (waiters needs) g.parts) g.fits
     (subst (λ (n : ℕ). IsSettledAt needs n now.line) g.count g.settled) in
     let after : Mirrors needs places standing now behind = record {
       held = ap needs.held (sym g.count) ∙ sym (held-calm needs now g.calm);
       line = refl;
       names = length-answered 0 all s.book ∙ m.names;
-      entries = answered-entries 0 needs places standing lazy s g.front now.line now.shown m waiting g.parts g.shown;
+      entries = answered-entries 0 needs places standing state s g.front now.line now.shown m waiting g.parts g.shown;
       room = m.room;
       alone = m.alone;
     } in
@@ -88,27 +89,27 @@ settling rules places standing lazy now s m calm waiting g =
 -- Giving back
 
 -- what is held is given back, and the line is settled
-pub giving-back : (rules : Rules) (lazy : Lazy) (s : Object) (request left : ℕ) → s.held ≡ held_at (needs_of rules) lazy → lazy.poisoned ≡ false
-    → lazy.count ≤ (needs_of rules).top → (needs_of rules).takes request == 0 ≡ false → left_count (needs_of rules) lazy.count request ≡ Some left
+pub giving-back : (rules : Rules) (state : AbstractState) (s : Object) (request left : ℕ) → s.held ≡ held_at (needs_of rules) state → state.poisoned ≡ false
+    → state.count ≤ (needs_of rules).top → (needs_of rules).takes request == 0 ≡ false → left_count (needs_of rules) state.count request ≡ Some left
     → given_back s ((needs_of rules).read request) ≡ record { state = settled (record s { held = (needs_of rules).held left }); reply = true }
-giving-back rules lazy s request left held calm bounded some gives =
+giving-back rules state s request left held calm bounded some gives =
     let needs : Needs = needs_of rules in
     let gave : less s.held (needs.read request) ≡ Some (needs.held left) =
-    ap (λ (h : Held). less h (needs.read request)) (held ∙ held-calm needs lazy calm) ∙ less-at rules lazy.count request bounded
+    ap (λ (h : Held). less h (needs.read request)) (held ∙ held-calm needs state calm) ∙ less-at rules state.count request bounded
     ∙ ap (held_of needs) gives in
     λ i. given_back_of s (for-something rules request some i) (gave i)
 
 -- what isn't held isn't given back
-pub giving-nothing : (rules : Rules) (lazy : Lazy) (s : Object) (me request : ℕ) → s.held ≡ held_at (needs_of rules) lazy
-    → lazy.count ≤ (needs_of rules).top → (needs_of rules).takes request == 0 ≡ false → IsEnabled (needs_of rules) lazy me (GaveNothing request)
+pub giving-nothing : (rules : Rules) (state : AbstractState) (s : Object) (me request : ℕ) → s.held ≡ held_at (needs_of rules) state
+    → state.count ≤ (needs_of rules).top → (needs_of rules).takes request == 0 ≡ false → IsEnabled (needs_of rules) state me (GaveNothing request)
     → given_back s ((needs_of rules).read request) ≡ record { state = s; reply = false }
-giving-nothing rules lazy s me request held bounded some allowed =
+giving-nothing rules state s me request held bounded some allowed =
     let needs : Needs = needs_of rules in
     let nothing : less s.held (needs.read request) ≡ None =
-    elim (cases_Bool lazy.poisoned) [
-      | inl poisoned ↦ ap (λ (h : Held). less h (needs.read request)) (held ∙ held-poisoned needs lazy poisoned)
+    elim (cases_Bool state.poisoned) [
+      | inl poisoned ↦ ap (λ (h : Held). less h (needs.read request)) (held ∙ held-poisoned needs state poisoned)
       | inr calm ↦
-          ap (λ (h : Held). less h (needs.read request)) (held ∙ held-calm needs lazy calm) ∙ less-at rules lazy.count request bounded
+          ap (λ (h : Held). less h (needs.read request)) (held ∙ held-calm needs state calm) ∙ less-at rules state.count request bounded
           ∙ ap (held_of needs) (allowed calm)
     ] in
     λ i. given_back_of s (for-something rules request some i) (nothing i)
@@ -116,7 +117,7 @@ giving-nothing rules lazy s me request held bounded some allowed =
 -- Releases
 
 -- what a release gives back takes something
-release-takes : (rules : Rules) (call : WordCall) (given : ℕ) → given_by call ≡ Some given → is_taken (needs_of rules).is_lock call ≡ true
+release-takes : (rules : Rules) (call : WordCall) (given : ℕ) → given_by call ≡ Some (Asked given) → is_taken (needs_of rules).is_lock call ≡ true
     → ((needs_of rules).is_lock ≡ false → given == 0 ≡ false) → (needs_of rules).takes given == 0 ≡ false
 release-takes (Permits bound) call given gives taken some = some refl
 release-takes Modes ReleaseLock given gives taken some =
@@ -127,10 +128,10 @@ release-takes Modes (Release count) given gives taken some = absurd (cc)
 release-takes Modes _ given gives taken some = absurd (cc)
 
 -- a place that is registered as it was waits as it did
-pub waiting-same : (places me : ℕ) (standing : ℕ → Place) (lazy : Lazy) (place : Place) → AreSeats places standing lazy
-    → place.registration ≡ (standing me).registration → AreWaiting (updated standing me place) lazy
-waiting-same places me standing lazy place seats same other there =
-    let waits = waits-slot places other standing lazy seats there in (
+pub waiting-same : (places me : ℕ) (standing : ℕ → Place) (state : AbstractState) (place : Place) → AreSeats places standing state
+    → place.registration ≡ (standing me).registration → AreWaiting (updated standing me place) state
+waiting-same places me standing state place seats same other there =
+    let waits = waits-slot places other standing state seats there in (
       elim (cases_Bool (other == me)) [
         | inl here ↦
             let is : other ≡ me = same_number other me here in
@@ -140,59 +141,59 @@ waiting-same places me standing lazy place seats same other there =
       waits.1,
     )
 
-pub release-gave : (rules : Rules) (places me : ℕ) (is_sync : Bool) (call : WordCall) (standing : ℕ → Place) (lazy : Lazy) (s : Object) (given left : ℕ) (now : Lazy) (place : Place)
-    → Starts (needs_of rules) places me standing lazy s → given_by call ≡ Some given → is_taken (needs_of rules).is_lock call ≡ true
+pub release-gave : (rules : Rules) (places me : ℕ) (is_sync : Bool) (call : WordCall) (standing : ℕ → Place) (state : AbstractState) (s : Object) (given left : ℕ) (now : AbstractState) (place : Place)
+    → Starts (needs_of rules) places me standing state s → given_by call ≡ Some (Asked given) → is_taken (needs_of rules).is_lock call ≡ true
     → ((needs_of rules).is_lock ≡ false → given == 0 ≡ false)
-    → lazy.poisoned ≡ false → left_count (needs_of rules) lazy.count given ≡ Some left
-    → Settles (needs_of rules) left lazy.line lazy.shown now → place.registration ≡ (standing me).registration
+    → state.poisoned ≡ false → left_count (needs_of rules) state.count given ≡ Some left
+    → Settles (needs_of rules) left state.line state.shown now → place.registration ≡ (standing me).registration
     → Answers (needs_of rules) places me is_sync call (updated standing me place) s now (Says true)
-release-gave rules places me is_sync call standing lazy s given left now place h gives taken some calm lefts g same =
+release-gave rules places me is_sync call standing state s given left now place h gives taken some calm lefts g same =
     let needs : Needs = needs_of rules in
     let m = h.mirrors in
-    let middle : Lazy = record lazy { count = left } in
+    let middle : AbstractState = record state { count = left } in
     let given_up : Object = record s { held = needs.held left } in
     let between : Mirrors needs places (updated standing me place) middle given_up =
-    mirrors-held needs places standing lazy middle s (needs.held left) s.line me place m (sym (held-calm needs middle calm)) m.line refl same in
+    mirrors-held needs places standing state middle s (needs.held left) s.line me place m (sym (held-calm needs middle calm)) m.line refl same in
     answers-by needs places me is_sync call (updated standing me place) s now (Says true) (given_back_by (record { state = settled given_up; reply = true }))
     (release-call rules me is_sync call s given gives taken
-    ∙ ap given_back_by (giving-back rules lazy s given left m.held calm h.bounded (release-takes rules call given gives taken some) lefts))
-    (settling rules places (updated standing me place) middle now given_up between calm (waiting-same places me standing lazy place h.seats same) g)
+    ∙ ap given_back_by (giving-back rules state s given left m.held calm h.bounded (release-takes rules call given gives taken some) lefts))
+    (settling rules places (updated standing me place) middle now given_up between calm (waiting-same places me standing state place h.seats same) g)
     refl
 
-pub release-nothing : (rules : Rules) (places me : ℕ) (is_sync : Bool) (call : WordCall) (standing : ℕ → Place) (lazy : Lazy) (s : Object) (given : ℕ) (place : Place)
-    → Starts (needs_of rules) places me standing lazy s → given_by call ≡ Some given → is_taken (needs_of rules).is_lock call ≡ true
+pub release-nothing : (rules : Rules) (places me : ℕ) (is_sync : Bool) (call : WordCall) (standing : ℕ → Place) (state : AbstractState) (s : Object) (given : ℕ) (place : Place)
+    → Starts (needs_of rules) places me standing state s → given_by call ≡ Some (Asked given) → is_taken (needs_of rules).is_lock call ≡ true
     → ((needs_of rules).is_lock ≡ false → given == 0 ≡ false)
-    → IsEnabled (needs_of rules) lazy me (GaveNothing given) → place.registration ≡ (standing me).registration
-    → Answers (needs_of rules) places me is_sync call (updated standing me place) s lazy (Says false)
-release-nothing rules places me is_sync call standing lazy s given place h gives taken some allowed same =
+    → IsEnabled (needs_of rules) state me (GaveNothing given) → place.registration ≡ (standing me).registration
+    → Answers (needs_of rules) places me is_sync call (updated standing me place) s state (Says false)
+release-nothing rules places me is_sync call standing state s given place h gives taken some allowed same =
     let needs : Needs = needs_of rules in
     let m = h.mirrors in
-    answers-by needs places me is_sync call (updated standing me place) s lazy (Says false) (given_back_by (record { state = s; reply = false }))
+    answers-by needs places me is_sync call (updated standing me place) s state (Says false) (given_back_by (record { state = s; reply = false }))
     (release-call rules me is_sync call s given gives taken
-    ∙ ap given_back_by (giving-nothing rules lazy s me given m.held h.bounded (release-takes rules call given gives taken some) allowed))
-    (mirrors-same needs places standing lazy s me place m same)
+    ∙ ap given_back_by (giving-nothing rules state s me given m.held h.bounded (release-takes rules call given gives taken some) allowed))
+    (mirrors-same needs places standing state s me place m same)
     refl
 
 -- a release of more than there is
-pub release-large : (rules : Rules) (places me : ℕ) (is_sync : Bool) (count : ℕ) (standing : ℕ → Place) (lazy : Lazy) (s : Object) (place : Place)
-    → Starts (needs_of rules) places me standing lazy s → is_taken (needs_of rules).is_lock (Release count) ≡ true
+pub release-large : (rules : Rules) (places me : ℕ) (is_sync : Bool) (count : ℕ) (standing : ℕ → Place) (state : AbstractState) (s : Object) (place : Place)
+    → Starts (needs_of rules) places me standing state s → is_taken (needs_of rules).is_lock (Release count) ≡ true
     → nat_lt (needs_of rules).top count ≡ true → place.registration ≡ (standing me).registration
-    → Answers (needs_of rules) places me is_sync (Release count) (updated standing me place) s lazy (Says false)
-release-large (Permits bound) places me is_sync count standing lazy s place h taken large same =
-    let bounded : lazy.count ≤ bound = h.bounded in
-    let more : nat_le count lazy.count ≡ false = grind (arith, nat_tests) in
+    → Answers (needs_of rules) places me is_sync (Release count) (updated standing me place) s state (Says false)
+release-large (Permits bound) places me is_sync count standing state s place h taken large same =
+    let bounded : state.count ≤ bound = h.bounded in
+    let more : nat_le count state.count ≡ false = grind (arith, nat_tests) in
     let some : count == 0 ≡ false = grind (arith, nat_tests) in
-    release-nothing (Permits bound) places me is_sync (Release count) standing lazy s count place h refl refl (λ semaphore. some) (λ calm. rw more refl) same
-release-large Modes places me is_sync count standing lazy s place h taken large same = absurd (cc)
+    release-nothing (Permits bound) places me is_sync (Release count) standing state s count place h refl refl (λ semaphore. some) (λ calm. rw more refl) same
+release-large Modes places me is_sync count standing state s place h taken large same = absurd (cc)
 
 -- a release of nothing
-pub release-none : (rules : Rules) (places me : ℕ) (is_sync : Bool) (count : ℕ) (standing : ℕ → Place) (lazy : Lazy) (s : Object) (place : Place)
-    → Starts (needs_of rules) places me standing lazy s → is_taken (needs_of rules).is_lock (Release count) ≡ true
+pub release-none : (rules : Rules) (places me : ℕ) (is_sync : Bool) (count : ℕ) (standing : ℕ → Place) (state : AbstractState) (s : Object) (place : Place)
+    → Starts (needs_of rules) places me standing state s → is_taken (needs_of rules).is_lock (Release count) ≡ true
     → count == 0 ≡ true → place.registration ≡ (standing me).registration
-    → Answers (needs_of rules) places me is_sync (Release count) (updated standing me place) s lazy (Says true)
-release-none (Permits bound) places me is_sync count standing lazy s place h taken none same =
+    → Answers (needs_of rules) places me is_sync (Release count) (updated standing me place) s state (Says true)
+release-none (Permits bound) places me is_sync count standing state s place h taken none same =
     let needs : Needs = needs_of (Permits bound) in
     let nothing : given_back s (needs.read count) ≡ record { state = s; reply = true } = rw none refl in
-    answers-by needs places me is_sync (Release count) (updated standing me place) s lazy (Says true) (given_back_by (record { state = s; reply = true }))
-    (ap given_back_by nothing) (mirrors-same needs places standing lazy s me place h.mirrors same) refl
-release-none Modes places me is_sync count standing lazy s place h taken none same = absurd (cc)
+    answers-by needs places me is_sync (Release count) (updated standing me place) s state (Says true) (given_back_by (record { state = s; reply = true }))
+    (ap given_back_by nothing) (mirrors-same needs places standing state s me place h.mirrors same) refl
+release-none Modes places me is_sync count standing state s place h taken none same = absurd (cc)

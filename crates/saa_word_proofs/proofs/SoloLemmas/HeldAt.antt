@@ -13,7 +13,7 @@ use Rattle.saa_core_words.specs.Words.{mode_of}
 use Rattle.saa_word_steps.specs.declared.rules.Rules.{Rules}
 use Rattle.saa_word_steps.specs.declared.rules.Rules.TheVariants.{Permits, Modes}
 use Rattle.saa_word_steps.specs.Needs.{Needs, lock_needs, lock_at, mode_takes, fits_count, left_count, counted}
-use Rattle.saa_word_steps.specs.Lazy.{Lazy}
+use Rattle.saa_word_steps.specs.AbstractState.{AbstractState}
 use Rattle.saa_word_steps.specs.Steps.{needs_of}
 use Rattle.saa_word_proofs.specs.Mirrors.{held_at}
 
@@ -168,32 +168,32 @@ for-something Modes (suc (suc (suc more))) some = refl
 -- Asks
 
 -- whether a request is for more than there is: of a semaphore alone
-pub asks-at : (rules : Rules) (lazy : Lazy) (request : ℕ) → ((needs_of rules).is_lock ≡ false → lazy.poisoned ≡ false)
-    → asks_too_much (held_at (needs_of rules) lazy) ((needs_of rules).read request) ≡ (not (needs_of rules).is_lock && nat_lt (needs_of rules).top request)
-asks-at (Permits bound) lazy request calm = rw (calm refl) refl
-asks-at Modes lazy request calm = either lazy.poisoned request
+pub asks-at : (rules : Rules) (state : AbstractState) (request : ℕ) → ((needs_of rules).is_lock ≡ false → state.poisoned ≡ false)
+    → asks_too_much (held_at (needs_of rules) state) ((needs_of rules).read request) ≡ (not (needs_of rules).is_lock && nat_lt (needs_of rules).top request)
+asks-at (Permits bound) state request calm = rw (calm refl) refl
+asks-at Modes state request calm = either state.poisoned request
   where
-    either : (poisoned : Bool) (request : ℕ) → asks_too_much (if poisoned then OfLock Poisoned else OfLock (lock_at lazy.count)) (mode_of request) ≡ false
+    either : (poisoned : Bool) (request : ℕ) → asks_too_much (if poisoned then OfLock Poisoned else OfLock (lock_at state.count)) (mode_of request) ≡ false
     either true request = refl
     either false request = refl
 
 -- whom a registration is answered at once: who asks a poisoned lock, and whom it grants
-pub answer-at : (rules : Rules) (lazy : Lazy) (s : Object) (request : Request) → lazy.poisoned ≡ false
-    → answer_when s (held_at (needs_of rules) lazy) request ≡ granted_at_once s request
-answer-at (Permits bound) lazy s request calm = rw calm refl
-answer-at Modes lazy s request calm =
-    elim (cases_Bool (lazy.count == 0)) [
+pub answer-at : (rules : Rules) (state : AbstractState) (s : Object) (request : Request) → state.poisoned ≡ false
+    → answer_when s (held_at (needs_of rules) state) request ≡ granted_at_once s request
+answer-at (Permits bound) state s request calm = rw calm refl
+answer-at Modes state s request calm =
+    elim (cases_Bool (state.count == 0)) [
       | inl none ↦ rw (calm, none) refl
       | inr some ↦
-          elim (cases_Bool (lazy.count == 63)) [
+          elim (cases_Bool (state.count == 63)) [
             | inl one ↦ rw (calm, some, one) refl
             | inr several ↦ rw (calm, some, several) refl
           ]
     ]
 
 -- what is held where nothing is poisoned, and where it is
-pub held-calm : (needs : Needs) (lazy : Lazy) → lazy.poisoned ≡ false → held_at needs lazy ≡ needs.held lazy.count
-held-calm needs lazy calm = rw calm refl
+pub held-calm : (needs : Needs) (state : AbstractState) → state.poisoned ≡ false → held_at needs state ≡ needs.held state.count
+held-calm needs state calm = rw calm refl
 
-pub held-poisoned : (needs : Needs) (lazy : Lazy) → lazy.poisoned ≡ true → held_at needs lazy ≡ OfLock Poisoned
-held-poisoned needs lazy poisoned = rw poisoned refl
+pub held-poisoned : (needs : Needs) (state : AbstractState) → state.poisoned ≡ true → held_at needs state ≡ OfLock Poisoned
+held-poisoned needs state poisoned = rw poisoned refl

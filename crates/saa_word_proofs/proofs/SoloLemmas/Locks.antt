@@ -3,10 +3,10 @@ use Rattle.std.proofs.Common.{◌≡◌, ℕ, Bool, true, false, not, ◌&&◌, 
 use Rattle.std.proofs.lemmas.Bool.{cases_Bool}
 use Rattle.std.proofs.lemmas.Bool.Decides.{nat_tests}
 use Rattle.saa_core_spec.specs.Held.{Held, OfLock, LockState, Free, Exclusive, Shared, Poisoned}
-use Rattle.saa_core_spec.specs.Lock.{is_free, is_locked, is_shared, is_poisoned, poisoned_of, cleared_of}
+use Rattle.saa_core_spec.specs.Lock.{is_free, is_locked, is_shared, is_poisoned, downgraded_of, poisoned_of, cleared_of}
 use Rattle.saa_core_spec.specs.Object.{Object, After, Waiter}
 use Rattle.saa_core_spec.specs.Semaphore.{available}
-use Rattle.saa_core_spec.specs.Settling.{answered_in}
+use Rattle.saa_core_spec.specs.Settling.{answered_in, settled}
 use Rattle.saa_core_spec.proofs.Counts.{same_number}
 use Rattle.saa_word_steps.specs.declared.rules.Rules.{Rules}
 use Rattle.saa_word_steps.specs.declared.rules.Rules.TheVariants.{Permits, Modes}
@@ -16,18 +16,18 @@ use Rattle.saa_word_steps.specs.declared.place.Reading.TheVariants.{Available as
 use Rattle.saa_word_steps.specs.declared.call.Answer.{Answer}
 use Rattle.saa_word_steps.specs.declared.call.Answer.TheVariants.{Bool as Says, Number}
 use Rattle.saa_word_steps.specs.declared.call.WordCall.{WordCall}
-use Rattle.saa_word_steps.specs.declared.call.WordCall.TheVariants.{Available, IsFree, IsLocked, IsShared, IsPoisoned, PoisonLock, ClearPoison}
+use Rattle.saa_word_steps.specs.declared.call.WordCall.TheVariants.{Available, IsFree, IsLocked, IsShared, IsPoisoned, Downgrade, PoisonLock, ClearPoison}
 use Rattle.saa_word_steps.specs.Needs.{Needs, lock_needs, lock_at}
-use Rattle.saa_word_steps.specs.declared.event.Event.TheVariants.{Read, Poisoned as IsPoisonedNow, NotPoisoned, Cleared, NotCleared}
-use Rattle.saa_word_steps.specs.Lazy.{Lazy, IsEnabled, after_event, answered_with}
+use Rattle.saa_word_steps.specs.declared.event.Event.TheVariants.{Lowered, NotLowered, Read, Poisoned as IsPoisonedNow, NotPoisoned, Cleared, NotCleared}
+use Rattle.saa_word_steps.specs.AbstractState.{AbstractState, IsEnabled, IsOwned, after_event, answered_with}
 use Rattle.saa_word_steps.specs.Steps.{needs_of, is_taken, read_as}
 use Rattle.saa_word_proofs.specs.Refinement.{updated}
 use Rattle.saa_word_proofs.specs.Calls.{read_by}
 use Rattle.saa_word_proofs.specs.Mirrors.{waiters, held_at, Mirrors, called}
 use Rattle.saa_word_proofs.proofs.SoloLemmas.HeldAt.{held-calm, held-poisoned, lock-free, lock-alone, lock-shared}
 use Rattle.saa_word_proofs.proofs.SoloLemmas.Fronts.{length-answered}
-use Rattle.saa_word_proofs.proofs.SoloLemmas.Givings.{answered-entries, waiting-same}
-use Rattle.saa_word_proofs.proofs.SoloLemmas.Mirroring.{Starts, Answers, answers-by, calm-semaphore, mirrors-held, mirrors-same}
+use Rattle.saa_word_proofs.proofs.SoloLemmas.Givings.{answered-entries, settling, waiting-same}
+use Rattle.saa_word_proofs.proofs.SoloLemmas.Mirroring.{Starts, Settles, Answers, answers-by, calm-semaphore, mirrors-held, mirrors-same}
 
 -- What a lock says of itself
 
@@ -80,75 +80,126 @@ abbrev said : Object → Answer → After Answer
 said s answer = record { state = s; reply = answer }
 
 -- what a reading call says of what is held
-read-call : (rules : Rules) (me : ℕ) (is_sync : Bool) (call : WordCall) (s : Object) (lazy : Lazy) (reading : Reading)
-    → read_by call ≡ Some reading → is_taken (needs_of rules).is_lock call ≡ true → s.held ≡ held_at (needs_of rules) lazy
-    → ((needs_of rules).is_lock ≡ false → lazy.poisoned ≡ false) → (lazy.poisoned ≡ true → lazy.count ≡ 0)
-    → called (needs_of rules).is_lock me is_sync call s ≡ said s (read_as (needs_of rules) reading lazy.count lazy.poisoned)
-read-call (Permits bound) me is_sync Available s lazy reading known taken held calm barren =
+read-call : (rules : Rules) (me : ℕ) (is_sync : Bool) (call : WordCall) (s : Object) (state : AbstractState) (reading : Reading)
+    → read_by call ≡ Some reading → is_taken (needs_of rules).is_lock call ≡ true → s.held ≡ held_at (needs_of rules) state
+    → ((needs_of rules).is_lock ≡ false → state.poisoned ≡ false) → (state.poisoned ≡ true → state.count ≡ 0)
+    → called (needs_of rules).is_lock me is_sync call s ≡ said s (read_as (needs_of rules) reading state.count state.poisoned)
+read-call (Permits bound) me is_sync Available s state reading known taken held calm barren =
     let same : ReadsAvailable ≡ reading = cc in
-    let is : s.held ≡ (needs_of (Permits bound)).held lazy.count = held ∙ held-calm (needs_of (Permits bound)) lazy (calm refl) in
+    let is : s.held ≡ (needs_of (Permits bound)).held state.count = held ∙ held-calm (needs_of (Permits bound)) state (calm refl) in
     ap (λ (h : Held). said s (Number (available h))) is
-    ∙ ap (λ (r : Reading). said s (read_as (needs_of (Permits bound)) r lazy.count lazy.poisoned)) same
-read-call (Permits bound) me is_sync IsFree s lazy reading known taken held calm barren = absurd (cc)
-read-call (Permits bound) me is_sync IsLocked s lazy reading known taken held calm barren = absurd (cc)
-read-call (Permits bound) me is_sync IsShared s lazy reading known taken held calm barren = absurd (cc)
-read-call (Permits bound) me is_sync IsPoisoned s lazy reading known taken held calm barren = absurd (cc)
-read-call (Permits bound) me is_sync _ s lazy reading known taken held calm barren = absurd (cc)
-read-call Modes me is_sync IsFree s lazy reading known taken held calm barren =
+    ∙ ap (λ (r : Reading). said s (read_as (needs_of (Permits bound)) r state.count state.poisoned)) same
+read-call (Permits bound) me is_sync IsFree s state reading known taken held calm barren = absurd (cc)
+read-call (Permits bound) me is_sync IsLocked s state reading known taken held calm barren = absurd (cc)
+read-call (Permits bound) me is_sync IsShared s state reading known taken held calm barren = absurd (cc)
+read-call (Permits bound) me is_sync IsPoisoned s state reading known taken held calm barren = absurd (cc)
+read-call (Permits bound) me is_sync _ s state reading known taken held calm barren = absurd (cc)
+read-call Modes me is_sync IsFree s state reading known taken held calm barren =
     let same : ReadsFree ≡ reading = cc in
-    ap (λ (h : Held). said s (Says (is_free h))) held ∙ ap (λ (b : Bool). said s (Says b)) (reads-free lazy.poisoned lazy.count barren)
-    ∙ ap (λ (r : Reading). said s (read_as lock_needs r lazy.count lazy.poisoned)) same
-read-call Modes me is_sync IsLocked s lazy reading known taken held calm barren =
+    ap (λ (h : Held). said s (Says (is_free h))) held ∙ ap (λ (b : Bool). said s (Says b)) (reads-free state.poisoned state.count barren)
+    ∙ ap (λ (r : Reading). said s (read_as lock_needs r state.count state.poisoned)) same
+read-call Modes me is_sync IsLocked s state reading known taken held calm barren =
     let same : ReadsLocked ≡ reading = cc in
-    ap (λ (h : Held). said s (Says (is_locked h))) held ∙ ap (λ (b : Bool). said s (Says b)) (reads-locked lazy.poisoned lazy.count barren)
-    ∙ ap (λ (r : Reading). said s (read_as lock_needs r lazy.count lazy.poisoned)) same
-read-call Modes me is_sync IsShared s lazy reading known taken held calm barren =
+    ap (λ (h : Held). said s (Says (is_locked h))) held ∙ ap (λ (b : Bool). said s (Says b)) (reads-locked state.poisoned state.count barren)
+    ∙ ap (λ (r : Reading). said s (read_as lock_needs r state.count state.poisoned)) same
+read-call Modes me is_sync IsShared s state reading known taken held calm barren =
     let same : ReadsShared ≡ reading = cc in
-    ap (λ (h : Held). said s (Says (is_shared h))) held ∙ ap (λ (b : Bool). said s (Says b)) (reads-shared lazy.poisoned lazy.count barren)
-    ∙ ap (λ (r : Reading). said s (read_as lock_needs r lazy.count lazy.poisoned)) same
-read-call Modes me is_sync IsPoisoned s lazy reading known taken held calm barren =
+    ap (λ (h : Held). said s (Says (is_shared h))) held ∙ ap (λ (b : Bool). said s (Says b)) (reads-shared state.poisoned state.count barren)
+    ∙ ap (λ (r : Reading). said s (read_as lock_needs r state.count state.poisoned)) same
+read-call Modes me is_sync IsPoisoned s state reading known taken held calm barren =
     let same : ReadsPoisoned ≡ reading = cc in
-    ap (λ (h : Held). said s (Says (is_poisoned h))) held ∙ ap (λ (b : Bool). said s (Says b)) (reads-poisoned lazy.poisoned lazy.count barren)
-    ∙ ap (λ (r : Reading). said s (read_as lock_needs r lazy.count lazy.poisoned)) same
-read-call Modes me is_sync Available s lazy reading known taken held calm barren = absurd (cc)
-read-call Modes me is_sync _ s lazy reading known taken held calm barren = absurd (cc)
+    ap (λ (h : Held). said s (Says (is_poisoned h))) held ∙ ap (λ (b : Bool). said s (Says b)) (reads-poisoned state.poisoned state.count barren)
+    ∙ ap (λ (r : Reading). said s (read_as lock_needs r state.count state.poisoned)) same
+read-call Modes me is_sync Available s state reading known taken held calm barren = absurd (cc)
+read-call Modes me is_sync _ s state reading known taken held calm barren = absurd (cc)
 
-pub reads : (rules : Rules) (places me : ℕ) (is_sync : Bool) (call : WordCall) (standing : ℕ → Place) (lazy : Lazy) (s : Object) (reading : Reading) (count : ℕ) (poisoned : Bool) (place : Place)
-    → Starts (needs_of rules) places me standing lazy s → read_by call ≡ Some reading → is_taken (needs_of rules).is_lock call ≡ true
-    → IsEnabled (needs_of rules) lazy me (Read count poisoned) → place.registration ≡ (standing me).registration
-    → Answers (needs_of rules) places me is_sync call (updated standing me place) s lazy (read_as (needs_of rules) reading count poisoned)
-reads rules places me is_sync call standing lazy s reading count poisoned place h known taken allowed same =
+pub reads : (rules : Rules) (places me : ℕ) (is_sync : Bool) (call : WordCall) (standing : ℕ → Place) (state : AbstractState) (s : Object) (reading : Reading) (count : ℕ) (poisoned : Bool) (place : Place)
+    → Starts (needs_of rules) places me standing state s → read_by call ≡ Some reading → is_taken (needs_of rules).is_lock call ≡ true
+    → IsEnabled (needs_of rules) state me (Read count poisoned) → place.registration ≡ (standing me).registration
+    → Answers (needs_of rules) places me is_sync call (updated standing me place) s state (read_as (needs_of rules) reading count poisoned)
+reads rules places me is_sync call standing state s reading count poisoned place h known taken allowed same =
     let needs : Needs = needs_of rules in
-    answers-by needs places me is_sync call (updated standing me place) s lazy (read_as needs reading count poisoned)
-    (said s (read_as needs reading lazy.count lazy.poisoned))
-    (read-call rules me is_sync call s lazy reading known taken h.mirrors.held
-    (λ semaphore. calm-semaphore needs places me standing lazy s h semaphore) (λ poison. (h.barren poison).0))
-    (mirrors-same needs places standing lazy s me place h.mirrors same)
+    answers-by needs places me is_sync call (updated standing me place) s state (read_as needs reading count poisoned)
+    (said s (read_as needs reading state.count state.poisoned))
+    (read-call rules me is_sync call s state reading known taken h.mirrors.held
+    (λ semaphore. calm-semaphore needs places me standing state s h semaphore) (λ poison. (h.barren poison).0))
+    (mirrors-same needs places standing state s me place h.mirrors same)
     (λ i. read_as needs reading (allowed.0 i) (allowed.1 i))
+
+-- Downgrades
+
+-- a lock that one owner has says so, and no other does
+is-owned : (places me : ℕ) (standing : ℕ → Place) (state : AbstractState) (s : Object)
+    → Starts lock_needs places me standing state s → IsOwned lock_needs state → is_locked s.held ≡ true
+is-owned places me standing state s h owned =
+    ap is_locked h.mirrors.held ∙ reads-locked state.poisoned state.count (λ poison. (h.barren poison).0)
+    ∙ ap (λ (n : ℕ). n == 63) owned.1
+
+isnt-owned : (places me : ℕ) (standing : ℕ → Place) (state : AbstractState) (s : Object)
+    → Starts lock_needs places me standing state s → (IsOwned lock_needs state → ⊥) → is_locked s.held ≡ false
+isnt-owned places me standing state s h none =
+    let other : state.count == 63 ≡ false =
+    elim (cases_Bool state.poisoned) [
+      | inl poison ↦ ap (λ (n : ℕ). n == 63) (h.barren poison).0
+      | inr calm ↦
+          elim (cases_Bool (state.count == 63)) [
+            | inl one ↦ absurd (none (calm, same_number state.count 63 one, refl))
+            | inr several ↦ several
+          ]
+    ] in
+    ap is_locked h.mirrors.held ∙ reads-locked state.poisoned state.count (λ poison. (h.barren poison).0) ∙ other
+
+-- a lock that one owner has is shared by one then, and the front of the line is granted
+pub downgrade-done : (rules : Rules) (places me : ℕ) (is_sync : Bool) (standing : ℕ → Place) (state : AbstractState) (s : Object) (now : AbstractState) (place : Place)
+    → Starts (needs_of rules) places me standing state s → is_taken (needs_of rules).is_lock Downgrade ≡ true
+    → IsEnabled (needs_of rules) state me Lowered → Settles (needs_of rules) 1 state.line state.shown now → place.registration ≡ (standing me).registration
+    → Answers (needs_of rules) places me is_sync Downgrade (updated standing me place) s now (Says true)
+downgrade-done (Permits bound) places me is_sync standing state s now place h taken allowed g same = absurd (cc)
+downgrade-done Modes places me is_sync standing state s now place h taken allowed g same =
+    let m = h.mirrors in
+    let middle : AbstractState = record state { count = 1 } in
+    let lowered : Object = record s { held = OfLock (Shared 1) } in
+    let between : Mirrors lock_needs places (updated standing me place) middle lowered =
+    mirrors-held lock_needs places standing state middle s (OfLock (Shared 1)) s.line me place m (sym (held-calm lock_needs middle allowed.0)) m.line refl same in
+    answers-by lock_needs places me is_sync Downgrade (updated standing me place) s now (Says true) (said (settled lowered) (Says true))
+    (ap (λ (b : Bool). said (downgraded_of s b).state (Says (downgraded_of s b).reply)) (is-owned places me standing state s h allowed))
+    (settling Modes places (updated standing me place) middle now lowered between allowed.0 (waiting-same places me standing state place h.seats same) g)
+    refl
+
+-- any other isn't
+pub downgrade-refused : (rules : Rules) (places me : ℕ) (is_sync : Bool) (standing : ℕ → Place) (state : AbstractState) (s : Object) (place : Place)
+    → Starts (needs_of rules) places me standing state s → is_taken (needs_of rules).is_lock Downgrade ≡ true
+    → IsEnabled (needs_of rules) state me NotLowered → place.registration ≡ (standing me).registration
+    → Answers (needs_of rules) places me is_sync Downgrade (updated standing me place) s state (Says false)
+downgrade-refused (Permits bound) places me is_sync standing state s place h taken allowed same = absurd (cc)
+downgrade-refused Modes places me is_sync standing state s place h taken allowed same =
+    answers-by lock_needs places me is_sync Downgrade (updated standing me place) s state (Says false) (said s (Says false))
+    (ap (λ (b : Bool). said (downgraded_of s b).state (Says (downgraded_of s b).reply)) (isnt-owned places me standing state s h allowed))
+    (mirrors-same lock_needs places standing state s me place h.mirrors same)
+    refl
 
 -- Poison
 
 -- a lock that one owner has is poisoned, and all who wait are answered so
-pub poison-done : (rules : Rules) (places me : ℕ) (is_sync : Bool) (standing : ℕ → Place) (lazy : Lazy) (s : Object) (now : Lazy) (place : Place)
-    → Starts (needs_of rules) places me standing lazy s → is_taken (needs_of rules).is_lock PoisonLock ≡ true
-    → IsEnabled (needs_of rules) lazy me IsPoisonedNow
-    → now.poisoned ≡ true → now.line ≡ [] → ((other : ℕ) → now.shown other ≡ answered_with 2 lazy.line lazy.shown other)
+pub poison-done : (rules : Rules) (places me : ℕ) (is_sync : Bool) (standing : ℕ → Place) (state : AbstractState) (s : Object) (now : AbstractState) (place : Place)
+    → Starts (needs_of rules) places me standing state s → is_taken (needs_of rules).is_lock PoisonLock ≡ true
+    → IsEnabled (needs_of rules) state me IsPoisonedNow
+    → now.poisoned ≡ true → now.line ≡ [] → ((other : ℕ) → now.shown other ≡ answered_with 2 state.line state.shown other)
     → place.registration ≡ (standing me).registration
     → Answers (needs_of rules) places me is_sync PoisonLock (updated standing me place) s now (Says true)
-poison-done (Permits bound) places me is_sync standing lazy s now place h taken allowed poisoned line shown same = absurd (cc)
-poison-done Modes places me is_sync standing lazy s now place h taken allowed poisoned line shown same =
+poison-done (Permits bound) places me is_sync standing state s now place h taken allowed poisoned line shown same = absurd (cc)
+poison-done Modes places me is_sync standing state s now place h taken allowed poisoned line shown same =
     let m = h.mirrors in
-    let test : is_locked s.held ≡ true =
-    ap is_locked m.held ∙ reads-locked lazy.poisoned lazy.count (λ poison. (h.barren poison).0) ∙ ap (λ (n : ℕ). n == 63) allowed.1.1 in
-    let all : List Waiter = waiters lock_needs lazy.line in
+    let test : is_locked s.held ≡ true = is-owned places me standing state s h allowed.1 in
+    let all : List Waiter = waiters lock_needs state.line in
     let left : Object = record s { held = OfLock Poisoned; line = []; book = answered_in 2 all s.book } in
-    let whole : lazy.line ≡ lazy.line ++ [] = sym (append-nil lazy.line) in
+    let whole : state.line ≡ state.line ++ [] = sym (append-nil state.line) in
     let after : Mirrors lock_needs places (updated standing me place) now left = record {
       held = sym (held-poisoned lock_needs now poisoned);
       line = sym (ap (waiters lock_needs) line);
       names = length-answered 2 all s.book ∙ m.names;
-      entries = answered-entries 2 lock_needs places (updated standing me place) lazy s lazy.line [] now.shown
-          (mirrors-same lock_needs places standing lazy s me place m same) (waiting-same places me standing lazy place h.seats same) whole shown;
+      entries = answered-entries 2 lock_needs places (updated standing me place) state s state.line [] now.shown
+          (mirrors-same lock_needs places standing state s me place m same) (waiting-same places me standing state place h.seats same) whole shown;
       room = m.room;
       alone = m.alone;
     } in
@@ -158,53 +209,43 @@ poison-done Modes places me is_sync standing lazy s now place h taken allowed po
     after refl
 
 -- any other isn't
-pub poison-refused : (rules : Rules) (places me : ℕ) (is_sync : Bool) (standing : ℕ → Place) (lazy : Lazy) (s : Object) (place : Place)
-    → Starts (needs_of rules) places me standing lazy s → is_taken (needs_of rules).is_lock PoisonLock ≡ true
-    → IsEnabled (needs_of rules) lazy me NotPoisoned → place.registration ≡ (standing me).registration
-    → Answers (needs_of rules) places me is_sync PoisonLock (updated standing me place) s lazy (Says false)
-poison-refused (Permits bound) places me is_sync standing lazy s place h taken allowed same = absurd (cc)
-poison-refused Modes places me is_sync standing lazy s place h taken allowed same =
+pub poison-refused : (rules : Rules) (places me : ℕ) (is_sync : Bool) (standing : ℕ → Place) (state : AbstractState) (s : Object) (place : Place)
+    → Starts (needs_of rules) places me standing state s → is_taken (needs_of rules).is_lock PoisonLock ≡ true
+    → IsEnabled (needs_of rules) state me NotPoisoned → place.registration ≡ (standing me).registration
+    → Answers (needs_of rules) places me is_sync PoisonLock (updated standing me place) s state (Says false)
+poison-refused (Permits bound) places me is_sync standing state s place h taken allowed same = absurd (cc)
+poison-refused Modes places me is_sync standing state s place h taken allowed same =
     let m = h.mirrors in
-    let other : lazy.count == 63 ≡ false =
-    elim (cases_Bool lazy.poisoned) [
-      | inl poison ↦ ap (λ (n : ℕ). n == 63) (h.barren poison).0
-      | inr calm ↦
-          elim (cases_Bool (lazy.count == 63)) [
-            | inl one ↦ absurd (allowed (calm, same_number lazy.count 63 one, refl))
-            | inr several ↦ several
-          ]
-    ] in
-    let test : is_locked s.held ≡ false =
-    ap is_locked m.held ∙ reads-locked lazy.poisoned lazy.count (λ poison. (h.barren poison).0) ∙ other in
-    answers-by lock_needs places me is_sync PoisonLock (updated standing me place) s lazy (Says false) (said s (Says false))
+    let test : is_locked s.held ≡ false = isnt-owned places me standing state s h allowed in
+    answers-by lock_needs places me is_sync PoisonLock (updated standing me place) s state (Says false) (said s (Says false))
     (ap (λ (b : Bool). said (poisoned_of s b).state (Says (poisoned_of s b).reply)) test)
-    (mirrors-same lock_needs places standing lazy s me place m same) refl
+    (mirrors-same lock_needs places standing state s me place m same) refl
 
 -- a poisoned lock is cleared, and is free then
-pub clear-done : (rules : Rules) (places me : ℕ) (is_sync : Bool) (standing : ℕ → Place) (lazy : Lazy) (s : Object) (place : Place)
-    → Starts (needs_of rules) places me standing lazy s → is_taken (needs_of rules).is_lock ClearPoison ≡ true
-    → IsEnabled (needs_of rules) lazy me Cleared → place.registration ≡ (standing me).registration
-    → Answers (needs_of rules) places me is_sync ClearPoison (updated standing me place) s (after_event (needs_of rules) lazy me Cleared) (Says true)
-clear-done (Permits bound) places me is_sync standing lazy s place h taken allowed same = absurd (cc)
-clear-done Modes places me is_sync standing lazy s place h taken allowed same =
+pub clear-done : (rules : Rules) (places me : ℕ) (is_sync : Bool) (standing : ℕ → Place) (state : AbstractState) (s : Object) (place : Place)
+    → Starts (needs_of rules) places me standing state s → is_taken (needs_of rules).is_lock ClearPoison ≡ true
+    → IsEnabled (needs_of rules) state me Cleared → place.registration ≡ (standing me).registration
+    → Answers (needs_of rules) places me is_sync ClearPoison (updated standing me place) s (after_event (needs_of rules) state me Cleared) (Says true)
+clear-done (Permits bound) places me is_sync standing state s place h taken allowed same = absurd (cc)
+clear-done Modes places me is_sync standing state s place h taken allowed same =
     let m = h.mirrors in
     let test : is_poisoned s.held ≡ true =
-    ap is_poisoned m.held ∙ reads-poisoned lazy.poisoned lazy.count (λ poison. (h.barren poison).0) ∙ allowed in
-    answers-by lock_needs places me is_sync ClearPoison (updated standing me place) s (after_event lock_needs lazy me Cleared) (Says true)
+    ap is_poisoned m.held ∙ reads-poisoned state.poisoned state.count (λ poison. (h.barren poison).0) ∙ allowed in
+    answers-by lock_needs places me is_sync ClearPoison (updated standing me place) s (after_event lock_needs state me Cleared) (Says true)
     (said (record s { held = OfLock Free }) (Says true))
     (ap (λ (b : Bool). said (cleared_of s b).state (Says (cleared_of s b).reply)) test)
-    (mirrors-held lock_needs places standing lazy (after_event lock_needs lazy me Cleared) s (OfLock Free) s.line me place m
+    (mirrors-held lock_needs places standing state (after_event lock_needs state me Cleared) s (OfLock Free) s.line me place m
     (ap (λ (n : ℕ). OfLock (lock_at n)) (sym (h.barren allowed).0)) m.line refl same) refl
 
-pub clear-refused : (rules : Rules) (places me : ℕ) (is_sync : Bool) (standing : ℕ → Place) (lazy : Lazy) (s : Object) (place : Place)
-    → Starts (needs_of rules) places me standing lazy s → is_taken (needs_of rules).is_lock ClearPoison ≡ true
-    → IsEnabled (needs_of rules) lazy me NotCleared → place.registration ≡ (standing me).registration
-    → Answers (needs_of rules) places me is_sync ClearPoison (updated standing me place) s lazy (Says false)
-clear-refused (Permits bound) places me is_sync standing lazy s place h taken allowed same = absurd (cc)
-clear-refused Modes places me is_sync standing lazy s place h taken allowed same =
+pub clear-refused : (rules : Rules) (places me : ℕ) (is_sync : Bool) (standing : ℕ → Place) (state : AbstractState) (s : Object) (place : Place)
+    → Starts (needs_of rules) places me standing state s → is_taken (needs_of rules).is_lock ClearPoison ≡ true
+    → IsEnabled (needs_of rules) state me NotCleared → place.registration ≡ (standing me).registration
+    → Answers (needs_of rules) places me is_sync ClearPoison (updated standing me place) s state (Says false)
+clear-refused (Permits bound) places me is_sync standing state s place h taken allowed same = absurd (cc)
+clear-refused Modes places me is_sync standing state s place h taken allowed same =
     let m = h.mirrors in
     let test : is_poisoned s.held ≡ false =
-    ap is_poisoned m.held ∙ reads-poisoned lazy.poisoned lazy.count (λ poison. (h.barren poison).0) ∙ allowed in
-    answers-by lock_needs places me is_sync ClearPoison (updated standing me place) s lazy (Says false) (said s (Says false))
+    ap is_poisoned m.held ∙ reads-poisoned state.poisoned state.count (λ poison. (h.barren poison).0) ∙ allowed in
+    answers-by lock_needs places me is_sync ClearPoison (updated standing me place) s state (Says false) (said s (Says false))
     (ap (λ (b : Bool). said (cleared_of s b).state (Says (cleared_of s b).reply)) test)
-    (mirrors-same lock_needs places standing lazy s me place m same) refl
+    (mirrors-same lock_needs places standing state s me place m same) refl

@@ -12,7 +12,7 @@ use Rattle.saa_word_steps.specs.declared.place.Registration.TheVariants.{Idle as
 use Rattle.saa_word_steps.specs.declared.call.Answer.{Answer}
 use Rattle.saa_word_steps.specs.declared.call.WordCall.{WordCall}
 use Rattle.saa_word_steps.specs.Needs.{Needs}
-use Rattle.saa_word_steps.specs.Lazy.{Lazy, IsFront, IsSettledAt, takes_of, answered_with, is_in, waits_times, with_answer}
+use Rattle.saa_word_steps.specs.AbstractState.{AbstractState, IsFront, IsSettledAt, takes_of, answered_with, is_in, waits_times, with_answer}
 use Rattle.saa_word_proofs.specs.Refinement.{updated, is_slot, AreSeats}
 use Rattle.saa_word_proofs.proofs.RefinementLemmas.Lists.{each-updated}
 use Rattle.saa_word_proofs.proofs.RefinementLemmas.Granting.{in-waits}
@@ -20,16 +20,16 @@ use Rattle.saa_word_proofs.specs.Mirrors.{waiters, entry_of, held_at, Mirrors, c
 use Rattle.saa_word_proofs.proofs.SoloLemmas.Fronts.{entry-set, entry-other}
 
 -- What is known of a moment when no place is in a call, of a place that makes one
-pub record Starts (needs : Needs) (places me : ℕ) (standing : ℕ → Place) (lazy : Lazy) (s : Object) : Type 0 where
+pub record Starts (needs : Needs) (places me : ℕ) (standing : ℕ → Place) (state : AbstractState) (s : Object) : Type 0 where
   pub here : me < places
-  pub mirrors : Mirrors needs places standing lazy s
-  pub seats : AreSeats places standing lazy
-  pub paid : (place : ℕ) → lazy.due place ≡ None
-  pub bounded : lazy.count ≤ needs.top
-  pub barren : lazy.poisoned ≡ true → (lazy.count ≡ 0) × (lazy.line ≡ []) × (needs.is_lock ≡ true)
+  pub mirrors : Mirrors needs places standing state s
+  pub seats : AreSeats places standing state
+  pub paid : (place : ℕ) → state.due place ≡ None
+  pub bounded : state.count ≤ needs.top
+  pub barren : state.poisoned ≡ true → (state.count ≡ 0) × (state.line ≡ []) × (needs.is_lock ≡ true)
 
 -- A front of a line is granted at a count and shown, and what is left of the line is settled behind it
-pub record Settles (needs : Needs) (held : ℕ) (line : List (ℕ × ℕ)) (before : ℕ → Option ℕ) (now : Lazy) : Type 0 where
+pub record Settles (needs : Needs) (held : ℕ) (line : List (ℕ × ℕ)) (before : ℕ → Option ℕ) (now : AbstractState) : Type 0 where
   pub calm : now.poisoned ≡ false
   pub front : List (ℕ × ℕ)
   pub parts : line ≡ front ++ now.line
@@ -39,24 +39,24 @@ pub record Settles (needs : Needs) (held : ℕ) (line : List (ℕ × ℕ)) (befo
   pub settled : IsSettledAt needs now.count now.line
 
 -- What a call of the sequential object is beside a place that goes on so, with such an answer
-pub record Answers (needs : Needs) (places me : ℕ) (is_sync : Bool) (call : WordCall) (standing : ℕ → Place) (s : Object) (lazy : Lazy) (answer : Answer) : Type 0 where
-  pub mirrors : Mirrors needs places standing lazy (called needs.is_lock me is_sync call s).state
+pub record Answers (needs : Needs) (places me : ℕ) (is_sync : Bool) (call : WordCall) (standing : ℕ → Place) (s : Object) (state : AbstractState) (answer : Answer) : Type 0 where
+  pub mirrors : Mirrors needs places standing state (called needs.is_lock me is_sync call s).state
   pub same : (called needs.is_lock me is_sync call s).reply ≡ answer
 
 -- it is told by what the call leaves and says
-pub answers-by : (needs : Needs) (places me : ℕ) (is_sync : Bool) (call : WordCall) (standing : ℕ → Place) (s : Object) (lazy : Lazy) (answer : Answer) (after : After Answer)
-    → called needs.is_lock me is_sync call s ≡ after → Mirrors needs places standing lazy after.state → after.reply ≡ answer
-    → Answers needs places me is_sync call standing s lazy answer
-answers-by needs places me is_sync call standing s lazy answer after is left says = record {
-  mirrors = subst (λ (a : After Answer). Mirrors needs places standing lazy a.state) (sym is) left;
+pub answers-by : (needs : Needs) (places me : ℕ) (is_sync : Bool) (call : WordCall) (standing : ℕ → Place) (s : Object) (state : AbstractState) (answer : Answer) (after : After Answer)
+    → called needs.is_lock me is_sync call s ≡ after → Mirrors needs places standing state after.state → after.reply ≡ answer
+    → Answers needs places me is_sync call standing s state answer
+answers-by needs places me is_sync call standing s state answer after is left says = record {
+  mirrors = subst (λ (a : After Answer). Mirrors needs places standing state a.state) (sym is) left;
   same = ap (λ (a : After Answer). a.reply) is ∙ says;
 }
 
 -- a semaphore isn't poisoned
-pub calm-semaphore : (needs : Needs) (places me : ℕ) (standing : ℕ → Place) (lazy : Lazy) (s : Object) → Starts needs places me standing lazy s
-    → needs.is_lock ≡ false → lazy.poisoned ≡ false
-calm-semaphore needs places me standing lazy s h semaphore =
-    elim (cases_Bool lazy.poisoned) [
+pub calm-semaphore : (needs : Needs) (places me : ℕ) (standing : ℕ → Place) (state : AbstractState) (s : Object) → Starts needs places me standing state s
+    → needs.is_lock ≡ false → state.poisoned ≡ false
+calm-semaphore needs places me standing state s h semaphore =
+    elim (cases_Bool state.poisoned) [
       | inl poisoned ↦ let wrong : false ≡ true = sym semaphore ∙ (h.barren poisoned).2 in absurd (cc)
       | inr calm ↦ calm
     ]
@@ -69,10 +69,10 @@ AreEntries needs places standing shown book =
     (place : ℕ) → place < places → (is_sync : Bool) × (entry_at book place ≡ entry_of needs (standing place).registration (shown place) is_sync)
 
 -- what the object holds, and its line, change, and no entry does
-pub mirrors-held : (needs : Needs) (places : ℕ) (standing : ℕ → Place) (lazy now : Lazy) (s : Object) (held : Held) (line : List Waiter) (me : ℕ) (place : Place)
-    → Mirrors needs places standing lazy s → held ≡ held_at needs now → line ≡ waiters needs now.line → now.shown ≡ lazy.shown
+pub mirrors-held : (needs : Needs) (places : ℕ) (standing : ℕ → Place) (state now : AbstractState) (s : Object) (held : Held) (line : List Waiter) (me : ℕ) (place : Place)
+    → Mirrors needs places standing state s → held ≡ held_at needs now → line ≡ waiters needs now.line → now.shown ≡ state.shown
     → place.registration ≡ (standing me).registration → Mirrors needs places (updated standing me place) now (record s { held = held; line = line })
-mirrors-held needs places standing lazy now s held line me place was holds waits shown same = record {
+mirrors-held needs places standing state now s held line me place was holds waits shown same = record {
   held = holds;
   line = waits;
   names = was.names;
@@ -87,17 +87,17 @@ mirrors-held needs places standing lazy now s held line me place was holds waits
 }
 
 -- nothing changes but what the place remembers
-pub mirrors-same : (needs : Needs) (places : ℕ) (standing : ℕ → Place) (lazy : Lazy) (s : Object) (me : ℕ) (place : Place)
-    → Mirrors needs places standing lazy s → place.registration ≡ (standing me).registration → Mirrors needs places (updated standing me place) lazy s
-mirrors-same needs places standing lazy s me place was same =
-    mirrors-held needs places standing lazy lazy s s.held s.line me place was was.held was.line refl same
+pub mirrors-same : (needs : Needs) (places : ℕ) (standing : ℕ → Place) (state : AbstractState) (s : Object) (me : ℕ) (place : Place)
+    → Mirrors needs places standing state s → place.registration ≡ (standing me).registration → Mirrors needs places (updated standing me place) state s
+mirrors-same needs places standing state s me place was same =
+    mirrors-held needs places standing state state s s.held s.line me place was was.held was.line refl same
 
 -- one place is registered anew
-pub mirrors-set : (needs : Needs) (places : ℕ) (standing : ℕ → Place) (lazy now : Lazy) (s : Object) (held : Held) (line : List Waiter) (entry : Entry) (me : ℕ) (place : Place) (is_sync : Bool)
-    → Mirrors needs places standing lazy s → me < places → held ≡ held_at needs now → line ≡ waiters needs now.line
-    → ((other : ℕ) → (other ≡ me → ⊥) → now.shown other ≡ lazy.shown other) → entry ≡ entry_of needs place.registration (now.shown me) is_sync
+pub mirrors-set : (needs : Needs) (places : ℕ) (standing : ℕ → Place) (state now : AbstractState) (s : Object) (held : Held) (line : List Waiter) (entry : Entry) (me : ℕ) (place : Place) (is_sync : Bool)
+    → Mirrors needs places standing state s → me < places → held ≡ held_at needs now → line ≡ waiters needs now.line
+    → ((other : ℕ) → (other ≡ me → ⊥) → now.shown other ≡ state.shown other) → entry ≡ entry_of needs place.registration (now.shown me) is_sync
     → Mirrors needs places (updated standing me place) now (record s { held = held; line = line; book = slice_set s.book me entry })
-mirrors-set needs places standing lazy now s held line entry me place is_sync was here holds waits shown is = record {
+mirrors-set needs places standing state now s held line entry me place is_sync was here holds waits shown is = record {
   held = holds;
   line = waits;
   names = length-set s.book me entry ∙ was.names;
@@ -112,12 +112,12 @@ mirrors-set needs places standing lazy now s held line entry me place is_sync wa
 }
 
 -- a place becomes idle, and nothing else changes
-pub mirrors-idle : (needs : Needs) (places : ℕ) (standing : ℕ → Place) (lazy now : Lazy) (s : Object) (me : ℕ) (place : Place)
-    → Mirrors needs places standing lazy s → me < places → held_at needs now ≡ held_at needs lazy → now.line ≡ lazy.line
-    → ((other : ℕ) → (other ≡ me → ⊥) → now.shown other ≡ lazy.shown other) → place.registration ≡ IsIdle
+pub mirrors-idle : (needs : Needs) (places : ℕ) (standing : ℕ → Place) (state now : AbstractState) (s : Object) (me : ℕ) (place : Place)
+    → Mirrors needs places standing state s → me < places → held_at needs now ≡ held_at needs state → now.line ≡ state.line
+    → ((other : ℕ) → (other ≡ me → ⊥) → now.shown other ≡ state.shown other) → place.registration ≡ IsIdle
     → Mirrors needs places (updated standing me place) now (record s { book = slice_set s.book me Idle })
-mirrors-idle needs places standing lazy now s me place was here held line shown idle =
-    mirrors-set needs places standing lazy now s s.held s.line Idle me place false was here (was.held ∙ sym held)
+mirrors-idle needs places standing state now s me place was here held line shown idle =
+    mirrors-set needs places standing state now s s.held s.line Idle me place false was here (was.held ∙ sym held)
     (was.line ∙ ap (waiters needs) (sym line)) shown (sym (ap (λ (r : Registration). entry_of needs r (now.shown me) false) idle))
 
 -- the answers of all others are as they were
@@ -131,25 +131,25 @@ taken-other me answer shown other apart =
 -- Entries
 
 -- the entry of a place that is idle
-pub idle-entry : (needs : Needs) (places me : ℕ) (standing : ℕ → Place) (lazy : Lazy) (s : Object) → Mirrors needs places standing lazy s → me < places
+pub idle-entry : (needs : Needs) (places me : ℕ) (standing : ℕ → Place) (state : AbstractState) (s : Object) → Mirrors needs places standing state s → me < places
     → (standing me).registration ≡ IsIdle → entry_at s.book me ≡ Idle
-idle-entry needs places me standing lazy s m here idle =
+idle-entry needs places me standing state s m here idle =
     let h = m.entries me here in
-    h.1 ∙ ap (λ (r : Registration). entry_of needs r (lazy.shown me) h.0) idle
+    h.1 ∙ ap (λ (r : Registration). entry_of needs r (state.shown me) h.0) idle
 
 -- of one that was answered at once
-pub once-entry : (needs : Needs) (places me : ℕ) (standing : ℕ → Place) (lazy : Lazy) (s : Object) (value request : ℕ) → Mirrors needs places standing lazy s
+pub once-entry : (needs : Needs) (places me : ℕ) (standing : ℕ → Place) (state : AbstractState) (s : Object) (value request : ℕ) → Mirrors needs places standing state s
     → me < places → (standing me).registration ≡ Once value request
     → (mode : Bool) × (entry_at s.book me ≡ Answered value (needs.read request) mode false)
-once-entry needs places me standing lazy s value request m here once =
+once-entry needs places me standing state s value request m here once =
     let h = m.entries me here in
-    (h.0, h.1 ∙ ap (λ (r : Registration). entry_of needs r (lazy.shown me) h.0) once)
+    (h.0, h.1 ∙ ap (λ (r : Registration). entry_of needs r (state.shown me) h.0) once)
 
 -- of one whose answer is shown
-pub shown-entry : (needs : Needs) (places me : ℕ) (standing : ℕ → Place) (lazy : Lazy) (s : Object) (value request : ℕ) → Mirrors needs places standing lazy s
-    → me < places → (standing me).registration ≡ Slot request → lazy.shown me ≡ Some value
+pub shown-entry : (needs : Needs) (places me : ℕ) (standing : ℕ → Place) (state : AbstractState) (s : Object) (value request : ℕ) → Mirrors needs places standing state s
+    → me < places → (standing me).registration ≡ Slot request → state.shown me ≡ Some value
     → (mode : Bool) × (entry_at s.book me ≡ Answered value (needs.read request) mode true)
-shown-entry needs places me standing lazy s value request m here slot shown =
+shown-entry needs places me standing state s value request m here slot shown =
     let h = m.entries me here in
     (h.0, h.1 ∙ (λ i. entry_of needs (slot i) (shown i) h.0))
 
@@ -159,23 +159,23 @@ slot-is (Once value request) slot = absurd (cc)
 slot-is (Slot request) slot = (request, refl)
 
 -- who is shown an answer joined the line, and so did who waits, who is shown none
-pub shown-slot : (places me : ℕ) (standing : ℕ → Place) (lazy : Lazy) (value : ℕ) → AreSeats places standing lazy → lazy.shown me ≡ Some value
+pub shown-slot : (places me : ℕ) (standing : ℕ → Place) (state : AbstractState) (value : ℕ) → AreSeats places standing state → state.shown me ≡ Some value
     → is_slot (standing me).registration ≡ true
-shown-slot places me standing lazy value seats shown =
+shown-slot places me standing state value seats shown =
     elim (cases_Bool (is_slot (standing me).registration)) [
       | inl slot ↦ slot
       | inr none ↦ absurd (omega (arith, seats.held me, ap one_if none, ap (λ (a : Option ℕ). one_if (is_some a)) shown))
     ]
 
-pub waits-slot : (places me : ℕ) (standing : ℕ → Place) (lazy : Lazy) → AreSeats places standing lazy → is_in me lazy.line ≡ true
-    → (is_slot (standing me).registration ≡ true) × (lazy.shown me ≡ None)
-waits-slot places me standing lazy seats waits =
-    let there : 0 < waits_times me lazy.line = in-waits me lazy.line waits in (
+pub waits-slot : (places me : ℕ) (standing : ℕ → Place) (state : AbstractState) → AreSeats places standing state → is_in me state.line ≡ true
+    → (is_slot (standing me).registration ≡ true) × (state.shown me ≡ None)
+waits-slot places me standing state seats waits =
+    let there : 0 < waits_times me state.line = in-waits me state.line waits in (
       elim (cases_Bool (is_slot (standing me).registration)) [
         | inl slot ↦ slot
         | inr none ↦ absurd (omega (arith, seats.held me, ap one_if none, there))
       ],
-      none-shown (lazy.shown me) (omega (arith, seats.held me, one_if-le (is_slot (standing me).registration), there)),
+      none-shown (state.shown me) (omega (arith, seats.held me, one_if-le (is_slot (standing me).registration), there)),
     )
   where
     none-shown : (shown : Option ℕ) → one_if (is_some shown) ≡ 0 → shown ≡ None
@@ -183,11 +183,11 @@ waits-slot places me standing lazy seats waits =
     none-shown (Some value) none = absurd (omega (arith, none))
 
 -- the entry of a place that stands in the line
-pub waiting-entry : (needs : Needs) (places me : ℕ) (standing : ℕ → Place) (lazy : Lazy) (s : Object) → Mirrors needs places standing lazy s
-    → AreSeats places standing lazy → me < places → is_in me lazy.line ≡ true
+pub waiting-entry : (needs : Needs) (places me : ℕ) (standing : ℕ → Place) (state : AbstractState) (s : Object) → Mirrors needs places standing state s
+    → AreSeats places standing state → me < places → is_in me state.line ≡ true
     → (request : Request) × (mode : Bool) × (entry_at s.book me ≡ Waiting request mode)
-waiting-entry needs places me standing lazy s m seats here there =
+waiting-entry needs places me standing state s m seats here there =
     let h = m.entries me here in
-    let waits = waits-slot places me standing lazy seats there in
+    let waits = waits-slot places me standing state seats there in
     let slot = slot-is (standing me).registration waits.0 in
     (needs.read slot.0, h.0, h.1 ∙ (λ i. entry_of needs (slot.1 i) (waits.1 i) h.0))

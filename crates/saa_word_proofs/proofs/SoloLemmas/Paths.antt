@@ -1,14 +1,15 @@
 -- The registration that a call leaves: what it is behind each event that the call's answer names.
-use Rattle.std.proofs.Common.{◌≡◌, ℕ, ◌+◌, ◌%◌, Bool, true, false, not, ◌&&◌, ◌||◌, List, [], ◌∷◌, ◌++◌, ◌==◌, Option, Some, None, if◌then◌else◌, refl, inl, inr}
+use Rattle.std.proofs.Common.{◌≡◌, ℕ, ◌+◌, ◌%◌, Bool, true, false, not, ◌&&◌, ◌||◌, List, [], ◌∷◌, ◌++◌, ◌==◌, Option, Some, None, if◌then◌else◌, refl, sym, subst, inl, inr}
 use Rattle.std.proofs.lemmas.Bool.{cases_Bool}
 use Rattle.saa_core_spec.specs.Held.{Exclusive}
-use Rattle.saa_core_spec.specs.Values.{granted_value, poisoned_value}
+use Rattle.saa_core_spec.specs.Values.{granted_value}
 use Rattle.saa_core_words.specs.declared.word.Word.{Word}
 use Rattle.saa_core_words.specs.declared.line_word.LineWord.{LineWord}
 use Rattle.saa_core_words.specs.Words.{count_bits, word_number, word_of, line_word_of, answer_of, lock_count}
 use Rattle.saa_word_steps.specs.declared.place.Place.{Place}
+use Rattle.saa_word_steps.specs.declared.place.Given.{Given}
+use Rattle.saa_word_steps.specs.declared.place.Given.TheVariants.{Asked, AllButAShare}
 use Rattle.saa_word_steps.specs.declared.place.Registration.{Registration}
-use Rattle.saa_word_steps.specs.declared.place.Registration.TheVariants.{Idle, Once, Slot}
 use Rattle.saa_word_steps.specs.declared.place.Ask.{Ask}
 use Rattle.saa_word_steps.specs.declared.place.Afterwards.{Afterwards}
 use Rattle.saa_word_steps.specs.declared.place.Afterwards.TheVariants.{Ends, Again}
@@ -18,15 +19,13 @@ use Rattle.saa_word_steps.specs.declared.place.Taking.{Taking}
 use Rattle.saa_word_steps.specs.declared.place.Taking.TheVariants.{Tries, Awaits, Gives}
 use Rattle.saa_word_steps.specs.declared.place.Stage.{Stage}
 use Rattle.saa_word_steps.specs.declared.place.Stage.TheVariants.{Quiet, ReadLoad, AskLoad, AskExchange, Prepare, Join, ReleaseLoad, ReleaseExchange, BackLoad, BackStore, Forward, CutToClose, CutToGoRound, Close, Empty, GoRound, ShowLoad, ShowStore, Take, FlagLoad, FlagExchange, LookLoad, LookStore, Unlink, DropTail, PoisonLoad, PoisonExchange, Clear}
-use Rattle.saa_word_steps.specs.declared.place.Next.{Next}
-use Rattle.saa_word_steps.specs.declared.place.Next.TheVariants.{Going, Waits, Done}
 use Rattle.saa_word_steps.specs.declared.call.WordCall.{WordCall}
-use Rattle.saa_word_steps.specs.Needs.{Needs, fits_count, left_count}
+use Rattle.saa_word_steps.specs.Needs.{Needs, fits_count}
 use Rattle.saa_word_steps.specs.declared.event.Event.{Event}
-use Rattle.saa_word_steps.specs.declared.event.Event.TheVariants.{Got, AskedPoisoned, Joined, Left, GaveNothing, Took}
-use Rattle.saa_word_steps.specs.Steps.{next_of, decided, granted, given, given_to, gave_nothing, finished, taken_answer, looked_at, closing, shown_all, flagging, poisoning, poisoned_word}
+use Rattle.saa_word_steps.specs.declared.event.Event.TheVariants.{Got}
+use Rattle.saa_word_steps.specs.Steps.{left_from, next_of, decided, granted, given, given_to, gave_nothing, finished, taken_answer, looked_at, closing, shown_all, flagging, poisoning, poisoned_word}
 use Rattle.saa_word_proofs.specs.Refinement.{waits_behind}
-use Rattle.saa_word_proofs.specs.StepRefinement.{named_at, decided_events, given_events, left_events, taken_events, poisoning_events}
+use Rattle.saa_word_proofs.specs.StepRefinement.{gave, gave_not, named_at, decided_events, given_events, left_events, taken_events, poisoning_events}
 use Rattle.saa_word_proofs.specs.Calls.{asked_by, IsUnder}
 use Rattle.saa_word_proofs.specs.Registering.{left_by, left_behind, IsLeft}
 
@@ -80,20 +79,34 @@ gave_nothing-left place Tells = (refl, refl)
 gave_nothing-left place EndsCall = (refl, refl)
 gave_nothing-left place (Takes request) = (refl, refl)
 
-given-left : (needs : Needs) (asks : Option Ask) (place : Place) (request : ℕ) (seen : Word)
-    → IsLeft place.registration (left_behind (given_events needs request seen) asks place.registration) (given needs place request seen)
-given-left needs asks place request seen = by-poison seen.is_poisoned
+-- what is given back, and what isn't held, leaves the registration
+gave-leaves : (what : Given) (asks : Option Ask) (was : Registration) → left_by (gave what) asks was ≡ was
+gave-leaves (Asked request) asks was = refl
+gave-leaves AllButAShare asks was = refl
+
+nothing-leaves : (what : Given) (asks : Option Ask) (was : Registration) → left_by (gave_not what) asks was ≡ was
+nothing-leaves (Asked request) asks was = refl
+nothing-leaves AllButAShare asks was = refl
+
+given-left : (needs : Needs) (asks : Option Ask) (place : Place) (what : Given) (seen : Word)
+    → IsLeft place.registration (left_behind (given_events needs what seen) asks place.registration) (given needs place what seen)
+given-left needs asks place what seen = by-poison seen.is_poisoned
   where
-    by-left : (left : Option ℕ) → IsLeft place.registration (left_behind (left_events request left) asks place.registration) (given_to place request seen left)
-    by-left None = gave_nothing-left place place.back
+    nothing : IsLeft place.registration (left_behind (gave_not what ∷ []) asks place.registration) (gave_nothing place place.back)
+    nothing =
+        subst (λ (r : Registration). IsLeft place.registration r (gave_nothing place place.back)) (sym (nothing-leaves what asks place.registration))
+        (gave_nothing-left place place.back)
+
+    by-left : (left : Option ℕ) → IsLeft place.registration (left_behind (left_events what left) asks place.registration) (given_to place what seen left)
+    by-left None = nothing
     by-left (Some left) = refl
 
     by-poison : (poisoned : Bool)
         → IsLeft place.registration
-        (left_behind (if poisoned then GaveNothing request ∷ [] else left_events request (left_count needs seen.count request)) asks place.registration)
-        (if poisoned then gave_nothing place place.back else given_to place request seen (left_count needs seen.count request))
-    by-poison true = gave_nothing-left place place.back
-    by-poison false = by-left (left_count needs seen.count request)
+        (left_behind (if poisoned then gave_not what ∷ [] else left_events what (left_from needs seen.count what)) asks place.registration)
+        (if poisoned then gave_nothing place place.back else given_to place what seen (left_from needs seen.count what))
+    by-poison true = nothing
+    by-poison false = by-left (left_from needs seen.count what)
 
 finished-left : (place : Place) (back : Back) → IsLeft place.registration place.registration (finished place back)
 finished-left place Tells = (refl, refl)
@@ -195,15 +208,16 @@ left-next needs call registered me place (Join request seen) found events h =
       | inl hit ↦ rw hit (refl, refl)
       | inr missed ↦ rw missed (asks-left needs (asked_by call) place (record { request = request; joins = true }) (word_of count_bits found) h.0)
     ]
-left-next needs call registered me place (ReleaseLoad request) found events h = given-left needs (asked_by call) place request (word_of count_bits found)
-left-next needs call registered me place (ReleaseExchange request seen) found events h =
+left-next needs call registered me place (ReleaseLoad what) found events h = given-left needs (asked_by call) place what (word_of count_bits found)
+left-next needs call registered me place (ReleaseExchange what seen) found events h =
     elim (cases_Bool (found == word_number count_bits seen)) [
       | inl hit ↦
           elim (cases_Bool (not (seen.tail == 0) && not seen.is_flagged)) [
-            | inl works ↦ rw (hit, works) refl
-            | inr leaves ↦ rw (hit, leaves) (finished-left place place.back)
+            | inl works ↦ rw (hit, works) (sym (gave-leaves what (asked_by call) place.registration))
+            | inr leaves ↦ rw (hit, leaves) (subst (λ (r : Registration). IsLeft place.registration r (finished place place.back))
+                (sym (gave-leaves what (asked_by call) place.registration)) (finished-left place place.back))
           ]
-      | inr missed ↦ rw missed (given-left needs (asked_by call) place request (word_of count_bits found))
+      | inr missed ↦ rw missed (given-left needs (asked_by call) place what (word_of count_bits found))
     ]
 left-next needs call registered me place (BackLoad seen current newer) found events h = refl
 left-next needs call registered me place (BackStore seen current newer line) found events h =

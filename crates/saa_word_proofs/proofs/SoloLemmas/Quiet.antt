@@ -6,14 +6,14 @@ use Rattle.saa_core_spec.proofs.Counts.{number_same}
 use Rattle.saa_word_steps.specs.declared.place.Place.{Place}
 use Rattle.saa_word_steps.specs.declared.place.Stage.{Stage}
 use Rattle.saa_word_steps.specs.Needs.{Needs}
-use Rattle.saa_word_steps.specs.Lazy.{Lazy, is_in}
+use Rattle.saa_word_steps.specs.AbstractState.{AbstractState, is_in}
 use Rattle.saa_word_proofs.specs.Refinement.{line_of, IsBehind, is_holder, IsShowing, Refines}
 use Rattle.saa_word_proofs.specs.Alone.{IsQuiet, IsAtRest}
 
 -- nobody holds the flag
-pub quiet-holder : (needs : Needs) (places : ℕ) (row : ℕ → ℕ) (standing : ℕ → Place) (lazy : Lazy) (s : Refines needs places row standing lazy)
+pub quiet-holder : (needs : Needs) (places : ℕ) (row : ℕ → ℕ) (standing : ℕ → Place) (state : AbstractState) (s : Refines needs places row standing state)
     → IsQuiet standing → s.holder == 0 ≡ true
-quiet-holder needs places row standing lazy s quiet =
+quiet-holder needs places row standing state s quiet =
     elim (cases_Bool (s.holder == 0)) [
       | inl nobody ↦ nobody
       | inr somebody ↦
@@ -28,27 +28,27 @@ none-due : (due : Option ℕ) → is_some due ≡ false → due ≡ None
 none-due None none = refl
 none-due (Some value) none = absurd (cc)
 
-quiet-due : (needs : Needs) (places : ℕ) (row : ℕ → ℕ) (standing : ℕ → Place) (lazy : Lazy) (s : Refines needs places row standing lazy)
-    → IsQuiet standing → (place : ℕ) → lazy.due place ≡ None
-quiet-due needs places row standing lazy s quiet place =
-    elim (cases_Bool (is_some (lazy.due place))) [
+quiet-due : (needs : Needs) (places : ℕ) (row : ℕ → ℕ) (standing : ℕ → Place) (state : AbstractState) (s : Refines needs places row standing state)
+    → IsQuiet standing → (place : ℕ) → state.due place ≡ None
+quiet-due needs places row standing state s quiet place =
+    elim (cases_Bool (is_some (state.due place))) [
       | inl due ↦
           let shower : ℕ = s.shower place in
           let none : s.owed shower ≡ [] = subst (λ (stage : Stage). IsShowing (s.owed shower) (s.worth shower) stage) (quiet shower) (s.stages.showing shower) in
           let wrong : false ≡ true = ap (is_in place) (sym none) ∙ s.debts.paid_by place due in
           absurd (cc)
-      | inr none ↦ none-due (lazy.due place) none
+      | inr none ↦ none-due (state.due place) none
     ]
 
-pub at-rest : (needs : Needs) (places : ℕ) (row : ℕ → ℕ) (standing : ℕ → Place) (lazy : Lazy)
-    → Refines needs places row standing lazy → IsQuiet standing → IsAtRest needs row lazy
-at-rest needs places row standing lazy s quiet =
-    let free : s.holder == 0 ≡ true = quiet-holder needs places row standing lazy s quiet in
-    let closed : lazy.unclosed ≡ false = s.main.closed free in
-    let whole : s.uncut ≡ lazy.line = ap (λ (l : List (ℕ × ℕ)). l ++ s.uncut) (sym (s.free free)) ∙ sym s.line.parts in
+pub at-rest : (needs : Needs) (places : ℕ) (row : ℕ → ℕ) (standing : ℕ → Place) (state : AbstractState)
+    → Refines needs places row standing state → IsQuiet standing → IsAtRest needs row state
+at-rest needs places row standing state s quiet =
+    let free : s.holder == 0 ≡ true = quiet-holder needs places row standing state s quiet in
+    let closed : state.unclosed ≡ false = s.main.closed free in
+    let whole : s.uncut ≡ state.line = ap (λ (l : List (ℕ × ℕ)). l ++ s.uncut) (sym (s.free free)) ∙ sym s.line.parts in
     record {
       clear = s.main.flag ∙ ap not free;
-      paid = quiet-due needs places row standing lazy s quiet;
+      paid = quiet-due needs places row standing state s quiet;
       closed = closed;
       settled = s.main.settled closed;
       linked = subst (λ (l : List (ℕ × ℕ)). IsBehind (line_of row) 0 l) whole s.line.stays;

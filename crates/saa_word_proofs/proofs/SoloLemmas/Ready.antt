@@ -1,9 +1,9 @@
 -- The first step of a call works on a word of the row, and what its place remembers is within the bits of a count.
-use Rattle.std.proofs.Common.{◌≡◌, ℕ, ◌+◌, ◌<◌, true, false, ◌==◌, nat_lt, if◌then◌else◌, refl, arith, inl, inr}
+use Rattle.std.proofs.Common.{ℕ, ◌<◌, true, false, ◌==◌, nat_lt, if◌then◌else◌, arith, inl, inr}
 use Rattle.std.proofs.lemmas.Bool.{cases_Bool}
 use Rattle.saa_word_steps.specs.declared.call.Answer.TheVariants.{Bool as Says}
 use Rattle.saa_word_steps.specs.declared.call.WordCall.{WordCall}
-use Rattle.saa_word_steps.specs.declared.call.WordCall.TheVariants.{Try, Register, Release, Available, TryLock, TryShare, RegisterMode, ReleaseLock, ReleaseShare, PoisonLock, ClearPoison, IsFree, IsLocked, IsShared, IsPoisoned, TryPoll, Poll, Cancel}
+use Rattle.saa_word_steps.specs.declared.call.WordCall.TheVariants.{Try, Register, Release, Available, TryLock, TryShare, RegisterMode, ReleaseLock, ReleaseShare, Downgrade, PoisonLock, ClearPoison, IsFree, IsLocked, IsShared, IsPoisoned, TryPoll, Poll, Cancel}
 use Rattle.saa_word_steps.specs.declared.place.Place.{Place}
 use Rattle.saa_word_steps.specs.declared.place.Next.TheVariants.{Done}
 use Rattle.saa_word_steps.specs.declared.place.Registration.{Registration}
@@ -66,6 +66,7 @@ started-ready needs places me place TryShare here = (tt, omega arith)
 started-ready needs places me place (RegisterMode mode) here = registering-ready needs places me place (mode_number mode) place.registration
 started-ready needs places me place ReleaseLock here = (tt, omega arith)
 started-ready needs places me place ReleaseShare here = (tt, omega arith)
+started-ready needs places me place Downgrade here = (tt, omega arith)
 started-ready needs places me place PoisonLock here = (tt, omega arith)
 started-ready needs places me place ClearPoison here = (tt, omega arith)
 started-ready needs places me place IsFree here = (tt, omega arith)

@@ -3,7 +3,7 @@ use Rattle.std.proofs.Common.{◌≡◌, ℕ, true, false, ◌==◌, nat_lt, if�
 use Rattle.std.proofs.lemmas.Bool.{cases_Bool}
 use Rattle.saa_word_steps.specs.declared.call.Answer.TheVariants.{Bool as Says}
 use Rattle.saa_word_steps.specs.declared.call.WordCall.{WordCall}
-use Rattle.saa_word_steps.specs.declared.call.WordCall.TheVariants.{Try, Register, Release, Available, TryLock, TryShare, RegisterMode, ReleaseLock, ReleaseShare, PoisonLock, ClearPoison, IsFree, IsLocked, IsShared, IsPoisoned, TryPoll, Poll, Cancel}
+use Rattle.saa_word_steps.specs.declared.call.WordCall.TheVariants.{Try, Register, Release, Available, TryLock, TryShare, RegisterMode, ReleaseLock, ReleaseShare, Downgrade, PoisonLock, ClearPoison, IsFree, IsLocked, IsShared, IsPoisoned, TryPoll, Poll, Cancel}
 use Rattle.saa_word_steps.specs.declared.place.Place.{Place}
 use Rattle.saa_word_steps.specs.declared.place.Next.TheVariants.{Done}
 use Rattle.saa_word_steps.specs.declared.place.Registration.{Registration}
@@ -73,6 +73,7 @@ started-as needs place TryShare quiet = refl
 started-as needs place (RegisterMode mode) quiet = registering place (mode_number mode) place.registration refl quiet
 started-as needs place ReleaseLock quiet = refl
 started-as needs place ReleaseShare quiet = refl
+started-as needs place Downgrade quiet = refl
 started-as needs place PoisonLock quiet = refl
 started-as needs place ClearPoison quiet = refl
 started-as needs place IsFree quiet = refl

@@ -1,19 +1,19 @@
 -- Who waits is registered in the line with what it asks: events keep that, since they change the line and what their place is registered as
 -- together.
-use Rattle.std.proofs.Common.{◌≡◌, ℕ, suc, zero, ◌≤◌, Bool, true, false, not, ◌||◌, ◌==◌, List, [], ◌∷◌, ◌++◌, length, drop, Option, Some, None, is_some, if◌then◌else◌, refl, sym, ap, subst, ◌∙◌, arith, inl, inr}
+use Rattle.std.proofs.Common.{◌≡◌, ℕ, suc, zero, ◌≤◌, Bool, true, false, ◌||◌, ◌==◌, List, [], ◌∷◌, ◌++◌, length, drop, Option, is_some, if◌then◌else◌, refl, sym, ap, subst, ◌∙◌, arith, inl, inr}
 use Rattle.std.proofs.lemmas.Bool.{cases_Bool}
 use Rattle.saa_core_spec.specs.Object.{one_if}
 use Rattle.saa_core_spec.proofs.Counts.{number_same}
 use Rattle.saa_word_steps.specs.declared.call.WordCall.{WordCall}
 use Rattle.saa_word_steps.specs.declared.call.WordCall.TheVariants.{TryPoll, Poll, Cancel}
 use Rattle.saa_word_steps.specs.declared.event.Event.{Event}
-use Rattle.saa_word_steps.specs.declared.event.Event.TheVariants.{Got, Refused, Joined, Gave, GaveNothing, AskedPoisoned, Left, Closed, Poisoned, NotPoisoned, Cleared, NotCleared, NotReady, Granted, Showed, Took, Read}
+use Rattle.saa_word_steps.specs.declared.event.Event.TheVariants.{Got, Refused, Joined, Gave, GaveNothing, Lowered, NotLowered, AskedPoisoned, Left, Closed, Poisoned, NotPoisoned, Cleared, NotCleared, NotReady, Granted, Showed, Took, Read}
 use Rattle.saa_word_steps.specs.declared.place.Ask.{Ask}
 use Rattle.saa_word_steps.specs.declared.place.Registration.{Registration}
 use Rattle.saa_word_steps.specs.declared.place.Registration.TheVariants.{Idle, Once, Slot}
 use Rattle.saa_word_steps.specs.Needs.{Needs}
-use Rattle.saa_word_steps.specs.Lazy.{Lazy, IsEnabled, after_event, IsRun, is_in, line_without, held_by}
-use Rattle.saa_word_steps.proofs.LazyRuns.{run-once, waits-some}
+use Rattle.saa_word_steps.specs.AbstractState.{AbstractState, IsEnabled, after_event, IsRun, is_in, line_without, held_by}
+use Rattle.saa_word_steps.proofs.AbstractRuns.{run-once, waits-some}
 use Rattle.saa_word_proofs.specs.Refinement.{is_slot, updated}
 use Rattle.saa_word_proofs.specs.StepRefinement.{is_named, named, of_place}
 use Rattle.saa_word_proofs.proofs.RefinementLemmas.Lists.{updated-same}
@@ -63,80 +63,84 @@ push-registered registered place request [] are last = (last, tt)
 push-registered registered place request (asker ∷ rest) are last = (are.0, push-registered registered place request rest are.1 last)
 
 -- who isn't held isn't in the line
-pub not-in : (lazy : Lazy) (me most : ℕ) → held_by me lazy ≤ most → one_if (is_some (lazy.shown me)) ≡ most → is_in me lazy.line ≡ false
-not-in lazy me most held shown =
-    elim (cases_Bool (is_in me lazy.line)) [
-      | inl there ↦ absurd (omega (arith, held, shown, waits-some me lazy.line there))
+pub not-in : (state : AbstractState) (me most : ℕ) → held_by me state ≤ most → one_if (is_some (state.shown me)) ≡ most → is_in me state.line ≡ false
+not-in state me most held shown =
+    elim (cases_Bool (is_in me state.line)) [
+      | inl there ↦ absurd (omega (arith, held, shown, waits-some me state.line there))
       | inr out ↦ out
     ]
 
 -- Events
 
 -- a poisoned lock has nobody in line
-barren-step : (needs : Needs) (lazy : Lazy) (place : ℕ) (event : Event) → IsEnabled needs lazy place event → (lazy.poisoned ≡ true → lazy.line ≡ [])
-    → (after_event needs lazy place event).poisoned ≡ true → (after_event needs lazy place event).line ≡ []
-barren-step needs lazy place (Got request) allowed was poisoned = was poisoned
-barren-step needs lazy place (Refused request) allowed was poisoned = was poisoned
-barren-step needs lazy place (Joined request) allowed was poisoned = (let wrong : true ≡ false = sym poisoned ∙ allowed.0 in absurd (cc))
-barren-step needs lazy place (Gave request) allowed was poisoned = was poisoned
-barren-step needs lazy place (GaveNothing request) allowed was poisoned = was poisoned
-barren-step needs lazy place AskedPoisoned allowed was poisoned = was poisoned
-barren-step needs lazy place Left allowed was poisoned = ap (line_without place) (was poisoned)
-barren-step needs lazy place (Granted askers) allowed was poisoned =
-    let nobody : length lazy.line ≡ 0 = ap length (was poisoned) in absurd (omega (arith, allowed.1, allowed.2, nobody))
-barren-step needs lazy place Closed allowed was poisoned = was poisoned
-barren-step needs lazy place Poisoned allowed was poisoned = refl
-barren-step needs lazy place NotPoisoned allowed was poisoned = was poisoned
-barren-step needs lazy place Cleared allowed was poisoned = absurd (cc)
-barren-step needs lazy place NotCleared allowed was poisoned = was poisoned
-barren-step needs lazy place NotReady allowed was poisoned = was poisoned
-barren-step needs lazy place (Showed shown_place) allowed was poisoned = was poisoned
-barren-step needs lazy place (Took value) allowed was poisoned = was poisoned
-barren-step needs lazy place (Read count poisoned_now) allowed was poisoned = was poisoned
+barren-step : (needs : Needs) (state : AbstractState) (place : ℕ) (event : Event) → IsEnabled needs state place event → (state.poisoned ≡ true → state.line ≡ [])
+    → (after_event needs state place event).poisoned ≡ true → (after_event needs state place event).line ≡ []
+barren-step needs state place (Got request) allowed was poisoned = was poisoned
+barren-step needs state place (Refused request) allowed was poisoned = was poisoned
+barren-step needs state place (Joined request) allowed was poisoned = (let wrong : true ≡ false = sym poisoned ∙ allowed.0 in absurd (cc))
+barren-step needs state place (Gave request) allowed was poisoned = was poisoned
+barren-step needs state place (GaveNothing request) allowed was poisoned = was poisoned
+barren-step needs state place Lowered allowed was poisoned = was poisoned
+barren-step needs state place NotLowered allowed was poisoned = was poisoned
+barren-step needs state place AskedPoisoned allowed was poisoned = was poisoned
+barren-step needs state place Left allowed was poisoned = ap (line_without place) (was poisoned)
+barren-step needs state place (Granted askers) allowed was poisoned =
+    let nobody : length state.line ≡ 0 = ap length (was poisoned) in absurd (omega (arith, allowed.1, allowed.2, nobody))
+barren-step needs state place Closed allowed was poisoned = was poisoned
+barren-step needs state place Poisoned allowed was poisoned = refl
+barren-step needs state place NotPoisoned allowed was poisoned = was poisoned
+barren-step needs state place Cleared allowed was poisoned = absurd (cc)
+barren-step needs state place NotCleared allowed was poisoned = was poisoned
+barren-step needs state place NotReady allowed was poisoned = was poisoned
+barren-step needs state place (Showed shown_place) allowed was poisoned = was poisoned
+barren-step needs state place (Took value) allowed was poisoned = was poisoned
+barren-step needs state place (Read count poisoned_now) allowed was poisoned = was poisoned
 
 -- what a place is registered as behind an event, where an answer names that
 abbrev left_by_named : Event → Option Ask → Registration → Registration
 left_by_named event asks was = if is_named event then left_by event asks was else was
 
-event-registered : (needs : Needs) (lazy : Lazy) (me : ℕ) (event : Event) (asks : Option Ask) (registered : ℕ → Registration) (was : Registration)
-    → IsEnabled needs lazy me event → held_by me lazy ≤ 1 → (lazy.poisoned ≡ true → lazy.line ≡ []) → AreRegistered (updated registered me was) lazy.line
-    → AreRegistered (updated registered me (left_by_named event asks was)) (after_event needs lazy me event).line
-event-registered needs lazy me (Got request) asks registered was allowed once barren are =
+event-registered : (needs : Needs) (state : AbstractState) (me : ℕ) (event : Event) (asks : Option Ask) (registered : ℕ → Registration) (was : Registration)
+    → IsEnabled needs state me event → held_by me state ≤ 1 → (state.poisoned ≡ true → state.line ≡ []) → AreRegistered (updated registered me was) state.line
+    → AreRegistered (updated registered me (left_by_named event asks was)) (after_event needs state me event).line
+event-registered needs state me (Got request) asks registered was allowed once barren are =
     subst (λ (l : List (ℕ × ℕ)). AreRegistered (updated registered me (left_by (Got request) asks was)) l) (sym allowed.1) tt
-event-registered needs lazy me (Refused request) asks registered was allowed once barren are = are
-event-registered needs lazy me (Joined request) asks registered was allowed once barren are =
-    push-registered (updated registered me (Slot request)) me request lazy.line (others-registered registered me was (Slot request) lazy.line allowed.2 are)
+event-registered needs state me (Refused request) asks registered was allowed once barren are = are
+event-registered needs state me (Joined request) asks registered was allowed once barren are =
+    push-registered (updated registered me (Slot request)) me request state.line (others-registered registered me was (Slot request) state.line allowed.2 are)
     (rw (number_same me) refl)
-event-registered needs lazy me (Gave request) asks registered was allowed once barren are = are
-event-registered needs lazy me (GaveNothing request) asks registered was allowed once barren are = are
-event-registered needs lazy me AskedPoisoned asks registered was allowed once barren are =
+event-registered needs state me (Gave request) asks registered was allowed once barren are = are
+event-registered needs state me (GaveNothing request) asks registered was allowed once barren are = are
+event-registered needs state me Lowered asks registered was allowed once barren are = are
+event-registered needs state me NotLowered asks registered was allowed once barren are = are
+event-registered needs state me AskedPoisoned asks registered was allowed once barren are =
     subst (λ (l : List (ℕ × ℕ)). AreRegistered (updated registered me (left_by AskedPoisoned asks was)) l) (sym (barren allowed)) tt
-event-registered needs lazy me Left asks registered was allowed once barren are =
-    others-registered registered me was Idle (line_without me lazy.line) (without-out me lazy.line)
-    (without-registered (updated registered me was) me lazy.line are)
-event-registered needs lazy me (Granted askers) asks registered was allowed once barren are = drop-registered (updated registered me was) askers lazy.line are
-event-registered needs lazy me Closed asks registered was allowed once barren are = are
-event-registered needs lazy me Poisoned asks registered was allowed once barren are = tt
-event-registered needs lazy me NotPoisoned asks registered was allowed once barren are = are
-event-registered needs lazy me Cleared asks registered was allowed once barren are = are
-event-registered needs lazy me NotCleared asks registered was allowed once barren are = are
-event-registered needs lazy me NotReady asks registered was allowed once barren are = are
-event-registered needs lazy me (Showed shown_place) asks registered was allowed once barren are = are
-event-registered needs lazy me (Took value) asks registered was allowed once barren are =
-    others-registered registered me was Idle lazy.line (not-in lazy me 1 once (ap (λ (a : Option ℕ). one_if (is_some a)) allowed)) are
-event-registered needs lazy me (Read count poisoned) asks registered was allowed once barren are = are
+event-registered needs state me Left asks registered was allowed once barren are =
+    others-registered registered me was Idle (line_without me state.line) (without-out me state.line)
+    (without-registered (updated registered me was) me state.line are)
+event-registered needs state me (Granted askers) asks registered was allowed once barren are = drop-registered (updated registered me was) askers state.line are
+event-registered needs state me Closed asks registered was allowed once barren are = are
+event-registered needs state me Poisoned asks registered was allowed once barren are = tt
+event-registered needs state me NotPoisoned asks registered was allowed once barren are = are
+event-registered needs state me Cleared asks registered was allowed once barren are = are
+event-registered needs state me NotCleared asks registered was allowed once barren are = are
+event-registered needs state me NotReady asks registered was allowed once barren are = are
+event-registered needs state me (Showed shown_place) asks registered was allowed once barren are = are
+event-registered needs state me (Took value) asks registered was allowed once barren are =
+    others-registered registered me was Idle state.line (not-in state me 1 once (ap (λ (a : Option ℕ). one_if (is_some a)) allowed)) are
+event-registered needs state me (Read count poisoned) asks registered was allowed once barren are = are
 
 -- a list of events of one place
-pub run-registered : (needs : Needs) (lazy last : Lazy) (me : ℕ) (events : List Event) (asks : Option Ask) (registered : ℕ → Registration) (was : Registration)
-    → IsRun needs lazy (of_place me events) last → ((other : ℕ) → held_by other lazy ≤ 1) → (lazy.poisoned ≡ true → lazy.line ≡ [])
-    → AreRegistered (updated registered me was) lazy.line → AreRegistered (updated registered me (left_behind (named events) asks was)) last.line
-run-registered needs lazy last me [] asks registered was run once barren are =
-    subst (λ (z : Lazy). AreRegistered (updated registered me was) z.line) run are
-run-registered needs lazy last me (event ∷ events) asks registered was run once barren are =
-    let after : Lazy = after_event needs lazy me event in
+pub run-registered : (needs : Needs) (state last : AbstractState) (me : ℕ) (events : List Event) (asks : Option Ask) (registered : ℕ → Registration) (was : Registration)
+    → IsRun needs state (of_place me events) last → ((other : ℕ) → held_by other state ≤ 1) → (state.poisoned ≡ true → state.line ≡ [])
+    → AreRegistered (updated registered me was) state.line → AreRegistered (updated registered me (left_behind (named events) asks was)) last.line
+run-registered needs state last me [] asks registered was run once barren are =
+    subst (λ (z : AbstractState). AreRegistered (updated registered me was) z.line) run are
+run-registered needs state last me (event ∷ events) asks registered was run once barren are =
+    let after : AbstractState = after_event needs state me event in
     let behind = run-registered needs after last me events asks registered (left_by_named event asks was) run.1
-    (run-once needs lazy ((me, event) ∷ []) after (run.0, refl) once) (barren-step needs lazy me event run.0 barren)
-    (event-registered needs lazy me event asks registered was run.0 (once me) barren are) in
+    (run-once needs state ((me, event) ∷ []) after (run.0, refl) once) (barren-step needs state me event run.0 barren)
+    (event-registered needs state me event asks registered was run.0 (once me) barren are) in
     subst (λ (r : Registration). AreRegistered (updated registered me r) last.line) (same (is_named event)) behind
   where
     same : (names : Bool) → left_behind (named events) asks (if names then left_by event asks was else was)
@@ -153,20 +157,20 @@ begun-slot Poll (Slot request) slot = refl
 begun-slot Cancel (Slot request) slot = refl
 begun-slot call (Slot request) slot = refl
 
-pub begun-registered-line : (lazy : Lazy) (registered : ℕ → Registration) (me : ℕ) (call : WordCall) → held_by me lazy ≡ one_if (is_slot (registered me))
-    → AreRegistered registered lazy.line → AreRegistered (updated registered me (begun_as call (registered me))) lazy.line
-begun-registered-line lazy registered me call held are =
+pub begun-registered-line : (state : AbstractState) (registered : ℕ → Registration) (me : ℕ) (call : WordCall) → held_by me state ≡ one_if (is_slot (registered me))
+    → AreRegistered registered state.line → AreRegistered (updated registered me (begun_as call (registered me))) state.line
+begun-registered-line state registered me call held are =
     elim (cases_Bool (is_slot (registered me))) [
       | inl slot ↦
-          subst (λ (f : ℕ → Registration). AreRegistered f lazy.line)
+          subst (λ (f : ℕ → Registration). AreRegistered f state.line)
           (sym (updated-same registered me (begun_as call (registered me)) (begun-slot call (registered me) slot))) are
       | inr none ↦
-          let nothing : held_by me lazy ≡ 0 = held ∙ ap one_if none in
-          let out : is_in me lazy.line ≡ false =
-          elim (cases_Bool (is_in me lazy.line)) [
-            | inl there ↦ absurd (omega (arith, nothing, waits-some me lazy.line there))
+          let nothing : held_by me state ≡ 0 = held ∙ ap one_if none in
+          let out : is_in me state.line ≡ false =
+          elim (cases_Bool (is_in me state.line)) [
+            | inl there ↦ absurd (omega (arith, nothing, waits-some me state.line there))
             | inr out ↦ out
           ] in
-          others-registered registered me (registered me) (begun_as call (registered me)) lazy.line out
-          (subst (λ (f : ℕ → Registration). AreRegistered f lazy.line) (sym (updated-same registered me (registered me) refl)) are)
+          others-registered registered me (registered me) (begun_as call (registered me)) state.line out
+          (subst (λ (f : ℕ → Registration). AreRegistered f state.line) (sym (updated-same registered me (registered me) refl)) are)
     ]

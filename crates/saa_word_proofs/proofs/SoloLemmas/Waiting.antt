@@ -17,7 +17,7 @@ use Rattle.saa_word_steps.specs.declared.call.WordCall.{WordCall}
 use Rattle.saa_word_steps.specs.declared.call.WordCall.TheVariants.{Poll}
 use Rattle.saa_word_steps.specs.Needs.{Needs, AreNeeds}
 use Rattle.saa_word_steps.specs.declared.event.Event.{Event}
-use Rattle.saa_word_steps.specs.Lazy.{Lazy, is_in}
+use Rattle.saa_word_steps.specs.AbstractState.{AbstractState, is_in}
 use Rattle.saa_word_steps.specs.Steps.{word_at, operation_of, next_of, going, polled_as, started, taken_answer, is_taken}
 use Rattle.saa_word_proofs.specs.Refinement.{main_of, updated, is_slot, is_holder, IsShowing, AreSeats, Refines}
 use Rattle.saa_word_proofs.specs.StepRefinement.{named_at, place_after, row_after}
@@ -61,10 +61,10 @@ waits-there needs places me now none =
     (waits, λ i. record { row = row i; standing = standing i })
 
 -- A poll of a place that stands in the line
-pub left-waiting : (needs : Needs) (places me : ℕ) (now : Moment) (lazy : Lazy) → Refines needs places now.row now.standing lazy → me < places
-    → is_in me lazy.line ≡ true → IsLeftWaiting needs places me Poll now
-left-waiting needs places me now lazy s here there =
-    let waits = waits-slot places me now.standing lazy s.seats there in
+pub left-waiting : (needs : Needs) (places me : ℕ) (now : Moment) (state : AbstractState) → Refines needs places now.row now.standing state → me < places
+    → is_in me state.line ≡ true → IsLeftWaiting needs places me Poll now
+left-waiting needs places me now state s here there =
+    let waits = waits-slot places me now.standing state s.seats there in
     let slot = slot-is (now.standing me).registration waits.0 in
     let none : now.row (places + me + 1) ≡ 0 = s.answers.words me here ∙ ap answer_number waits.1 in
     subst
@@ -88,9 +88,9 @@ each-but P me mine others place =
     ]
 
 -- nobody holds the flag where this place doesn't
-alone-clear : (needs : Needs) (places : ℕ) (row : ℕ → ℕ) (standing : ℕ → Place) (lazy : Lazy) (me : ℕ) → Refines needs places row standing lazy
+alone-clear : (needs : Needs) (places : ℕ) (row : ℕ → ℕ) (standing : ℕ → Place) (state : AbstractState) (me : ℕ) → Refines needs places row standing state
     → AreQuietBut me standing → is_holder (standing me).stage ≡ false → (main_of row).is_flagged ≡ false
-alone-clear needs places row standing lazy me s quiet mine =
+alone-clear needs places row standing state me s quiet mine =
     elim (cases_Bool (s.holder == 0)) [
       | inl nobody ↦ s.main.flag ∙ ap not nobody
       | inr somebody ↦
@@ -103,9 +103,9 @@ alone-clear needs places row standing lazy me s quiet mine =
     ]
 
 -- no answer is due where this place has none to show
-alone-paid : (needs : Needs) (places : ℕ) (row : ℕ → ℕ) (standing : ℕ → Place) (lazy : Lazy) (me : ℕ) (s : Refines needs places row standing lazy)
-    → AreQuietBut me standing → s.owed me ≡ [] → (place : ℕ) → is_some (lazy.due place) ≡ true → ⊥
-alone-paid needs places row standing lazy me s quiet mine place due =
+alone-paid : (needs : Needs) (places : ℕ) (row : ℕ → ℕ) (standing : ℕ → Place) (state : AbstractState) (me : ℕ) (s : Refines needs places row standing state)
+    → AreQuietBut me standing → s.owed me ≡ [] → (place : ℕ) → is_some (state.due place) ≡ true → ⊥
+alone-paid needs places row standing state me s quiet mine place due =
     let none : s.owed (s.shower place) ≡ [] =
     each-but (λ (other : ℕ). s.owed other ≡ []) me mine
     (λ other apart. subst (λ (stage : Stage). IsShowing (s.owed other) (s.worth other) stage) (quiet other apart) (s.stages.showing other)) (s.shower place) in
@@ -113,50 +113,50 @@ alone-paid needs places row standing lazy me s quiet mine place due =
     absurd (cc)
 
 -- it waits for its own answer only
-alone-stalls : (needs : Needs) (places : ℕ) (row : ℕ → ℕ) (standing : ℕ → Place) (lazy : Lazy) (me : ℕ) → me < places
-    → Refines needs places row standing lazy → AreQuietBut me standing → (stage : Stage) → (standing me).stage ≡ stage
+alone-stalls : (needs : Needs) (places : ℕ) (row : ℕ → ℕ) (standing : ℕ → Place) (state : AbstractState) (me : ℕ) → me < places
+    → Refines needs places row standing state → AreQuietBut me standing → (stage : Stage) → (standing me).stage ≡ stage
     → next_of needs me (standing me) stage (row (word_at (operation_of needs places me stage))) ≡ Waits → stage ≡ Take Awaits
-alone-stalls needs places row standing lazy me here s quiet (Take Awaits) at waits = refl
-alone-stalls needs places row standing lazy me here s quiet (Take (Gives request)) at waits =
-    let stalled = only-stalls needs places row standing lazy me here s (Take (Gives request)) at waits in
-    absurd (alone-paid needs places row standing lazy me s quiet
+alone-stalls needs places row standing state me here s quiet (Take Awaits) at waits = refl
+alone-stalls needs places row standing state me here s quiet (Take (Gives request)) at waits =
+    let stalled = only-stalls needs places row standing state me here s (Take (Gives request)) at waits in
+    absurd (alone-paid needs places row standing state me s quiet
     (subst (λ (stage : Stage). IsShowing (s.owed me) (s.worth me) stage) at (s.stages.showing me)) me stalled.0)
-alone-stalls needs places row standing lazy me here s quiet FlagLoad at waits =
-    let stalled = only-stalls needs places row standing lazy me here s FlagLoad at waits in
-    let wrong : true ≡ false = sym stalled.0 ∙ alone-clear needs places row standing lazy me s quiet (ap is_holder at) in
+alone-stalls needs places row standing state me here s quiet FlagLoad at waits =
+    let stalled = only-stalls needs places row standing state me here s FlagLoad at waits in
+    let wrong : true ≡ false = sym stalled.0 ∙ alone-clear needs places row standing state me s quiet (ap is_holder at) in
     absurd (cc)
-alone-stalls needs places row standing lazy me here s quiet (FlagExchange seen) at waits =
-    let stalled = only-stalls needs places row standing lazy me here s (FlagExchange seen) at waits in
-    let wrong : true ≡ false = sym stalled.0 ∙ alone-clear needs places row standing lazy me s quiet (ap is_holder at) in
+alone-stalls needs places row standing state me here s quiet (FlagExchange seen) at waits =
+    let stalled = only-stalls needs places row standing state me here s (FlagExchange seen) at waits in
+    let wrong : true ≡ false = sym stalled.0 ∙ alone-clear needs places row standing state me s quiet (ap is_holder at) in
     absurd (cc)
-alone-stalls needs places row standing lazy me here s quiet PoisonLoad at waits =
-    let stalled = only-stalls needs places row standing lazy me here s PoisonLoad at waits in
-    let wrong : true ≡ false = sym stalled.0.2 ∙ alone-clear needs places row standing lazy me s quiet (ap is_holder at) in
+alone-stalls needs places row standing state me here s quiet PoisonLoad at waits =
+    let stalled = only-stalls needs places row standing state me here s PoisonLoad at waits in
+    let wrong : true ≡ false = sym stalled.0.2 ∙ alone-clear needs places row standing state me s quiet (ap is_holder at) in
     absurd (cc)
-alone-stalls needs places row standing lazy me here s quiet (PoisonExchange seen) at waits =
-    let stalled = only-stalls needs places row standing lazy me here s (PoisonExchange seen) at waits in
-    let wrong : true ≡ false = sym stalled.0.2 ∙ alone-clear needs places row standing lazy me s quiet (ap is_holder at) in
+alone-stalls needs places row standing state me here s quiet (PoisonExchange seen) at waits =
+    let stalled = only-stalls needs places row standing state me here s (PoisonExchange seen) at waits in
+    let wrong : true ≡ false = sym stalled.0.2 ∙ alone-clear needs places row standing state me s quiet (ap is_holder at) in
     absurd (cc)
-alone-stalls needs places row standing lazy me here s quiet stage at waits =
-    absurd ((only-stalls needs places row standing lazy me here s stage at waits).0)
+alone-stalls needs places row standing state me here s quiet stage at waits =
+    absurd ((only-stalls needs places row standing state me here s stage at waits).0)
 
 -- A place is in the middle of its call, of which it has named some events, and no other place is in one
 pub record Moves (needs : Needs) (places me : ℕ) (call : WordCall) (registered : Registration) (now : Moment) : Type 0 where
-  pub lazy : Lazy
-  pub stands : Refines needs places now.row now.standing lazy
+  pub state : AbstractState
+  pub stands : Refines needs places now.row now.standing state
   pub names : List Event
   pub under : IsUnder needs call registered (now.standing me).back (now.standing me).stage names
   pub quiet : AreQuietBut me now.standing
 
 -- so it is once a call has started that isn't done at once
-pub moves-first : (needs : Needs) → needs.top < 2 ^ count_bits → (places me : ℕ) (call : WordCall) (now : Moment) (lazy : Lazy)
-    → Refines needs places now.row now.standing lazy → IsQuiet now.standing → me < places → is_taken needs.is_lock call ≡ true
+pub moves-first : (needs : Needs) → needs.top < 2 ^ count_bits → (places me : ℕ) (call : WordCall) (now : Moment) (state : AbstractState)
+    → Refines needs places now.row now.standing state → IsQuiet now.standing → me < places → is_taken needs.is_lock call ≡ true
     → (place : Place) → started needs (now.standing me) call ≡ Going place
     → Moves needs places me call (now.standing me).registration (put me (Going place) now)
-moves-first needs wide places me call now lazy s quiet here taken place is = record {
-  lazy = lazy;
-  stands = subst (λ (next : Next). Refines needs places now.row (updated now.standing me (place_after (now.standing me) next)) lazy) is
-      (starts needs wide places now.row now.standing lazy me call here s (quiet me) taken);
+moves-first needs wide places me call now state s quiet here taken place is = record {
+  state = state;
+  stands = subst (λ (next : Next). Refines needs places now.row (updated now.standing me (place_after (now.standing me) next)) state) is
+      (starts needs wide places now.row now.standing state me call here s (quiet me) taken);
   names = [];
   under = subst (λ (p : Place). IsUnder needs call (now.standing me).registration p.back p.stage []) (sym (updated-at now.standing me place))
       (subst (λ (next : Next). IsBegun needs call (now.standing me).registration next) is (call-begun needs (now.standing me) call (quiet me)));
@@ -171,10 +171,10 @@ moves-on needs lawful wide places me room here call registered now m place is =
     let stage : Stage = (now.standing me).stage in
     let found : ℕ = now.row (word_at (operation_of needs places me stage)) in
     let after : Place = place_after (now.standing me) (next_at needs places me now) in
-    let made = step needs lawful wide places now.row now.standing m.lazy me room here m.stands stage refl in
+    let made = step needs lawful wide places now.row now.standing m.state me room here m.stands stage refl in
     let there : updated now.standing me after me ≡ place = updated-at now.standing me after ∙ ap (place_after (now.standing me)) is in
     record {
-      lazy = made.last;
+      state = made.last;
       stands = made.stands;
       names = m.names ++ named_at needs stage found;
       under = subst (λ (p : Place). IsUnder needs call registered p.back p.stage (m.names ++ named_at needs stage found)) (sym there)
@@ -192,7 +192,7 @@ awaits-poll call is = absurd (cc)
 pub moves-waits : (needs : Needs) (places me : ℕ) → me < places → (call : WordCall) (registered : Registration) (now : Moment)
     → Moves needs places me call registered now → next_at needs places me now ≡ Waits → call ≡ Poll
 moves-waits needs places me here call registered now m waits =
-    let at = alone-stalls needs places now.row now.standing m.lazy me here m.stands m.quiet (now.standing me).stage refl waits in
+    let at = alone-stalls needs places now.row now.standing m.state me here m.stands m.quiet (now.standing me).stage refl waits in
     awaits-poll call (subst (λ (stage : Stage). IsUnder needs call registered (now.standing me).back stage m.names) at m.under).0
 
 -- Nothing else waits
@@ -226,41 +226,41 @@ shown-done needs places me (suc more) begun place value done h =
     subst (λ (next : Next). IsEither next (WaitsBehind needs places me more (stepped needs places me begun)) (λ said. ⊥)) done h
 
 -- a place that joined the line, and is neither due nor shown an answer, stands in the line
-stands-there : (places me : ℕ) (standing : ℕ → Place) (lazy : Lazy) → AreSeats places standing lazy → is_slot (standing me).registration ≡ true
-    → lazy.due me ≡ None → lazy.shown me ≡ None → is_in me lazy.line ≡ true
-stands-there places me standing lazy seats slot due shown =
-    in-some me lazy.line
+stands-there : (places me : ℕ) (standing : ℕ → Place) (state : AbstractState) → AreSeats places standing state → is_slot (standing me).registration ≡ true
+    → state.due me ≡ None → state.shown me ≡ None → is_in me state.line ≡ true
+stands-there places me standing state seats slot due shown =
+    in-some me state.line
     (omega (arith, seats.held me, ap one_if slot, ap (λ (a : Option ℕ). one_if (is_some a)) due, ap (λ (a : Option ℕ). one_if (is_some a)) shown))
 
 -- a poll that waits is one of a place that stands in the line
-poll-only : (needs : Needs) (places me : ℕ) (steps : ℕ) (now : Moment) (lazy : Lazy) → Refines needs places now.row now.standing lazy → me < places
-    → lazy.due me ≡ None → (registration : Registration) → (now.standing me).registration ≡ registration
+poll-only : (needs : Needs) (places me : ℕ) (steps : ℕ) (now : Moment) (state : AbstractState) → Refines needs places now.row now.standing state → me < places
+    → state.due me ≡ None → (registration : Registration) → (now.standing me).registration ≡ registration
     → IsEither (polled_as (now.standing me) Awaits registration)
     (WaitsBehind needs places me steps (put me (polled_as (now.standing me) Awaits registration) now)) (λ said. ⊥)
-    → is_in me lazy.line ≡ true
-poll-only needs places me steps now lazy s here due Idle is h = absurd h
-poll-only needs places me steps now lazy s here due (Once value request) is h = absurd h
-poll-only needs places me steps now lazy s here due (Slot request) is h = shown-or (lazy.shown me) refl
+    → is_in me state.line ≡ true
+poll-only needs places me steps now state s here due Idle is h = absurd h
+poll-only needs places me steps now state s here due (Once value request) is h = absurd h
+poll-only needs places me steps now state s here due (Slot request) is h = shown-or (state.shown me) refl
   where
-    shown-or : (shown : Option ℕ) → lazy.shown me ≡ shown → is_in me lazy.line ≡ true
-    shown-or None none = stands-there places me now.standing lazy s.seats (ap is_slot is) due none
+    shown-or : (shown : Option ℕ) → state.shown me ≡ shown → is_in me state.line ≡ true
+    shown-or None none = stands-there places me now.standing state s.seats (ap is_slot is) due none
     shown-or (Some value) some =
         absurd (shown-done needs places me steps (put me (going (now.standing me) (Take Awaits)) now) (record (now.standing me) { stage = Take Awaits }) value
         (poll-next needs places me now (Some value) (s.answers.words me here ∙ ap answer_number some) (λ v is. s.answers.small me v (some ∙ is))) h)
 
 -- Only a poll of a place that stands in the line waits
-pub only-polls : (needs : Needs) → AreNeeds needs → (places me : ℕ) (call : WordCall) (steps : ℕ) (now : Moment) (lazy : Lazy)
-    → needs.top < 2 ^ count_bits → places < 65536 → Refines needs places now.row now.standing lazy → IsQuiet now.standing → me < places
-    → is_taken needs.is_lock call ≡ true → IsKeptWaiting needs places me call steps now → (call ≡ Poll) × (is_in me lazy.line ≡ true)
-only-polls needs lawful places me call steps now lazy wide room s quiet here taken h =
+pub only-polls : (needs : Needs) → AreNeeds needs → (places me : ℕ) (call : WordCall) (steps : ℕ) (now : Moment) (state : AbstractState)
+    → needs.top < 2 ^ count_bits → places < 65536 → Refines needs places now.row now.standing state → IsQuiet now.standing → me < places
+    → is_taken needs.is_lock call ≡ true → IsKeptWaiting needs places me call steps now → (call ≡ Poll) × (is_in me state.line ≡ true)
+only-polls needs lawful places me call steps now state wide room s quiet here taken h =
     let start : Next = started needs (now.standing me) call in
     let goes = is-going start (WaitsBehind needs places me steps (put me start now)) h in
     let polls : call ≡ Poll =
     waits-poll needs lawful wide places me room here call (now.standing me).registration steps (put me (Going goes.0.0) now)
-    (moves-first needs wide places me call now lazy s quiet here taken goes.0.0 goes.0.1)
+    (moves-first needs wide places me call now state s quiet here taken goes.0.0 goes.0.1)
     (subst (λ (next : Next). WaitsBehind needs places me steps (put me next now)) goes.0.1 goes.1) in
-    let rests = at-rest needs places now.row now.standing lazy s quiet in (
+    let rests = at-rest needs places now.row now.standing state s quiet in (
       polls,
-      poll-only needs places me steps now lazy s here (rests.paid me) (now.standing me).registration refl
+      poll-only needs places me steps now state s here (rests.paid me) (now.standing me).registration refl
           (subst (λ (c : WordCall). IsKeptWaiting needs places me c steps now) polls h),
     )

@@ -5,6 +5,7 @@ use Rattle.saa_core_spec.proofs.Counts.{number_same, same_number, number_other}
 use Rattle.saa_core_words.specs.declared.word.Word.{Word}
 use Rattle.saa_core_words.specs.Words.{count_bits, word_number, word_of, line_word_of}
 use Rattle.saa_word_steps.specs.declared.place.Place.{Place}
+use Rattle.saa_word_steps.specs.declared.place.Given.{Given}
 use Rattle.saa_word_steps.specs.declared.place.Ask.{Ask}
 use Rattle.saa_word_steps.specs.declared.place.Afterwards.{Afterwards}
 use Rattle.saa_word_steps.specs.declared.place.Afterwards.TheVariants.{Ends, Again}
@@ -14,9 +15,9 @@ use Rattle.saa_word_steps.specs.declared.place.Next.{Next}
 use Rattle.saa_word_steps.specs.declared.place.Next.TheVariants.{Going, Waits, Done}
 use Rattle.saa_word_steps.specs.declared.place.Stage.{Stage}
 use Rattle.saa_word_steps.specs.declared.place.Stage.TheVariants.{Quiet, ReadLoad, AskLoad, AskExchange, Prepare, Join, ReleaseLoad, ReleaseExchange, BackLoad, BackStore, Forward, CutToClose, CutToGoRound, Close, Empty, GoRound, ShowLoad, ShowStore, Take, FlagLoad, FlagExchange, LookLoad, LookStore, Unlink, DropTail, PoisonLoad, PoisonExchange, Clear}
-use Rattle.saa_word_steps.specs.Needs.{Needs, AreNeeds, fits_count, left_count}
-use Rattle.saa_word_steps.specs.Lazy.{Lazy}
-use Rattle.saa_word_steps.specs.Steps.{word_at, operation_of, next_of, finished, granted, decided, gave_nothing, given_to, given, shown_all}
+use Rattle.saa_word_steps.specs.Needs.{Needs, AreNeeds, fits_count}
+use Rattle.saa_word_steps.specs.AbstractState.{AbstractState}
+use Rattle.saa_word_steps.specs.Steps.{left_from, word_at, operation_of, next_of, finished, granted, decided, gave_nothing, given_to, given, shown_all}
 use Rattle.saa_word_proofs.specs.Refinement.{updated, Refines}
 use Rattle.saa_word_proofs.specs.StepRefinement.{row_after, place_after}
 use Rattle.saa_word_proofs.proofs.RefinementLemmas.Lists.{each-updated, updated-same}
@@ -58,11 +59,11 @@ nothing-goes place Tells = refl
 nothing-goes place EndsCall = refl
 nothing-goes place (Takes request) = refl
 
-given-goes : (needs : Needs) (place : Place) (request : ℕ) (seen : Word) → is_waiting (given needs place request seen) ≡ false
-given-goes needs place request seen =
-    neither seen.is_poisoned _ _ (nothing-goes place place.back) (left-goes (left_count needs seen.count request))
+given-goes : (needs : Needs) (place : Place) (what : Given) (seen : Word) → is_waiting (given needs place what seen) ≡ false
+given-goes needs place what seen =
+    neither seen.is_poisoned _ _ (nothing-goes place place.back) (left-goes (left_from needs seen.count what))
   where
-    left-goes : (left : Option ℕ) → is_waiting (given_to place request seen left) ≡ false
+    left-goes : (left : Option ℕ) → is_waiting (given_to place what seen left) ≡ false
     left-goes None = nothing-goes place place.back
     left-goes (Some left) = refl
 
@@ -93,12 +94,12 @@ waits-kept needs places row me place (Prepare request seen) waits = never false 
 waits-kept needs places row me place (Join request seen) waits = never _ waits
     (neither (row 0 == word_number count_bits seen) _ _ refl
     (decided-goes needs place (record { request = request; joins = true }) (word_of count_bits (row 0))))
-waits-kept needs places row me place (ReleaseLoad request) waits = never _ waits
-    (given-goes needs place request (word_of count_bits (row 0)))
-waits-kept needs places row me place (ReleaseExchange request seen) waits = never _ waits
+waits-kept needs places row me place (ReleaseLoad what) waits = never _ waits
+    (given-goes needs place what (word_of count_bits (row 0)))
+waits-kept needs places row me place (ReleaseExchange what seen) waits = never _ waits
     (neither (row 0 == word_number count_bits seen) _ _
     (neither (not (seen.tail == 0) && not seen.is_flagged) _ _ refl (finished-goes place place.back))
-    (given-goes needs place request (word_of count_bits (row 0))))
+    (given-goes needs place what (word_of count_bits (row 0))))
 waits-kept needs places row me place (BackLoad seen current newer) waits = never false waits refl
 waits-kept needs places row me place (BackStore seen current newer line) waits = never _ waits
     (neither (line.older == 0) _ _ refl refl)
@@ -158,10 +159,10 @@ own-within place made before places ways number (Done now answer) lower waits wi
     omega (arith, lower.1, within, ap (steps_left ways number now.back) lower.0)
 
 -- each step of a place that lowers its step bound keeps what all places have made and have left within the bound
-counted-by : (needs : Needs) (places : ℕ) (row : ℕ → ℕ) (standing : ℕ → Place) (lazy : Lazy) (me : ℕ) (made : ℕ → ℕ)
-    → Refines needs places row standing lazy → IsLowered needs places row standing me (standing me).stage → AreWithin places row standing made
+counted-by : (needs : Needs) (places : ℕ) (row : ℕ → ℕ) (standing : ℕ → Place) (state : AbstractState) (me : ℕ) (made : ℕ → ℕ)
+    → Refines needs places row standing state → IsLowered needs places row standing me (standing me).stage → AreWithin places row standing made
     → IsCounted needs places row standing me made (standing me).stage
-counted-by needs places row standing lazy me made s lower within =
+counted-by needs places row standing state me made s lower within =
     let found : ℕ = row (word_at (operation_of needs places me (standing me).stage)) in
     let new : ℕ → ℕ = row_after row (operation_of needs places me (standing me).stage) in
     let next : Next = next_of needs me (standing me) (standing me).stage found in
@@ -177,12 +178,12 @@ counted-by needs places row standing lazy me made s lower within =
     elim (cases_Bool (new 0 == row 0)) [
       | inl same ↦
           rw (theirs, same)
-          (omega (arith, within other, kept needs places row standing lazy me other s apart (same_number (new 0) (row 0) same)))
+          (omega (arith, within other, kept needs places row standing state me other s apart (same_number (new 0) (row 0) same)))
       | inr changed ↦ rw (theirs, changed) (omega (arith, step_bound-bounded places new (standing other).back (standing other).stage))
     ])
 
-pub counted-within : (needs : Needs) → AreNeeds needs → needs.top < 2 ^ count_bits → (places : ℕ) (row : ℕ → ℕ) (standing : ℕ → Place) (lazy : Lazy) (me : ℕ)
-    (made : ℕ → ℕ) → Refines needs places row standing lazy → ((standing me).stage ≡ Quiet → ⊥) → AreWithin places row standing made
+pub counted-within : (needs : Needs) → AreNeeds needs → needs.top < 2 ^ count_bits → (places : ℕ) (row : ℕ → ℕ) (standing : ℕ → Place) (state : AbstractState) (me : ℕ)
+    (made : ℕ → ℕ) → Refines needs places row standing state → ((standing me).stage ≡ Quiet → ⊥) → AreWithin places row standing made
     → IsCounted needs places row standing me made (standing me).stage
-counted-within needs lawful wide places row standing lazy me made s busy within =
-    counted-by needs places row standing lazy me made s (lowered needs lawful wide places row standing lazy me s (standing me).stage refl busy) within
+counted-within needs lawful wide places row standing state me made s busy within =
+    counted-by needs places row standing state me made s (lowered needs lawful wide places row standing state me s (standing me).stage refl busy) within

@@ -8,7 +8,7 @@ use Rattle.saa_core_words.specs.declared.line_word.LineWord.{LineWord}
 use Rattle.saa_core_words.specs.Words.{line_number, line_word_of}
 use Rattle.saa_word_steps.specs.declared.place.Place.{Place}
 use Rattle.saa_word_steps.specs.Needs.{Needs}
-use Rattle.saa_word_steps.specs.Lazy.{Lazy, is_empty, waits_times}
+use Rattle.saa_word_steps.specs.AbstractState.{AbstractState, is_empty, waits_times}
 use Rattle.saa_word_proofs.specs.Refinement.{updated, main_of, line_of, newest, oldest, IsBehind, IsAhead, Work, Refines}
 use Rattle.saa_word_proofs.proofs.RefinementLemmas.Lists.{updated-at, behind-frame, behind-front, behind-rest, newest-append, newest-last, times-append}
 use Rattle.saa_word_proofs.proofs.RefinementLemmas.Rows.{row-other, line-at, line-other}
@@ -96,19 +96,19 @@ pub record IsCut (places : ℕ) (row new : ℕ → ℕ) (older front behind join
   pub front_ways : way places new older ≡ front
   pub rest_ways : waiting (way places new) (row 0) ≡ behind + joined
 
-pub cut-line : (needs : Needs) (places : ℕ) (row : ℕ → ℕ) (standing : ℕ → Place) (lazy : Lazy) (s : Refines needs places row standing lazy)
+pub cut-line : (needs : Needs) (places : ℕ) (row : ℕ → ℕ) (standing : ℕ → Place) (state : AbstractState) (s : Refines needs places row standing state)
     (seen : Word)
-    (work : Work lazy.count lazy.line seen) (behind : List (ℕ × ℕ)) (current : ℕ) (line : LineWord) → s.cut ≡ [] → work.behind ≡ behind
+    (work : Work state.count state.line seen) (behind : List (ℕ × ℕ)) (current : ℕ) (line : LineWord) → s.cut ≡ [] → work.behind ≡ behind
     → current ≡ oldest behind
     → is_empty behind ≡ false → line ≡ line_of row (pred current)
     → IsCut places row (updated row current (line_number (record line { older = 0 }))) line.older (length work.front) (length work.behind)
     (length work.joined)
-cut-line needs places row standing lazy s seen work [] current line whole is at some read = absurd (cc)
-cut-line needs places row standing lazy s seen work (asker ∷ rest) current line whole is at some read =
+cut-line needs places row standing state s seen work [] current line whole is at some read = absurd (cc)
+cut-line needs places row standing state s seen work (asker ∷ rest) current line whole is at some read =
     let all : s.uncut ≡ work.front ++ asker ∷ (rest ++ work.joined) =
     sym (s.line.parts ∙ ap (λ (l : List (ℕ × ℕ)). l ++ s.uncut) whole) ∙ work.parts ∙ ap (λ (l : List (ℕ × ℕ)). work.front ++ (l ++ work.joined)) is in
     let leads : IsWay places row (main_of row).tail (work.front ++ asker ∷ (rest ++ work.joined)) =
-    subst (λ (l : List (ℕ × ℕ)). IsWay places row (main_of row).tail l) all (uncut-way needs places row standing lazy s) in
+    subst (λ (l : List (ℕ × ℕ)). IsWay places row (main_of row).tail l) all (uncut-way needs places row standing state s) in
     let place_is : pred current ≡ asker.0 = omega (arith, at) in
     let line_is : line ≡ line_of row asker.0 = read ∙ ap (line_of row) place_is in
     let request : (line_word_of (line_number (record line { older = 0 }))).request ≡ (line_of row asker.0).request =
@@ -132,29 +132,29 @@ cut-line needs places row standing lazy s seen work (asker ∷ rest) current lin
     })
 
 -- as many are met from the place that the holder looks at as stand in the front, and one more
-pub at-way : (needs : Needs) (places : ℕ) (row : ℕ → ℕ) (standing : ℕ → Place) (lazy : Lazy) (s : Refines needs places row standing lazy) (seen : Word)
-    (work : Work lazy.count lazy.line seen) (behind : List (ℕ × ℕ)) (current : ℕ) → s.cut ≡ [] → work.behind ≡ behind → current ≡ oldest behind
+pub at-way : (needs : Needs) (places : ℕ) (row : ℕ → ℕ) (standing : ℕ → Place) (state : AbstractState) (s : Refines needs places row standing state) (seen : Word)
+    (work : Work state.count state.line seen) (behind : List (ℕ × ℕ)) (current : ℕ) → s.cut ≡ [] → work.behind ≡ behind → current ≡ oldest behind
     → is_empty behind ≡ false → (way places row current ≡ length work.front + 1) × (0 < length work.behind)
-at-way needs places row standing lazy s seen work [] current whole is at some = absurd (cc)
-at-way needs places row standing lazy s seen work (asker ∷ rest) current whole is at some = (
-  ap (way places row) at ∙ work-behind needs places row standing lazy s seen work whole [] rest asker is,
+at-way needs places row standing state s seen work [] current whole is at some = absurd (cc)
+at-way needs places row standing state s seen work (asker ∷ rest) current whole is at some = (
+  ap (way places row) at ∙ work-behind needs places row standing state s seen work whole [] rest asker is,
   omega (arith, ap length is),
 )
 
 -- the newer link of a place that isn't the tail that was seen leads to one more
-pub next-way : (needs : Needs) (places : ℕ) (row : ℕ → ℕ) (standing : ℕ → Place) (lazy : Lazy) (s : Refines needs places row standing lazy)
+pub next-way : (needs : Needs) (places : ℕ) (row : ℕ → ℕ) (standing : ℕ → Place) (state : AbstractState) (s : Refines needs places row standing state)
     (seen : Word)
-    (work : Work lazy.count lazy.line seen) (behind : List (ℕ × ℕ)) (current : ℕ) → s.cut ≡ [] → work.behind ≡ behind → current ≡ oldest behind
+    (work : Work state.count state.line seen) (behind : List (ℕ × ℕ)) (current : ℕ) → s.cut ≡ [] → work.behind ≡ behind → current ≡ oldest behind
     → is_empty behind ≡ false → IsAhead (line_of row) behind → current == seen.tail ≡ false
     → way places row (line_word_of (row current)).newer ≡ length work.front + 2
-next-way needs places row standing lazy s seen work [] current whole is at some ahead more = absurd (cc)
-next-way needs places row standing lazy s seen work (asker ∷ []) current whole is at some ahead more =
+next-way needs places row standing state s seen work [] current whole is at some ahead more = absurd (cc)
+next-way needs places row standing state s seen work (asker ∷ []) current whole is at some ahead more =
     let tail : seen.tail ≡ current =
     work.tail ∙ ap (λ (l : List (ℕ × ℕ)). newest 0 (work.front ++ l)) is ∙ newest-last 0 work.front asker ∙ sym at in
     let wrong : current == seen.tail ≡ true = ap (λ (n : ℕ). current == n) tail ∙ number_same current in
     absurd (cc)
-next-way needs places row standing lazy s seen work (asker ∷ (next ∷ rest)) current whole is at some ahead more =
+next-way needs places row standing state s seen work (asker ∷ (next ∷ rest)) current whole is at some ahead more =
     ap (λ (n : ℕ). way places row (line_word_of (row n)).newer) at
     ∙ ap (way places row) ahead.0
-    ∙ work-behind needs places row standing lazy s seen work whole (asker ∷ []) rest next is
+    ∙ work-behind needs places row standing state s seen work whole (asker ∷ []) rest next is
     ∙ omega arith

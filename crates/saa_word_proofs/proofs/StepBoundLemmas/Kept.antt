@@ -6,7 +6,7 @@ use Rattle.saa_word_steps.specs.declared.place.Place.{Place}
 use Rattle.saa_word_steps.specs.declared.place.Stage.{Stage}
 use Rattle.saa_word_steps.specs.declared.place.Stage.TheVariants.{Quiet, ReadLoad, AskLoad, AskExchange, Prepare, Join, ReleaseLoad, ReleaseExchange, BackLoad, BackStore, Forward, CutToClose, CutToGoRound, Close, Empty, GoRound, ShowLoad, ShowStore, Take, FlagLoad, FlagExchange, LookLoad, LookStore, Unlink, DropTail, PoisonLoad, PoisonExchange, Clear}
 use Rattle.saa_word_steps.specs.Needs.{Needs}
-use Rattle.saa_word_steps.specs.Lazy.{Lazy}
+use Rattle.saa_word_steps.specs.AbstractState.{AbstractState}
 use Rattle.saa_word_steps.specs.Steps.{operation_of}
 use Rattle.saa_word_proofs.specs.Refinement.{updated, is_holder, IsAlone, Refines}
 use Rattle.saa_word_proofs.specs.StepRefinement.{row_after}
@@ -20,101 +20,101 @@ use Rattle.saa_word_proofs.proofs.StepBoundLemmas.Leaves.{past-line}
 use Rattle.saa_word_proofs.proofs.StepBoundLemmas.Stores.{kept-row, kept-ways, kept-shorter, other-free, none-older, kept-cut, kept-prepare}
 
 -- a step at a stage that leaves the main word raises the step bound of no other place
-kept-by : (needs : Needs) (places : ℕ) (row : ℕ → ℕ) (standing : ℕ → Place) (lazy : Lazy) (me other : ℕ) (s : Refines needs places row standing lazy)
+kept-by : (needs : Needs) (places : ℕ) (row : ℕ → ℕ) (standing : ℕ → Place) (state : AbstractState) (me other : ℕ) (s : Refines needs places row standing state)
     → (other ≡ me → ⊥) → (stage : Stage) → (standing me).stage ≡ stage → row_after row (operation_of needs places me stage) 0 ≡ row 0
     → step_bound places (row_after row (operation_of needs places me stage)) (standing other).back (standing other).stage
     ≤ step_bound places row (standing other).back (standing other).stage
-kept-by needs places row standing lazy me other s apart Quiet at main =
+kept-by needs places row standing state me other s apart Quiet at main =
     kept-row places row (updated row 0 (row 0)) (standing other).back (standing other).stage (updated-same row 0 (row 0) refl)
-kept-by needs places row standing lazy me other s apart (ReadLoad reading) at main =
+kept-by needs places row standing state me other s apart (ReadLoad reading) at main =
     kept-row places row (updated row 0 (row 0)) (standing other).back (standing other).stage (updated-same row 0 (row 0) refl)
-kept-by needs places row standing lazy me other s apart (AskLoad ask) at main =
+kept-by needs places row standing state me other s apart (AskLoad ask) at main =
     kept-row places row (updated row 0 (row 0)) (standing other).back (standing other).stage (updated-same row 0 (row 0) refl)
-kept-by needs places row standing lazy me other s apart (AskExchange ask seen) at main =
+kept-by needs places row standing state me other s apart (AskExchange ask seen) at main =
     kept-row places row (row_after row (operation_of needs places me (AskExchange ask seen))) (standing other).back (standing other).stage
     (updated-same row 0 (row_after row (operation_of needs places me (AskExchange ask seen)) 0) main)
-kept-by needs places row standing lazy me other s apart (Prepare request seen) at main =
+kept-by needs places row standing state me other s apart (Prepare request seen) at main =
     let alone : IsAlone needs (standing me).registration (standing me).back (Prepare request seen) =
     subst (λ (stage : Stage). IsAlone needs (standing me).registration (standing me).back stage) at (s.stages.alone me) in
-    kept-prepare needs places row standing lazy s me other (line_number (record { request = request; older = seen.tail; newer = 0 })) alone.1
-kept-by needs places row standing lazy me other s apart (Join request seen) at main =
+    kept-prepare needs places row standing state s me other (line_number (record { request = request; older = seen.tail; newer = 0 })) alone.1
+kept-by needs places row standing state me other s apart (Join request seen) at main =
     kept-row places row (row_after row (operation_of needs places me (Join request seen))) (standing other).back (standing other).stage
     (updated-same row 0 (row_after row (operation_of needs places me (Join request seen)) 0) main)
-kept-by needs places row standing lazy me other s apart (ReleaseLoad given) at main =
+kept-by needs places row standing state me other s apart (ReleaseLoad given) at main =
     kept-row places row (updated row 0 (row 0)) (standing other).back (standing other).stage (updated-same row 0 (row 0) refl)
-kept-by needs places row standing lazy me other s apart (ReleaseExchange given seen) at main =
+kept-by needs places row standing state me other s apart (ReleaseExchange given seen) at main =
     kept-row places row (row_after row (operation_of needs places me (ReleaseExchange given seen))) (standing other).back (standing other).stage
     (updated-same row 0 (row_after row (operation_of needs places me (ReleaseExchange given seen)) 0) main)
-kept-by needs places row standing lazy me other s apart (BackLoad seen current newer) at main =
+kept-by needs places row standing state me other s apart (BackLoad seen current newer) at main =
     kept-row places row (updated row current (row current)) (standing other).back (standing other).stage (updated-same row current (row current) refl)
-kept-by needs places row standing lazy me other s apart (BackStore seen current newer line) at main =
-    let h = holds needs places row standing lazy s me (BackStore seen current newer line) at refl in
+kept-by needs places row standing state me other s apart (BackStore seen current newer line) at main =
+    let h = holds needs places row standing state s me (BackStore seen current newer line) at refl in
     let stands = newest-stands h.0.front current h.2.1 h.2.0 in
     let read : line ≡ line_word_of (row current) = h.3 ∙ ap (λ (n : ℕ). line_word_of (row n)) (sym stands.1) in
     kept-ways places row (updated row current (line_number (record line { newer = newer }))) (standing other).back (standing other).stage
     (ways-store places row current (line_number (record line { newer = newer }))
     (ap (λ (w : LineWord). (line_word_of (line_number (record w { newer = newer }))).older) read ∙ older-kept (row current) newer)) main
-kept-by needs places row standing lazy me other s apart (Forward seen current count) at main =
+kept-by needs places row standing state me other s apart (Forward seen current count) at main =
     kept-row places row (updated row current (row current)) (standing other).back (standing other).stage (updated-same row current (row current) refl)
-kept-by needs places row standing lazy me other s apart (CutToClose seen current count line) at main =
-    let h = holds needs places row standing lazy s me (CutToClose seen current count line) at refl in
+kept-by needs places row standing state me other s apart (CutToClose seen current count line) at main =
+    let h = holds needs places row standing state s me (CutToClose seen current count line) at refl in
     kept-cut places row current (line_number (record line { older = 0 })) (standing other).back (standing other).stage
-    (other-free needs places row standing lazy s me other (ap is_holder at) apart)
+    (other-free needs places row standing state s me other (ap is_holder at) apart)
     (ap (λ (w : LineWord). (line_word_of (line_number (record w { older = 0 }))).older) h.4 ∙ none-older (row (pred current + 1))) main
-kept-by needs places row standing lazy me other s apart (CutToGoRound seen current count line) at main =
-    let h = holds needs places row standing lazy s me (CutToGoRound seen current count line) at refl in
+kept-by needs places row standing state me other s apart (CutToGoRound seen current count line) at main =
+    let h = holds needs places row standing state s me (CutToGoRound seen current count line) at refl in
     kept-cut places row current (line_number (record line { older = 0 })) (standing other).back (standing other).stage
-    (other-free needs places row standing lazy s me other (ap is_holder at) apart)
+    (other-free needs places row standing state s me other (ap is_holder at) apart)
     (ap (λ (w : LineWord). (line_word_of (line_number (record w { older = 0 }))).older) h.4 ∙ none-older (row (pred current + 1))) main
-kept-by needs places row standing lazy me other s apart (Close seen count top) at main =
+kept-by needs places row standing state me other s apart (Close seen count top) at main =
     kept-row places row (row_after row (operation_of needs places me (Close seen count top))) (standing other).back (standing other).stage
     (updated-same row 0 (row_after row (operation_of needs places me (Close seen count top)) 0) main)
-kept-by needs places row standing lazy me other s apart (Empty seen current count line) at main =
+kept-by needs places row standing state me other s apart (Empty seen current count line) at main =
     kept-row places row (row_after row (operation_of needs places me (Empty seen current count line))) (standing other).back (standing other).stage
     (updated-same row 0 (row_after row (operation_of needs places me (Empty seen current count line)) 0) main)
-kept-by needs places row standing lazy me other s apart (GoRound seen count top) at main =
+kept-by needs places row standing state me other s apart (GoRound seen count top) at main =
     kept-row places row (row_after row (operation_of needs places me (GoRound seen count top))) (standing other).back (standing other).stage
     (updated-same row 0 (row_after row (operation_of needs places me (GoRound seen count top)) 0) main)
-kept-by needs places row standing lazy me other s apart (ShowLoad current value afterwards) at main =
+kept-by needs places row standing state me other s apart (ShowLoad current value afterwards) at main =
     kept-row places row (updated row current (row current)) (standing other).back (standing other).stage (updated-same row current (row current) refl)
-kept-by needs places row standing lazy me other s apart (ShowStore current next value afterwards) at main =
-    let showing = shows needs places row standing lazy s me (ShowStore current next value afterwards) at in
+kept-by needs places row standing state me other s apart (ShowStore current next value afterwards) at main =
+    let showing = shows needs places row standing state s me (ShowStore current next value afterwards) at in
     kept-ways places row (updated row (places + current) (value + 1)) (standing other).back (standing other).stage
     (ways-answer places row (places + current) (value + 1) (omega (arith, showing.3))) main
-kept-by needs places row standing lazy me other s apart (Take taking) at main =
+kept-by needs places row standing state me other s apart (Take taking) at main =
     kept-ways places row (updated row (places + me + 1) 0) (standing other).back (standing other).stage
     (ways-answer places row (places + me + 1) 0 (omega arith)) main
-kept-by needs places row standing lazy me other s apart FlagLoad at main =
+kept-by needs places row standing state me other s apart FlagLoad at main =
     kept-row places row (updated row 0 (row 0)) (standing other).back (standing other).stage (updated-same row 0 (row 0) refl)
-kept-by needs places row standing lazy me other s apart (FlagExchange seen) at main =
+kept-by needs places row standing state me other s apart (FlagExchange seen) at main =
     kept-row places row (row_after row (operation_of needs places me (FlagExchange seen))) (standing other).back (standing other).stage
     (updated-same row 0 (row_after row (operation_of needs places me (FlagExchange seen)) 0) main)
-kept-by needs places row standing lazy me other s apart (LookLoad seen current newer previous) at main =
+kept-by needs places row standing state me other s apart (LookLoad seen current newer previous) at main =
     kept-row places row (updated row current (row current)) (standing other).back (standing other).stage (updated-same row current (row current) refl)
-kept-by needs places row standing lazy me other s apart (LookStore seen current newer line) at main =
-    let h = holds needs places row standing lazy s me (LookStore seen current newer line) at refl in
+kept-by needs places row standing state me other s apart (LookStore seen current newer line) at main =
+    let h = holds needs places row standing state s me (LookStore seen current newer line) at refl in
     let stands = newest-stands h.0.front current h.2.1 h.2.0 in
     let read : line ≡ line_word_of (row current) = h.4 ∙ ap (λ (n : ℕ). line_word_of (row n)) (sym stands.1) in
     kept-ways places row (updated row current (line_number (record line { newer = newer }))) (standing other).back (standing other).stage
     (ways-store places row current (line_number (record line { newer = newer }))
     (ap (λ (w : LineWord). (line_word_of (line_number (record w { newer = newer }))).older) read ∙ older-kept (row current) newer)) main
-kept-by needs places row standing lazy me other s apart (Unlink seen newer line older) at main =
-    let h = holds needs places row standing lazy s me (Unlink seen newer line older) at refl in
-    let past = past-line needs places row standing lazy s me seen h.0 h.0.behind newer older line h.2 h.1 refl h.3.0 h.3.1 h.4 in
+kept-by needs places row standing state me other s apart (Unlink seen newer line older) at main =
+    let h = holds needs places row standing state s me (Unlink seen newer line older) at refl in
+    let past = past-line needs places row standing state s me seen h.0 h.0.behind newer older line h.2 h.1 refl h.3.0 h.3.1 h.4 in
     kept-shorter places row (updated row newer (line_number (record line { older = older }))) (standing other).back (standing other).stage
-    (other-free needs places row standing lazy s me other (ap is_holder at) apart) past.less main
-kept-by needs places row standing lazy me other s apart (DropTail seen older) at main =
+    (other-free needs places row standing state s me other (ap is_holder at) apart) past.less main
+kept-by needs places row standing state me other s apart (DropTail seen older) at main =
     kept-row places row (row_after row (operation_of needs places me (DropTail seen older))) (standing other).back (standing other).stage
     (updated-same row 0 (row_after row (operation_of needs places me (DropTail seen older)) 0) main)
-kept-by needs places row standing lazy me other s apart PoisonLoad at main =
+kept-by needs places row standing state me other s apart PoisonLoad at main =
     kept-row places row (updated row 0 (row 0)) (standing other).back (standing other).stage (updated-same row 0 (row 0) refl)
-kept-by needs places row standing lazy me other s apart (PoisonExchange seen) at main =
+kept-by needs places row standing state me other s apart (PoisonExchange seen) at main =
     kept-row places row (row_after row (operation_of needs places me (PoisonExchange seen))) (standing other).back (standing other).stage
     (updated-same row 0 (row_after row (operation_of needs places me (PoisonExchange seen)) 0) main)
-kept-by needs places row standing lazy me other s apart Clear at main =
+kept-by needs places row standing state me other s apart Clear at main =
     kept-row places row (row_after row (operation_of needs places me Clear)) (standing other).back (standing other).stage
     (updated-same row 0 (row_after row (operation_of needs places me Clear) 0) main)
 
-pub kept : (needs : Needs) (places : ℕ) (row : ℕ → ℕ) (standing : ℕ → Place) (lazy : Lazy) (me other : ℕ) → Refines needs places row standing lazy
+pub kept : (needs : Needs) (places : ℕ) (row : ℕ → ℕ) (standing : ℕ → Place) (state : AbstractState) (me other : ℕ) → Refines needs places row standing state
     → (other ≡ me → ⊥) → IsKept needs places row standing me other
-kept needs places row standing lazy me other s apart = kept-by needs places row standing lazy me other s apart (standing me).stage refl
+kept needs places row standing state me other s apart = kept-by needs places row standing state me other s apart (standing me).stage refl

@@ -8,7 +8,7 @@ use Rattle.saa_core_words.specs.declared.line_word.LineWord.{LineWord}
 use Rattle.saa_core_words.specs.Words.{line_number, line_word_of}
 use Rattle.saa_word_steps.specs.declared.place.Place.{Place}
 use Rattle.saa_word_steps.specs.Needs.{Needs}
-use Rattle.saa_word_steps.specs.Lazy.{Lazy, is_empty, waits_times}
+use Rattle.saa_word_steps.specs.AbstractState.{AbstractState, is_empty, waits_times}
 use Rattle.saa_word_proofs.specs.Refinement.{updated, main_of, line_of, newest, oldest, IsBehind, IsFound, Work, Refines}
 use Rattle.saa_word_proofs.proofs.RefinementLemmas.Lists.{updated-at, behind-frame, behind-append, behind-front, behind-rest, newest-append, times-append}
 use Rattle.saa_word_proofs.proofs.RefinementLemmas.Rows.{row-other, line-at, line-other}
@@ -204,14 +204,14 @@ past-of places row tail before rest joined gone asker number leads tail_is reque
     }
 
 -- where the holder of the flag found itself, and links the first of those behind it past it
-pub past-line : (needs : Needs) (places : ℕ) (row : ℕ → ℕ) (standing : ℕ → Place) (lazy : Lazy) (s : Refines needs places row standing lazy)
-    (me : ℕ) (seen : Word) (work : Work lazy.count lazy.line seen) (behind : List (ℕ × ℕ)) (newer older : ℕ) (line : LineWord)
+pub past-line : (needs : Needs) (places : ℕ) (row : ℕ → ℕ) (standing : ℕ → Place) (state : AbstractState) (s : Refines needs places row standing state)
+    (me : ℕ) (seen : Word) (work : Work state.count state.line seen) (behind : List (ℕ × ℕ)) (newer older : ℕ) (line : LineWord)
     (found : IsFound me work.front older)
     → s.cut ≡ [] → work.behind ≡ behind → newer ≡ oldest behind → is_empty behind ≡ false → line ≡ line_of row (pred newer)
     → IsPast places row (updated row newer (line_number (record line { older = older }))) older newer seen.tail (length found.0) (length work.behind)
     (length work.joined)
-past-line needs places row standing lazy s me seen work [] newer older line found whole is at some read = absurd (cc)
-past-line needs places row standing lazy s me seen work (asker ∷ rest) newer older line found whole is at some read =
+past-line needs places row standing state s me seen work [] newer older line found whole is at some read = absurd (cc)
+past-line needs places row standing state s me seen work (asker ∷ rest) newer older line found whole is at some read =
     let before : List (ℕ × ℕ) = found.0 in
     let gone : ℕ × ℕ = (me, found.1) in
     let all : s.uncut ≡ before ++ gone ∷ (asker ∷ (rest ++ work.joined)) =
@@ -220,7 +220,7 @@ past-line needs places row standing lazy s me seen work (asker ∷ rest) newer o
     ∙ ap (λ (l : List (ℕ × ℕ)). l ++ asker ∷ (rest ++ work.joined)) found.2
     ∙ append_assoc before (gone ∷ []) (asker ∷ (rest ++ work.joined)) in
     let leads : IsWay places row (main_of row).tail (before ++ gone ∷ (asker ∷ (rest ++ work.joined))) =
-    subst (λ (l : List (ℕ × ℕ)). IsWay places row (main_of row).tail l) all (uncut-way needs places row standing lazy s) in
+    subst (λ (l : List (ℕ × ℕ)). IsWay places row (main_of row).tail l) all (uncut-way needs places row standing state s) in
     let place_is : pred newer ≡ asker.0 = omega (arith, at) in
     let line_is : line ≡ line_of row asker.0 = read ∙ ap (line_of row) place_is in
     let older_is : older ≡ (line_of row me).older =

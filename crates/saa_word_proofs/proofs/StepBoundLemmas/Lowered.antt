@@ -5,7 +5,7 @@ use Rattle.saa_word_steps.specs.declared.place.Place.{Place}
 use Rattle.saa_word_steps.specs.declared.place.Stage.{Stage}
 use Rattle.saa_word_steps.specs.declared.place.Stage.TheVariants.{Quiet, ReadLoad, AskLoad, AskExchange, Prepare, Join, ReleaseLoad, ReleaseExchange, BackLoad, BackStore, Forward, CutToClose, CutToGoRound, Close, Empty, GoRound, ShowLoad, ShowStore, Take, FlagLoad, FlagExchange, LookLoad, LookStore, Unlink, DropTail, PoisonLoad, PoisonExchange, Clear}
 use Rattle.saa_word_steps.specs.Needs.{Needs, AreNeeds}
-use Rattle.saa_word_steps.specs.Lazy.{Lazy}
+use Rattle.saa_word_steps.specs.AbstractState.{AbstractState}
 use Rattle.saa_word_steps.specs.Steps.{next_of}
 use Rattle.saa_word_proofs.specs.Refinement.{Refines}
 use Rattle.saa_word_proofs.specs.StepBound.{way, step_bound, IsLowered}
@@ -18,63 +18,63 @@ use Rattle.saa_word_proofs.proofs.StepBoundLemmas.LoweredLeaving.{lower-FlagExch
 use Rattle.saa_word_proofs.proofs.StepBoundLemmas.LoweredPoison.{lower-PoisonExchange}
 
 -- a step of a place lowers its step bound
-pub lowered : (needs : Needs) → AreNeeds needs → needs.top < 2 ^ count_bits → (places : ℕ) (row : ℕ → ℕ) (standing : ℕ → Place) (lazy : Lazy) (me : ℕ)
-    → (s : Refines needs places row standing lazy) (stage : Stage) → (standing me).stage ≡ stage → (stage ≡ Quiet → ⊥)
+pub lowered : (needs : Needs) → AreNeeds needs → needs.top < 2 ^ count_bits → (places : ℕ) (row : ℕ → ℕ) (standing : ℕ → Place) (state : AbstractState) (me : ℕ)
+    → (s : Refines needs places row standing state) (stage : Stage) → (standing me).stage ≡ stage → (stage ≡ Quiet → ⊥)
     → IsLowered needs places row standing me stage
-lowered needs lawful wide places row standing lazy me s Quiet at busy = absurd (busy refl)
-lowered needs lawful wide places row standing lazy me s (ReadLoad reading) at busy =
+lowered needs lawful wide places row standing state me s Quiet at busy = absurd (busy refl)
+lowered needs lawful wide places row standing state me s (ReadLoad reading) at busy =
     onto-load places row 0 1 (next_of needs me (standing me) (ReadLoad reading) (row 0)) (refl, omega arith)
-lowered needs lawful wide places row standing lazy me s (AskLoad ask) at busy =
+lowered needs lawful wide places row standing state me s (AskLoad ask) at busy =
     onto-load places row 0 3 (next_of needs me (standing me) (AskLoad ask) (row 0))
     (decided-lower (way places row) (row 0) 3 needs (standing me) ask (word_of count_bits (row 0)) (found-seen (row 0) s.main.whole) (omega arith))
-lowered needs lawful wide places row standing lazy me s (AskExchange ask seen) at busy = lower-AskExchange needs places row standing lazy me s ask seen
-lowered needs lawful wide places row standing lazy me s (Prepare request seen) at busy = lower-Prepare needs places row standing me request seen
-lowered needs lawful wide places row standing lazy me s (Join request seen) at busy = lower-Join needs places row standing lazy me s request seen
-lowered needs lawful wide places row standing lazy me s (ReleaseLoad given_back) at busy =
+lowered needs lawful wide places row standing state me s (AskExchange ask seen) at busy = lower-AskExchange needs places row standing state me s ask seen
+lowered needs lawful wide places row standing state me s (Prepare request seen) at busy = lower-Prepare needs places row standing me request seen
+lowered needs lawful wide places row standing state me s (Join request seen) at busy = lower-Join needs places row standing state me s request seen
+lowered needs lawful wide places row standing state me s (ReleaseLoad given_back) at busy =
     onto-load places row 0 (step_bound places row (standing me).back (ReleaseLoad given_back)) (next_of needs me (standing me) (ReleaseLoad given_back) (row 0))
     (given-lower (way places row) (row 0) (step_bound places row (standing me).back (ReleaseLoad given_back)) needs (standing me) given_back
     (word_of count_bits (row 0)) (found-seen (row 0) s.main.whole) (omega arith))
-lowered needs lawful wide places row standing lazy me s (ReleaseExchange given_back seen) at busy =
-    lower-ReleaseExchange needs lawful places row standing lazy me s given_back seen at
-lowered needs lawful wide places row standing lazy me s (BackLoad seen current newer) at busy = lower-BackLoad needs places row standing me seen current newer
-lowered needs lawful wide places row standing lazy me s (BackStore seen current newer line) at busy =
-    lower-BackStore needs places row standing lazy me s seen current newer line at
-lowered needs lawful wide places row standing lazy me s (Forward seen current count) at busy =
-    lower-Forward needs places row standing lazy me s seen current count at
-lowered needs lawful wide places row standing lazy me s (CutToClose seen current count line) at busy =
-    lower-CutToClose needs places row standing lazy me s seen current count line at
-lowered needs lawful wide places row standing lazy me s (CutToGoRound seen current count line) at busy =
-    lower-CutToGoRound needs places row standing lazy me s seen current count line at
-lowered needs lawful wide places row standing lazy me s (Close seen count top) at busy =
-    lower-Close needs places row standing lazy me s seen count top at
-lowered needs lawful wide places row standing lazy me s (Empty seen current count line) at busy =
-    lower-Empty needs places row standing lazy me s seen current count line at
-lowered needs lawful wide places row standing lazy me s (GoRound seen count top) at busy =
-    lower-GoRound needs lawful wide places row standing lazy me s seen count top at
-lowered needs lawful wide places row standing lazy me s (ShowLoad current value afterwards) at busy =
-    lower-ShowLoad needs places row standing lazy me s current value afterwards at
-lowered needs lawful wide places row standing lazy me s (ShowStore current next value afterwards) at busy =
-    lower-ShowStore needs places row standing lazy me s current next value afterwards at
-lowered needs lawful wide places row standing lazy me s (Take taking) at busy =
+lowered needs lawful wide places row standing state me s (ReleaseExchange given_back seen) at busy =
+    lower-ReleaseExchange needs lawful places row standing state me s given_back seen at
+lowered needs lawful wide places row standing state me s (BackLoad seen current newer) at busy = lower-BackLoad needs places row standing me seen current newer
+lowered needs lawful wide places row standing state me s (BackStore seen current newer line) at busy =
+    lower-BackStore needs places row standing state me s seen current newer line at
+lowered needs lawful wide places row standing state me s (Forward seen current count) at busy =
+    lower-Forward needs places row standing state me s seen current count at
+lowered needs lawful wide places row standing state me s (CutToClose seen current count line) at busy =
+    lower-CutToClose needs places row standing state me s seen current count line at
+lowered needs lawful wide places row standing state me s (CutToGoRound seen current count line) at busy =
+    lower-CutToGoRound needs places row standing state me s seen current count line at
+lowered needs lawful wide places row standing state me s (Close seen count top) at busy =
+    lower-Close needs places row standing state me s seen count top at
+lowered needs lawful wide places row standing state me s (Empty seen current count line) at busy =
+    lower-Empty needs places row standing state me s seen current count line at
+lowered needs lawful wide places row standing state me s (GoRound seen count top) at busy =
+    lower-GoRound needs lawful wide places row standing state me s seen count top at
+lowered needs lawful wide places row standing state me s (ShowLoad current value afterwards) at busy =
+    lower-ShowLoad needs places row standing state me s current value afterwards at
+lowered needs lawful wide places row standing state me s (ShowStore current next value afterwards) at busy =
+    lower-ShowStore needs places row standing state me s current next value afterwards at
+lowered needs lawful wide places row standing state me s (Take taking) at busy =
     onto-same places row (places + me + 1) 0 (step_bound places row (standing me).back (Take taking))
     (next_of needs me (standing me) (Take taking) (row (places + me + 1))) (omega arith)
     (ways-answer places row (places + me + 1) 0 (omega arith))
     (taken-lower (way places row) (row 0) needs (standing me) taking (answer_of (row (places + me + 1) % 65536)))
-lowered needs lawful wide places row standing lazy me s FlagLoad at busy =
+lowered needs lawful wide places row standing state me s FlagLoad at busy =
     onto-load places row 0 (step_bound places row (standing me).back FlagLoad) (next_of needs me (standing me) FlagLoad (row 0))
     (flagging-lower (way places row) (row 0) (step_bound places row (standing me).back FlagLoad) (standing me) (word_of count_bits (row 0))
     (found-seen (row 0) s.main.whole) (omega arith))
-lowered needs lawful wide places row standing lazy me s (FlagExchange seen) at busy = lower-FlagExchange needs places row standing lazy me s seen at
-lowered needs lawful wide places row standing lazy me s (LookLoad seen current newer previous) at busy =
-    lower-LookLoad needs places row standing lazy me s seen current newer previous at
-lowered needs lawful wide places row standing lazy me s (LookStore seen current newer line) at busy =
-    lower-LookStore needs places row standing lazy me s seen current newer line at
-lowered needs lawful wide places row standing lazy me s (Unlink seen newer line older) at busy =
-    lower-Unlink needs places row standing lazy me s seen newer line older at
-lowered needs lawful wide places row standing lazy me s (DropTail seen older) at busy = lower-DropTail needs places row standing lazy me s seen older at
-lowered needs lawful wide places row standing lazy me s PoisonLoad at busy =
+lowered needs lawful wide places row standing state me s (FlagExchange seen) at busy = lower-FlagExchange needs places row standing state me s seen at
+lowered needs lawful wide places row standing state me s (LookLoad seen current newer previous) at busy =
+    lower-LookLoad needs places row standing state me s seen current newer previous at
+lowered needs lawful wide places row standing state me s (LookStore seen current newer line) at busy =
+    lower-LookStore needs places row standing state me s seen current newer line at
+lowered needs lawful wide places row standing state me s (Unlink seen newer line older) at busy =
+    lower-Unlink needs places row standing state me s seen newer line older at
+lowered needs lawful wide places row standing state me s (DropTail seen older) at busy = lower-DropTail needs places row standing state me s seen older at
+lowered needs lawful wide places row standing state me s PoisonLoad at busy =
     onto-load places row 0 (step_bound places row (standing me).back PoisonLoad) (next_of needs me (standing me) PoisonLoad (row 0))
     (poisoning-lower (way places row) (row 0) (step_bound places row (standing me).back PoisonLoad) (standing me) (word_of count_bits (row 0))
     (found-seen (row 0) s.main.whole) (omega arith))
-lowered needs lawful wide places row standing lazy me s (PoisonExchange seen) at busy = lower-PoisonExchange needs places row standing lazy me s seen at
-lowered needs lawful wide places row standing lazy me s Clear at busy = (refl, omega arith)
+lowered needs lawful wide places row standing state me s (PoisonExchange seen) at busy = lower-PoisonExchange needs places row standing state me s seen at
+lowered needs lawful wide places row standing state me s Clear at busy = (refl, omega arith)

@@ -9,7 +9,7 @@ use Rattle.saa_word_steps.specs.declared.place.Place.{Place}
 use Rattle.saa_word_steps.specs.declared.call.Answer.TheVariants.{Unit as Ended}
 use Rattle.saa_word_steps.specs.declared.place.Stage.TheVariants.{BackLoad, Forward, FlagExchange, LookLoad, LookStore, Unlink, DropTail}
 use Rattle.saa_word_steps.specs.Needs.{Needs}
-use Rattle.saa_word_steps.specs.Lazy.{Lazy}
+use Rattle.saa_word_steps.specs.AbstractState.{AbstractState}
 use Rattle.saa_word_steps.specs.Steps.{flagged_word, dropped_word, going, done, walking, flagging, looking, looked_for, left_line, next_of}
 use Rattle.saa_word_proofs.specs.Refinement.{updated, line_of, newest, Refines}
 use Rattle.saa_word_proofs.proofs.RefinementLemmas.Frames.{newest-stands}
@@ -24,12 +24,12 @@ use Rattle.saa_word_proofs.proofs.StepBoundLemmas.LoweredWalking.{older-way}
 
 -- Steps that set the flag and look
 
-pub lower-FlagExchange : (needs : Needs) (places : ℕ) (row : ℕ → ℕ) (standing : ℕ → Place) (lazy : Lazy) (me : ℕ)
-    (s : Refines needs places row standing lazy) (seen : Word) → (standing me).stage ≡ FlagExchange seen
+pub lower-FlagExchange : (needs : Needs) (places : ℕ) (row : ℕ → ℕ) (standing : ℕ → Place) (state : AbstractState) (me : ℕ)
+    (s : Refines needs places row standing state) (seen : Word) → (standing me).stage ≡ FlagExchange seen
     → IsLowered needs places row standing me (FlagExchange seen)
-lower-FlagExchange needs places row standing lazy me s seen at =
-    let small = ranged-at needs places row standing lazy me s (FlagExchange seen) at in
-    let alone = alone-at needs places row standing lazy me s (FlagExchange seen) at in
+lower-FlagExchange needs places row standing state me s seen at =
+    let small = ranged-at needs places row standing state me s (FlagExchange seen) at in
+    let alone = alone-at needs places row standing state me s (FlagExchange seen) at in
     let tail = waits-new (way places row) (flagged_word seen) small alone.1 in
     exchange-lower places row seen (flagged_word seen) (8 * waiting (way places row) (row 0) + 10) (8 * waiting (way places row) (row 0) + 11)
     (looking (standing me) (flagged_word seen)) (flagging (standing me) (word_of count_bits (row 0)))
@@ -41,15 +41,15 @@ lower-FlagExchange needs places row standing lazy me s seen at =
     flagging-lower (way places row) (row 0) (8 * waiting (way places row) (row 0) + 11) (standing me) (word_of count_bits (row 0))
     (found-seen (row 0) s.main.whole) (omega arith))
 
-pub lower-LookLoad : (needs : Needs) (places : ℕ) (row : ℕ → ℕ) (standing : ℕ → Place) (lazy : Lazy) (me : ℕ) (s : Refines needs places row standing lazy)
+pub lower-LookLoad : (needs : Needs) (places : ℕ) (row : ℕ → ℕ) (standing : ℕ → Place) (state : AbstractState) (me : ℕ) (s : Refines needs places row standing state)
     (seen : Word) (current newer : ℕ) (previous : LineWord) → (standing me).stage ≡ LookLoad seen current newer previous
     → IsLowered needs places row standing me (LookLoad seen current newer previous)
-lower-LookLoad needs places row standing lazy me s seen current newer previous at =
-    let h = holds needs places row standing lazy s me (LookLoad seen current newer previous) at refl in
+lower-LookLoad needs places row standing state me s seen current newer previous at =
+    let h = holds needs places row standing state s me (LookLoad seen current newer previous) at refl in
     let stands = newest-stands h.0.front current h.2.1 h.2.0 in
-    let leads = part-way needs places row standing lazy s h.1 h.0.front (h.0.behind ++ h.0.joined) h.0.parts in
+    let leads = part-way needs places row standing state s h.1 h.0.front (h.0.behind ++ h.0.joined) h.0.parts in
     let older : way places row current ≡ way places row (line_word_of (row current)).older + 1 =
-    older-way needs places row standing lazy s h.0.front leads h.2.1 current h.2.0
+    older-way needs places row standing state s h.0.front leads h.2.1 current h.2.0
     ∙ ap (λ (n : ℕ). way places row (line_word_of (row n)).older + 1) (sym stands.1) in
     onto-load places row current (step_bound places row (standing me).back (LookLoad seen current newer previous))
     (looked_for me (standing me) seen current newer previous (line_word_of (row current)))
@@ -90,16 +90,16 @@ look-lower ways number place seen current newer line older nobody =
           ))
     ]
 
-pub lower-LookStore : (needs : Needs) (places : ℕ) (row : ℕ → ℕ) (standing : ℕ → Place) (lazy : Lazy) (me : ℕ) (s : Refines needs places row standing lazy)
+pub lower-LookStore : (needs : Needs) (places : ℕ) (row : ℕ → ℕ) (standing : ℕ → Place) (state : AbstractState) (me : ℕ) (s : Refines needs places row standing state)
     (seen : Word) (current newer : ℕ) (line : LineWord) → (standing me).stage ≡ LookStore seen current newer line
     → IsLowered needs places row standing me (LookStore seen current newer line)
-lower-LookStore needs places row standing lazy me s seen current newer line at =
-    let h = holds needs places row standing lazy s me (LookStore seen current newer line) at refl in
+lower-LookStore needs places row standing state me s seen current newer line at =
+    let h = holds needs places row standing state s me (LookStore seen current newer line) at refl in
     let stands = newest-stands h.0.front current h.2.1 h.2.0 in
     let read : line ≡ line_word_of (row current) = h.4 ∙ ap (λ (n : ℕ). line_word_of (row n)) (sym stands.1) in
-    let leads = part-way needs places row standing lazy s h.1 h.0.front (h.0.behind ++ h.0.joined) h.0.parts in
+    let leads = part-way needs places row standing state s h.1 h.0.front (h.0.behind ++ h.0.joined) h.0.parts in
     let older : way places row current ≡ way places row line.older + 1 =
-    older-way needs places row standing lazy s h.0.front leads h.2.1 current h.2.0 ∙ ap (λ (w : LineWord). way places row w.older + 1) (sym h.4) in
+    older-way needs places row standing state s h.0.front leads h.2.1 current h.2.0 ∙ ap (λ (w : LineWord). way places row w.older + 1) (sym h.4) in
     let kept : (line_word_of (line_number (record line { newer = newer }))).older ≡ (line_word_of (row current)).older =
     ap (λ (w : LineWord). (line_word_of (line_number (record w { newer = newer }))).older) read ∙ older-kept (row current) newer in
     onto-same places row current (line_number (record line { newer = newer })) (step_bound places row (standing me).back (LookStore seen current newer line))
@@ -109,12 +109,12 @@ lower-LookStore needs places row standing lazy me s seen current newer line at =
 
 -- Steps that leave the line
 
-pub lower-Unlink : (needs : Needs) (places : ℕ) (row : ℕ → ℕ) (standing : ℕ → Place) (lazy : Lazy) (me : ℕ) (s : Refines needs places row standing lazy)
+pub lower-Unlink : (needs : Needs) (places : ℕ) (row : ℕ → ℕ) (standing : ℕ → Place) (state : AbstractState) (me : ℕ) (s : Refines needs places row standing state)
     (seen : Word) (newer : ℕ) (line : LineWord) (older : ℕ) → (standing me).stage ≡ Unlink seen newer line older
     → IsLowered needs places row standing me (Unlink seen newer line older)
-lower-Unlink needs places row standing lazy me s seen newer line older at =
-    let h = holds needs places row standing lazy s me (Unlink seen newer line older) at refl in
-    let past = past-line needs places row standing lazy s me seen h.0 h.0.behind newer older line h.2 h.1 refl h.3.0 h.3.1 h.4 in
+lower-Unlink needs places row standing state me s seen newer line older at =
+    let h = holds needs places row standing state s me (Unlink seen newer line older) at refl in
+    let past = past-line needs places row standing state s me seen h.0 h.0.behind newer older line h.2 h.1 refl h.3.0 h.3.1 h.4 in
     let new : ℕ → ℕ = updated row newer (line_number (record line { older = older })) in
     let before = past.older_was in
     let stays = past.older_ways in
@@ -152,14 +152,14 @@ lower-Unlink needs places row standing lazy me s seen newer line older at =
 link-small : (number : ℕ) → (line_word_of number).older < 65536
 link-small number = omega arith
 
-pub lower-DropTail : (needs : Needs) (places : ℕ) (row : ℕ → ℕ) (standing : ℕ → Place) (lazy : Lazy) (me : ℕ) (s : Refines needs places row standing lazy)
+pub lower-DropTail : (needs : Needs) (places : ℕ) (row : ℕ → ℕ) (standing : ℕ → Place) (state : AbstractState) (me : ℕ) (s : Refines needs places row standing state)
     (seen : Word) (older : ℕ) → (standing me).stage ≡ DropTail seen older → IsLowered needs places row standing me (DropTail seen older)
-lower-DropTail needs places row standing lazy me s seen older at =
-    let small = ranged-at needs places row standing lazy me s (DropTail seen older) at in
-    let alone = alone-at needs places row standing lazy me s (DropTail seen older) at in
-    let h = holds needs places row standing lazy s me (DropTail seen older) at refl in
+lower-DropTail needs places row standing state me s seen older at =
+    let small = ranged-at needs places row standing state me s (DropTail seen older) at in
+    let alone = alone-at needs places row standing state me s (DropTail seen older) at in
+    let h = holds needs places row standing state s me (DropTail seen older) at refl in
     let before : List (ℕ × ℕ) = h.2.0 in
-    let front = part-way needs places row standing lazy s h.1 h.0.front (h.0.behind ++ h.0.joined) h.0.parts in
+    let front = part-way needs places row standing state s h.1 h.0.front (h.0.behind ++ h.0.joined) h.0.parts in
     let found : IsWay places row (newest 0 h.0.front) (before ++ (me, h.2.1) ∷ []) =
     subst (λ (l : List (ℕ × ℕ)). IsWay places row (newest 0 h.0.front) l) h.2.2 front in
     let leads : IsWay places row (line_of row me).older before = way-older places row (newest 0 h.0.front) before (me, h.2.1) found in
@@ -167,7 +167,7 @@ lower-DropTail needs places row standing lazy me s seen older at =
     let older_small : older < 65536 = omega (arith, older_is, link-small (row (me + 1))) in
     let stays : way places row older ≡ length before = ap (way places row) older_is ∙ way-length places row (line_of row me).older before leads in
     let size : length h.0.front ≡ length before + 1 = ap length h.2.2 ∙ length-append before ((me, h.2.1) ∷ []) in
-    let all = work-tail needs places row standing lazy s seen h.0 h.1 in
+    let all = work-tail needs places row standing state s seen h.0 h.1 in
     let tail = waits-new (way places row) (dropped_word seen older) small older_small in
     exchange-lower places row seen (dropped_word seen older) (5 * waiting (way places row) (row 0) + 3) (8 * waiting (way places row) (row 0) + 10)
     (if older == 0 then done (left_line (standing me)) Ended else walking (left_line (standing me)) (dropped_word seen older))

@@ -8,19 +8,19 @@ use Rattle.saa_word_steps.specs.declared.place.Place.{Place}
 use Rattle.saa_word_steps.specs.declared.place.Afterwards.TheVariants.{Ends}
 use Rattle.saa_word_steps.specs.declared.place.Stage.TheVariants.{ShowLoad, PoisonExchange}
 use Rattle.saa_word_steps.specs.Needs.{Needs}
-use Rattle.saa_word_steps.specs.Lazy.{Lazy}
+use Rattle.saa_word_steps.specs.AbstractState.{AbstractState}
 use Rattle.saa_word_steps.specs.Steps.{poisoned_word, finished, going, poisoning}
 use Rattle.saa_word_proofs.specs.Refinement.{Refines}
 use Rattle.saa_word_proofs.specs.StepBound.{way, waiting, IsLowered}
 use Rattle.saa_word_proofs.proofs.StepBoundLemmas.Bounds.{end-none}
 use Rattle.saa_word_proofs.proofs.StepBoundLemmas.Nexts.{found-seen, waits-seen, ranged-at, alone-at, exchange-lower, finished-lower, poisoning-lower}
 
-pub lower-PoisonExchange : (needs : Needs) (places : ℕ) (row : ℕ → ℕ) (standing : ℕ → Place) (lazy : Lazy) (me : ℕ)
-    (s : Refines needs places row standing lazy) (seen : Word) → (standing me).stage ≡ PoisonExchange seen
+pub lower-PoisonExchange : (needs : Needs) (places : ℕ) (row : ℕ → ℕ) (standing : ℕ → Place) (state : AbstractState) (me : ℕ)
+    (s : Refines needs places row standing state) (seen : Word) → (standing me).stage ≡ PoisonExchange seen
     → IsLowered needs places row standing me (PoisonExchange seen)
-lower-PoisonExchange needs places row standing lazy me s seen at =
-    let small = ranged-at needs places row standing lazy me s (PoisonExchange seen) at in
-    let alone = alone-at needs places row standing lazy me s (PoisonExchange seen) at in
+lower-PoisonExchange needs places row standing state me s seen at =
+    let small = ranged-at needs places row standing state me s (PoisonExchange seen) at in
+    let alone = alone-at needs places row standing state me s (PoisonExchange seen) at in
     let ends = end-none (standing me).back (waiting (way places row) (word_number count_bits poisoned_word)) alone.1 in
     exchange-lower places row seen poisoned_word (2 * waiting (way places row) (row 0) + 1) (2 * waiting (way places row) (row 0) + 2)
     (if seen.tail == 0 then finished (standing me) (standing me).back else going (standing me) (ShowLoad seen.tail poisoned_value Ends))

@@ -11,7 +11,7 @@ use Rattle.saa_word_steps.specs.declared.place.Afterwards.{Afterwards}
 use Rattle.saa_word_steps.specs.declared.place.Afterwards.TheVariants.{Ends, Again}
 use Rattle.saa_word_steps.specs.declared.place.Stage.TheVariants.{CutToGoRound, Close, Empty, GoRound, ShowLoad, ShowStore}
 use Rattle.saa_word_steps.specs.Needs.{Needs, AreNeeds}
-use Rattle.saa_word_steps.specs.Lazy.{Lazy, IsFront, takes_of}
+use Rattle.saa_word_steps.specs.AbstractState.{AbstractState, IsFront, takes_of}
 use Rattle.saa_word_steps.specs.Steps.{settled_word, finished, walking, going, shown_all}
 use Rattle.saa_word_proofs.specs.Refinement.{Refines}
 use Rattle.saa_word_proofs.proofs.RefinementLemmas.Lists.{front-lower}
@@ -25,11 +25,11 @@ use Rattle.saa_word_proofs.proofs.StepBoundLemmas.LoweredWalking.{older-way}
 
 -- Steps that publish
 
-pub lower-Close : (needs : Needs) (places : ℕ) (row : ℕ → ℕ) (standing : ℕ → Place) (lazy : Lazy) (me : ℕ) (s : Refines needs places row standing lazy)
+pub lower-Close : (needs : Needs) (places : ℕ) (row : ℕ → ℕ) (standing : ℕ → Place) (state : AbstractState) (me : ℕ) (s : Refines needs places row standing state)
     (seen : Word) (count top : ℕ) → (standing me).stage ≡ Close seen count top → IsLowered needs places row standing me (Close seen count top)
-lower-Close needs places row standing lazy me s seen count top at =
-    let ranged = ranged-at needs places row standing lazy me s (Close seen count top) at in
-    let alone = alone-at needs places row standing lazy me s (Close seen count top) at in
+lower-Close needs places row standing state me s seen count top at =
+    let ranged = ranged-at needs places row standing state me s (Close seen count top) at in
+    let alone = alone-at needs places row standing state me s (Close seen count top) at in
     let back : Back = (standing me).back in
     let wait : ℕ = waiting (way places row) (row 0) in
     exchange-lower places row seen (settled_word count seen.tail)
@@ -57,11 +57,11 @@ lower-Close needs places row standing lazy me s seen count top at =
       | inr less ↦ rw less (omega (arith, more-within back wait (wait + way places row top) (omega arith)))
     ])
 
-pub lower-Empty : (needs : Needs) (places : ℕ) (row : ℕ → ℕ) (standing : ℕ → Place) (lazy : Lazy) (me : ℕ) (s : Refines needs places row standing lazy)
+pub lower-Empty : (needs : Needs) (places : ℕ) (row : ℕ → ℕ) (standing : ℕ → Place) (state : AbstractState) (me : ℕ) (s : Refines needs places row standing state)
     (seen : Word) (current count : ℕ) (line : LineWord) → (standing me).stage ≡ Empty seen current count line
     → IsLowered needs places row standing me (Empty seen current count line)
-lower-Empty needs places row standing lazy me s seen current count line at =
-    let ranged = ranged-at needs places row standing lazy me s (Empty seen current count line) at in
+lower-Empty needs places row standing state me s seen current count line at =
+    let ranged = ranged-at needs places row standing state me s (Empty seen current count line) at in
     let none : waiting (way places row) (word_number count_bits (settled_word count 0)) ≡ 0 =
     sym (waits-new (way places row) (settled_word count 0) ranged.1 (omega arith)) ∙ met-nobody places row places in
     exchange-lower places row seen (settled_word count 0)
@@ -98,13 +98,13 @@ added-to number added small room =
       tail = ap (λ (n : ℕ). n / 64 / 4 % 65536) whole ∙ ap (λ (n : ℕ). n / 4 % 65536) high;
     }
 
-pub lower-GoRound : (needs : Needs) → AreNeeds needs → needs.top < 2 ^ count_bits → (places : ℕ) (row : ℕ → ℕ) (standing : ℕ → Place) (lazy : Lazy) (me : ℕ)
-    (s : Refines needs places row standing lazy) (seen : Word) (count top : ℕ) → (standing me).stage ≡ GoRound seen count top
+pub lower-GoRound : (needs : Needs) → AreNeeds needs → needs.top < 2 ^ count_bits → (places : ℕ) (row : ℕ → ℕ) (standing : ℕ → Place) (state : AbstractState) (me : ℕ)
+    (s : Refines needs places row standing state) (seen : Word) (count top : ℕ) → (standing me).stage ≡ GoRound seen count top
     → IsLowered needs places row standing me (GoRound seen count top)
-lower-GoRound needs lawful wide places row standing lazy me s seen count top at =
-    let h = holds needs places row standing lazy s me (GoRound seen count top) at refl in
-    let fits : IsFront needs lazy.count h.0.front = front-lower needs lawful lazy.count seen.count h.0.front h.0.count h.2.0 in
-    let within = front-bounded needs lawful lazy.count h.0.front s.main.bounded fits in
+lower-GoRound needs lawful wide places row standing state me s seen count top at =
+    let h = holds needs places row standing state s me (GoRound seen count top) at refl in
+    let fits : IsFront needs state.count h.0.front = front-lower needs lawful state.count seen.count h.0.front h.0.count h.2.0 in
+    let within = front-bounded needs lawful state.count h.0.front s.main.bounded fits in
     let added = added-to (row 0) (count - seen.count) s.main.whole (omega (arith, s.main.count, within, wide, h.2.1)) in
     let number : ℕ = (row 0 + (count - seen.count)) % 2 ^ 64 in
     let tail : waiting (way places row) number ≡ waiting (way places row) (row 0) = ap (way places row) added.tail in
@@ -124,24 +124,24 @@ lower-GoRound needs lawful wide places row standing lazy me s seen count top at 
 
 -- Steps that show
 
-pub lower-ShowLoad : (needs : Needs) (places : ℕ) (row : ℕ → ℕ) (standing : ℕ → Place) (lazy : Lazy) (me : ℕ) (s : Refines needs places row standing lazy)
+pub lower-ShowLoad : (needs : Needs) (places : ℕ) (row : ℕ → ℕ) (standing : ℕ → Place) (state : AbstractState) (me : ℕ) (s : Refines needs places row standing state)
     (current value : ℕ) (afterwards : Afterwards) → (standing me).stage ≡ ShowLoad current value afterwards
     → IsLowered needs places row standing me (ShowLoad current value afterwards)
-lower-ShowLoad needs places row standing lazy me s current value afterwards at =
-    let showing = shows needs places row standing lazy s me (ShowLoad current value afterwards) at in
+lower-ShowLoad needs places row standing state me s current value afterwards at =
+    let showing = shows needs places row standing state s me (ShowLoad current value afterwards) at in
     let stands = newest-stands (s.owed me) current showing.1 (sym showing.0) in
     let older : way places row current ≡ way places row (line_word_of (row current)).older + 1 =
-    older-way needs places row standing lazy s (s.owed me) (owed-way needs places row standing lazy s me) showing.1 current (sym showing.0)
+    older-way needs places row standing state s (s.owed me) (owed-way needs places row standing state s me) showing.1 current (sym showing.0)
     ∙ ap (λ (n : ℕ). way places row (line_word_of (row n)).older + 1) (sym stands.1) in
     onto-load places row current (step_bound places row (standing me).back (ShowLoad current value afterwards))
     (going (standing me) (ShowStore current (line_word_of (row current)).older value afterwards))
     (omega (arith, older))
 
-pub lower-ShowStore : (needs : Needs) (places : ℕ) (row : ℕ → ℕ) (standing : ℕ → Place) (lazy : Lazy) (me : ℕ) (s : Refines needs places row standing lazy)
+pub lower-ShowStore : (needs : Needs) (places : ℕ) (row : ℕ → ℕ) (standing : ℕ → Place) (state : AbstractState) (me : ℕ) (s : Refines needs places row standing state)
     (current next value : ℕ) (afterwards : Afterwards) → (standing me).stage ≡ ShowStore current next value afterwards
     → IsLowered needs places row standing me (ShowStore current next value afterwards)
-lower-ShowStore needs places row standing lazy me s current next value afterwards at =
-    let showing = shows needs places row standing lazy s me (ShowStore current next value afterwards) at in
+lower-ShowStore needs places row standing state me s current next value afterwards at =
+    let showing = shows needs places row standing state s me (ShowStore current next value afterwards) at in
     let number : ℕ = value + 1 in
     onto-same places row (places + current) number (step_bound places row (standing me).back (ShowStore current next value afterwards))
     (if next == 0 then shown_all (standing me) afterwards else going (standing me) (ShowLoad next value afterwards))
@@ -151,8 +151,8 @@ lower-ShowStore needs places row standing lazy me s current next value afterward
           rw none
           (shown-lower (way places row) (row 0) (step_bound places row (standing me).back (ShowStore current next value afterwards)) (standing me) afterwards
           (λ seen is same.
-          let h = holds needs places row standing lazy s me (ShowStore current next value (Again seen)) (at ∙ ap (ShowStore current next value) is) refl in
-          omega (arith, work-rest needs places row standing lazy s seen h.0 h.1, work-tail needs places row standing lazy s seen h.0 h.1))
+          let h = holds needs places row standing state s me (ShowStore current next value (Again seen)) (at ∙ ap (ShowStore current next value) is) refl in
+          omega (arith, work-rest needs places row standing state s seen h.0 h.1, work-tail needs places row standing state s seen h.0 h.1))
           (omega arith))
       | inr some ↦ rw some (omega arith)
     ])

@@ -9,7 +9,7 @@ use Rattle.saa_word_steps.specs.declared.place.Place.{Place}
 use Rattle.saa_word_steps.specs.declared.place.Back.{Back}
 use Rattle.saa_word_steps.specs.declared.place.Stage.TheVariants.{BackLoad, BackStore, Forward, CutToClose, CutToGoRound, Close, GoRound}
 use Rattle.saa_word_steps.specs.Needs.{Needs}
-use Rattle.saa_word_steps.specs.Lazy.{Lazy, is_empty}
+use Rattle.saa_word_steps.specs.AbstractState.{AbstractState, is_empty}
 use Rattle.saa_word_steps.specs.Steps.{going, looked_at, next_of}
 use Rattle.saa_word_proofs.specs.Refinement.{updated, line_of, newest, Refines}
 use Rattle.saa_word_proofs.proofs.RefinementLemmas.Lists.{split-last, newest-last}
@@ -61,11 +61,11 @@ back-lower ways number place seen current newer line older nobody =
     ]
 
 -- one more is met from the newest of a front than from its older link
-pub older-way : (needs : Needs) (places : ℕ) (row : ℕ → ℕ) (standing : ℕ → Place) (lazy : Lazy) (s : Refines needs places row standing lazy)
+pub older-way : (needs : Needs) (places : ℕ) (row : ℕ → ℕ) (standing : ℕ → Place) (state : AbstractState) (s : Refines needs places row standing state)
     (list : List (ℕ × ℕ))
     → IsWay places row (newest 0 list) list → is_empty list ≡ false → (current : ℕ) → current ≡ newest 0 list
     → way places row current ≡ way places row (line_of row (pred current)).older + 1
-older-way needs places row standing lazy s list leads some current is =
+older-way needs places row standing state s list leads some current is =
     let parts = split-last list some in
     let whole : IsWay places row (newest 0 list) (parts.before ++ parts.last ∷ []) =
     subst (λ (l : List (ℕ × ℕ)). IsWay places row (newest 0 list) l) parts.is leads in
@@ -76,16 +76,16 @@ older-way needs places row standing lazy s list leads some current is =
     ∙ length-append parts.before (parts.last ∷ [])
     ∙ ap (λ (n : ℕ). n + 1) (sym before ∙ ap (λ (n : ℕ). way places row (line_of row n).older) place_is)
 
-pub lower-BackStore : (needs : Needs) (places : ℕ) (row : ℕ → ℕ) (standing : ℕ → Place) (lazy : Lazy) (me : ℕ) (s : Refines needs places row standing lazy)
+pub lower-BackStore : (needs : Needs) (places : ℕ) (row : ℕ → ℕ) (standing : ℕ → Place) (state : AbstractState) (me : ℕ) (s : Refines needs places row standing state)
     (seen : Word) (current newer : ℕ) (line : LineWord) → (standing me).stage ≡ BackStore seen current newer line
     → IsLowered needs places row standing me (BackStore seen current newer line)
-lower-BackStore needs places row standing lazy me s seen current newer line at =
-    let h = holds needs places row standing lazy s me (BackStore seen current newer line) at refl in
+lower-BackStore needs places row standing state me s seen current newer line at =
+    let h = holds needs places row standing state s me (BackStore seen current newer line) at refl in
     let stands = newest-stands h.0.front current h.2.1 h.2.0 in
     let read : line ≡ line_word_of (row current) = h.3 ∙ ap (λ (n : ℕ). line_word_of (row n)) (sym stands.1) in
-    let leads = part-way needs places row standing lazy s h.1 h.0.front (h.0.behind ++ h.0.joined) h.0.parts in
+    let leads = part-way needs places row standing state s h.1 h.0.front (h.0.behind ++ h.0.joined) h.0.parts in
     let older : way places row current ≡ way places row line.older + 1 =
-    older-way needs places row standing lazy s h.0.front leads h.2.1 current h.2.0 ∙ ap (λ (w : LineWord). way places row w.older + 1) (sym h.3) in
+    older-way needs places row standing state s h.0.front leads h.2.1 current h.2.0 ∙ ap (λ (w : LineWord). way places row w.older + 1) (sym h.3) in
     let kept : (line_word_of (line_number (record line { newer = newer }))).older ≡ (line_word_of (row current)).older =
     ap (λ (w : LineWord). (line_word_of (line_number (record w { newer = newer }))).older) read ∙ older-kept (row current) newer in
     onto-same places row current (line_number (record line { newer = newer })) (step_bound places row (standing me).back (BackStore seen current newer line))
@@ -93,29 +93,29 @@ lower-BackStore needs places row standing lazy me s seen current newer line at =
     (ways-store places row current (line_number (record line { newer = newer })) kept)
     (back-lower (way places row) (row 0) (standing me) seen current newer line older (met-nobody places row places))
 
-pub lower-Forward : (needs : Needs) (places : ℕ) (row : ℕ → ℕ) (standing : ℕ → Place) (lazy : Lazy) (me : ℕ) (s : Refines needs places row standing lazy)
+pub lower-Forward : (needs : Needs) (places : ℕ) (row : ℕ → ℕ) (standing : ℕ → Place) (state : AbstractState) (me : ℕ) (s : Refines needs places row standing state)
     (seen : Word) (current count : ℕ) → (standing me).stage ≡ Forward seen current count → IsLowered needs places row standing me
     (Forward seen current count)
-lower-Forward needs places row standing lazy me s seen current count at =
-    let h = holds needs places row standing lazy s me (Forward seen current count) at refl in
-    let here = at-way needs places row standing lazy s seen h.0 h.0.behind current h.1 refl h.3.0 h.3.1 in
-    let rest = work-rest needs places row standing lazy s seen h.0 h.1 in
-    let tail = work-tail needs places row standing lazy s seen h.0 h.1 in
+lower-Forward needs places row standing state me s seen current count at =
+    let h = holds needs places row standing state s me (Forward seen current count) at refl in
+    let here = at-way needs places row standing state s seen h.0 h.0.behind current h.1 refl h.3.0 h.3.1 in
+    let rest = work-rest needs places row standing state s seen h.0 h.1 in
+    let tail = work-tail needs places row standing state s seen h.0 h.1 in
     onto-load places row current (step_bound places row (standing me).back (Forward seen current count))
     (looked_at needs (standing me) seen current count (line_word_of (row current)))
     (looked-lower (way places row) (row 0) needs (standing me) seen current count (line_word_of (row current))
     (omega (arith, here.0, here.1, rest)) (omega (arith, here.0, here.1, tail)) (met-nobody places row places)
-    (λ more. next-way needs places row standing lazy s seen h.0 h.0.behind current h.1 refl h.3.0 h.3.1 h.3.2 more ∙ omega (arith, here.0)))
+    (λ more. next-way needs places row standing state s seen h.0 h.0.behind current h.1 refl h.3.0 h.3.1 h.3.2 more ∙ omega (arith, here.0)))
 
-pub lower-CutToClose : (needs : Needs) (places : ℕ) (row : ℕ → ℕ) (standing : ℕ → Place) (lazy : Lazy) (me : ℕ)
-    (s : Refines needs places row standing lazy)
+pub lower-CutToClose : (needs : Needs) (places : ℕ) (row : ℕ → ℕ) (standing : ℕ → Place) (state : AbstractState) (me : ℕ)
+    (s : Refines needs places row standing state)
     (seen : Word) (current count : ℕ) (line : LineWord) → (standing me).stage ≡ CutToClose seen current count line
     → IsLowered needs places row standing me (CutToClose seen current count line)
-lower-CutToClose needs places row standing lazy me s seen current count line at =
-    let h = holds needs places row standing lazy s me (CutToClose seen current count line) at refl in
-    let here = at-way needs places row standing lazy s seen h.0 h.0.behind current h.1 refl h.3.0 h.3.1 in
-    let rest = work-rest needs places row standing lazy s seen h.0 h.1 in
-    let parted = cut-line needs places row standing lazy s seen h.0 h.0.behind current line h.1 refl h.3.0 h.3.1 h.4 in
+lower-CutToClose needs places row standing state me s seen current count line at =
+    let h = holds needs places row standing state s me (CutToClose seen current count line) at refl in
+    let here = at-way needs places row standing state s seen h.0 h.0.behind current h.1 refl h.3.0 h.3.1 in
+    let rest = work-rest needs places row standing state s seen h.0 h.1 in
+    let parted = cut-line needs places row standing state s seen h.0 h.0.behind current line h.1 refl h.3.0 h.3.1 h.4 in
     let front = parted.front_ways in
     let stays = parted.rest_ways in
     let new : ℕ → ℕ = updated row current (line_number (record line { older = 0 })) in
@@ -132,14 +132,14 @@ lower-CutToClose needs places row standing lazy me s seen current count line at 
     (2 * waiting (way places row) (row 0) + 2) (5 * waiting (way places row) (row 0) + 5) (more_to_walk back (waiting (way places row) (row 0)))
     (omega (arith, front, rest, stays, ends)) (omega (arith, front, rest, stays, here.1, walks)))
 
-pub lower-CutToGoRound : (needs : Needs) (places : ℕ) (row : ℕ → ℕ) (standing : ℕ → Place) (lazy : Lazy) (me : ℕ)
-    (s : Refines needs places row standing lazy)
+pub lower-CutToGoRound : (needs : Needs) (places : ℕ) (row : ℕ → ℕ) (standing : ℕ → Place) (state : AbstractState) (me : ℕ)
+    (s : Refines needs places row standing state)
     (seen : Word) (current count : ℕ) (line : LineWord) → (standing me).stage ≡ CutToGoRound seen current count line
     → IsLowered needs places row standing me (CutToGoRound seen current count line)
-lower-CutToGoRound needs places row standing lazy me s seen current count line at =
-    let h = holds needs places row standing lazy s me (CutToGoRound seen current count line) at refl in
-    let rest = work-rest needs places row standing lazy s seen h.0 h.1 in
-    let parted = cut-line needs places row standing lazy s seen h.0 h.0.behind current line h.1 refl h.3.0 h.3.1 h.4 in
+lower-CutToGoRound needs places row standing state me s seen current count line at =
+    let h = holds needs places row standing state s me (CutToGoRound seen current count line) at refl in
+    let rest = work-rest needs places row standing state s seen h.0 h.1 in
+    let parted = cut-line needs places row standing state s seen h.0 h.0.behind current line h.1 refl h.3.0 h.3.1 h.4 in
     let front = parted.front_ways in
     let stays = parted.rest_ways in
     let new : ℕ → ℕ = updated row current (line_number (record line { older = 0 })) in

@@ -8,6 +8,7 @@ use Rattle.saa_core_words.specs.declared.line_word.LineWord.{LineWord}
 use Rattle.saa_core_words.specs.Words.{count_bits, word_number, word_of, lock_count}
 use Rattle.saa_core_words.proofs.Words.{word-read}
 use Rattle.saa_word_steps.specs.declared.place.Place.{Place}
+use Rattle.saa_word_steps.specs.declared.place.Given.{Given}
 use Rattle.saa_word_steps.specs.declared.place.Ask.{Ask}
 use Rattle.saa_word_steps.specs.declared.place.Afterwards.{Afterwards}
 use Rattle.saa_word_steps.specs.declared.place.Afterwards.TheVariants.{Ends, Again}
@@ -19,11 +20,11 @@ use Rattle.saa_word_steps.specs.declared.place.Next.{Next}
 use Rattle.saa_word_steps.specs.declared.place.Next.TheVariants.{Waits}
 use Rattle.saa_word_steps.specs.declared.place.Stage.{Stage}
 use Rattle.saa_word_steps.specs.declared.place.Stage.TheVariants.{Prepare, AskExchange, Forward, Take, FlagExchange, LookLoad, PoisonExchange}
-use Rattle.saa_word_steps.specs.Needs.{Needs, fits_count, left_count}
+use Rattle.saa_word_steps.specs.Needs.{Needs, fits_count}
 use Rattle.saa_core_spec.specs.Held.{Exclusive}
 use Rattle.saa_core_spec.specs.Values.{granted_value}
-use Rattle.saa_word_steps.specs.Lazy.{Lazy}
-use Rattle.saa_word_steps.specs.Steps.{IsRanged, IsSmall, exchanged, going, done, finished, tried_answer, granted, found_poisoned, decided, gave_nothing, given_to, given, walking, shown_all, dropped, taken_answer, looked_at, flagging, looking, looked_for, poisoning}
+use Rattle.saa_word_steps.specs.AbstractState.{AbstractState}
+use Rattle.saa_word_steps.specs.Steps.{left_from, IsRanged, IsSmall, exchanged, going, done, finished, tried_answer, granted, found_poisoned, decided, gave_nothing, given_to, given, walking, shown_all, dropped, taken_answer, looked_at, flagging, looking, looked_for, poisoning}
 use Rattle.saa_word_proofs.specs.Refinement.{updated, IsAlone, Refines}
 use Rattle.saa_word_proofs.specs.StepRefinement.{row_after}
 use Rattle.saa_word_proofs.proofs.RefinementLemmas.Lists.{updated-same}
@@ -84,13 +85,13 @@ waits-seen ways number seen small tail same = ap (λ (w : Word). ways w.tail) (m
 
 -- What a place at a stage remembers
 
-pub ranged-at : (needs : Needs) (places : ℕ) (row : ℕ → ℕ) (standing : ℕ → Place) (lazy : Lazy) (me : ℕ) → Refines needs places row standing lazy
+pub ranged-at : (needs : Needs) (places : ℕ) (row : ℕ → ℕ) (standing : ℕ → Place) (state : AbstractState) (me : ℕ) → Refines needs places row standing state
     → (stage : Stage) → (standing me).stage ≡ stage → IsRanged needs stage
-ranged-at needs places row standing lazy me s stage at = subst (λ (now : Stage). IsRanged needs now) at (s.stages.ranged me)
+ranged-at needs places row standing state me s stage at = subst (λ (now : Stage). IsRanged needs now) at (s.stages.ranged me)
 
-pub alone-at : (needs : Needs) (places : ℕ) (row : ℕ → ℕ) (standing : ℕ → Place) (lazy : Lazy) (me : ℕ) → Refines needs places row standing lazy
+pub alone-at : (needs : Needs) (places : ℕ) (row : ℕ → ℕ) (standing : ℕ → Place) (state : AbstractState) (me : ℕ) → Refines needs places row standing state
     → (stage : Stage) → (standing me).stage ≡ stage → IsAlone needs (standing me).registration (standing me).back stage
-alone-at needs places row standing lazy me s stage at =
+alone-at needs places row standing state me s stage at =
     subst (λ (now : Stage). IsAlone needs (standing me).registration (standing me).back now) at (s.stages.alone me)
 
 -- Rows with the same ways
@@ -182,19 +183,19 @@ gave-lower ways number before place Tells some = (refl, some)
 gave-lower ways number before place EndsCall some = (refl, some)
 gave-lower ways number before place (Takes request) some = (refl, some)
 
-given_to-lower : (ways : ℕ → ℕ) (number before : ℕ) (place : Place) (request : ℕ) (seen : Word) (left : Option ℕ)
+given_to-lower : (ways : ℕ → ℕ) (number before : ℕ) (place : Place) (what : Given) (seen : Word) (left : Option ℕ)
     → number == word_number count_bits seen ≡ true → 5 * waiting ways number + 3 < before → IsLower ways number before
-    (given_to place request seen left)
-given_to-lower ways number before place request seen None fresh more = gave-lower ways number before place place.back (omega (arith, more))
-given_to-lower ways number before place request seen (Some left) fresh more = rw fresh more
+    (given_to place what seen left)
+given_to-lower ways number before place what seen None fresh more = gave-lower ways number before place place.back (omega (arith, more))
+given_to-lower ways number before place what seen (Some left) fresh more = rw fresh more
 
-pub given-lower : (ways : ℕ → ℕ) (number before : ℕ) (needs : Needs) (place : Place) (request : ℕ) (seen : Word)
+pub given-lower : (ways : ℕ → ℕ) (number before : ℕ) (needs : Needs) (place : Place) (what : Given) (seen : Word)
     → number == word_number count_bits seen ≡ true → 5 * waiting ways number + 3 < before
-    → IsLower ways number before (given needs place request seen)
-given-lower ways number before needs place request seen fresh more =
-    either-lower ways number before seen.is_poisoned (gave_nothing place place.back) (given_to place request seen (left_count needs seen.count request))
+    → IsLower ways number before (given needs place what seen)
+given-lower ways number before needs place what seen fresh more =
+    either-lower ways number before seen.is_poisoned (gave_nothing place place.back) (given_to place what seen (left_from needs seen.count what))
     (λ poisoned. gave-lower ways number before place place.back (omega (arith, more)))
-    (λ sound. given_to-lower ways number before place request seen (left_count needs seen.count request) fresh more)
+    (λ sound. given_to-lower ways number before place what seen (left_from needs seen.count what) fresh more)
 
 -- whoever walks from the word that is found now
 pub walking-lower : (ways : ℕ → ℕ) (number before : ℕ) (place : Place) (seen : Word) → number == word_number count_bits seen ≡ true

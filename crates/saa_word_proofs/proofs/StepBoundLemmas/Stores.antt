@@ -15,7 +15,7 @@ use Rattle.saa_word_steps.specs.declared.place.Taking.TheVariants.{Tries, Awaits
 use Rattle.saa_word_steps.specs.declared.place.Stage.{Stage}
 use Rattle.saa_word_steps.specs.declared.place.Stage.TheVariants.{Quiet, ReadLoad, AskLoad, AskExchange, Prepare, Join, ReleaseLoad, ReleaseExchange, BackLoad, BackStore, Forward, CutToClose, CutToGoRound, Close, Empty, GoRound, ShowLoad, ShowStore, Take, FlagLoad, FlagExchange, LookLoad, LookStore, Unlink, DropTail, PoisonLoad, PoisonExchange, Clear}
 use Rattle.saa_word_steps.specs.Needs.{Needs}
-use Rattle.saa_word_steps.specs.Lazy.{Lazy, is_empty, waits_times, held_by}
+use Rattle.saa_word_steps.specs.AbstractState.{AbstractState, is_empty, waits_times, held_by}
 use Rattle.saa_word_proofs.specs.Refinement.{updated, main_of, newest, oldest, is_slot, is_holder, Work, IsFound, Refines}
 use Rattle.saa_word_proofs.proofs.RefinementLemmas.Lists.{updated-at, newest-last, times-append}
 use Rattle.saa_word_proofs.proofs.RefinementLemmas.Rows.{row-other}
@@ -107,14 +107,14 @@ kept-shorter places row new back stage free less main =
     (shorter (way places row) (way places new) (row 0) back stage free less)
 
 -- beside whoever holds the flag nobody else does
-pub other-free : (needs : Needs) (places : ℕ) (row : ℕ → ℕ) (standing : ℕ → Place) (lazy : Lazy) (s : Refines needs places row standing lazy)
+pub other-free : (needs : Needs) (places : ℕ) (row : ℕ → ℕ) (standing : ℕ → Place) (state : AbstractState) (s : Refines needs places row standing state)
     (me other : ℕ)
     → is_holder (standing me).stage ≡ true → (other ≡ me → ⊥) → is_holder (standing other).stage ≡ false
-other-free needs places row standing lazy s me other is apart =
+other-free needs places row standing state s me other is apart =
     elim (cases_Bool (is_holder (standing other).stage)) [
       | inl too ↦
-          let mine = holder-is needs places row standing lazy s me is in
-          let theirs = holder-is needs places row standing lazy s other too in
+          let mine = holder-is needs places row standing state s me is in
+          let theirs = holder-is needs places row standing state s other too in
           absurd (apart (omega (arith, mine, theirs)))
       | inr free ↦ free
     ]
@@ -215,11 +215,11 @@ same-left ways new number back (PoisonExchange seen) same = rw same refl
 same-left ways new number back Clear same = refl
 
 -- a place that isn't held by the object, and what a store to its line word leaves of the others' ways
-module _ (needs : Needs) (places : ℕ) (row : ℕ → ℕ) (standing : ℕ → Place) (lazy : Lazy) (s : Refines needs places row standing lazy) (me number : ℕ)
-    (free : held_by me lazy ≡ 0) where
+module _ (needs : Needs) (places : ℕ) (row : ℕ → ℕ) (standing : ℕ → Place) (state : AbstractState) (s : Refines needs places row standing state) (me number : ℕ)
+    (free : held_by me state ≡ 0) where
   rest-kept : waiting (way places (updated row (me + 1) number)) (row 0) ≡ waiting (way places row) (row 0)
   rest-kept =
-      way-kept places row (main_of row).tail s.uncut me number (uncut-way needs places row standing lazy s)
+      way-kept places row (main_of row).tail s.uncut me number (uncut-way needs places row standing state s)
       (omega (arith, free, ap (waits_times me) s.line.parts, times-append me s.cut s.uncut))
 
   cut-kept : (front : List (ℕ × ℕ)) (top : ℕ) → s.cut ≡ front → top ≡ newest 0 front
@@ -227,23 +227,23 @@ module _ (needs : Needs) (places : ℕ) (row : ℕ → ℕ) (standing : ℕ → 
   cut-kept front top is newest_is =
       let at : top ≡ newest 0 s.cut = newest_is ∙ ap (newest 0) (sym is) in
       subst (λ (n : ℕ). way places (updated row (me + 1) number) n ≡ way places row n) (sym at)
-      (way-kept places row (newest 0 s.cut) s.cut me number (cut-way needs places row standing lazy s)
+      (way-kept places row (newest 0 s.cut) s.cut me number (cut-way needs places row standing state s)
       (omega (arith, free, ap (waits_times me) s.line.parts, times-append me s.cut s.uncut)))
 
-  part-kept : s.cut ≡ [] → (part rest : List (ℕ × ℕ)) (link : ℕ) → lazy.line ≡ part ++ rest → link ≡ newest 0 part
+  part-kept : s.cut ≡ [] → (part rest : List (ℕ × ℕ)) (link : ℕ) → state.line ≡ part ++ rest → link ≡ newest 0 part
       → way places (updated row (me + 1) number) link ≡ way places row link
   part-kept whole part rest link is newest_is =
       subst (λ (n : ℕ). way places (updated row (me + 1) number) n ≡ way places row n) (sym newest_is)
-      (way-kept places row (newest 0 part) part me number (part-way needs places row standing lazy s whole part rest is)
+      (way-kept places row (newest 0 part) part me number (part-way needs places row standing state s whole part rest is)
       (omega (arith, free, ap (waits_times me) is, times-append me part rest)))
 
-  tail-kept : (seen : Word) → (work : Work lazy.count lazy.line seen) → s.cut ≡ []
+  tail-kept : (seen : Word) → (work : Work state.count state.line seen) → s.cut ≡ []
       → way places (updated row (me + 1) number) seen.tail ≡ way places row seen.tail
   tail-kept seen work whole =
       part-kept whole (work.front ++ work.behind) work.joined seen.tail
       (work.parts ∙ sym (append_assoc work.front work.behind work.joined)) work.tail
 
-  at-kept : (seen : Word) → (work : Work lazy.count lazy.line seen) (behind : List (ℕ × ℕ)) (current : ℕ) → s.cut ≡ [] → work.behind ≡ behind
+  at-kept : (seen : Word) → (work : Work state.count state.line seen) (behind : List (ℕ × ℕ)) (current : ℕ) → s.cut ≡ [] → work.behind ≡ behind
       → current ≡ oldest behind → is_empty behind ≡ false → way places (updated row (me + 1) number) current ≡ way places row current
   at-kept seen work [] current whole is at some = absurd (cc)
   at-kept seen work (asker ∷ rest) current whole is at some =
@@ -251,7 +251,7 @@ module _ (needs : Needs) (places : ℕ) (row : ℕ → ℕ) (standing : ℕ → 
       (work.parts ∙ ap (λ (l : List (ℕ × ℕ)). work.front ++ (l ++ work.joined)) is ∙ sym (append_assoc work.front (asker ∷ []) (rest ++ work.joined)))
       (at ∙ sym (newest-last 0 work.front asker))
 
-  found-kept : (seen : Word) → (work : Work lazy.count lazy.line seen) (place older : ℕ) → IsFound place work.front older → s.cut ≡ []
+  found-kept : (seen : Word) → (work : Work state.count state.line seen) (place older : ℕ) → IsFound place work.front older → s.cut ≡ []
       → way places (updated row (me + 1) number) older ≡ way places row older
   found-kept seen work place older found whole =
       part-kept whole found.0 ((place, found.1) ∷ (work.behind ++ work.joined)) older
@@ -263,7 +263,7 @@ module _ (needs : Needs) (places : ℕ) (row : ℕ → ℕ) (standing : ℕ → 
       → way places (updated row (me + 1) number) link ≡ way places row link
   owed-kept other part rest link is newest_is =
       let leads : IsWay places row (newest 0 (s.owed other)) (part ++ rest) =
-      subst (λ (l : List (ℕ × ℕ)). IsWay places row (newest 0 (s.owed other)) l) is (owed-way needs places row standing lazy s other) in
+      subst (λ (l : List (ℕ × ℕ)). IsWay places row (newest 0 (s.owed other)) l) is (owed-way needs places row standing state s other) in
       subst (λ (n : ℕ). way places (updated row (me + 1) number) n ≡ way places row n) (sym newest_is)
       (way-kept places row (newest 0 part) part me number (way-front places row (newest 0 (s.owed other)) part rest leads)
       (omega (arith, absent other, ap (waits_times me) is, times-append me part rest)))
@@ -274,7 +274,7 @@ module _ (needs : Needs) (places : ℕ) (row : ℕ → ℕ) (standing : ℕ → 
             | inl none ↦ same_number (waits_times me (s.owed other)) 0 none
             | inr some ↦
                 let there : 0 < waits_times me (s.owed other) = above (waits_times me (s.owed other)) some in
-                absurd (omega (arith, free, ap (λ (answer : Option ℕ). one_if (is_some answer)) (owed-due needs places row standing lazy s other me there)))
+                absurd (omega (arith, free, ap (λ (answer : Option ℕ). one_if (is_some answer)) (owed-due needs places row standing state s other me there)))
           ]
         where
           above : (n : ℕ) → n == 0 ≡ false → 0 < n
@@ -293,38 +293,38 @@ module _ (needs : Needs) (places : ℕ) (row : ℕ → ℕ) (standing : ℕ → 
   ways-kept other (ReleaseLoad given) at = rest-kept
   ways-kept other (ReleaseExchange given seen) at = rest-kept
   ways-kept other (BackLoad seen current newer) at =
-      let h = holds needs places row standing lazy s other (BackLoad seen current newer) at refl in
+      let h = holds needs places row standing state s other (BackLoad seen current newer) at refl in
       (rest-kept, tail-kept seen h.0 h.1, part-kept h.1 h.0.front (h.0.behind ++ h.0.joined) current h.0.parts h.2.0)
   ways-kept other (BackStore seen current newer line) at =
-      let h = holds needs places row standing lazy s other (BackStore seen current newer line) at refl in
+      let h = holds needs places row standing state s other (BackStore seen current newer line) at refl in
       (rest-kept, tail-kept seen h.0 h.1, part-kept h.1 h.0.front (h.0.behind ++ h.0.joined) current h.0.parts h.2.0)
   ways-kept other (Forward seen current count) at =
-      let h = holds needs places row standing lazy s other (Forward seen current count) at refl in
+      let h = holds needs places row standing state s other (Forward seen current count) at refl in
       (rest-kept, tail-kept seen h.0 h.1, at-kept seen h.0 h.0.behind current h.1 refl h.3.0 h.3.1)
   ways-kept other (CutToClose seen current count line) at = rest-kept
   ways-kept other (CutToGoRound seen current count line) at = rest-kept
   ways-kept other (Close seen count top) at =
-      let h = holds needs places row standing lazy s other (Close seen count top) at refl in
+      let h = holds needs places row standing state s other (Close seen count top) at refl in
       (rest-kept, cut-kept h.0.front top h.1 h.3)
   ways-kept other (Empty seen current count line) at =
-      let h = holds needs places row standing lazy s other (Empty seen current count line) at refl in
+      let h = holds needs places row standing state s other (Empty seen current count line) at refl in
       (rest-kept, at-kept seen h.0 h.0.behind current h.1 refl h.3.0 h.3.1)
   ways-kept other (GoRound seen count top) at =
-      let h = holds needs places row standing lazy s other (GoRound seen count top) at refl in
+      let h = holds needs places row standing state s other (GoRound seen count top) at refl in
       (rest-kept, cut-kept h.0.front top h.1 h.3)
   ways-kept other (ShowLoad current value Ends) at =
-      let showing = shows needs places row standing lazy s other (ShowLoad current value Ends) at in
+      let showing = shows needs places row standing state s other (ShowLoad current value Ends) at in
       (owed-kept other (s.owed other) [] current (sym (append-nil (s.owed other))) (sym showing.0), rest-kept)
   ways-kept other (ShowLoad current value (Again seen)) at =
-      let showing = shows needs places row standing lazy s other (ShowLoad current value (Again seen)) at in
-      let h = holds needs places row standing lazy s other (ShowLoad current value (Again seen)) at refl in
+      let showing = shows needs places row standing state s other (ShowLoad current value (Again seen)) at in
+      let h = holds needs places row standing state s other (ShowLoad current value (Again seen)) at refl in
       (owed-kept other (s.owed other) [] current (sym (append-nil (s.owed other))) (sym showing.0), (rest-kept, tail-kept seen h.0 h.1))
   ways-kept other (ShowStore current next value Ends) at =
-      let showing = shows needs places row standing lazy s other (ShowStore current next value Ends) at in
+      let showing = shows needs places row standing state s other (ShowStore current next value Ends) at in
       (owed-kept other showing.0 (showing.1 ∷ []) next showing.2 showing.4, rest-kept)
   ways-kept other (ShowStore current next value (Again seen)) at =
-      let showing = shows needs places row standing lazy s other (ShowStore current next value (Again seen)) at in
-      let h = holds needs places row standing lazy s other (ShowStore current next value (Again seen)) at refl in
+      let showing = shows needs places row standing state s other (ShowStore current next value (Again seen)) at in
+      let h = holds needs places row standing state s other (ShowStore current next value (Again seen)) at refl in
       (owed-kept other showing.0 (showing.1 ∷ []) next showing.2 showing.4, (rest-kept, tail-kept seen h.0 h.1))
   ways-kept other (Take Tries) at = tt
   ways-kept other (Take Awaits) at = tt
@@ -332,13 +332,13 @@ module _ (needs : Needs) (places : ℕ) (row : ℕ → ℕ) (standing : ℕ → 
   ways-kept other FlagLoad at = rest-kept
   ways-kept other (FlagExchange seen) at = rest-kept
   ways-kept other (LookLoad seen current newer previous) at =
-      let h = holds needs places row standing lazy s other (LookLoad seen current newer previous) at refl in
+      let h = holds needs places row standing state s other (LookLoad seen current newer previous) at refl in
       (rest-kept, tail-kept seen h.0 h.1, part-kept h.1 h.0.front (h.0.behind ++ h.0.joined) current h.0.parts h.2.0)
   ways-kept other (LookStore seen current newer line) at =
-      let h = holds needs places row standing lazy s other (LookStore seen current newer line) at refl in
+      let h = holds needs places row standing state s other (LookStore seen current newer line) at refl in
       (rest-kept, tail-kept seen h.0 h.1, part-kept h.1 h.0.front (h.0.behind ++ h.0.joined) current h.0.parts h.2.0)
   ways-kept other (Unlink seen newer line older) at =
-      let h = holds needs places row standing lazy s other (Unlink seen newer line older) at refl in
+      let h = holds needs places row standing state s other (Unlink seen newer line older) at refl in
       (rest-kept, tail-kept seen h.0 h.1, found-kept seen h.0 other older h.2 h.1)
   ways-kept other (DropTail seen older) at = rest-kept
   ways-kept other PoisonLoad at = rest-kept
@@ -346,18 +346,18 @@ module _ (needs : Needs) (places : ℕ) (row : ℕ → ℕ) (standing : ℕ → 
   ways-kept other Clear at = tt
 
 -- who isn't registered isn't held
-free-place : (needs : Needs) (places : ℕ) (row : ℕ → ℕ) (standing : ℕ → Place) (lazy : Lazy) (s : Refines needs places row standing lazy) (me : ℕ)
-    → is_slot (standing me).registration ≡ false → held_by me lazy ≡ 0
-free-place needs places row standing lazy s me none = s.seats.held me ∙ ap one_if none
+free-place : (needs : Needs) (places : ℕ) (row : ℕ → ℕ) (standing : ℕ → Place) (state : AbstractState) (s : Refines needs places row standing state) (me : ℕ)
+    → is_slot (standing me).registration ≡ false → held_by me state ≡ 0
+free-place needs places row standing state s me none = s.seats.held me ∙ ap one_if none
 
 -- so what such a place writes into its own line word leaves the step bounds of the others
-pub kept-prepare : (needs : Needs) (places : ℕ) (row : ℕ → ℕ) (standing : ℕ → Place) (lazy : Lazy) (s : Refines needs places row standing lazy)
+pub kept-prepare : (needs : Needs) (places : ℕ) (row : ℕ → ℕ) (standing : ℕ → Place) (state : AbstractState) (s : Refines needs places row standing state)
     (me other number : ℕ)
     → is_slot (standing me).registration ≡ false
     → step_bound places (updated row (me + 1) number) (standing other).back (standing other).stage
     ≤ step_bound places row (standing other).back (standing other).stage
-kept-prepare needs places row standing lazy s me other number none =
+kept-prepare needs places row standing state s me other number none =
     let main : updated row (me + 1) number 0 ≡ row 0 = row-other row (me + 1) number 0 (λ is. absurd (omega (arith, is))) in
     let same = same-left (way places row) (way places (updated row (me + 1) number)) (row 0) (standing other).back (standing other).stage
-    (ways-kept needs places row standing lazy s me number (free-place needs places row standing lazy s me none) other (standing other).stage refl) in
+    (ways-kept needs places row standing state s me number (free-place needs places row standing state s me none) other (standing other).stage refl) in
     omega (arith, ap (λ (n : ℕ). steps_left (way places (updated row (me + 1) number)) n (standing other).back (standing other).stage) main ∙ same)

@@ -5,7 +5,7 @@ use Rattle.std.proofs.lemmas.Bool.Decides.{nat_tests}
 use Rattle.saa_core_spec.specs.Object.{one_if}
 use Rattle.saa_core_spec.proofs.Counts.{number_same, same_number, number_other, below_true}
 use Rattle.saa_core_words.specs.Words.{line_word_of}
-use Rattle.saa_word_steps.specs.Lazy.{is_empty, waits_times}
+use Rattle.saa_word_steps.specs.AbstractState.{is_empty, waits_times}
 use Rattle.saa_word_proofs.specs.Refinement.{updated, line_of, newest, IsBehind}
 use Rattle.saa_word_proofs.proofs.RefinementLemmas.Lists.{all-same, newest-last, empty-nil, split-last, behind-front, behind-rest, times-append}
 use Rattle.saa_word_proofs.proofs.RefinementLemmas.Rows.{row-other}

@@ -1,6 +1,6 @@
 use Rattle.std.proofs.Common.{refl}
 use Rattle.saa_word_steps.specs.Needs.{permit_needs}
-use Rattle.saa_word_steps.specs.Lazy.{opening}
+use Rattle.saa_word_steps.specs.AbstractState.{opening}
 use Rattle.saa_word_proofs.proofs.ConservationLemmas.{opening-granted, run-balanced, run-pending, run-granted, run-never, run-permits}
 use Rattle.saa_word_proofs.proofs.conservation.conservation.Goals as goal
 

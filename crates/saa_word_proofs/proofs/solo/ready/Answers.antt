@@ -7,5 +7,5 @@ pub returns-clause-first : goal.returns-clause-first
 returns-clause-first c = started-ready
 
 pub returns-clause-next : goal.returns-clause-next
-returns-clause-next c = λ needs lawful wide places row standing lazy me room here s.
-    (s.stages.ranged me, (step needs lawful wide places row standing lazy me room here s (standing me).stage refl).inside)
+returns-clause-next c = λ needs lawful wide places row standing state me room here s.
+    (s.stages.ranged me, (step needs lawful wide places row standing state me room here s (standing me).stage refl).inside)

@@ -9,7 +9,7 @@ returns-clause-bounded c = step_bound-bounded
 
 pub returns-clause-lowered : goal.returns-clause-lowered
 returns-clause-lowered c =
-    λ needs lawful wide places row standing lazy me stands busy. lowered needs lawful wide places row standing lazy me stands (standing me).stage refl busy
+    λ needs lawful wide places row standing state me stands busy. lowered needs lawful wide places row standing state me stands (standing me).stage refl busy
 
 pub returns-clause-kept : goal.returns-clause-kept
 returns-clause-kept c = kept

@@ -3,4 +3,4 @@ use Rattle.saa_word_proofs.proofs.RefinementLemmas.Polls.{only-stalls}
 use Rattle.saa_word_proofs.proofs.waiting.waits.Goals as goal
 
 pub returns : goal.returns
-returns c = λ needs places row standing lazy me here s waits. only-stalls needs places row standing lazy me here s (standing me).stage refl waits
+returns c = λ needs places row standing state me here s waits. only-stalls needs places row standing state me here s (standing me).stage refl waits

@@ -1,8 +1,8 @@
 use Rattle.std.proofs.Common.{arith}
-use Rattle.saa_word_steps.specs.Lazy.{opening}
-use Rattle.saa_word_steps.proofs.LazyRuns.{run-settled, run-bounded, run-once, permits-lawful}
+use Rattle.saa_word_steps.specs.AbstractState.{opening}
+use Rattle.saa_word_steps.proofs.AbstractRuns.{run-settled, run-bounded, run-once, permits-lawful}
 use Rattle.saa_word_steps.proofs.LockNeeds.{locks-lawful, lock-states}
-use Rattle.saa_word_steps.proofs.laws.lazy_runs.Goals as goal
+use Rattle.saa_word_steps.proofs.laws.abstract_runs.Goals as goal
 
 pub returns-clause-settled : goal.returns-clause-settled
 returns-clause-settled c = λ needs count events last run. run-settled needs (opening count) events last run (λ closed. tt)

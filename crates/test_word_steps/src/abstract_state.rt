@@ -1,4 +1,4 @@
-//! The lazy object in plain code, and whether each event is allowed where it comes: written apart from the definitions.
+//! The abstract state in plain code, and whether each event is allowed where it comes: written apart from the definitions.
 
 use crate::held::Held;
 use std::alloc::{AllocError, Global};
@@ -26,6 +26,10 @@ pub enum Event {
     Gave(u16),
     /// What was to be given back isn't held.
     GaveNothing(u16),
+    /// The one owner of a lock has a share from now on.
+    Lowered,
+    /// No one owner has the lock.
+    NotLowered,
     /// The place left the line.
     Left,
     /// So many of the line were granted.
@@ -53,7 +57,7 @@ pub enum Event {
 /// What is held, who waits, whether something was given back or left since the line was last settled, and the answers that are to be
 /// shown and that are shown, by link.
 #[derive(Drop)]
-pub struct Lazy {
+pub struct AbstractState {
     pub held: Held,
     pub line: Vec<Asker>,
     pub unclosed: bool,
@@ -61,10 +65,10 @@ pub struct Lazy {
     shown: Vec<Option<u8>>,
 }
 
-impl Lazy {
+impl AbstractState {
     /// Nobody waits or has an answer.
-    pub fn new(alloc: Global, held: Held, places: u16) -> Result<Lazy, AllocError> {
-        let mut lazy = Lazy {
+    pub fn new(alloc: Global, held: Held, places: u16) -> Result<AbstractState, AllocError> {
+        let mut state = AbstractState {
             held,
             line: Vec::new(alloc),
             unclosed: false,
@@ -72,12 +76,12 @@ impl Lazy {
             shown: Vec::new(alloc),
         };
         for _link in 0..places {
-            lazy.due.push(None)?;
-            lazy.shown.push(None)?;
+            state.due.push(None)?;
+            state.shown.push(None)?;
         }
-        lazy.due.push(None)?;
-        lazy.shown.push(None)?;
-        Ok(lazy)
+        state.due.push(None)?;
+        state.shown.push(None)?;
+        Ok(state)
     }
 
     /// The answer of a place that is to be shown.
@@ -134,6 +138,8 @@ impl Lazy {
             Event::Joined(request) => self.joined(link, request)?,
             Event::Gave(request) => self.gave(request),
             Event::GaveNothing(request) => self.held.less(request).is_none(),
+            Event::Lowered => self.lowered(),
+            Event::NotLowered => self.held != Held::Alone,
             Event::Left => self.left(link)?,
             Event::Granted(askers) => self.granted(askers),
             Event::Closed => self.closed(),
@@ -176,6 +182,13 @@ impl Lazy {
         self.held = held;
         self.unclosed = self.unclosed || !self.line.is_empty();
         true
+    }
+
+    fn lowered(&mut self) -> bool {
+        let is_allowed = self.held == Held::Alone;
+        self.held = Held::Shared(1);
+        self.unclosed = self.unclosed || !self.line.is_empty();
+        is_allowed
     }
 
     // Each of the line goes behind it once, but the one who leaves.

@@ -1,8 +1,11 @@
-use super::*;
-use std::sync::Mutex;
-use std::sync::atomic::AtomicBool;
+//! The seat on its own: a ring that comes late, and one that comes as its holder goes to sleep.
+
+use saa_sync::testing::Seat;
+use std::sync::atomic::{AtomicBool, Ordering};
+use std::sync::{Mutex, Wait};
 use std::test::Fail;
-use std::thread;
+use std::thread::{self, yield_now};
+use test_asserts::holds;
 
 // Waits until the holder sleeps, and so has let go of the lock.
 fn await_asleep(rt: &impl Wait, seat: &Seat, lock: &Mutex<()>) {
@@ -26,7 +29,7 @@ fn a_sleeper_at_a_rung_seat_is_woken(rt: HostRuntime) -> Result<(), Fail> {
         let has_slept = AtomicBool::new(false);
         seat.reset();
         seat.ring();
-        assert!(rt; seat.is_rung());
+        holds!(rt; seat.is_rung());
         thread::join(
             &rt,
             || {
@@ -42,8 +45,8 @@ fn a_sleeper_at_a_rung_seat_is_woken(rt: HostRuntime) -> Result<(), Fail> {
                 seat.ring();
             },
         );
-        assert!(rt; has_slept.load(Ordering::SeqCst));
-        assert!(rt; seat.is_rung());
+        holds!(rt; has_slept.load(Ordering::SeqCst));
+        holds!(rt; seat.is_rung());
     }
     Ok(())
 }

@@ -1,0 +1,146 @@
+-- The abstract state: what a form that is kept in words is at each moment. Between an ask that waits and its answer several steps
+-- of several places lie, so answers are granted, shown and taken at steps of their own.
+use Rattle.std.specs.Prelude.{◌≡◌, ℕ, ◌+◌, ◌<◌, ◌≤◌, Bool, true, false, not, ◌||◌, if◌then◌else◌, ◌==◌, List, [], ◌∷◌, ◌++◌, length, take, drop, Option, Some, None, is_some}
+use Rattle.saa_core_spec.specs.Held.{Exclusive, Shared}
+use Rattle.saa_core_spec.specs.Object.{one_if}
+use Rattle.saa_core_words.specs.Words.{lock_count}
+use Rattle.saa_word_steps.specs.declared.event.Event.{Event}
+use Rattle.saa_word_steps.specs.declared.event.Event.TheVariants.{Got, Refused, Joined, Gave, GaveNothing, Lowered, NotLowered, AskedPoisoned, Left, Closed, Poisoned, NotPoisoned, Cleared, NotCleared, NotReady, Granted, Showed, Took, Read}
+use Rattle.saa_word_steps.specs.Needs.{Needs, fits_count, left_count}
+
+-- What is held, as a count, and whether it is poisoned; the waiters, oldest first, each with the number of what it asks; whether
+-- something was given back or left since the line was last settled; and the answers of places that are granted and not shown
+-- yet, and that are shown and not taken yet
+pub record AbstractState : Type 0 where
+  pub count : ℕ
+  pub poisoned : Bool
+  pub line : List (ℕ × ℕ)
+  pub unclosed : Bool
+  pub due : ℕ → Option ℕ
+  pub shown : ℕ → Option ℕ
+
+-- so much is held, and nobody waits or has an answer
+abbrev pub opening : ℕ → AbstractState
+opening count = record { count = count; poisoned = false; line = []; unclosed = false; due = λ place. None; shown = λ place. None }
+
+-- whether there are no waiters
+abbrev pub is_empty : List (ℕ × ℕ) → Bool
+is_empty [] = true
+is_empty (asker ∷ rest) = false
+
+-- whether a place is a waiter
+abbrev pub is_in : ℕ → List (ℕ × ℕ) → Bool
+is_in place [] = false
+is_in place (asker ∷ rest) = (asker.0 == place) || is_in place rest
+
+-- how often a place waits
+abbrev pub waits_times : ℕ → List (ℕ × ℕ) → ℕ
+waits_times place [] = 0
+waits_times place (asker ∷ rest) = one_if (asker.0 == place) + waits_times place rest
+
+-- the line without a place
+abbrev pub line_without : ℕ → List (ℕ × ℕ) → List (ℕ × ℕ)
+line_without place [] = []
+line_without place (asker ∷ rest) = if asker.0 == place then line_without place rest else (asker ∷ line_without place rest)
+
+-- these fit one after another, from a count on
+abbrev pub IsFront : Needs → ℕ → List (ℕ × ℕ) → Type 0
+IsFront needs count [] = Unit {0}
+IsFront needs count (asker ∷ rest) = (fits_count needs count asker.1 ≡ true) × IsFront needs (count + needs.takes asker.1) rest
+
+-- what these take together
+abbrev pub takes_of : Needs → List (ℕ × ℕ) → ℕ
+takes_of needs [] = 0
+takes_of needs (asker ∷ rest) = needs.takes asker.1 + takes_of needs rest
+
+-- a line is settled at a count where nobody waits, or the oldest doesn't fit
+abbrev pub IsSettledAt : Needs → ℕ → List (ℕ × ℕ) → Type 0
+IsSettledAt needs count [] = Unit {0}
+IsSettledAt needs count (asker ∷ rest) = fits_count needs count asker.1 ≡ false
+
+-- an answer for each of these places
+abbrev pub answered_with : ℕ → List (ℕ × ℕ) → (ℕ → Option ℕ) → ℕ → Option ℕ
+answered_with value askers answers place = if is_in place askers then Some value else answers place
+
+-- a map with another answer at one place
+abbrev pub with_answer : ℕ → Option ℕ → (ℕ → Option ℕ) → ℕ → Option ℕ
+with_answer place answer answers other = if other == place then answer else answers other
+
+-- an ask has to wait, or is refused: somebody waits, or it doesn't fit
+abbrev pub must_wait : Needs → AbstractState → ℕ → Bool
+must_wait needs state request = not (is_empty state.line) || not (fits_count needs state.count request)
+
+-- one owner has the lock
+abbrev pub IsOwned : Needs → AbstractState → Type 0
+IsOwned needs state = (state.poisoned ≡ false) × (state.count ≡ lock_count Exclusive) × (needs.is_lock ≡ true)
+
+-- where an event of a place is enabled
+abbrev pub IsEnabled : Needs → AbstractState → ℕ → Event → Type 0
+IsEnabled needs state place (Got request) = (state.poisoned ≡ false) × (state.line ≡ []) × (fits_count needs state.count request ≡ true)
+IsEnabled needs state place (Refused request) = (state.poisoned ≡ false) × (must_wait needs state request ≡ true)
+IsEnabled needs state place (Joined request) =
+    (state.poisoned ≡ false) × (must_wait needs state request ≡ true)
+    × (is_in place state.line ≡ false) × (state.due place ≡ None) × (state.shown place ≡ None)
+IsEnabled needs state place (Gave request) = (state.poisoned ≡ false) × ((left : ℕ) × (left_count needs state.count request ≡ Some left))
+IsEnabled needs state place (GaveNothing request) = (state.poisoned ≡ false) → left_count needs state.count request ≡ None
+IsEnabled needs state place Lowered = IsOwned needs state
+IsEnabled needs state place NotLowered = IsOwned needs state → ⊥
+IsEnabled needs state place AskedPoisoned = state.poisoned ≡ true
+IsEnabled needs state place Left = is_in place state.line ≡ true
+IsEnabled needs state place (Granted askers) =
+    (state.unclosed ≡ true) × (0 < askers) × (askers ≤ length state.line) × IsFront needs state.count (take askers state.line)
+IsEnabled needs state place Closed = (state.unclosed ≡ true) × IsSettledAt needs state.count state.line
+IsEnabled needs state place Poisoned = (state.unclosed ≡ false) × IsOwned needs state
+IsEnabled needs state place NotPoisoned = IsOwned needs state → ⊥
+IsEnabled needs state place Cleared = state.poisoned ≡ true
+IsEnabled needs state place NotCleared = state.poisoned ≡ false
+IsEnabled needs state place (Showed shown_place) = is_some (state.due shown_place) ≡ true
+IsEnabled needs state place (Took value) = state.shown place ≡ Some value
+IsEnabled needs state place NotReady = (is_in place state.line || is_some (state.due place)) ≡ true
+IsEnabled needs state place (Read count poisoned) = (state.count ≡ count) × (state.poisoned ≡ poisoned)
+
+-- the count that is left once a request is given back; unchanged where it isn't held
+abbrev pub count_or : ℕ → Option ℕ → ℕ
+count_or count None = count
+count_or count (Some left) = left
+
+-- what an event changes
+abbrev pub after_event : Needs → AbstractState → ℕ → Event → AbstractState
+after_event needs state place (Got request) = record state { count = state.count + needs.takes request }
+after_event needs state place (Joined request) = record state { line = state.line ++ (place, request) ∷ [] }
+after_event needs state place (Gave request) =
+    record state { count = count_or state.count (left_count needs state.count request); unclosed = not (is_empty state.line) || state.unclosed }
+after_event needs state place Lowered =
+    record state { count = lock_count (Shared 1); unclosed = not (is_empty state.line) || state.unclosed }
+after_event needs state place Left =
+    record state { line = line_without place state.line; unclosed = not (is_empty (line_without place state.line)) }
+after_event needs state place (Granted askers) =
+    record state {
+      count = state.count + takes_of needs (take askers state.line);
+      line = drop askers state.line;
+      due = answered_with 0 (take askers state.line) state.due;
+    }
+after_event needs state place Closed = record state { unclosed = false }
+after_event needs state place Poisoned =
+    record state { count = 0; poisoned = true; line = []; due = answered_with 2 state.line state.due }
+after_event needs state place Cleared = record state { poisoned = false }
+after_event needs state place (Showed shown_place) =
+    record state { due = with_answer shown_place None state.due; shown = with_answer shown_place (state.due shown_place) state.shown }
+after_event needs state place (Took value) = record state { shown = with_answer place None state.shown }
+after_event needs state place (Refused request) = state
+after_event needs state place (GaveNothing request) = state
+after_event needs state place NotLowered = state
+after_event needs state place AskedPoisoned = state
+after_event needs state place NotPoisoned = state
+after_event needs state place NotCleared = state
+after_event needs state place NotReady = state
+after_event needs state place (Read count poisoned) = state
+
+-- a list of events, each of a place, runs from one state to another: each is allowed where it comes, and changes what it says
+abbrev pub IsRun : Needs → AbstractState → List (ℕ × Event) → AbstractState → Type 0
+IsRun needs state [] last = state ≡ last
+IsRun needs state (event ∷ events) last = IsEnabled needs state event.0 event.1 × IsRun needs (after_event needs state event.0 event.1) events last
+
+-- how often a place is held: it waits, or its answer is to be shown, or is shown and not taken yet
+abbrev pub held_by : ℕ → AbstractState → ℕ
+held_by place state = waits_times place state.line + one_if (is_some (state.due place)) + one_if (is_some (state.shown place))

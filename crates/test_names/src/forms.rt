@@ -1,0 +1,99 @@
+//! The forms that threads share, their pagers, and the locks round a value.
+
+use saa::barrier::Barrier;
+use saa::gate::{Error as GateError, Gate, State};
+use saa::lock::{Lock, Mode};
+use saa::pager::{Error, How, Pager, SyncResult, Ticket};
+use saa::semaphore::{Permit, Semaphore};
+use saa::{
+    Mutex, MutexGuard, RwLock, RwLockReadGuard, RwLockWriteGuard, lock_api, lock_async, read_async,
+    write_async,
+};
+use std::io;
+use std::sync::Wait;
+use std::sync::atomic::Ordering;
+use test_asserts::{holds, same};
+
+#[test]
+fn a_semaphore_gives_permits(rt: HostRuntime) -> io::Result<()> {
+    let semaphore = Semaphore::with_permits(&rt, rt.alloc(), 2, 0)?;
+    let permit: Option<Permit<'_, &HostRuntime>> = semaphore.try_acquire_permit();
+    holds!(rt; permit.is_some());
+    same!(rt; semaphore.available_permits(Ordering::SeqCst), 1);
+    Ok(())
+}
+
+#[test]
+fn a_lock_is_taken_and_lowered(rt: HostRuntime) -> io::Result<()> {
+    let lock = Lock::new(&rt, rt.alloc(), 0)?;
+    same!(rt; lock.try_lock(), Ok(()));
+    holds!(rt; lock.downgrade());
+    holds!(rt; lock.is_shared(Ordering::SeqCst));
+    Ok(())
+}
+
+#[test]
+fn a_gate_and_a_barrier_let_pass(rt: HostRuntime) -> io::Result<()> {
+    let gate = Gate::new(&rt, rt.alloc(), 0)?;
+    same!(rt; gate.seal(), (State::Controlled, 0));
+    same!(rt; gate.enter_sync(), Ok(Err(GateError::Sealed)));
+    let barrier = Barrier::with_count(&rt, rt.alloc(), 1, 0)?;
+    same!(rt; barrier.wait_sync(), Ok(true));
+    Ok(())
+}
+
+// What a pager is told that isn't registered.
+fn told<S: SyncResult>(pager: &mut Pager<'_, S>) -> S::Result {
+    pager.try_poll()
+}
+
+#[test]
+fn a_pager_is_told(rt: HostRuntime) -> io::Result<()> {
+    let lock = Lock::new(&rt, rt.alloc(), 1)?;
+    let mut pager = Pager::new();
+    same!(rt; lock.register_pager(&mut pager, Mode::Exclusive, true), Ok(true));
+    same!(rt; told(&mut pager), Ok(true));
+    same!(rt; told(&mut pager), Err(Error::NotRegistered));
+    same!(rt; How::Try, How::Try);
+    holds!(rt; !Ticket::new().is_registered());
+    Ok(())
+}
+
+// The value of each guard.
+fn values<R: Wait + Drop>(
+    alone: MutexGuard<'_, R, u32>,
+    shared: RwLockReadGuard<'_, R, u32>,
+) -> (u32, u32) {
+    (*alone, *shared)
+}
+
+// What a writer leaves.
+fn written<R: Wait + Drop>(guard: RwLockWriteGuard<'_, R, u32>) -> u32 {
+    let mut guard = guard;
+    *guard = 8;
+    *RwLockWriteGuard::downgrade(guard)
+}
+
+#[test]
+fn guards_give_their_values(rt: HostRuntime) -> io::Result<()> {
+    let mutex = Mutex::new(&rt, rt.alloc(), 5, 0)?;
+    let lock = RwLock::new(&rt, rt.alloc(), 7, 0)?;
+    if let (Ok(alone), Ok(shared)) = (mutex.lock(), lock.read()) {
+        same!(rt; values(alone, shared), (5, 7));
+    }
+    same!(rt; lock.write().map(written), Ok(8));
+    let other: lock_api::Mutex<&HostRuntime, u32> = lock_api::Mutex::new(&rt, rt.alloc(), 3, 0)?;
+    same!(rt; other.into_inner(), 3);
+    Ok(())
+}
+
+#[test]
+fn guards_are_asked_for_by_futures(rt: HostRuntime) -> io::Result<()> {
+    let mutex = Mutex::new(&rt, rt.alloc(), 5, 0)?;
+    let lock = RwLock::new(&rt, rt.alloc(), 7, 0)?;
+    drop(lock_async(&mutex));
+    drop(read_async(&lock));
+    drop(write_async(&lock));
+    same!(rt; (mutex.into_inner(), lock.into_inner()), (5, 7));
+    Ok(())
+}

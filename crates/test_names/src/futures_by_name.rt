@@ -1,0 +1,131 @@
+//! The future of each call, by its name.
+
+use futures::task::Poll;
+use futures::test::MockTask;
+use saa::barrier::Barrier;
+use saa::future::{
+    Acquire, AcquireMany, AcquireManyWith, AcquireWith, Arrival, ArriveFuture, ArriveFutureWith,
+    Asked, AskedWith, Enter, EnterWith, LockFuture, LockFutureWith, ManyPermits, MutexFuture,
+    OnePermit, Passing, PollPager, Question, ReadFuture, ShareFuture, ShareFutureWith, Turn,
+    WriteFuture,
+};
+use saa::gate::{Error as GateError, Gate};
+use saa::lock::Lock;
+use saa::pager::Pager;
+use saa::semaphore::Semaphore;
+use saa::{Mutex, RwLock, lock_async, read_async, write_async};
+use std::io;
+use std::sync::Wait;
+use test_asserts::{holds, same};
+
+type Runtime<'r> = &'r HostRuntime;
+
+// A callback that does nothing, as one type.
+type Callback = fn();
+
+fn nothing() {}
+
+// What a future tells that is ready at its first poll.
+fn told<'s, R: Wait + Drop, Q: Question>(
+    task: &MockTask,
+    mut future: Asked<'s, R, Q>,
+) -> Option<Q::Output>
+where
+    Q::Output: Drop,
+{
+    match task.poll(&mut future) {
+        Poll::Ready(answer) => answer.ok(),
+        Poll::Pending => None,
+    }
+}
+
+// The same of one with a callback.
+fn told_with<'s, R: Wait + Drop, Q: Question>(
+    task: &MockTask,
+    mut future: AskedWith<'s, R, Q, Callback>,
+) -> Option<Q::Output>
+where
+    Q::Output: Drop,
+{
+    match task.poll(&mut future) {
+        Poll::Ready(answer) => answer.ok(),
+        Poll::Pending => None,
+    }
+}
+
+#[test]
+fn permits_are_told(rt: HostRuntime) -> io::Result<()> {
+    let task = MockTask::new(&rt)?;
+    let semaphore = Semaphore::new(&rt, rt.alloc(), 0)?;
+    let one: Acquire<'_, Runtime> = semaphore.acquire_async();
+    let many: AcquireMany<'_, Runtime> = semaphore.acquire_many_async(2);
+    same!(rt; (
+            told::<_, OnePermit>(&task, one),
+            told::<_, ManyPermits>(&task, many),
+        ), (Some(()), Some(true)));
+    let one: AcquireWith<'_, Runtime, Callback> = semaphore.acquire_async_with(nothing);
+    let many: AcquireManyWith<'_, Runtime, Callback> = semaphore.acquire_many_async_with(
+        2, nothing,
+    );
+    same!(rt; (told_with(&task, one), told_with(&task, many)), (Some(()), Some(true)));
+    Ok(())
+}
+
+#[test]
+fn turns_are_told(rt: HostRuntime) -> io::Result<()> {
+    let task = MockTask::new(&rt)?;
+    let lock = Lock::new(&rt, rt.alloc(), 0)?;
+    let alone: LockFuture<'_, Runtime> = lock.lock_async();
+    same!(rt; told::<_, Turn>(&task, alone), Some(true));
+    holds!(rt; lock.release_lock());
+    let share: ShareFuture<'_, Runtime> = lock.share_async();
+    same!(rt; told(&task, share), Some(true));
+    let share: ShareFutureWith<'_, Runtime, Callback> = lock.share_async_with(nothing);
+    same!(rt; told_with(&task, share), Some(true));
+    let other = Lock::new(&rt, rt.alloc(), 0)?;
+    let alone: LockFutureWith<'_, Runtime, Callback> = other.lock_async_with(nothing);
+    same!(rt; told_with(&task, alone), Some(true));
+    Ok(())
+}
+
+#[test]
+fn passings_and_arrivals_are_told(rt: HostRuntime) -> io::Result<()> {
+    let task = MockTask::new(&rt)?;
+    let gate = Gate::new(&rt, rt.alloc(), 0)?;
+    let _sealed = gate.seal();
+    let enter: Enter<'_, Runtime> = gate.enter_async();
+    same!(rt; told::<_, Passing>(&task, enter), Some(Err(GateError::Sealed)));
+    let enter: EnterWith<'_, Runtime, Callback> = gate.enter_async_with(nothing);
+    same!(rt; told_with(&task, enter), Some(Err(GateError::Sealed)));
+    let barrier = Barrier::with_count(&rt, rt.alloc(), 1, 0)?;
+    let arrive: ArriveFuture<'_, Runtime> = barrier.wait_async();
+    same!(rt; told::<_, Arrival>(&task, arrive), Some(true));
+    let arrive: ArriveFutureWith<'_, Runtime, Callback> = barrier.wait_async_with(nothing);
+    same!(rt; told_with(&task, arrive), Some(true));
+    Ok(())
+}
+
+#[test]
+fn a_pager_is_polled_by_a_future(rt: HostRuntime) -> io::Result<()> {
+    let task = MockTask::new(&rt)?;
+    let semaphore = Semaphore::new(&rt, rt.alloc(), 0)?;
+    let mut pager = Pager::new();
+    same!(rt; semaphore.register_pager(&mut pager, 1, false), Ok(true));
+    let mut polled: PollPager<'_, '_, Semaphore<Runtime>> = pager.poll_async();
+    holds!(rt; matches!(task.poll(&mut polled), Poll::Ready(Ok(()))));
+    Ok(())
+}
+
+#[test]
+fn guards_are_told(rt: HostRuntime) -> io::Result<()> {
+    let task = MockTask::new(&rt)?;
+    let mutex = Mutex::new(&rt, rt.alloc(), 5, 0)?;
+    let lock = RwLock::new(&rt, rt.alloc(), 7, 0)?;
+    let mut alone: MutexFuture<'_, Runtime, u32> = lock_async(&mutex);
+    holds!(rt; matches!(task.poll(&mut alone), Poll::Ready(Ok(_))));
+    let mut read: ReadFuture<'_, Runtime, u32> = read_async(&lock);
+    holds!(rt; matches!(task.poll(&mut read), Poll::Ready(Ok(_))));
+    let mut write: WriteFuture<'_, Runtime, u32> = write_async(&lock);
+    holds!(rt; matches!(task.poll(&mut write), Poll::Ready(Ok(_))));
+    Ok(())
+}

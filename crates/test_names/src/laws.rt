@@ -1,0 +1,22 @@
+//! The laws of runs.
+
+use saa::{bench, laws};
+
+#[test]
+fn each_law_is_there() {
+    bench::laws();
+    laws::all();
+    laws::settling();
+    laws::semaphore_runs();
+    laws::lock_runs();
+    laws::gate_runs();
+    laws::barrier_runs();
+    laws::semaphore_stays_settled();
+    laws::lock_stays_settled();
+    laws::nobody_waits_for_nothing();
+    laws::answers_in_order();
+    laws::answers_once();
+    laws::permits_conserved();
+    laws::leaders();
+    laws::false_registrations();
+}
