@@ -77,6 +77,7 @@ fn a_slot_of_a_linked_line_leaves_wherever_it_stands(rt: HostRuntime) -> Result<
     same!(rt; line.join(Request::Permits(5)), Some(second));
     same!(rt; line.waiters().tail(), second + 1);
 
+    holds!(rt; line.waiting() == 3);
     line.grant_front(1);
     same!(rt; (line.take(first), line.take(third)), (Some(0), None));
     same!(rt; line.oldest(), Some((third, Request::Permits(3))));

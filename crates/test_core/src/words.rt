@@ -74,16 +74,14 @@ fn an_answer_word_answers_what_it_was_made_of(rt: HostRuntime) {
 #[test]
 fn each_request_has_its_number(rt: HostRuntime) {
     let modes = [
-        Request::Exclusive,
-        Request::Shared,
-        Request::WaitExclusive,
-        Request::WaitShared,
+        (0, Request::Exclusive),
+        (1, Request::Shared),
+        (2, Request::WaitExclusive),
+        (3, Request::WaitShared),
     ];
-    let mut number = 0;
-    for mode in modes {
+    for (number, mode) in modes {
         same!(rt; request_number(mode), number);
         same!(rt; ForModes::read(number), mode);
-        number += 1;
     }
     for count in [0, 1, 63, 65_535] {
         same!(rt; request_number(Request::Permits(count)), count);

@@ -9,23 +9,25 @@ use saa::words::line_word::LineWord;
 use saa::words::links::Links;
 use saa::words::requests::{ForModes, ForPermits, Requests, request_number};
 use saa::words::word::Word;
-use std::alloc::{AllocError, Global};
 use std::test::Fail;
 use test_asserts::{holds, same};
 
-// The slot that the first to join a line of one gets, and whether a second gets one.
-fn joined<O: Order>(alloc: Global) -> Result<(Option<u16>, bool), AllocError> {
-    let mut line: LineOf<O> = LineOf::with_room(alloc, 1)?;
-    let first = line.join(Request::Enter);
-    Ok((first, line.join(Request::Enter).is_some()))
+// The oldest of any line.
+fn oldest<O: Order>(line: &LineOf<O>) -> Option<(u16, Request)> {
+    line.oldest()
 }
 
 #[test]
 fn each_line_is_joined(rt: HostRuntime) -> Result<(), Fail> {
     laws::wakes();
-    let wanted = (Some(0), false);
-    same!(rt; joined::<Queue>(rt.alloc())?, wanted);
-    same!(rt; joined::<Links<ForModes>>(rt.alloc())?, wanted);
+    let mut list: LineOf<Queue> = LineOf::with_room(rt.alloc(), 1)?;
+    same!(rt; list.join(Request::Enter), Some(0));
+    same!(rt; list.join(Request::Enter), None);
+    same!(rt; oldest(&list), Some((0, Request::Enter)));
+    let mut links: LineOf<Links<ForModes>> = LineOf::with_room(rt.alloc(), 1)?;
+    same!(rt; links.join(Request::Shared), Some(0));
+    same!(rt; links.join(Request::Shared), None);
+    same!(rt; oldest(&links), Some((0, Request::Shared)));
     let list: Line = Line::with_room(rt.alloc(), 0)?;
     let links: LinkedLine<ForPermits> = LinkedLine::with_room(rt.alloc(), 0)?;
     same!(rt; (list.used(), links.used()), (0, 0));
