@@ -193,6 +193,21 @@ fn a_core_prints_its_counts(rt: HostRuntime) -> Result<(), Fail> {
     Ok(())
 }
 
+// Whoever was answered holds its slot until it takes its answer, and waits no more.
+#[test]
+fn a_core_prints_who_waits_and_not_who_was_answered(rt: HostRuntime) -> Result<(), Fail> {
+    let mut core = BarrierCore::with_count(rt.alloc(), 3, 4)?;
+    let (mut one, mut two, mut last) = (Ticket::new(), Ticket::new(), Ticket::new());
+    same!(rt; core.arrive(&mut one, true), Ok(true));
+    same!(rt; core.arrive(&mut two, false), Ok(true));
+    let text = format!(in rt.alloc(); "{core:?}")?;
+    same!(rt; text.as_str(), "BarrierCore { count: 1, waiting: 2 }");
+    same!(rt; core.arrive(&mut last, true), Ok(true));
+    let text = format!(in rt.alloc(); "{core:?}")?;
+    same!(rt; text.as_str(), "BarrierCore { count: 3, waiting: 0 }");
+    Ok(())
+}
+
 const COMMANDS: [Command<BarrierCore>; 11] = [
     CommandOf::Register(0, (), true),
     CommandOf::TryPoll(0),

@@ -117,6 +117,38 @@ fn a_release_wakes_with_the_lock_free(rt: HostRuntime) -> io::Result<()> {
     Ok(())
 }
 
+// So does the wake of the second whom a call answers, whose waker was taken out together with that of the first.
+#[test]
+fn a_release_wakes_the_second_with_the_lock_free(rt: HostRuntime) -> io::Result<()> {
+    let semaphore = Semaphore::with_permits(&rt, rt.alloc(), 0, 2)?;
+    let quick = MockTask::new(&rt)?;
+    let mut slow = Slow::new(&rt)?;
+    let has_begun = AtomicBool::new(false);
+    let mut one = semaphore.acquire_async();
+    let mut two = semaphore.acquire_async();
+    same!(rt; ready(quick.poll(&mut one)), None);
+    holds!(rt; !slow.poll(&mut two));
+    slow.fill()?;
+    let Some(asleep) = slow.task.sleep() else {
+        holds!(rt; false);
+        return Ok(());
+    };
+    let (is_released, is_read) = thread::join(
+        &rt,
+        || {
+            has_begun.store(true, Ordering::SeqCst);
+            semaphore.release_many(2)
+        },
+        || lock_then_read(&rt, &semaphore, &has_begun, &slow.reader),
+    );
+    asleep.end();
+    holds!(rt; is_released && is_read);
+    holds!(rt; quick.is_woken());
+    same!(rt; ready(quick.poll(&mut one)), Some(Ok(())));
+    holds!(rt; slow.poll(&mut two));
+    Ok(())
+}
+
 // The waker of a future that is dropped goes out with the lock free too.
 #[test]
 fn a_future_drops_its_waker_with_the_lock_free(rt: HostRuntime) -> io::Result<()> {
@@ -191,6 +223,37 @@ fn a_ready_poll_drops_the_waker_with_the_lock_free(rt: HostRuntime) -> io::Resul
             has_begun.store(true, Ordering::SeqCst);
             let mut taken = one;
             ready(MockTask::new(&rt).ok()?.poll(&mut taken))
+        },
+        || lock_then_read(&rt, &semaphore, &has_begun, &slow.reader),
+    );
+    asleep.end();
+    same!(rt; told, Some(Ok(())));
+    holds!(rt; is_read);
+    Ok(())
+}
+
+// And the one that is left at the slot of a pager whose answer another task takes.
+#[test]
+fn a_pagers_ready_poll_drops_the_waker_with_the_lock_free(rt: HostRuntime) -> io::Result<()> {
+    let semaphore = Semaphore::with_permits(&rt, rt.alloc(), 0, 1)?;
+    let mut slow = Slow::new(&rt)?;
+    let has_begun = AtomicBool::new(false);
+    let mut pager = Pager::new();
+    same!(rt; semaphore.register_pager(&mut pager, 1, false), Ok(true));
+    holds!(rt; !slow.poll(&mut pager.poll_async()));
+    slow.fill()?;
+    let Some(asleep) = slow.task.sleep() else {
+        holds!(rt; false);
+        return Ok(());
+    };
+    holds!(rt; answer_untold(&semaphore));
+    let (told, is_read) = thread::join(
+        &rt,
+        || {
+            has_begun.store(true, Ordering::SeqCst);
+            let mut taken = pager;
+            let mut polled = taken.poll_async();
+            ready(MockTask::new(&rt).ok()?.poll(&mut polled))
         },
         || lock_then_read(&rt, &semaphore, &has_begun, &slow.reader),
     );

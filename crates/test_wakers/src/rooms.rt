@@ -14,7 +14,7 @@ use std::io;
 use std::sync::Wait;
 use test_asserts::{holds, same};
 
-const ROOMS: [u16; 4] = [1, 20, 32, 300];
+const ROOMS: [u16; 5] = [1, 20, 32, 300, u16::MAX];
 
 // A form whose room can be filled.
 trait Roomy: SyncResult {
@@ -194,6 +194,34 @@ fn every_room_of_a_barrier_is_filled(rt: HostRuntime) -> io::Result<()> {
     for room in ROOMS {
         let barrier = Barrier::with_count(&rt, rt.alloc(), 2, room)?;
         same!(rt; fill(rt.alloc(), &task, &barrier, room)?, Filled::whole(room));
+    }
+    Ok(())
+}
+
+// How many of these tasks are woken.
+fn woken(tasks: &[MockTask]) -> usize {
+    tasks.iter().filter(|task| task.is_woken()).count()
+}
+
+// Each slot has the waker of its own task: of as many tasks as there are slots, each is woken once all are answered, and none
+// before.
+#[test]
+fn every_place_of_a_room_wakes_its_own_task(rt: HostRuntime) -> io::Result<()> {
+    for room in [1, 20, 32, 300u16] {
+        let semaphore = Semaphore::with_permits(&rt, rt.alloc(), 0, room)?;
+        let mut tasks = Vec::with_capacity(rt.alloc(), usize::from(room))?;
+        let mut futures = Vec::with_capacity(rt.alloc(), usize::from(room))?;
+        for number in 0..room {
+            // The first wants one permit, and all others none.
+            let task = MockTask::new(&rt)?;
+            let mut future = semaphore.acquire_many_async(usize::from(number == 0));
+            same!(rt; ready(task.poll(&mut future)), None);
+            tasks.push(task)?;
+            futures.push(future)?;
+        }
+        same!(rt; woken(&tasks), 0);
+        holds!(rt; semaphore.release());
+        same!(rt; woken(&tasks), usize::from(room));
     }
     Ok(())
 }
