@@ -70,7 +70,7 @@ slots_answered value k slots = record {
   owed = owed_after (take k slots.line) slots.owed;
 }
 
--- all who wait are answered with a value
+-- all waiters are answered with a value
 abbrev pub all_slots_answered : ℕ → Slots → Slots
 all_slots_answered value slots = record {
   line = [];

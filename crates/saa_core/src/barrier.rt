@@ -1,7 +1,7 @@
 //! The barrier: as many tasks as its size wait for one another, and pass together.
 //!
 //! The core is held to `specs/Barrier.antt` of `saa_core_spec` by every call, with any tickets that are registered in it.
-//! Those who wait stand in a line; the last arrival of a round never does. That a round stays incomplete while tasks
+//! The waiters stand in a line; the last arrival of a round never does. That a round stays incomplete while tasks
 //! wait is `specs/BarrierStanding.antt`.
 
 ghost use Rattle.std.specs.Prelude.{true, false, ◌≡◌, ℕ, ◌+◌, ◌-◌, ◌<◌, ◌≤◌, ◌==◌, ◌||◌, length, min, replicate, slice_get, IsOk, IfOk, IfSome, OnErr, IsErr};
@@ -66,7 +66,7 @@ impl BarrierCore {
     /// The most tasks that a barrier is for.
     pub const MAX_TASKS: usize = 63;
 
-    /// A barrier for so many tasks, and room for so many slots of those who wait. A number above 63 is cut to it.
+    /// A barrier for so many tasks, and room for so many waiters. A number above 63 is cut to it.
     /// Costs O(`room`).
     ///
     /// The size never changes. At a barrier of size 0 every arrival waits, and none is ever answered; at one of size 1
@@ -87,7 +87,7 @@ impl BarrierCore {
         })
     }
 
-    /// How many arrivals the round still waits for: the size less those who wait, and 0 at a barrier of size 0. Costs O(1).
+    /// How many arrivals the round still waits for: the size less the waiters, and 0 at a barrier of size 0. Costs O(1).
     pub fn count(&self) -> usize
         ensures calls { Calls self.now self.now (barrier_step BarrierCall.Count) (BarrierAnswer.Count result) }
         ensures answer { result ≡ size_of self.now.held - length self.now.slots.line }

@@ -77,7 +77,7 @@ impl Model for GateCore {
 }
 
 impl GateCore {
-    /// A controlled gate, and room for so many slots of those who wait. Costs O(`room`).
+    /// A controlled gate, and room for so many waiters. Costs O(`room`).
     ///
     /// Reserves all the memory that it will ever need; the error comes only where that was refused, and so never for
     /// room 0, which takes none.
@@ -123,7 +123,7 @@ impl GateCore {
         }
     }
 
-    /// Lets all pass who wait at a controlled gate, and answers how many those were. Costs O(how many are answered).
+    /// Lets all waiters of a controlled gate pass, and answers how many those were. Costs O(how many are answered).
     ///
     /// An error says that the gate is sealed or open, and changes nothing.
     pub fn permit(&mut self) -> Result<usize, State>
@@ -138,7 +138,7 @@ impl GateCore {
         self.let_through(PERMITTED)
     }
 
-    /// Rejects all who wait at a controlled gate, and answers how many those were. Costs O(how many are answered).
+    /// Rejects all waiters of a controlled gate, and answers how many those were. Costs O(how many are answered).
     ///
     /// An error says that the gate is sealed or open, and changes nothing.
     pub fn reject(&mut self) -> Result<usize, State>
@@ -153,7 +153,7 @@ impl GateCore {
         self.let_through(REJECTED)
     }
 
-    /// Opens the gate, from every state, and lets all pass who wait. Answers the state before, and how many those were.
+    /// Opens the gate, from every state, and lets all waiters pass. Answers the state before, and how many those were.
     /// Costs O(how many are answered).
     pub fn open(&mut self) -> (State, usize)
         ensures calls { Calls self.old self.new (gate_step GateCall.Open) (GateAnswer.Moved result.0 result.1) }
@@ -166,7 +166,7 @@ impl GateCore {
         self.move_to(State::Open, OPENED)
     }
 
-    /// Seals the gate, from every state, and refuses all who wait. Answers the state before, and how many those were.
+    /// Seals the gate, from every state, and refuses all waiters. Answers the state before, and how many those were.
     /// Costs O(how many are answered).
     pub fn seal(&mut self) -> (State, usize)
         ensures calls { Calls self.old self.new (gate_step GateCall.Seal) (GateAnswer.Moved result.0 result.1) }
@@ -257,7 +257,7 @@ impl GateCore {
 
     /// Drops what a ticket is registered for: it is idle afterwards in every case.
     ///
-    /// A waiter leaves the line, and all others who wait are answered that somebody gave up (`SpuriousFailure`). An answer
+    /// A waiter leaves the line, and all other waiters are answered that somebody gave up (`SpuriousFailure`). An answer
     /// that wasn't consumed is only consumed. A ticket whose slot isn't held in this core changes nothing here.
     /// Costs O(how many wait) for a waiter, and else O(1).
     pub fn cancel(&mut self, ticket: &mut Ticket)
@@ -294,7 +294,7 @@ impl GateCore {
         self.line.next_answered()
     }
 
-    // Answers all who wait at a controlled gate with a value; at another gate only its state is told.
+    // Answers all waiters of a controlled gate with a value; at another gate only its state is told.
     fn let_through(&mut self, value: u8) -> Result<usize, State>
         requires { is_gate_number value ≡ true }
         ensures calls { Calls self.old self.new (λ s. let_through s value (gate_state s.held)) (GateAnswer.Answered result) }
@@ -311,7 +311,7 @@ impl GateCore {
         }
     }
 
-    // The gate is in this state from now on, and all who waited are answered with a value.
+    // The gate is in this state from now on, and all waiters are answered with a value.
     fn move_to(&mut self, state: State, value: u8) -> (State, usize)
         requires { is_gate_number value ≡ true }
         ensures calls { Calls self.old self.new (λ s. moved s state value) (GateAnswer.Moved result.0 result.1) }
@@ -327,7 +327,7 @@ impl GateCore {
         (before, answered)
     }
 
-    // Answers all who wait with a value, and says how many those were.
+    // Answers all waiters with a value, and says how many those were.
     fn answer_all(&mut self, value: u8) -> usize
         requires { is_gate_number value ≡ true }
         ensures count { result ≡ length self.old.slots.line }

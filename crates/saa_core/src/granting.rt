@@ -1,4 +1,4 @@
-//! What the semaphore and the lock share: a line of those who wait, and what is granted to them in the order of asking.
+//! What the semaphore and the lock share: a line of waiters, and what is granted to them in the order of asking.
 //!
 //! The two differ in which request fits, what it takes, and what giving back leaves: that is `Needs`. All else is said
 //! and proved here once: taking at once, registering, settling, giving back, undoing and dropping, each held to the
@@ -23,7 +23,7 @@ use std::marker::Model;
 
 /// What is held by those who were granted: which request fits, what it takes, and what giving back leaves.
 pub trait Needs: Drop {
-    /// How the line keeps the order of those who wait.
+    /// How the line keeps the order of the waiters.
     type Order: Order;
 
     // What contracts see of it.
@@ -105,7 +105,7 @@ impl<N: Needs> Granting<N> {
         self.line.waiting()
     }
 
-    /// Those who wait, as their order keeps them.
+    /// The waiters, as their order keeps them.
     pub fn waiters(&self) -> &N::Order
         ensures { N.Order.waiters result.now ≡ record { line = self.now.slots.line; room = room_of self.now.slots } }
     {
@@ -128,7 +128,7 @@ impl<N: Needs> Granting<N> {
         true
     }
 
-    /// Gives back what a request took, and grants those who wait, oldest first, while they fit.
+    /// Gives back what a request took, and grants the oldest waiters while they fit.
     ///
     /// `false`, and unchanged, where that isn't held. Giving no permits back is true, and changes nothing.
     /// Costs O(how many are granted).
@@ -239,7 +239,7 @@ impl<N: Needs> Granting<N> {
         self.line.next_answered()
     }
 
-    /// This is held from now on, and those who wait are granted, oldest first, while they fit. It isn't a poisoned lock.
+    /// This is held from now on, and the oldest waiters are granted while they fit. It isn't a poisoned lock.
     ///
     /// Costs O(how many are granted).
     pub fn settle_with(&mut self, needs: N)
@@ -252,7 +252,7 @@ impl<N: Needs> Granting<N> {
         settle(&mut self.needs, &mut self.line);
     }
 
-    /// All who wait are answered with a value, and this is held from now on. Costs O(how many wait).
+    /// All waiters are answered with a value, and this is held from now on. Costs O(how many wait).
     pub fn answer_all(&mut self, needs: N, value: u8)
         ensures answered { self.new ≡ record { held = N.held needs; slots = all_slots_answered value self.old.slots } }
         ensures wakes { OwesAnswered self.old.slots self.new.slots }

@@ -3,7 +3,7 @@
 //! A slot is held from `join` until its answer is taken (`take`) or it gives up (`leave`). Whoever is answered is owed a
 //! wake until it is told (`next_answered`). All memory is reserved when a line is made, and no later call takes any or
 //! can fail. What is seen of a line is `specs/Slots.antt`; how its parts agree is `specs/LineParts.antt`. How it keeps the
-//! order of those who wait is left to an `Order`, which requests fit to the cores, and the waking to the threaded forms.
+//! order of the waiters is left to an `Order`, which requests fit to the cores, and the waking to the threaded forms.
 
 pub mod laws;
 pub mod order;
@@ -30,7 +30,7 @@ pub type Line = LineOf<Queue>;
 /// one form.
 pub type LinkedLine<K> = LineOf<Links<K>>;
 
-/// The slots of those who wait, oldest first, and the answers that aren't taken yet.
+/// The slots of the waiters, oldest first, and the answers that aren't taken yet.
 ///
 /// A slot is a number below the room. It is free, or waits, or has an answer.
 #[derive(Drop)]
@@ -128,7 +128,7 @@ impl<O: Order> LineOf<O> {
         self.answer_front(k, 0);
     }
 
-    /// Answers all who wait with `value`: the line is empty, and they hold their slots still, and are owed a wake.
+    /// Answers all waiters with `value`: the line is empty, and they hold their slots still, and are owed a wake.
     /// Costs O(how many wait).
     pub fn answer_all(&mut self, value: u8)
         ensures answered { self.new ≡ all_slots_answered value self.old }
@@ -192,7 +192,7 @@ impl<O: Order> LineOf<O> {
         self.answers.len() as u16
     }
 
-    /// Those who wait, as their order keeps them. Costs O(1).
+    /// The waiters, as their order keeps them. Costs O(1).
     pub fn waiters(&self) -> &O
         ensures { O.waiters result.now ≡ record { line = self.now.line; room = room_of self.now } }
     {

@@ -59,7 +59,7 @@ impl LockCore {
     /// The most owners that share a lock.
     pub const MAX_SHARED_OWNERS: usize = 62;
 
-    /// A free lock, and room for so many slots of those who wait. Costs O(`room`).
+    /// A free lock, and room for so many waiters. Costs O(`room`).
     ///
     /// Reserves all the memory that it will ever need; the error comes only where that was refused, and so never for
     /// room 0, which takes none.
@@ -154,7 +154,7 @@ impl LockCore {
         self.try_take(Request::Shared)
     }
 
-    /// Gives the lock of one owner back, and grants those who wait, oldest first, while they fit.
+    /// Gives the lock of one owner back, and grants the oldest waiters while they fit.
     ///
     /// `false` comes exactly where the lock isn't one owner's alone, and changes nothing. Nobody is asked whose lock it
     /// ends. Costs O(how many are granted). Rule: docs/DEFINITIONS.md, "Settling".
@@ -169,7 +169,7 @@ impl LockCore {
         self.core.take_back(Request::Exclusive)
     }
 
-    /// Gives one share back, and grants those who wait, oldest first, while they fit.
+    /// Gives one share back, and grants the oldest waiters while they fit.
     ///
     /// `false` comes exactly where the lock isn't shared, and changes nothing. Nobody is asked whose share it ends.
     /// Costs O(how many are granted). Rule: docs/DEFINITIONS.md, "Settling".
@@ -184,7 +184,7 @@ impl LockCore {
         self.core.take_back(Request::Shared)
     }
 
-    /// Makes the one owner a sharer, and grants those who wait, oldest first, while they fit beside it.
+    /// Makes the one owner a sharer, and grants the oldest waiters while they fit beside it.
     ///
     /// Nobody has the lock alone in between. `false` comes exactly where the lock isn't one owner's alone, and changes
     /// nothing. Nobody is asked whose lock it lowers. Costs O(how many are granted). Rule: docs/DEFINITIONS.md, "Settling".
@@ -195,6 +195,7 @@ impl LockCore {
         ensures wakes { OwesAnswered self.old.slots self.new.slots }
         ensures settled { IsCoreSettled self.new }
     {
+        // The proof learns that the line is settled, and that nobody waits at a poisoned lock.
         let _waiting = self.core.waiting();
         if self.is_locked() {
             self.core.settle_with(Owners::new(Owner::Shared(1)));
@@ -203,7 +204,7 @@ impl LockCore {
         false
     }
 
-    /// Poisons the lock that one owner has alone: all who wait are answered that it is poisoned, wait modes too.
+    /// Poisons the lock that one owner has alone: all waiters are answered that it is poisoned, wait modes too.
     ///
     /// `false` comes exactly where the lock isn't one owner's alone, and changes nothing. Answers that were there before
     /// stay as they are. Costs O(how many wait).
@@ -216,6 +217,7 @@ impl LockCore {
         ensures wakes { OwesAnswered self.old.slots self.new.slots }
         ensures settled { IsCoreSettled self.new }
     {
+        // The proof learns that the line is settled, and that nobody waits at a poisoned lock.
         let _waiting = self.core.waiting();
         if !self.is_locked() {
             return false;
@@ -235,6 +237,7 @@ impl LockCore {
         ensures wakes { OwesAnswered self.old.slots self.new.slots }
         ensures settled { IsCoreSettled self.new }
     {
+        // The proof learns that the line is settled, and that nobody waits at a poisoned lock.
         let _waiting = self.core.waiting();
         if !self.is_poisoned() {
             return false;
@@ -558,6 +561,7 @@ impl Primitive for LockCore {
     ghost stands = { LockStands };
 
     fn stands(&self) {
+        // The proof learns that the line is settled, and that nobody waits at a poisoned lock.
         let _waiting = self.core.waiting();
         let _owner = self.core.needs().owner();
     }

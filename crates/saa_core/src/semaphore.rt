@@ -74,7 +74,7 @@ impl SemaphoreCoreOf<63> {
 }
 
 impl<const MAX: usize> SemaphoreCoreOf<MAX> {
-    /// A semaphore with all its permits available, and room for so many slots of those who wait. Costs O(`room`).
+    /// A semaphore with all its permits available, and room for so many waiters. Costs O(`room`).
     ///
     /// Reserves all the memory that it will ever need; the error comes only where that was refused, and so never for
     /// room 0, which takes none.
@@ -177,7 +177,7 @@ impl<const MAX: usize> SemaphoreCoreOf<MAX> {
         self.release_many(1)
     }
 
-    /// Gives `count` permits back, and grants those who wait, oldest first, while they fit.
+    /// Gives `count` permits back, and grants the oldest waiters while they fit.
     ///
     /// `false` comes exactly where fewer permits are out, and changes nothing. 0 permits are given back always, and
     /// change nothing. Costs O(how many are granted). Rule: docs/DEFINITIONS.md, "Settling".

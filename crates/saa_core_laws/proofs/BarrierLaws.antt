@@ -40,7 +40,7 @@ pub IsRight-barrier_step : (most names : ℕ) (call : BarrierCall) (s : Object) 
     → IsRight (IsFineBarrier most) names (barrier_step call s).state
 IsRight-barrier_step most names Count s right = right
 
--- the last arrival of a round lets all pass who wait
+-- the last arrival of a round lets all waiters pass
 pub IsRightAnswer-arrived : (most names : ℕ) (s : Object) (held : Held) (line : List Waiter) (request : Request) (answer : After ℕ)
     → IsFineBarrier most held line
     → answer_in s held request ≡ Some answer

@@ -33,7 +33,7 @@ IsFineGate-nobody (OfSemaphore bound out) line fine = fine
 IsFineGate-nobody (OfLock lock) line fine = fine
 IsFineGate-nobody (OfBarrier size) line fine = fine
 
--- all who wait are answered
+-- all waiters are answered
 pub IsRight-all_let : (names value : ℕ) (s : Object) → IsRight IsFineGate names s → IsRight IsFineGate names (all_answered value s)
 IsRight-all_let names value s right = record {
   kept = IsKept-all_answered names value s right.kept;

@@ -87,7 +87,7 @@ pub IsKept-settled : (names : ℕ) (s : Object) → IsKept names s → IsKept na
 unfolding settled
 IsKept-settled names s kept = IsKept-granted names s (fitting_front s.held s.line) kept
 
--- all who wait are answered
+-- all waiters are answered
 pub IsKept-all_answered : (names value : ℕ) (s : Object) → IsKept names s → IsKept names (all_answered value s)
 IsKept-all_answered names value s kept = record {
   in_step = IsInStep-all_answered value s.line s.book kept.in_step;
@@ -106,7 +106,7 @@ IsKept-joined names s name request is_sync within before not_full kept =
       size = length-set s.book name (Waiting request is_sync) ∙ kept.size;
     }
 
--- after all who wait are answered nobody waits
+-- after all waiters are answered nobody waits
 pub is_waiting-all_answered : (names value : ℕ) (s : Object) (name : ℕ) → IsKept names s
     → is_waiting (entry_at (all_answered value s).book name) ≡ false
 is_waiting-all_answered names value s name kept =

@@ -135,7 +135,7 @@ IsRight-downgraded_of names s true right = record {
   kind = Grants-settled IsFineLock (OfLock Free) names KeepsFine-lock (record s { held = OfLock (Shared 1) }) (omega arith, omega arith) right.kind.asks (λ poison. cc);
 }
 
--- poison answers all who wait
+-- poison answers all waiters
 pub IsRight-poisoned_of : (names : ℕ) (s : Object) (is_own : Bool) → IsRight (Grants IsFineLock (OfLock Free)) names s
     → IsRight (Grants IsFineLock (OfLock Free)) names (poisoned_of s is_own).state
 IsRight-poisoned_of names s false right = right

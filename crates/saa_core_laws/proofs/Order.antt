@@ -173,7 +173,7 @@ IsInStep-granted value (suc k) [] book step = step
 IsInStep-granted value (suc k) (waiter ∷ line) book step =
     IsInStep-granted value k line _ (IsInStep-answered value waiter line book step)
 
--- all who wait are answered
+-- all waiters are answered
 pub IsInStep-all_answered : (value : ℕ) (line : List Waiter) (book : List Entry) → IsInStep line book → IsInStep [] (answered_in value line book)
 IsInStep-all_answered value [] book step = step
 IsInStep-all_answered value (waiter ∷ line) book step =

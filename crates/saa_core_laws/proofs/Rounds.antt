@@ -1,4 +1,4 @@
--- The leaders of a barrier: every step keeps the balance of arrivals, leaders, those who gave up and those who wait.
+-- The leaders of a barrier: every step keeps the balance of arrivals, leaders, those who gave up and the waiters.
 use Rattle.std.proofs.Common.{◌≡◌, ℕ, ◌+◌, ◌-◌, ◌*◌, ◌/◌, ◌<◌, Bool, true, false, ◌&&◌, eqb, cond, inl, inr, List, [], ◌∷◌, length, set, Option, Some, None, refl, sym, ap, ◌∙◌, arith, All, length-append}
 use Rattle.std.specs.Prelude.{Result, Ok}
 use Rattle.std.specs.List.{AllByRecursion, count_by}
@@ -39,7 +39,7 @@ use Rattle.saa_core_laws.proofs.Reading.{is_idle-emptied}
 use Rattle.saa_core_laws.proofs.BarrierLaws.{IsFineBarrier, KeepsRight-barrier, barrier-incomplete}
 use Rattle.saa_core_spec.proofs.Counts.{length-without}
 
--- What a step balances: those who arrive and those who waited are the leaders' rounds, those who wait, and those who gave up
+-- What a step balances: those who arrive and the waiters are the leaders' rounds, the waiters, and those who gave up
 abbrev pub Balances : (size waited waits : ℕ) (is_new is_full is_gone : Bool) → Type 0
 Balances size waited waits is_new is_full is_gone = one_if is_new + waited ≡ size * one_if is_full + waits + one_if is_gone
 
@@ -220,7 +220,7 @@ leaders-counted size room names commands some within =
     leaders-of size (count_by is_arrival (barrier_run size room names commands)) (count_by is_given_up (barrier_run size room names commands))
     (count_by names_leader (barrier_run size room names commands)) _ fewer balance
 
--- a name that waits is answered when all who wait are
+-- a name that waits is answered when all waiters are
 pub passes : (names value : ℕ) (s : Object) (name : ℕ) (request : Request) (is_sync : Bool) → IsKept names s → entry_at s.book name ≡ Waiting request is_sync
     → entry_at (all_answered value s).book name ≡ Answered value request is_sync true
 passes names value s name request is_sync kept at = elim (entry_at-answered_in value s.line s.book name) [

@@ -299,7 +299,7 @@ pub at_most_62_owners_share : LockTells usual_room (
 unfolding settled
 at_most_62_owners_share = refl
 
--- An owner becomes a sharer: those who wait for a share in front are granted beside it, and nobody gets in between. A
+-- An owner becomes a sharer: the waiters for a share in front are granted beside it, and nobody gets in between. A
 -- second downgrade finds no owner. The owner that waits goes first once both shares are back, and the share behind it last.
 pub an_owner_becomes_a_sharer : LockTells usual_room (
     (Call TryLock, taken)

@@ -12,7 +12,7 @@ pub record IsSettledSemaphore (bound : ℕ) (s : Object) : Type 0 where
   pub stands : StandsSettled s.held s.line
 
 -- a lock in any state, with any line and any book, where nobody in front fits, and nobody waits if it is poisoned:
--- a cleared poison would leave those who wait at a free lock
+-- a cleared poison would leave the waiters at a free lock
 pub record IsSettledLock (s : Object) : Type 0 where
   pub kind : (lock : LockState) × (s.held ≡ OfLock lock)
   pub stands : StandsSettled s.held s.line

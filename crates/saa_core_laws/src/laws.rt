@@ -135,7 +135,7 @@ pub fn nobody_waits_for_nothing()
         ¬ (s.held ≡ OfGate Controlled) → NobodyWaits s }
 {}
 
-/// A semaphore and a lock answer those who wait in the order of the line.
+/// A semaphore and a lock answer the waiters in the order of the line.
 ///
 /// After every run, and at every next command: where a waiter is answered (granted, or told that the lock is poisoned),
 /// nobody who stood before it in the line still waits.

@@ -41,7 +41,7 @@ gate_answers s Controlled = None
 gate_answers s Sealed = Some (record { state = s; reply = sealed_value })
 gate_answers s Open = Some (record { state = s; reply = opened_value })
 
--- the last arrival of a round lets all pass who wait, and is the leader
+-- the last arrival of a round lets all waiters pass, and is the leader
 abbrev pub barrier_answers : Object → ℕ → Option (After ℕ)
 barrier_answers s size =
     if length s.line + 1 == size

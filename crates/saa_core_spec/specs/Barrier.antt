@@ -20,7 +20,7 @@ size_of (OfGate gate) = 0
 abbrev pub arrive_request : Unit {0} → Request
 arrive_request ask = Arrive
 
--- the call of a barrier: its size less those who wait, which is 0 for a barrier of size 0
+-- the call of a barrier: its size less the waiters, which is 0 for a barrier of size 0
 abbrev pub barrier_step : BarrierCall → Object → After BarrierAnswer
 barrier_step Count s = record { state = s; reply = SaysCount (size_of s.held - length s.line) }
 

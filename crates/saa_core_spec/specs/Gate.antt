@@ -24,13 +24,13 @@ gate_state (OfBarrier size) = Controlled
 abbrev pub enter_request : Unit {0} → Request
 enter_request ask = Enter
 
--- a controlled gate answers all who wait; another gate only tells its state
+-- a controlled gate answers all waiters; another gate only tells its state
 abbrev pub let_through : Object → ℕ → State → After GateAnswer
 let_through s value Controlled = record { state = all_answered value s; reply = Answered (Ok (length s.line)) }
 let_through s value Sealed = record { state = s; reply = Answered (Err Sealed) }
 let_through s value Open = record { state = s; reply = Answered (Err Open) }
 
--- a gate goes to a state from every state, and answers all who wait
+-- a gate goes to a state from every state, and answers all waiters
 abbrev pub moved : Object → State → ℕ → After GateAnswer
 moved s to value = record {
   state = all_answered value (record s { held = OfGate to });

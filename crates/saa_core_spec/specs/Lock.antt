@@ -67,7 +67,7 @@ abbrev pub downgraded_of : Object → Bool → After Bool
 downgraded_of s true = record { state = settled (record s { held = OfLock (Shared 1) }); reply = true }
 downgraded_of s false = record { state = s; reply = false }
 
--- poison comes only to the lock of one owner: all who wait are answered Poisoned, wait modes too
+-- poison comes only to the lock of one owner: all waiters are answered Poisoned, wait modes too
 abbrev pub poisoned_of : Object → Bool → After Bool
 poisoned_of s true = record { state = all_answered poisoned_value (record s { held = OfLock Poisoned }); reply = true }
 poisoned_of s false = record { state = s; reply = false }

@@ -63,15 +63,17 @@ abbrev pub is_nobody : List Waiter → Bool
 is_nobody [] = true
 is_nobody (waiter ∷ waiters) = false
 
--- how often a name stands in the line
-abbrev pub times : ℕ → List Waiter → ℕ
-times name [] = 0
-times name (waiter ∷ waiters) = one_if (waiter.0 == name) + times name waiters
+-- lines of any waiters: each is a name and what else is known of it
+module _ {A : Type 0} where
+  -- how often a name stands in the line
+  abbrev pub times : ℕ → List (ℕ × A) → ℕ
+  times name [] = 0
+  times name (waiter ∷ waiters) = one_if (waiter.0 == name) + times name waiters
 
--- the line without a name
-abbrev pub without : ℕ → List Waiter → List Waiter
-without name [] = []
-without name (waiter ∷ waiters) = if waiter.0 == name then without name waiters else (waiter ∷ without name waiters)
+  -- the line without a name
+  abbrev pub without : ℕ → List (ℕ × A) → List (ℕ × A)
+  without name [] = []
+  without name (waiter ∷ waiters) = if waiter.0 == name then without name waiters else (waiter ∷ without name waiters)
 
 -- what a step of the object leaves, and what it answers
 pub record After (A : Type 0) : Type 0 where

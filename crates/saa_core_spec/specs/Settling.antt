@@ -1,4 +1,4 @@
--- Answering: the fitting front of a line, settling, and answering all who wait.
+-- Answering: the fitting front of a line, settling, and answering all waiters.
 use Rattle.std.specs.Prelude.{◌≡◌, ℕ, suc, true, List, [], ◌∷◌, take, drop, if◌then◌else◌}
 use Rattle.saa_core_spec.specs.Held.{Held, fits, plus}
 use Rattle.saa_core_spec.specs.Object.{Object, Entry, Idle, Waiting, Answered, Waiter, entry_at}
@@ -44,6 +44,6 @@ settled s = granted (fitting_front s.held s.line) s
 abbrev pub IsSettled : Object → Type 0
 IsSettled s = fitting_front s.held s.line ≡ 0
 
--- all who wait are answered with a value, and the line is empty
+-- all waiters are answered with a value, and the line is empty
 abbrev pub all_answered : ℕ → Object → Object
 all_answered value s = record s { line = []; book = answered_in value s.line s.book }

@@ -19,7 +19,7 @@ pub enum State {
 /// Why a task didn't pass a gate.
 #[derive(Clone, Copy, Debug, Eq, Ord, PartialEq, PartialOrd)]
 pub enum Error {
-    /// The gate rejected all who waited. Its number is 4.
+    /// The gate rejected all waiters. Its number is 4.
     Rejected,
     /// The gate is or was sealed. Its number is 8.
     Sealed,
@@ -40,13 +40,13 @@ pub enum GateCall {
     State,
     /// Makes a sealed or open gate controlled.
     Reset,
-    /// Lets all pass who wait at a controlled gate.
+    /// Lets all waiters of a controlled gate pass.
     Permit,
-    /// Rejects all who wait at a controlled gate.
+    /// Rejects all waiters of a controlled gate.
     Reject,
-    /// Opens the gate, and lets all pass who wait.
+    /// Opens the gate, and lets all waiters pass.
     Open,
-    /// Seals the gate, and refuses all who wait.
+    /// Seals the gate, and refuses all waiters.
     Seal,
 }
 

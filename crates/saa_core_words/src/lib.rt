@@ -1,4 +1,4 @@
-//! Words: what is held, who waits and what is answered, in numbers, and the links between those who wait.
+//! Words: what is held, who waits and what is answered, in numbers, and the links between the waiters.
 //!
 //! A main word keeps the count of what is held, a flag, poison, and the newest who waits. Each place has a line word, which
 //! keeps what it asks and its two neighbours, and an answer word. `docs/WORDS.md` draws them.

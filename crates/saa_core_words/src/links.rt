@@ -14,7 +14,7 @@ use saa_core_spec::request::Request;
 use std::alloc::{AllocError, Global};
 use std::marker::{Model, PhantomData};
 
-/// Those who wait, oldest first, each at a place below the room, with what it asks.
+/// The waiters, oldest first, each at a place below the room, with what it asks.
 #[derive(Drop)]
 pub struct Links<K: Requests> {
     words: Vec<u64>,

@@ -1,4 +1,4 @@
--- What the answers of a semaphore mean to its pagers, to those who wait, and to its futures; a future without an answer was
+-- What the answers of a semaphore mean to its pagers, to the waiters, and to its futures; a future without an answer was
 -- refused its registration.
 use Rattle.std.specs.Prelude.{ℕ, Bool, true, false, Option, Some, None, Result, Ok, Err}
 use Rattle.saa_core_spec.specs.declared.polling.Error.{Error}

@@ -43,7 +43,7 @@ impl<R: Wait + Drop> Barrier<R> {
     /// The most tasks that a barrier is for.
     pub const MAX_TASKS: usize = BarrierCore::MAX_TASKS;
 
-    /// A barrier for so many tasks, and room for so many slots of those who wait. A number above [`Self::MAX_TASKS`] is
+    /// A barrier for so many tasks, and room for so many waiters. A number above [`Self::MAX_TASKS`] is
     /// cut to it. Costs O(`room`).
     ///
     /// A round of `count` tasks needs room for one fewer, and where its tasks go on to the next round at once, for as many
@@ -56,7 +56,7 @@ impl<R: Wait + Drop> Barrier<R> {
         Ok(Self::on_shell(Shell::new(rt, alloc, core, room, PATIENCE)?))
     }
 
-    /// The barrier on a shell that is handed in, for who wants another patience of those who wait, or has a core in use.
+    /// The barrier on a shell that is handed in, for who wants another patience of its waiters, or has a core in use.
     ///
     /// Its room and its patience are the shell's. Takes no memory.
     pub fn on_shell(shell: Shell<R, BarrierCore>) -> Self
@@ -72,7 +72,7 @@ impl<R: Wait + Drop> Barrier<R> {
         &self.shell
     }
 
-    /// How many arrivals the round still waits for: the size less those who wait, and 0 at a barrier of size 0. Every
+    /// How many arrivals the round still waits for: the size less the waiters, and 0 at a barrier of size 0. Every
     /// ordering acts as the sequentially consistent one; none panics.
     pub fn count(&self, _mo: Ordering) -> usize
         ensures { result ≤ max_tasks }
@@ -210,7 +210,7 @@ pub(crate) fn is_leader(value: u8) -> bool
     value == LEADER
 }
 
-// How many arrivals are missing, of the core that is lent.
+// How many arrivals are missing, of the core under the mutex.
 fn count_missing(core: &BarrierCore) -> usize
     ensures number { result ≡ size_of core.now.held - length core.now.slots.line }
     ensures within { result ≤ max_tasks }

@@ -44,7 +44,7 @@ pub struct Gate<R: Wait + Drop> {
 }
 
 impl<R: Wait + Drop> Gate<R> {
-    /// A controlled gate, and room for so many slots of those who wait. Costs O(`room`).
+    /// A controlled gate, and room for so many waiters. Costs O(`room`).
     ///
     /// Reserves all the memory that it will ever need; the error comes only where that was refused, and so never for
     /// room 0, which takes none.
@@ -55,7 +55,7 @@ impl<R: Wait + Drop> Gate<R> {
         Ok(Self::on_shell(Shell::new(rt, alloc, core, room, PATIENCE)?))
     }
 
-    /// The gate on a shell that is handed in, for who wants another patience of those who wait, or has a core in use.
+    /// The gate on a shell that is handed in, for who wants another patience of its waiters, or has a core in use.
     ///
     /// Its room and its patience are the shell's. Takes no memory.
     pub fn on_shell(shell: Shell<R, GateCore>) -> Self
@@ -85,7 +85,7 @@ impl<R: Wait + Drop> Gate<R> {
         control(&mut self.shell.lock().core)
     }
 
-    /// Lets all pass who wait at a controlled gate, wakes exactly those, and answers how many they were.
+    /// Lets all waiters of a controlled gate pass, wakes exactly those, and answers how many they were.
     ///
     /// An error says that the gate is sealed or open, and changes nothing. Each who passes costs a ring at its seat, and
     /// each second one of them a short lock more.
@@ -95,7 +95,7 @@ impl<R: Wait + Drop> Gate<R> {
         self.shell.step(let_pass)
     }
 
-    /// Rejects all who wait at a controlled gate, wakes exactly those, and answers how many they were.
+    /// Rejects all waiters of a controlled gate, wakes exactly those, and answers how many they were.
     ///
     /// An error says that the gate is sealed or open, and changes nothing. Costs what [`Self::permit`] does.
     pub fn reject(&self) -> Result<usize, State>
@@ -104,14 +104,14 @@ impl<R: Wait + Drop> Gate<R> {
         self.shell.step(turn_away)
     }
 
-    /// Opens the gate, from every state, lets all pass who wait, and wakes exactly those.
+    /// Opens the gate, from every state, lets all waiters pass, and wakes exactly those.
     ///
     /// Answers the state before, and how many waited. Costs what [`Self::permit`] does.
     pub fn open(&self) -> (State, usize) {
         self.shell.step(open_up)
     }
 
-    /// Seals the gate, from every state, refuses all who wait, and wakes exactly those.
+    /// Seals the gate, from every state, refuses all waiters, and wakes exactly those.
     ///
     /// Answers the state before, and how many waited. Costs what [`Self::permit`] does.
     pub fn seal(&self) -> (State, usize) {
@@ -120,7 +120,7 @@ impl<R: Wait + Drop> Gate<R> {
 
     /// Passes the gate, and waits in the line where it is controlled.
     ///
-    /// `Ok(Ok(state))`: it passed, permitted at a controlled gate or at an open one. `Ok(Err(Rejected))`: all who waited
+    /// `Ok(Ok(state))`: it passed, permitted at a controlled gate or at an open one. `Ok(Err(Rejected))`: all waiters
     /// were rejected. `Ok(Err(Sealed))`: the gate is sealed, or was while this waited. `Ok(Err(SpuriousFailure))`:
     /// somebody who waited too gave up, so all others may enter again. No other error comes. `Full`: it would have to
     /// wait, and as many slots are held as there is room; nothing is changed. Nothing stays registered in any case.
@@ -241,7 +241,7 @@ impl<R: Wait + Drop> SyncResult for Gate<R> {
         }
     }
 
-    /// A waiter leaves the line, and all others who wait are answered that somebody gave up (`SpuriousFailure`), and
+    /// A waiter leaves the line, and all other waiters are answered that somebody gave up (`SpuriousFailure`), and
     /// woken. An answer that wasn't consumed is only consumed. Costs O(how many wait) for a waiter, and a wake for each
     /// who is answered.
     fn cancel(&self, ticket: &mut Ticket) {
@@ -277,14 +277,14 @@ fn read_value(value: u8) -> Result<State, Error>
     }
 }
 
-// The state, of the core that is lent.
+// The state, of the core under the mutex.
 fn tell_state(core: &GateCore) -> State
     ensures { result ≡ gate_state core.now.held }
 {
     core.state()
 }
 
-// The reset of the core that is lent.
+// The reset of the core under the mutex.
 fn control(core: &mut GateCore) -> Option<State>
     ensures calls { Calls core.old core.new (gate_step GateCall.Reset) (GateAnswer.Reset result) }
     ensures answer { IsNone result ↔ (gate_state core.old.held ≡ Controlled) }
@@ -294,7 +294,7 @@ fn control(core: &mut GateCore) -> Option<State>
     core.reset()
 }
 
-// The permit, on the core that is lent.
+// The permit, on the core under the mutex.
 fn let_pass(core: &mut GateCore) -> Result<usize, State>
     ensures calls { Calls core.old core.new (gate_step GateCall.Permit) (GateAnswer.Answered result) }
     ensures answer { IsOk result ↔ (gate_state core.old.held ≡ Controlled) }
@@ -306,7 +306,7 @@ fn let_pass(core: &mut GateCore) -> Result<usize, State>
     core.permit()
 }
 
-// The rejection, on the core that is lent.
+// The rejection, on the core under the mutex.
 fn turn_away(core: &mut GateCore) -> Result<usize, State>
     ensures calls { Calls core.old core.new (gate_step GateCall.Reject) (GateAnswer.Answered result) }
     ensures answer { IsOk result ↔ (gate_state core.old.held ≡ Controlled) }
@@ -318,7 +318,7 @@ fn turn_away(core: &mut GateCore) -> Result<usize, State>
     core.reject()
 }
 
-// The opening of the core that is lent.
+// The opening of the core under the mutex.
 fn open_up(core: &mut GateCore) -> (State, usize)
     ensures calls { Calls core.old core.new (gate_step GateCall.Open) (GateAnswer.Moved result.0 result.1) }
     ensures before { result.0 ≡ gate_state core.old.held }
@@ -328,7 +328,7 @@ fn open_up(core: &mut GateCore) -> (State, usize)
     core.open()
 }
 
-// The sealing of the core that is lent.
+// The sealing of the core under the mutex.
 fn seal_up(core: &mut GateCore) -> (State, usize)
     ensures calls { Calls core.old core.new (gate_step GateCall.Seal) (GateAnswer.Moved result.0 result.1) }
     ensures before { result.0 ≡ gate_state core.old.held }

@@ -21,7 +21,7 @@ pub(crate) struct Guarded<R: Wait + Drop, T> {
 }
 
 impl<R: Wait + Drop, T> Guarded<R, T> {
-    // A value that nobody uses yet, and room for so many who wait for it.
+    // A value that nobody uses yet, and room for so many waiters.
     pub(crate) fn new(rt: R, alloc: Global, value: T, room: u16) -> Result<Self, AllocError>
     where
         T: Drop,

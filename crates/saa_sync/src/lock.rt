@@ -46,7 +46,7 @@ impl<R: Wait + Drop> Lock<R> {
     /// The most owners that share a lock.
     pub const MAX_SHARED_OWNERS: usize = LockCore::MAX_SHARED_OWNERS;
 
-    /// A free lock, and room for so many slots of those who wait. Costs O(`room`).
+    /// A free lock, and room for so many waiters. Costs O(`room`).
     ///
     /// Reserves all the memory that it will ever need; the error comes only where that was refused, and so never for
     /// room 0, which takes none.
@@ -57,7 +57,7 @@ impl<R: Wait + Drop> Lock<R> {
         Ok(Self::on_shell(Shell::new(rt, alloc, core, room, PATIENCE)?))
     }
 
-    /// The lock on a shell that is handed in, for who wants another patience of those who wait, or has a core in use.
+    /// The lock on a shell that is handed in, for who wants another patience of its waiters, or has a core in use.
     ///
     /// Its room and its patience are the shell's. Takes no memory.
     pub fn on_shell(shell: Shell<R, LockCore>) -> Self
@@ -109,7 +109,7 @@ impl<R: Wait + Drop> Lock<R> {
         share_now(&mut self.shell.lock().core)
     }
 
-    /// Gives the lock of one owner back, grants those who wait, oldest first, while they fit, and wakes exactly those.
+    /// Gives the lock of one owner back, grants the oldest waiters while they fit, and wakes exactly those.
     ///
     /// `false` comes exactly where the lock isn't one owner's alone, and changes nothing. Nobody is asked whose lock it
     /// ends. Each who is granted costs a ring at its seat, and each second one of them a short lock more.
@@ -118,7 +118,7 @@ impl<R: Wait + Drop> Lock<R> {
         self.shell.step(end_lock)
     }
 
-    /// Gives one share back, grants those who wait, oldest first, while they fit, and wakes exactly those.
+    /// Gives one share back, grants the oldest waiters while they fit, and wakes exactly those.
     ///
     /// `false` comes exactly where the lock isn't shared, and changes nothing. Nobody is asked whose share it ends.
     #[inline(always)]
@@ -126,7 +126,7 @@ impl<R: Wait + Drop> Lock<R> {
         self.shell.step(end_share)
     }
 
-    /// Makes the one owner a sharer, grants those who wait, oldest first, while they fit beside it, and wakes exactly those.
+    /// Makes the one owner a sharer, grants the oldest waiters while they fit beside it, and wakes exactly those.
     ///
     /// Nobody has the lock alone in between. `false` comes exactly where the lock isn't one owner's alone, and changes
     /// nothing. Nobody is asked whose lock it lowers.
@@ -134,7 +134,7 @@ impl<R: Wait + Drop> Lock<R> {
         self.shell.step(lower)
     }
 
-    /// Poisons the lock that one owner has alone: all who wait are answered that it is poisoned, and woken.
+    /// Poisons the lock that one owner has alone: all waiters are answered that it is poisoned, and woken.
     ///
     /// `false` comes exactly where the lock isn't one owner's alone, and changes nothing. Answers that were there before
     /// stay as they are.
@@ -321,35 +321,35 @@ pub(crate) fn is_granted(value: u8) -> bool
     value == 0
 }
 
-// Whether the lock is free, of the core that is lent.
+// Whether the lock is free, of the core under the mutex.
 fn tell_free(core: &LockCore) -> bool
     ensures { result ≡ is_free core.now.held }
 {
     core.is_free()
 }
 
-// Whether one owner has the lock alone, of the core that is lent.
+// Whether one owner has the lock alone, of the core under the mutex.
 fn tell_locked(core: &LockCore) -> bool
     ensures { result ≡ is_locked core.now.held }
 {
     core.is_locked()
 }
 
-// Whether the lock is shared, of the core that is lent.
+// Whether the lock is shared, of the core under the mutex.
 fn tell_shared(core: &LockCore) -> bool
     ensures { result ≡ is_shared core.now.held }
 {
     core.is_shared()
 }
 
-// Whether the lock is poisoned, of the core that is lent.
+// Whether the lock is poisoned, of the core under the mutex.
 fn tell_poisoned(core: &LockCore) -> bool
     ensures { result ≡ is_poisoned core.now.held }
 {
     core.is_poisoned()
 }
 
-// A try for one owner alone, on the core that is lent.
+// A try for one owner alone, on the core under the mutex.
 fn lock_now(core: &mut LockCore) -> Result<(), TryLockError>
     ensures calls { Calls core.old core.new (λ s. lock_tried s AskExclusive) result }
     ensures wakes { OwesAnswered core.old.slots core.new.slots }
@@ -357,7 +357,7 @@ fn lock_now(core: &mut LockCore) -> Result<(), TryLockError>
     core.try_lock()
 }
 
-// A try for a share, on the core that is lent.
+// A try for a share, on the core under the mutex.
 fn share_now(core: &mut LockCore) -> Result<(), TryLockError>
     ensures calls { Calls core.old core.new (λ s. lock_tried s AskShared) result }
     ensures wakes { OwesAnswered core.old.slots core.new.slots }
@@ -365,7 +365,7 @@ fn share_now(core: &mut LockCore) -> Result<(), TryLockError>
     core.try_share()
 }
 
-// The release of one owner, on the core that is lent.
+// The release of one owner, on the core under the mutex.
 fn end_lock(core: &mut LockCore) -> bool
     ensures calls { Calls core.old core.new (λ s. given_back s AskExclusive) result }
     ensures answer { result ≡ is_locked core.old.held }
@@ -375,7 +375,7 @@ fn end_lock(core: &mut LockCore) -> bool
     core.release_lock()
 }
 
-// The release of a share, on the core that is lent.
+// The release of a share, on the core under the mutex.
 fn end_share(core: &mut LockCore) -> bool
     ensures calls { Calls core.old core.new (λ s. given_back s AskShared) result }
     ensures answer { result ≡ is_shared core.old.held }
@@ -385,7 +385,7 @@ fn end_share(core: &mut LockCore) -> bool
     core.release_share()
 }
 
-// A downgrade, on the core that is lent.
+// A downgrade, on the core under the mutex.
 fn lower(core: &mut LockCore) -> bool
     ensures calls { Calls core.old core.new (λ s. downgraded_of s (is_locked s.held)) result }
     ensures answer { result ≡ is_locked core.old.held }
@@ -395,7 +395,7 @@ fn lower(core: &mut LockCore) -> bool
     core.downgrade()
 }
 
-// Poison, on the core that is lent.
+// Poison, on the core under the mutex.
 fn poison(core: &mut LockCore) -> bool
     ensures calls { Calls core.old core.new (λ s. poisoned_of s (is_locked s.held)) result }
     ensures answer { result ≡ is_locked core.old.held }
@@ -405,7 +405,7 @@ fn poison(core: &mut LockCore) -> bool
     core.poison_lock()
 }
 
-// The end of poison, on the core that is lent.
+// The end of poison, on the core under the mutex.
 fn clear(core: &mut LockCore) -> bool
     ensures calls { Calls core.old core.new (λ s. cleared_of s (is_poisoned s.held)) result }
     ensures answer { result ≡ is_poisoned core.old.held }

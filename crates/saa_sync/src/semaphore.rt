@@ -44,7 +44,7 @@ impl<R: Wait + Drop> Semaphore<R> {
     /// The most permits of a semaphore.
     pub const MAX_PERMITS: usize = SemaphoreCore::MAX_PERMITS;
 
-    /// A semaphore with all its permits available, and room for so many slots of those who wait. Costs O(`room`).
+    /// A semaphore with all its permits available, and room for so many waiters. Costs O(`room`).
     ///
     /// Reserves all the memory that it will ever need; the error comes only where that was refused, and so never for
     /// room 0, which takes none.
@@ -66,7 +66,7 @@ impl<R: Wait + Drop> Semaphore<R> {
         Ok(Self::on_shell(Shell::new(rt, alloc, core, room, PATIENCE)?))
     }
 
-    /// The semaphore on a shell that is handed in, for who wants another patience of those who wait, or has a core in use.
+    /// The semaphore on a shell that is handed in, for who wants another patience of its waiters, or has a core in use.
     ///
     /// Its room and its patience are the shell's. Takes no memory.
     pub fn on_shell(shell: Shell<R, SemaphoreCore>) -> Self
@@ -119,7 +119,7 @@ impl<R: Wait + Drop> Semaphore<R> {
         self.release_many(1)
     }
 
-    /// Gives `count` permits back, grants those who wait, oldest first, while they fit, and wakes exactly those.
+    /// Gives `count` permits back, grants the oldest waiters while they fit, and wakes exactly those.
     ///
     /// `false` comes exactly where fewer permits are out, and changes nothing. 0 permits are given back always, and
     /// change nothing. Each who is granted costs a ring at its seat, which is a system call only where it sleeps, and
@@ -328,21 +328,21 @@ fn is_too_many(count: usize) -> bool
     count > SemaphoreCore::MAX_PERMITS
 }
 
-// Whether a permit is available, of the core that is lent.
+// Whether a permit is available, of the core under the mutex.
 fn tell_open(core: &SemaphoreCore) -> bool
     ensures { result ≡ nat_lt (out_of core.now.held) (bound_of core.now.held) }
 {
     core.is_open()
 }
 
-// Whether no permit is available, of the core that is lent.
+// Whether no permit is available, of the core under the mutex.
 fn tell_closed(core: &SemaphoreCore) -> bool
     ensures { result ≡ (out_of core.now.held == bound_of core.now.held) }
 {
     core.is_closed()
 }
 
-// How many permits are available, of the core that is lent.
+// How many permits are available, of the core under the mutex.
 fn count_available(core: &SemaphoreCore) -> usize
     ensures number { result ≡ available core.now.held }
     ensures within { result ≤ 63 }
@@ -350,7 +350,7 @@ fn count_available(core: &SemaphoreCore) -> usize
     core.available_permits()
 }
 
-// A try on the core that is lent.
+// A try on the core under the mutex.
 fn take_now(core: &mut SemaphoreCore, count: usize) -> bool
     ensures calls { Calls core.old core.new (λ s. tried s (Permits count)) result }
     ensures answer { IsTrue result ↔ ((core.old.slots.line ≡ []) × (count ≤ available core.old.held)) }
@@ -361,7 +361,7 @@ fn take_now(core: &mut SemaphoreCore, count: usize) -> bool
     core.try_acquire_many(count)
 }
 
-// A release on the core that is lent.
+// A release on the core under the mutex.
 fn give_back(core: &mut SemaphoreCore, count: usize) -> bool
     ensures calls { Calls core.old core.new (λ s. given_back s (Permits count)) result }
     ensures answer { IsTrue result ↔ (count ≤ out_of core.old.held) }

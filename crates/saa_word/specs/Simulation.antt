@@ -1,6 +1,6 @@
 -- How each move of a machine goes on with every trace that tracks it.
 use Rattle.std.specs.Prelude.{◌≡◌, ◌≢◌, ℕ, ◌⊎◌, ◌+◌, ◌*◌, ◌≤◌, ◌==◌, ◌||◌, Bool, true, List, [], ◌∷◌, ◌++◌, Option, Some, None, is_some, length, if◌then◌else◌}
-use Rattle.saa_core_spec.specs.Object.{one_if}
+use Rattle.saa_core_spec.specs.Object.{one_if, times}
 use Rattle.saa_word_steps.specs.declared.call.Answer.{Answer}
 use Rattle.saa_word_steps.specs.declared.call.WordCall.{WordCall}
 use Rattle.saa_word_steps.specs.declared.call.WordCall.TheVariants.{Poll, Cancel, PoisonLock}
@@ -9,7 +9,7 @@ use Rattle.saa_word_steps.specs.declared.place.Ask.{Ask}
 use Rattle.saa_word_steps.specs.declared.place.Registration.{Registration}
 use Rattle.saa_word_steps.specs.declared.rules.Rules.TheVariants.{Permits}
 use Rattle.saa_word_steps.specs.Needs.{Needs, permit_needs}
-use Rattle.saa_word_steps.specs.AbstractState.{AbstractState, IsRun, is_in, waits_times}
+use Rattle.saa_word_steps.specs.AbstractState.{AbstractState, IsRun, is_in}
 use Rattle.saa_word_steps.specs.Steps.{needs_of, word_at}
 use Rattle.saa_core_words.specs.declared.word.Word.{Word}
 use Rattle.saa_word_proofs.specs.Refinement.{is_slot, main_of, updated}
@@ -137,7 +137,7 @@ WaitsRightly state after trace _ _ = Unit {0}
 -- that is taken is a grant
 pub record IsConserved (needs : Needs) (trace : Trace) : Type 0 where
   pub balanced : ConservesPermits needs trace.withheld trace.state (tally_of needs trace.withheld trace.history)
-  pub pending : (place : ℕ) → waits_times place (tally_of needs trace.withheld trace.history).pending
+  pub pending : (place : ℕ) → times place (tally_of needs trace.withheld trace.history).pending
       ≡ one_if (is_some (trace.state.due place)) + one_if (is_some (trace.state.shown place))
   pub events : AreOfPermits trace.history
 

@@ -2,15 +2,15 @@
 use Rattle.std.proofs.Common.{◌≡◌, ℕ, suc, zero, ◌+◌, ◌≤◌, true, false, List, [], ◌∷◌, take, drop, Option, Some, None, is_some, ◌==◌, ◌-◌, nat_le, refl, sym, ap, subst, ◌∙◌, arith, inl, inr}
 use Rattle.std.proofs.lemmas.Bool.{cases_Bool}
 use Rattle.std.proofs.lemmas.Bool.Decides.{nat_tests}
-use Rattle.saa_core_spec.specs.Object.{one_if}
+use Rattle.saa_core_spec.specs.Object.{one_if, times, without}
 use Rattle.saa_core_spec.specs.Values.{granted_value}
-use Rattle.saa_core_spec.proofs.Counts.{same_number}
+use Rattle.saa_core_spec.proofs.Counts.{same_number, other_number, times-append, times-take_drop, times-without_same, times-without_other}
 use Rattle.saa_word_steps.specs.Needs.{Needs, left_count, permit_needs}
 use Rattle.saa_word_steps.specs.declared.event.Event.{Event}
 use Rattle.saa_word_steps.specs.declared.event.Event.TheVariants.{Got, Refused, Joined, Gave, GaveNothing, Lowered, NotLowered, AskedPoisoned, Left, Closed, Poisoned, NotPoisoned, Cleared, NotCleared, NotReady, Granted, Showed, Took, Read}
-use Rattle.saa_word_steps.specs.AbstractState.{AbstractState, IsEnabled, after_event, IsRun, opening, is_in, waits_times, line_without, takes_of, answered_with, with_answer, held_by}
+use Rattle.saa_word_steps.specs.AbstractState.{AbstractState, IsEnabled, after_event, IsRun, opening, is_in, takes_of, answered_with, with_answer, held_by}
 use Rattle.saa_word_steps.proofs.AbstractRuns.{run-once, waits-none, waits-some}
-use Rattle.saa_word_proofs.proofs.RefinementLemmas.Lists.{takes-append, times-append}
+use Rattle.saa_word_proofs.proofs.RefinementLemmas.Lists.{takes-append}
 use Rattle.saa_word_proofs.specs.Conservation.{Tally, nothing_yet, line_of_place, after_counting, tallied, tally_of, ConservesPermits, poisons, NonePoisons, is_of_permits, AreOfPermits}
 
 -- what each event that doesn't poison keeps of state and tally every run of such events keeps
@@ -28,7 +28,7 @@ tally-keeps needs P step state tally (event ∷ events) last none run p =
 
 -- a line is those of one place and the others
 takes-parts : (needs : Needs) (place : ℕ) (line : List (ℕ × ℕ))
-    → takes_of needs (line_of_place place line) + takes_of needs (line_without place line) ≡ takes_of needs line
+    → takes_of needs (line_of_place place line) + takes_of needs (without place line) ≡ takes_of needs line
 takes-parts needs place [] = omega arith
 takes-parts needs place (asker ∷ rest) =
     elim (cases_Bool (asker.0 == place)) [
@@ -90,7 +90,7 @@ run-balanced bound withheld events last none run =
 -- the places that were granted, as often as their answers are to be shown or taken, and each place held once at most
 pub record ArePending (state : AbstractState) (tally : Tally) : Type 0 where
   pub once : (place : ℕ) → held_by place state ≤ 1
-  pub pending : (place : ℕ) → waits_times place tally.pending ≡ one_if (is_some (state.due place)) + one_if (is_some (state.shown place))
+  pub pending : (place : ℕ) → times place tally.pending ≡ one_if (is_some (state.due place)) + one_if (is_some (state.shown place))
 
 -- one event keeps that each place is held once
 once-kept : (needs : Needs) (state : AbstractState) (place : ℕ) (event : Event) → IsEnabled needs state place event
@@ -98,33 +98,9 @@ once-kept : (needs : Needs) (state : AbstractState) (place : ℕ) (event : Event
 once-kept needs state place event allowed was =
     run-once needs state ((place, event) ∷ []) (after_event needs state place event) (allowed, refl) was
 
-times-parts : (place askers : ℕ) (line : List (ℕ × ℕ)) → waits_times place (take askers line) + waits_times place (drop askers line) ≡ waits_times place line
-times-parts place zero line = omega arith
-times-parts place (suc askers) [] = omega arith
-times-parts place (suc askers) (asker ∷ rest) = omega (arith, times-parts place askers rest)
-
--- a place that is taken out of a line stands there no more, and the others as often as they did
-times-without : (place : ℕ) (line : List (ℕ × ℕ)) → waits_times place (line_without place line) ≡ 0
-times-without place [] = refl
-times-without place (asker ∷ rest) =
-    elim (cases_Bool (asker.0 == place)) [
-      | inl same ↦ rw same (times-without place rest)
-      | inr apart ↦ rw apart (omega (arith, ap one_if apart, times-without place rest))
-    ]
-
-times-others : (place other : ℕ) (line : List (ℕ × ℕ)) → other == place ≡ false → waits_times other (line_without place line) ≡ waits_times other line
-times-others place other [] apart = refl
-times-others place other (asker ∷ rest) apart =
-    elim (cases_Bool (asker.0 == place)) [
-      | inl same ↦
-          let differs : asker.0 == other ≡ false = grind (arith, nat_tests) in
-          rw same (omega (arith, ap one_if differs, times-others place other rest apart))
-      | inr differs ↦ rw differs (omega (arith, times-others place other rest apart))
-    ]
-
 pending-step : (needs : Needs) (state : AbstractState) (tally : Tally) (place : ℕ) (event : Event) → poisons event ≡ false → IsEnabled needs state place event
     → ArePending state tally → (other : ℕ)
-    → waits_times other (after_counting needs state tally place event).pending
+    → times other (after_counting needs state tally place event).pending
     ≡ one_if (is_some ((after_event needs state place event).due other)) + one_if (is_some ((after_event needs state place event).shown other))
 pending-step needs state tally place (Got request) none allowed was other = was.pending other
 pending-step needs state tally place (Refused request) none allowed was other = was.pending other
@@ -137,7 +113,7 @@ pending-step needs state tally place AskedPoisoned none allowed was other = was.
 pending-step needs state tally place Left none allowed was other = was.pending other
 pending-step needs state tally place (Granted askers) none allowed was other =
     let line = times-append other tally.pending (take askers state.line) in
-    let parts = times-parts other askers state.line in
+    let parts = times-take_drop other askers state.line in
     elim (cases_Bool (is_in other (take askers state.line))) [
       | inl some ↦ rw some (omega (arith, was.pending other, was.once other, line, parts, waits-some other (take askers state.line) some))
       | inr out ↦ rw out (omega (arith, was.pending other, line, waits-none other (take askers state.line) out))
@@ -163,10 +139,10 @@ pending-step needs state tally place (Took value) none allowed was other =
           let is : place ≡ other = sym (same_number other place same) in
           let shown : one_if (is_some (state.shown other)) ≡ 1 =
           ap (λ (n : ℕ). one_if (is_some (state.shown n))) (sym is) ∙ ap (λ (a : Option ℕ). one_if (is_some a)) allowed in
-          let gone : waits_times other (line_without place tally.pending) ≡ 0 =
-          ap (λ (n : ℕ). waits_times n (line_without place tally.pending)) (sym is) ∙ times-without place tally.pending in
+          let gone : times other (without place tally.pending) ≡ 0 =
+          ap (λ (n : ℕ). times n (without place tally.pending)) (sym is) ∙ times-without_same place tally.pending in
           rw same (omega (arith, was.once other, shown, gone))
-      | inr apart ↦ rw apart (times-others place other tally.pending apart ∙ was.pending other)
+      | inr apart ↦ rw apart (times-without_other place other tally.pending (λ same. other_number other place apart (sym same)) ∙ was.pending other)
     ]
 pending-step needs state tally place (Read count poisoned) none allowed was other = was.pending other
 

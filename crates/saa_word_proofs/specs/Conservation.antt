@@ -1,10 +1,11 @@
 -- What is counted along the events of the abstract state: what was got, what was given back, and what is granted and not taken yet.
 use Rattle.std.specs.Prelude.{◌≡◌, ℕ, ◌+◌, ◌==◌, Bool, true, false, if◌then◌else◌, List, [], ◌∷◌, ◌++◌, take}
 use Rattle.saa_core_spec.specs.Values.{granted_value}
+use Rattle.saa_core_spec.specs.Object.{without}
 use Rattle.saa_word_steps.specs.Needs.{Needs}
 use Rattle.saa_word_steps.specs.declared.event.Event.{Event}
 use Rattle.saa_word_steps.specs.declared.event.Event.TheVariants.{Got, AskedPoisoned, Gave, Lowered, Granted, Poisoned, Cleared, Took}
-use Rattle.saa_word_steps.specs.AbstractState.{AbstractState, after_event, opening, line_without, takes_of}
+use Rattle.saa_word_steps.specs.AbstractState.{AbstractState, after_event, opening, takes_of}
 
 -- What asks that were granted at once took, and what grants took whose answers were taken; what was given back; and the grants that
 -- aren't taken yet: each place that was granted, with the number of what it asked, oldest first
@@ -28,7 +29,7 @@ after_counting needs state tally place (Got request) = record tally { got = tall
 after_counting needs state tally place (Gave request) = record tally { given = tally.given + needs.takes request }
 after_counting needs state tally place (Granted askers) = record tally { pending = tally.pending ++ take askers state.line }
 after_counting needs state tally place (Took value) =
-    record tally { got = tally.got + takes_of needs (line_of_place place tally.pending); pending = line_without place tally.pending }
+    record tally { got = tally.got + takes_of needs (line_of_place place tally.pending); pending = without place tally.pending }
 after_counting needs state tally place _ = tally
 
 -- the tally behind a list of events, from a state of the object and a tally on

@@ -5,7 +5,7 @@
 -- words. A place stands in a word by its link, its number plus 1.
 use Rattle.std.specs.Prelude.{◌≡◌, ℕ, ◌+◌, ◌<◌, ◌≤◌, pred, Bool, true, false, not, ◌||◌, ◌==◌, if◌then◌else◌, List, [], ◌∷◌, ◌++◌, Option, Some, is_some}
 use Rattle.saa_core_spec.specs.Held.{Exclusive}
-use Rattle.saa_core_spec.specs.Object.{one_if}
+use Rattle.saa_core_spec.specs.Object.{one_if, times}
 use Rattle.saa_core_words.specs.declared.word.Word.{Word}
 use Rattle.saa_core_words.specs.declared.line_word.LineWord.{LineWord}
 use Rattle.saa_core_words.specs.Words.{count_bits, word_of, line_word_of, answer_number, lock_count}
@@ -19,7 +19,7 @@ use Rattle.saa_word_steps.specs.declared.place.Afterwards.TheVariants.{Again}
 use Rattle.saa_word_steps.specs.declared.place.Stage.{Stage}
 use Rattle.saa_word_steps.specs.declared.place.Stage.TheVariants.{Quiet, AskLoad, AskExchange, Prepare, Join, ReleaseLoad, ReleaseExchange, BackLoad, BackStore, Forward, CutToClose, CutToGoRound, Close, Empty, GoRound, ShowLoad, ShowStore, Take, FlagLoad, FlagExchange, LookLoad, LookStore, Unlink, DropTail, PoisonLoad, PoisonExchange}
 use Rattle.saa_word_steps.specs.Needs.{Needs, fits_count}
-use Rattle.saa_word_steps.specs.AbstractState.{AbstractState, IsFront, IsSettledAt, is_empty, is_in, waits_times, takes_of, held_by}
+use Rattle.saa_word_steps.specs.AbstractState.{AbstractState, IsFront, IsSettledAt, is_empty, is_in, takes_of, held_by}
 use Rattle.saa_word_steps.specs.Steps.{IsRanged, left_from}
 
 -- a function with another value at one number
@@ -161,7 +161,7 @@ IsShowing owed worth (ShowStore current next value afterwards) =
 IsShowing owed worth _ = owed ≡ []
 
 -- The line as the holder of the flag sees it: those of the front, who are granted or still to be passed, those behind them, up to
--- the tail that it saw, and the waiters who joined since. No more is held than it saw
+-- the tail that it saw, and the waiters who were enqueued since. No more is held than it saw
 pub record Work (held : ℕ) (line : List (ℕ × ℕ)) (seen : Word) : Type 0 where
   pub front : List (ℕ × ℕ)
   pub behind : List (ℕ × ℕ)
@@ -183,7 +183,7 @@ abbrev pub IsBack : (ℕ → LineWord) → List (ℕ × ℕ) → List (ℕ × �
 IsBack words front behind current newer =
     (current ≡ newest 0 front) × (is_empty front ≡ false) × (newer ≡ oldest behind) × IsAhead words behind
 
--- the holder has looked for itself among those behind the front, and is neither there nor among the waiters who joined since
+-- the holder has looked for itself among those behind the front, and is neither there nor among the waiters who were enqueued since
 abbrev pub IsPassed : ℕ → List (ℕ × ℕ) → List (ℕ × ℕ) → Type 0
 IsPassed me behind joined = (is_in me behind ≡ false) × (is_in me joined ≡ false)
 
@@ -268,7 +268,7 @@ pub record AreAnswers (places : ℕ) (row : ℕ → ℕ) (shown : ℕ → Option
 pub record AreDebts (words : ℕ → LineWord) (due : ℕ → Option ℕ) (owed : ℕ → List (ℕ × ℕ)) (shower worth : ℕ → ℕ) : Type 0 where
   pub due_to : (place other : ℕ) → is_in other (owed place) ≡ true → (shower other ≡ place) × (due other ≡ Some (worth place))
   pub paid_by : (other : ℕ) → is_some (due other) ≡ true → is_in other (owed (shower other)) ≡ true
-  pub once : (place other : ℕ) → waits_times other (owed place) ≤ 1
+  pub once : (place other : ℕ) → times other (owed place) ≤ 1
   pub links : (place : ℕ) → IsBehind words 0 (owed place)
   pub small : (place : ℕ) → worth place < 256
 

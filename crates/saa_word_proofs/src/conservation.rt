@@ -1,10 +1,10 @@
 //! What is proved of the tally, as contracts of functions that do nothing.
 
 ghost use Rattle.std.specs.Prelude.{◌≡◌, ℕ, ◌+◌, List, Some, is_some};
-ghost use Rattle.saa_core_spec.specs.Object.{one_if};
+ghost use Rattle.saa_core_spec.specs.Object.{one_if, times};
 ghost use Rattle.saa_word_steps.specs.Needs.{permit_needs};
 ghost use Rattle.saa_word_steps.specs.declared.event.Event.{Event};
-ghost use Rattle.saa_word_steps.specs.AbstractState.{AbstractState, IsRun, opening, waits_times};
+ghost use Rattle.saa_word_steps.specs.AbstractState.{AbstractState, IsRun, opening};
 ghost use Rattle.saa_word_proofs.specs.Conservation.{AreOfPermits, ConservesPermits, tally_of};
 
 /// After every list of events that are enabled where they come, from the moment when so many permits of a semaphore are withheld
@@ -21,7 +21,7 @@ pub fn conservation()
         → ConservesPermits (permit_needs bound) withheld last (tally_of (permit_needs bound) withheld events) }
     ensures each_once { (bound withheld : ℕ) (events : List (ℕ × Event)) (last : AbstractState)
         → IsRun (permit_needs bound) (opening withheld) events last → (place : ℕ)
-        → waits_times place (tally_of (permit_needs bound) withheld events).pending
+        → times place (tally_of (permit_needs bound) withheld events).pending
         ≡ one_if (is_some (last.due place)) + one_if (is_some (last.shown place)) }
     ensures granted { (bound withheld : ℕ) (events : List (ℕ × Event)) (last : AbstractState)
         → IsRun (permit_needs bound) (opening withheld) events last → (place value : ℕ)

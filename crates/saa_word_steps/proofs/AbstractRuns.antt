@@ -3,12 +3,12 @@
 use Rattle.std.proofs.Common.{◌≡◌, ℕ, suc, zero, ◌+◌, ◌≤◌, ◌<◌, Bool, true, false, not, ◌||◌, List, [], ◌∷◌, ◌++◌, take, drop, Option, Some, None, is_some, ◌==◌, ◌-◌, nat_le, refl, sym, ap, subst, ◌∙◌, arith, inl, inr}
 use Rattle.std.proofs.lemmas.Bool.{cases_Bool}
 use Rattle.std.proofs.lemmas.Bool.Decides.{nat_tests}
-use Rattle.saa_core_spec.specs.Object.{one_if}
+use Rattle.saa_core_spec.specs.Object.{one_if, times, without}
 use Rattle.saa_core_spec.proofs.Counts.{one_if-le, number_same, same_number}
 use Rattle.saa_word_steps.specs.Needs.{Needs, AreNeeds, fits_count, left_count, permit_needs}
 use Rattle.saa_word_steps.specs.declared.event.Event.{Event}
 use Rattle.saa_word_steps.specs.declared.event.Event.TheVariants.{Got, Refused, Joined, Gave, GaveNothing, Lowered, NotLowered, AskedPoisoned, Left, Closed, Poisoned, NotPoisoned, Cleared, NotCleared, NotReady, Granted, Showed, Took, Read}
-use Rattle.saa_word_steps.specs.AbstractState.{AbstractState, IsEnabled, after_event, IsRun, IsFront, IsSettledAt, is_empty, is_in, waits_times, line_without, takes_of, answered_with, with_answer, count_or, held_by}
+use Rattle.saa_word_steps.specs.AbstractState.{AbstractState, IsEnabled, after_event, IsRun, IsFront, IsSettledAt, is_empty, is_in, takes_of, answered_with, with_answer, count_or, held_by}
 
 -- what each event keeps every run keeps
 pub run-keeps : (needs : Needs) (P : AbstractState → Type 0)
@@ -51,7 +51,7 @@ settled-step needs state place (GaveNothing request) allowed was closed = was cl
 settled-step needs state place Lowered allowed was closed = subst (λ line. IsSettledAt needs 1 line) (sym (empty-or state.line state.unclosed closed)) tt
 settled-step needs state place NotLowered allowed was closed = was closed
 settled-step needs state place AskedPoisoned allowed was closed = was closed
-settled-step needs state place Left allowed was closed = subst (λ line. IsSettledAt needs state.count line) (sym (empty-not (line_without place state.line) closed)) tt
+settled-step needs state place Left allowed was closed = subst (λ line. IsSettledAt needs state.count line) (sym (empty-not (without place state.line) closed)) tt
 settled-step needs state place (Granted askers) allowed was closed =
     let differ : true ≡ false = sym allowed.0 ∙ closed in absurd (cc)
 settled-step needs state place Closed allowed was closed = allowed.1
@@ -108,7 +108,7 @@ run-bounded needs lawful state events last run was = run-keeps needs (λ z. z.co
 -- Each place is held once at most
 
 -- a place that isn't seen in a line doesn't wait there, and one that is does
-pub waits-none : (place : ℕ) (line : List (ℕ × ℕ)) → is_in place line ≡ false → waits_times place line ≡ 0
+pub waits-none : (place : ℕ) (line : List (ℕ × ℕ)) → is_in place line ≡ false → times place line ≡ 0
 waits-none place [] none = refl
 waits-none place (asker ∷ rest) none =
     elim (cases_Bool (asker.0 == place)) [
@@ -116,7 +116,7 @@ waits-none place (asker ∷ rest) none =
       | inr apart ↦ omega (arith, ap one_if apart, waits-none place rest (rw apart at none))
     ]
 
-pub waits-some : (place : ℕ) (line : List (ℕ × ℕ)) → is_in place line ≡ true → 0 < waits_times place line
+pub waits-some : (place : ℕ) (line : List (ℕ × ℕ)) → is_in place line ≡ true → 0 < times place line
 waits-some place [] some = absurd (cc)
 waits-some place (asker ∷ rest) some =
     elim (cases_Bool (asker.0 == place)) [
@@ -124,11 +124,11 @@ waits-some place (asker ∷ rest) some =
       | inr apart ↦ omega (arith, waits-some place rest (rw apart at some))
     ]
 
-waits-push : (place : ℕ) (line : List (ℕ × ℕ)) (last : ℕ × ℕ) → waits_times place (line ++ last ∷ []) ≡ waits_times place line + one_if (last.0 == place)
+waits-push : (place : ℕ) (line : List (ℕ × ℕ)) (last : ℕ × ℕ) → times place (line ++ last ∷ []) ≡ times place line + one_if (last.0 == place)
 waits-push place [] last = omega arith
 waits-push place (asker ∷ rest) last = omega (arith, waits-push place rest last)
 
-waits-without : (place other : ℕ) (line : List (ℕ × ℕ)) → waits_times other (line_without place line) ≤ waits_times other line
+waits-without : (place other : ℕ) (line : List (ℕ × ℕ)) → times other (without place line) ≤ times other line
 waits-without place other [] = omega arith
 waits-without place other (asker ∷ rest) =
     elim (cases_Bool (asker.0 == place)) [
@@ -136,14 +136,14 @@ waits-without place other (asker ∷ rest) =
       | inr apart ↦ rw apart (omega (arith, waits-without place other rest))
     ]
 
-waits-parts : (place askers : ℕ) (line : List (ℕ × ℕ)) → waits_times place (take askers line) + waits_times place (drop askers line) ≡ waits_times place line
+waits-parts : (place askers : ℕ) (line : List (ℕ × ℕ)) → times place (take askers line) + times place (drop askers line) ≡ times place line
 waits-parts place zero line = omega arith
 waits-parts place (suc askers) [] = omega arith
 waits-parts place (suc askers) (asker ∷ rest) = omega (arith, waits-parts place askers rest)
 
 -- who is answered out of the line was held there
 pub answered-once : (place value : ℕ) (askers : List (ℕ × ℕ)) (answers : ℕ → Option ℕ) (others : ℕ)
-    → waits_times place askers + others + one_if (is_some (answers place)) ≤ 1
+    → times place askers + others + one_if (is_some (answers place)) ≤ 1
     → others + one_if (is_some (answered_with value askers answers place)) ≤ 1
 answered-once place value askers answers others was =
     elim (cases_Bool (is_in place askers)) [
@@ -168,7 +168,7 @@ once-step needs state place (Joined request) allowed was other =
     elim (cases_Bool (place == other)) [
       | inl same ↦
           let is : place ≡ other = same_number place other same in
-          let waits : waits_times other state.line ≡ 0 = ap (λ (n : ℕ). waits_times n state.line) (sym is) ∙ waits-none place state.line allowed.2 in
+          let waits : times other state.line ≡ 0 = ap (λ (n : ℕ). times n state.line) (sym is) ∙ waits-none place state.line allowed.2 in
           let due : one_if (is_some (state.due other)) ≡ 0 = ap (λ (n : ℕ). one_if (is_some (state.due n))) (sym is) ∙ ap (λ (a : Option ℕ). one_if (is_some a)) allowed.3 in
           let shown : one_if (is_some (state.shown other)) ≡ 0 = ap (λ (n : ℕ). one_if (is_some (state.shown n))) (sym is) ∙ ap (λ (a : Option ℕ). one_if (is_some a)) allowed.4 in
           omega (arith, waits, due, shown, waits-push other state.line (place, request), one_if-le (place == other))
@@ -182,7 +182,7 @@ once-step needs state place AskedPoisoned allowed was other = was other
 once-step needs state place Left allowed was other = omega (arith, was other, waits-without place other state.line)
 once-step needs state place (Granted askers) allowed was other =
     let parts = waits-parts other askers state.line in
-    omega (arith, answered-once other 0 (take askers state.line) state.due (waits_times other (drop askers state.line) + one_if (is_some (state.shown other))) (omega (arith, was other, parts)))
+    omega (arith, answered-once other 0 (take askers state.line) state.due (times other (drop askers state.line) + one_if (is_some (state.shown other))) (omega (arith, was other, parts)))
 once-step needs state place Closed allowed was other = was other
 once-step needs state place Poisoned allowed was other =
     omega (arith, answered-once other 2 state.line state.due (one_if (is_some (state.shown other))) (omega (arith, was other)))

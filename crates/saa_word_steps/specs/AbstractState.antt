@@ -2,7 +2,7 @@
 -- of several places lie, so answers are granted, shown and taken at steps of their own.
 use Rattle.std.specs.Prelude.{◌≡◌, ℕ, ◌+◌, ◌<◌, ◌≤◌, Bool, true, false, not, ◌||◌, if◌then◌else◌, ◌==◌, List, [], ◌∷◌, ◌++◌, length, take, drop, Option, Some, None, is_some}
 use Rattle.saa_core_spec.specs.Held.{Exclusive, Shared}
-use Rattle.saa_core_spec.specs.Object.{one_if}
+use Rattle.saa_core_spec.specs.Object.{one_if, times, without}
 use Rattle.saa_core_words.specs.Words.{lock_count}
 use Rattle.saa_word_steps.specs.declared.event.Event.{Event}
 use Rattle.saa_word_steps.specs.declared.event.Event.TheVariants.{Got, Refused, Joined, Gave, GaveNothing, Lowered, NotLowered, AskedPoisoned, Left, Closed, Poisoned, NotPoisoned, Cleared, NotCleared, NotReady, Granted, Showed, Took, Read}
@@ -32,16 +32,6 @@ is_empty (asker ∷ rest) = false
 abbrev pub is_in : ℕ → List (ℕ × ℕ) → Bool
 is_in place [] = false
 is_in place (asker ∷ rest) = (asker.0 == place) || is_in place rest
-
--- how often a place waits
-abbrev pub waits_times : ℕ → List (ℕ × ℕ) → ℕ
-waits_times place [] = 0
-waits_times place (asker ∷ rest) = one_if (asker.0 == place) + waits_times place rest
-
--- the line without a place
-abbrev pub line_without : ℕ → List (ℕ × ℕ) → List (ℕ × ℕ)
-line_without place [] = []
-line_without place (asker ∷ rest) = if asker.0 == place then line_without place rest else (asker ∷ line_without place rest)
 
 -- these fit one after another, from a count on
 abbrev pub IsFront : Needs → ℕ → List (ℕ × ℕ) → Type 0
@@ -113,7 +103,7 @@ after_event needs state place (Gave request) =
 after_event needs state place Lowered =
     record state { count = lock_count (Shared 1); unclosed = not (is_empty state.line) || state.unclosed }
 after_event needs state place Left =
-    record state { line = line_without place state.line; unclosed = not (is_empty (line_without place state.line)) }
+    record state { line = without place state.line; unclosed = not (is_empty (without place state.line)) }
 after_event needs state place (Granted askers) =
     record state {
       count = state.count + takes_of needs (take askers state.line);
@@ -143,4 +133,4 @@ IsRun needs state (event ∷ events) last = IsEnabled needs state event.0 event.
 
 -- how often a place is held: it waits, or its answer is to be shown, or is shown and not taken yet
 abbrev pub held_by : ℕ → AbstractState → ℕ
-held_by place state = waits_times place state.line + one_if (is_some (state.due place)) + one_if (is_some (state.shown place))
+held_by place state = times place state.line + one_if (is_some (state.due place)) + one_if (is_some (state.shown place))

@@ -276,7 +276,7 @@ looked_at needs place seen current count line =
     then going place (Close seen count 0)
     else going place (CutToClose seen current count line))
 
--- how the flag's holder goes on that closes the line: it shows what it granted, or tries again where only the tail differs, and else goes round
+-- how the flag's holder goes on that leaves the line as it is: it shows what it granted, or tries again where only the tail differs, and else walks anew
 abbrev pub closing : Place → Word → ℕ → ℕ → ℕ → Next
 closing place seen count top found =
     if found == word_number count_bits seen

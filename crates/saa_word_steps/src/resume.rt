@@ -229,7 +229,7 @@ impl Place {
     // It joined the line, or the word that was found decides anew.
     //
     // Why this order: the exchange succeeds only on the word whose tail the line word names; written over another tail, it would pass all
-    // waiters who joined since.
+    // waiters who were enqueued since.
     fn joined(self, rules: Rules, me: u16, request: u16, seen: Word, found: u64) -> Next
         requires { IsSmall seen }
         ensures { result ≡ next_of (needs_of rules) me self (Join request seen) found }
@@ -348,7 +348,7 @@ impl Place {
         })
     }
 
-    // It closed the line; or tries again where only the tail differs, and else goes round.
+    // It published the count and kept the waiters; or tries again where only the tail differs, and else walks anew.
     //
     // Why this order: the count is compared before the flag is cleared; cleared over a lower one, what a release gave back in place would
     // be granted to nobody.
@@ -370,7 +370,7 @@ impl Place {
         self.going(Stage::GoRound { seen, count, top })
     }
 
-    // It granted all waiters; or the last one isn't granted, and it goes round.
+    // It granted all waiters; or the last one isn't granted, and it walks anew.
     //
     // Why this order: the line is emptied by the exchange that clears the flag; a place that joined meanwhile makes it fail, and has the
     // last one as its older neighbour, so that one is granted by a later walk.

@@ -46,7 +46,7 @@ gives_up state = record {
   belong = λ slots ts sound b. all-belong spurious_value slots ts sound b;
 }
 
--- a controlled gate answers all who wait
+-- a controlled gate answers all waiters
 pub let_through_calls : (v : ℕ) (slots : Slots) → IsSound slots
     → Calls (record { held = OfGate Controlled; slots = slots }) (record { held = OfGate Controlled; slots = all_slots_answered v slots })
     (λ s. let_through s v (gate_state s.held)) (Answered (Ok (length slots.line)))
@@ -54,7 +54,7 @@ let_through_calls v slots sound = record {
   calls = λ ts b. (all_calls (OfGate Controlled) (OfGate Controlled) v slots (λ n. Answered (Ok n)) sound).calls ts b;
 }
 
--- a gate goes to another state, and answers all who wait
+-- a gate goes to another state, and answers all waiters
 pub moved_calls : (from to : State) (v : ℕ) (slots : Slots) → IsSound slots
     → Calls (record { held = OfGate from; slots = slots }) (record { held = OfGate to; slots = all_slots_answered v slots })
     (λ s. moved s to v) (Moved from (length slots.line))

@@ -24,7 +24,7 @@ use Rattle.saa_core.proofs.TicketLemmas.Answering.{all-object, all-belong}
 last-named : (size : ℕ) (slots : Slots) (ts : List Registration) → (length (named ts slots.line) + 1 == size) ≡ (length slots.line + 1 == size)
 last-named size slots ts = ap (λ n. n + 1 == size) (length-named ts slots.line)
 
--- the last arrival of a round lets all pass who wait, and is the leader
+-- the last arrival of a round lets all waiters pass, and is the leader
 pub arrive_last : (size : ℕ) (slots : Slots) (m : Bool) → IsSound slots → length slots.line + 1 ≡ size
     → Acts (record { held = OfBarrier size; slots = slots }) (record { held = OfBarrier size; slots = all_slots_answered passed_value slots })
     Unregistered (AtOnce leader_value Arrive m) (λ s name. registered s name Arrive m) (Ok true)

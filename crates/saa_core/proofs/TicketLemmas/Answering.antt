@@ -1,4 +1,4 @@
--- Answering all who wait: of a core with its tickets it is answering all of the object, whatever is held then.
+-- Answering all waiters: of a core with its tickets it is answering all of the object, whatever is held then.
 use Rattle.std.proofs.Common.{◌≡◌, ℕ, List, [], length, take, drop, sym, ap, subst, ◌∙◌}
 use Rattle.std.proofs.Math.Seq.{take-length, drop-length}
 use Rattle.saa_core_spec.specs.Held.{Held}
@@ -36,7 +36,7 @@ all-object h v slots ts sound b =
 pub all-belong : (v : ℕ) (slots : Slots) (ts : List Registration) → IsSound slots → Belong slots ts → Belong (all_slots_answered v slots) ts
 all-belong v slots ts sound b = subst (λ (s : Slots). Belong s ts) (all_answered-front v slots) (front-belong v (length slots.line) slots ts sound b)
 
--- a call that answers all who wait, and says how many those were
+-- a call that answers all waiters, and says how many those were
 pub all_calls : {A : Type 0} (h new : Held) (v : ℕ) (slots : Slots) (tell : ℕ → A) → IsSound slots
     → Calls (record { held = h; slots = slots }) (record { held = new; slots = all_slots_answered v slots })
     (λ s. record { state = all_answered v (record s { held = new }); reply = tell (length s.line) }) (tell (length slots.line))

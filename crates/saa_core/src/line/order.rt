@@ -1,4 +1,4 @@
-//! How a line keeps the order of those who wait: what it needs of that, and the two ways that there are.
+//! How a line keeps the order of the waiters: what it needs of that, and the two ways that there are.
 //!
 //! [`Queue`] keeps them in a list, in which a slot is searched for that leaves. `Links` of `saa_core_words` keeps each with
 //! its two neighbours, so that a slot leaves at one cost wherever it stands; it keeps the requests of one form.
@@ -16,7 +16,7 @@ use std::alloc::{AllocError, Global};
 use std::collections::VecDeque;
 use std::marker::Model;
 
-/// Those who wait, oldest first, each in a slot below the room, with what it asks.
+/// The waiters, oldest first, each in a slot below the room, with what it asks.
 pub trait Order: Drop {
     // What contracts see of it.
     ghost waiters: { Self → Waiters };
@@ -59,7 +59,7 @@ pub trait Order: Drop {
         ensures { result ≡ length (waiters self.now).line };
 }
 
-/// Those who wait, in a list: one that leaves costs as much as how many wait.
+/// The waiters, in a list: one that leaves costs as much as how many wait.
 #[derive(Drop)]
 pub struct Queue {
     waiters: VecDeque<(u16, Request)>,

@@ -80,7 +80,7 @@ impl<'s, R: Wait + Drop, Q: Question> Asked<'s, R, Q> {
         self.asking.has_ended()
     }
 
-    /// Polls it in a core that is lent; never waits. This is what its poll as a future does under the lock.
+    /// Polls it in the core under the mutex; never waits. This is what its poll as a future does under the lock.
     ///
     /// The first poll registers it as async, and answers `Done` where the answer is there at once or the registration is
     /// false, `Joined` where it joined the line, and `Refused` where the room is full. Later ones answer `Waits`, or
@@ -107,7 +107,7 @@ impl<'s, R: Wait + Drop, Q: Question> Asked<'s, R, Q> {
         self.asking.poll_on(core).map(|answer| Q::read(answer))
     }
 
-    /// Ends it, and drops what it is registered for in a core that is lent; this is what its drop does under the lock.
+    /// Ends it, and drops what it is registered for in the core under the mutex; this is what its drop does under the lock.
     pub fn cancel_on(&mut self, core: &mut Q::Core)
         ensures acts { Acts (Q.Core.core core.old) (Q.Core.core core.new) self.old.asking.ticket self.new.asking.ticket dropping result }
         ensures idle { self.new.asking.ticket ≡ Unregistered }
@@ -197,7 +197,7 @@ impl<'s, R: Wait + Drop, Q: Question, F: FnOnce() + Drop> AskedWith<'s, R, Q, F>
         self.asked.has_ended()
     }
 
-    /// Polls it in a core that is lent, as [`Asked::poll_on`] does; the callback isn't called by this.
+    /// Polls it in the core under the mutex, as [`Asked::poll_on`] does; the callback isn't called by this.
     pub fn poll_on(&mut self, core: &mut Q::Core) -> Progress<Q::Output>
         requires { self.old.asked.asking.has_ended ≡ false }
         ensures first { is_busy self.old.asked.asking.ticket ≡ false
@@ -223,7 +223,7 @@ impl<'s, R: Wait + Drop, Q: Question, F: FnOnce() + Drop> AskedWith<'s, R, Q, F>
         self.asked.poll_on(core)
     }
 
-    /// Ends it, and drops what it is registered for in a core that is lent, as [`Asked::cancel_on`] does.
+    /// Ends it, and drops what it is registered for in the core under the mutex, as [`Asked::cancel_on`] does.
     pub fn cancel_on(&mut self, core: &mut Q::Core)
         ensures acts { Acts (Q.Core.core core.old) (Q.Core.core core.new) self.old.asked.asking.ticket self.new.asked.asking.ticket dropping result }
         ensures idle { self.new.asked.asking.ticket ≡ Unregistered }

@@ -19,7 +19,7 @@ pub struct Mutex<R: Wait + Drop, T> {
 }
 
 impl<R: Wait + Drop, T> Mutex<R, T> {
-    /// A mutex that nobody has, and room for so many slots of those who wait. Costs O(`room`).
+    /// A mutex that nobody has, and room for so many waiters. Costs O(`room`).
     ///
     /// Reserves all the memory that it will ever need; the error comes only where that was refused, and so never for
     /// room 0, which takes none. Where it comes, the value is dropped.

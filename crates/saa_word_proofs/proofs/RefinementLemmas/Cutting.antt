@@ -1,8 +1,8 @@
 -- The holder of the flag cuts those who are granted off from those who stay: each step keeps how words, places and the abstract state
 -- stand together.
 use Rattle.std.proofs.Common.{◌^◌, ◌≡◌, ℕ, ◌+◌, ◌<◌, ◌≤◌, pred, true, false, List, [], ◌∷◌, ◌++◌, refl, sym, ap, subst, ◌∙◌, arith}
-use Rattle.saa_core_spec.specs.Object.{one_if}
-use Rattle.saa_core_spec.proofs.Counts.{number_same}
+use Rattle.saa_core_spec.specs.Object.{one_if, times}
+use Rattle.saa_core_spec.proofs.Counts.{number_same, times-append}
 use Rattle.saa_core_words.specs.declared.word.Word.{Word}
 use Rattle.saa_core_words.specs.declared.line_word.LineWord.{LineWord}
 use Rattle.saa_core_words.specs.Words.{count_bits, line_number}
@@ -11,45 +11,45 @@ use Rattle.saa_word_steps.specs.declared.place.Place.{Place}
 use Rattle.saa_word_steps.specs.declared.place.Stage.{Stage}
 use Rattle.saa_word_steps.specs.declared.place.Stage.TheVariants.{CutToClose, CutToGoRound, Close, GoRound}
 use Rattle.saa_word_steps.specs.Needs.{Needs, AreNeeds, fits_count}
-use Rattle.saa_word_steps.specs.AbstractState.{AbstractState, IsSettledAt, is_in, waits_times}
+use Rattle.saa_word_steps.specs.AbstractState.{AbstractState, IsSettledAt, is_in}
 use Rattle.saa_word_steps.specs.Steps.{IsRanged}
 use Rattle.saa_word_proofs.specs.Refinement.{updated, line_of, IsBehind, is_holder, gives_up, IsAlone, IsOwn, IsShowing, Work, IsAt, IsHolding, IsLine, AreSeats, Refines}
 use Rattle.saa_word_proofs.specs.StepRefinement.{StepRefines}
-use Rattle.saa_word_proofs.proofs.RefinementLemmas.Lists.{times-append, behind-frame, behind-front, behind-rest}
+use Rattle.saa_word_proofs.proofs.RefinementLemmas.Lists.{behind-frame, behind-front, behind-rest}
 use Rattle.saa_word_proofs.proofs.RefinementLemmas.Frames.{oldest-stands, work-behind}
 use Rattle.saa_word_proofs.proofs.RefinementLemmas.Rows.{apart-at, line-at, line-other}
 use Rattle.saa_word_proofs.proofs.RefinementLemmas.Linking.{flag-held, flag-knows, in-line, line-room, relinked, IsLooked, looked, linked-all, tail-room}
 
 -- who stands once in a line stands in one part of it
-once-before : (front rest : List (ℕ × ℕ)) (asker : ℕ × ℕ) (place : ℕ) → waits_times asker.0 (front ++ asker ∷ rest) ≤ 1
-    → 0 < waits_times place front → place ≡ asker.0 → ⊥
+once-before : (front rest : List (ℕ × ℕ)) (asker : ℕ × ℕ) (place : ℕ) → times asker.0 (front ++ asker ∷ rest) ≤ 1
+    → 0 < times place front → place ≡ asker.0 → ⊥
 once-before front rest asker place once there is =
-    omega (arith, once, times-append asker.0 front (asker ∷ rest), ap one_if (number_same asker.0), there, ap (λ (n : ℕ). waits_times n front) is)
+    omega (arith, once, times-append asker.0 front (asker ∷ rest), ap one_if (number_same asker.0), there, ap (λ (n : ℕ). times n front) is)
 
-once-behind : (front rest : List (ℕ × ℕ)) (asker : ℕ × ℕ) (place : ℕ) → waits_times asker.0 (front ++ asker ∷ rest) ≤ 1
-    → 0 < waits_times place rest → place ≡ asker.0 → ⊥
+once-behind : (front rest : List (ℕ × ℕ)) (asker : ℕ × ℕ) (place : ℕ) → times asker.0 (front ++ asker ∷ rest) ≤ 1
+    → 0 < times place rest → place ≡ asker.0 → ⊥
 once-behind front rest asker place once there is =
-    omega (arith, once, times-append asker.0 front (asker ∷ rest), ap one_if (number_same asker.0), there, ap (λ (n : ℕ). waits_times n rest) is)
+    omega (arith, once, times-append asker.0 front (asker ∷ rest), ap one_if (number_same asker.0), there, ap (λ (n : ℕ). times n rest) is)
 
 -- A line is linked in two parts once nobody is before the first of the second
 cut-line : (words new : ℕ → LineWord) (line front rest : List (ℕ × ℕ)) (asker : ℕ × ℕ)
-    → line ≡ front ++ asker ∷ rest → IsBehind words 0 line → waits_times asker.0 line ≤ 1
+    → line ≡ front ++ asker ∷ rest → IsBehind words 0 line → times asker.0 line ≤ 1
     → (new asker.0).request ≡ (words asker.0).request → (new asker.0).older ≡ 0
     → ((place : ℕ) → (place ≡ asker.0 → ⊥) → new place ≡ words place)
     → IsLine new line front (asker ∷ rest)
 cut-line words new line front rest asker parts linked once request older others =
     let all : IsBehind words 0 (front ++ asker ∷ rest) = subst (λ l. IsBehind words 0 l) parts linked in
-    let times : waits_times asker.0 (front ++ asker ∷ rest) ≤ 1 = subst (λ l. waits_times asker.0 l ≤ 1) parts once in
+    let only : times asker.0 (front ++ asker ∷ rest) ≤ 1 = subst (λ l. times asker.0 l ≤ 1) parts once in
     let second = behind-rest words 0 front (asker ∷ rest) all in
     record {
       parts = parts;
-      granted = behind-frame words new 0 front (λ place there. kept place (once-before front rest asker place times there))
+      granted = behind-frame words new 0 front (λ place there. kept place (once-before front rest asker place only there))
           (behind-front words 0 front (asker ∷ rest) all);
       stays = (
         request ∙ second.0,
         older,
         behind-frame words new (asker.0 + 1) rest
-            (λ place there. kept place (once-behind front rest asker place times there)) second.2,
+            (λ place there. kept place (once-behind front rest asker place only there)) second.2,
       );
       some = λ none. absurd (cc);
     }
@@ -84,7 +84,7 @@ cut needs places row standing state me s seen work current line next here holds 
     let line_is : IsLine new state.line work.front (look.asker ∷ (look.rest ++ work.joined)) =
     cut-line (line_of row) new state.line work.front (look.rest ++ work.joined) look.asker
     (work.parts ∙ ap (λ (l : List (ℕ × ℕ)). work.front ++ (l ++ work.joined)) look.behind) linked
-    (omega (arith, seat.2, ap (λ (n : ℕ). waits_times n state.line) place))
+    (omega (arith, seat.2, ap (λ (n : ℕ). times n state.line) place))
     (ap (λ (w : LineWord). w.request) written_there
     ∙ ap (λ (w : LineWord). w.request) word ∙ ap (λ (n : ℕ). (line_of row n).request) place)
     (ap (λ (w : LineWord). w.older) written_there)
@@ -133,7 +133,7 @@ step-CutToClose needs lawful wide places row standing state me room here s seen 
           ));
     }
 
--- The cut before the holder goes round: the line could not be emptied, and its last waits on
+-- The cut before the holder walks anew: the line could not be emptied, and its last waits on
 pub step-CutToGoRound : (needs : Needs) → AreNeeds needs → needs.top < 2 ^ count_bits → (places : ℕ) (row : ℕ → ℕ) (standing : ℕ → Place) (state : AbstractState) (me : ℕ)
     → places < 65536 → me < places → (s : Refines needs places row standing state)
     → (seen : Word) (current count : ℕ) (line : LineWord) → (standing me).stage ≡ CutToGoRound seen current count line

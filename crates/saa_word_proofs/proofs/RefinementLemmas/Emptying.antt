@@ -5,12 +5,13 @@ use Rattle.saa_core_spec.proofs.Counts.{one_if-same}
 use Rattle.saa_core_words.specs.declared.word.Word.{Word}
 use Rattle.saa_core_words.specs.declared.line_word.LineWord.{LineWord}
 use Rattle.saa_core_words.specs.Words.{count_bits, word_number}
+use Rattle.saa_core_spec.specs.Object.{times}
 use Rattle.saa_word_steps.specs.declared.place.Place.{Place}
 use Rattle.saa_word_steps.specs.declared.place.Afterwards.TheVariants.{Ends}
 use Rattle.saa_word_steps.specs.declared.place.Stage.{Stage}
 use Rattle.saa_word_steps.specs.declared.place.Stage.TheVariants.{CutToGoRound, Empty, GoRound, ShowLoad}
 use Rattle.saa_word_steps.specs.Needs.{Needs, AreNeeds, fits_count}
-use Rattle.saa_word_steps.specs.AbstractState.{AbstractState, IsFront, is_empty, is_in, waits_times, takes_of}
+use Rattle.saa_word_steps.specs.AbstractState.{AbstractState, IsFront, is_empty, is_in, takes_of}
 use Rattle.saa_word_steps.specs.Steps.{IsRanged, settled_word}
 use Rattle.saa_word_proofs.specs.Refinement.{updated, main_of, line_of, newest, oldest, IsBehind, is_holder, gives_up, IsAlone, IsShowing, Work, IsHolding, Refines}
 use Rattle.saa_word_proofs.specs.StepRefinement.{StepRefines}
@@ -28,13 +29,13 @@ record IsOne (line : List (ℕ × ℕ)) (link : ℕ) : Type 0 where
 
 -- a line whose oldest is its newest is one place
 oldest-newest : (line : List (ℕ × ℕ)) (link : ℕ) → is_empty line ≡ false → link ≡ oldest line → link ≡ newest 0 line
-    → ((place : ℕ) → waits_times place line ≤ 1) → IsOne line link
+    → ((place : ℕ) → times place line ≤ 1) → IsOne line link
 oldest-newest [] link some first last once = absurd (cc)
 oldest-newest (asker ∷ rest) link some first last once =
     elim (cases_Bool (is_empty rest)) [
       | inl none ↦ record { asker = asker; is = ap (λ (l : List (ℕ × ℕ)). asker ∷ l) (empty-nil rest none); stands = first }
       | inr more ↦
-          let again : 0 < waits_times asker.0 rest = newest-in (asker.0 + 1) asker.0 rest more (sym last ∙ first) in
+          let again : 0 < times asker.0 rest = newest-in (asker.0 + 1) asker.0 rest more (sym last ∙ first) in
           absurd (omega (arith, again, once asker.0, one_if-same asker.0))
     ]
 
@@ -72,7 +73,7 @@ emptied-step needs lawful places row standing state me here s seen current count
     let tail : current ≡ newest 0 rest =
     sym holding.5 ∙ sym (ap (λ (w : Word). w.tail) found) ∙ s.main.tail
     ∙ ap (λ (l : List (ℕ × ℕ)). newest 0 l) work.parts ∙ newest-rest 0 work.front rest some in
-    let once : (place : ℕ) → waits_times place rest ≤ 1 = λ place.
+    let once : (place : ℕ) → times place rest ≤ 1 = λ place.
     let both = times-parts place state.line work.front rest work.parts in
     omega (arith, both, held-once places standing state s.seats place) in
     let one : IsOne rest current =

@@ -1,7 +1,7 @@
 -- What a step leaves as it was: of the words, of what the other places remember, and of what the holder of the flag knows.
 use Rattle.std.proofs.Common.{◌≡◌, ℕ, ◌+◌, ◌<◌, ◌≤◌, pred, true, false, List, [], ◌∷◌, ◌++◌, ◌==◌, sym, ap, subst, ◌∙◌, arith, append_assoc}
-use Rattle.saa_core_spec.specs.Object.{one_if}
-use Rattle.saa_core_spec.proofs.Counts.{number_same, same_number}
+use Rattle.saa_core_spec.specs.Object.{one_if, times}
+use Rattle.saa_core_spec.proofs.Counts.{number_same, same_number, times-append}
 use Rattle.saa_core_words.specs.declared.word.Word.{Word}
 use Rattle.saa_core_words.specs.declared.line_word.LineWord.{LineWord}
 use Rattle.saa_word_steps.specs.declared.place.Place.{Place}
@@ -9,10 +9,10 @@ use Rattle.saa_word_steps.specs.declared.place.Afterwards.TheVariants.{Ends, Aga
 use Rattle.saa_word_steps.specs.declared.place.Stage.{Stage}
 use Rattle.saa_word_steps.specs.declared.place.Stage.TheVariants.{Quiet, ReadLoad, AskLoad, AskExchange, Prepare, Join, ReleaseLoad, ReleaseExchange, BackLoad, BackStore, Forward, CutToClose, CutToGoRound, Close, Empty, GoRound, ShowLoad, ShowStore, Take, FlagLoad, FlagExchange, LookLoad, LookStore, Unlink, DropTail, PoisonLoad, PoisonExchange, Clear}
 use Rattle.saa_word_steps.specs.Needs.{Needs}
-use Rattle.saa_word_steps.specs.AbstractState.{is_empty, is_in, waits_times}
+use Rattle.saa_word_steps.specs.AbstractState.{is_empty, is_in}
 use Rattle.saa_word_steps.specs.Steps.{IsRanged}
 use Rattle.saa_word_proofs.specs.Refinement.{updated, newest, oldest, is_holder, gives_up, IsAlone, IsOwn, IsPassed, IsShowing, Work, IsHolding, AreStages}
-use Rattle.saa_word_proofs.proofs.RefinementLemmas.Lists.{each-updated, in-append, newest-in, newest-some, times-append, ahead-frame}
+use Rattle.saa_word_proofs.proofs.RefinementLemmas.Lists.{each-updated, in-append, newest-in, newest-some, ahead-frame}
 
 -- The line as the holder sees it, where less is held or more have joined
 abbrev pub work-frame : (held now : ℕ) (line after more : List (ℕ × ℕ)) (seen : Word) → now ≤ held → after ≡ line ++ more → Work held line seen → Work now after seen
@@ -29,23 +29,23 @@ work-frame held now line after more seen less grown work = record {
 
 -- whoever stands among those behind the front, or in it, stands in the line
 pub work-behind : (held : ℕ) (line : List (ℕ × ℕ)) (seen : Word) (work : Work held line seen) (place : ℕ)
-    → 0 < waits_times place work.behind → 0 < waits_times place line
+    → 0 < times place work.behind → 0 < times place line
 work-behind held line seen work place there =
     rw work.parts (omega (arith, there, times-append place work.front (work.behind ++ work.joined), times-append place work.behind work.joined))
 
 pub work-front : (held : ℕ) (line : List (ℕ × ℕ)) (seen : Word) (work : Work held line seen) (place : ℕ)
-    → 0 < waits_times place work.front → 0 < waits_times place line
+    → 0 < times place work.front → 0 < times place line
 work-front held line seen work place there =
     rw work.parts (omega (arith, there, times-append place work.front (work.behind ++ work.joined)))
 
 -- the newest of a front stands in it, and the oldest of those behind it among them
-pub newest-stands : (line : List (ℕ × ℕ)) (link : ℕ) → is_empty line ≡ false → link ≡ newest 0 line → (0 < waits_times (pred link) line) × (link ≡ pred link + 1)
+pub newest-stands : (line : List (ℕ × ℕ)) (link : ℕ) → is_empty line ≡ false → link ≡ newest 0 line → (0 < times (pred link) line) × (link ≡ pred link + 1)
 newest-stands line link some is =
     let there : 0 < link = omega (arith, is, newest-some 0 line some) in
     let link_is : link ≡ pred link + 1 = omega (arith, there) in
     (newest-in 0 (pred link) line some (sym is ∙ link_is), link_is)
 
-pub oldest-stands : (line : List (ℕ × ℕ)) (link : ℕ) → is_empty line ≡ false → link ≡ oldest line → (0 < waits_times (pred link) line) × (link ≡ pred link + 1)
+pub oldest-stands : (line : List (ℕ × ℕ)) (link : ℕ) → is_empty line ≡ false → link ≡ oldest line → (0 < times (pred link) line) × (link ≡ pred link + 1)
 oldest-stands [] link some is = absurd (cc)
 oldest-stands (asker ∷ rest) link some is =
     let link_is : link ≡ pred link + 1 = omega (arith, is) in
@@ -58,7 +58,7 @@ passed-more me behind joined more none passed = (passed.0, rw (in-append me join
 
 -- what the holder knows holds still where less is held, more have joined, and the line words of those in line are as they were
 pub holding-frame : (needs : Needs) (words new : ℕ → LineWord) (me held now : ℕ) (line after more cut : List (ℕ × ℕ)) (stage : Stage)
-    → now ≤ held → after ≡ line ++ more → is_in me more ≡ false → ((place : ℕ) → 0 < waits_times place line → new place ≡ words place)
+    → now ≤ held → after ≡ line ++ more → is_in me more ≡ false → ((place : ℕ) → 0 < times place line → new place ≡ words place)
     → IsHolding needs words me held line cut stage → IsHolding needs new me now after cut stage
 holding-frame needs words new me held now line after more cut Quiet less grown none same h = h
 holding-frame needs words new me held now line after more cut (ReadLoad reading) less grown none same h = h

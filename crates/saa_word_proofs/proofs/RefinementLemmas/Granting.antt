@@ -2,8 +2,8 @@
 use Rattle.std.proofs.Common.{◌≡◌, ℕ, ◌+◌, ◌<◌, ◌≤◌, Bool, true, false, ◌||◌, List, [], ◌∷◌, ◌++◌, length, take, drop, ◌==◌, if◌then◌else◌, Some, is_some, refl, sym, ap, subst, ◌∙◌, arith, inl, inr}
 use Rattle.std.proofs.lemmas.Bool.{cases_Bool}
 use Rattle.std.proofs.Math.ListN.{length-append}
-use Rattle.saa_core_spec.specs.Object.{one_if}
-use Rattle.saa_core_spec.proofs.Counts.{one_if-le, number_same, same_number, number_other}
+use Rattle.saa_core_spec.specs.Object.{one_if, times}
+use Rattle.saa_core_spec.proofs.Counts.{one_if-le, number_same, same_number, number_other, times-append}
 use Rattle.saa_core_words.specs.declared.word.Word.{Word}
 use Rattle.saa_core_words.specs.declared.line_word.LineWord.{LineWord}
 use Rattle.saa_core_words.specs.Words.{count_bits, word_number}
@@ -13,11 +13,11 @@ use Rattle.saa_word_steps.specs.declared.place.Stage.{Stage}
 use Rattle.saa_word_steps.specs.Needs.{Needs, AreNeeds, fits_count}
 use Rattle.saa_word_steps.specs.declared.event.Event.{Event}
 use Rattle.saa_word_steps.specs.declared.event.Event.TheVariants.{Granted, Closed}
-use Rattle.saa_word_steps.specs.AbstractState.{AbstractState, IsEnabled, after_event, IsRun, IsFront, IsSettledAt, is_empty, is_in, waits_times, takes_of, answered_with, held_by}
+use Rattle.saa_word_steps.specs.AbstractState.{AbstractState, IsEnabled, after_event, IsRun, IsFront, IsSettledAt, is_empty, is_in, takes_of, answered_with, held_by}
 use Rattle.saa_word_steps.specs.Steps.{IsRanged, settled_word}
 use Rattle.saa_word_proofs.specs.Refinement.{updated, line_of, newest, IsBehind, is_slot, is_holder, gives_up, IsAlone, IsOwn, IsShowing, IsHolding, IsMain, IsLine, AreSeats, AreDebts, Refines}
 use Rattle.saa_word_proofs.specs.StepRefinement.{of_place, named, never_poisons}
-use Rattle.saa_word_proofs.proofs.RefinementLemmas.Lists.{each-updated, in-append, in-none, times-append, newest-append, newest-any, newest-empty, empty-nil, take-front, drop-front}
+use Rattle.saa_word_proofs.proofs.RefinementLemmas.Lists.{each-updated, in-append, in-none, newest-append, newest-any, newest-empty, empty-nil, take-front, drop-front}
 use Rattle.saa_word_proofs.proofs.RefinementLemmas.Frames.{stages-next}
 use Rattle.saa_word_proofs.proofs.RefinementLemmas.Holders.{never-barren}
 use Rattle.saa_word_proofs.proofs.RefinementLemmas.Rows.{word-whole, line-main, row-other, seats-next}
@@ -79,7 +79,7 @@ some-length [] some = absurd (cc)
 some-length (asker ∷ rest) some = omega arith
 
 -- a place that is seen in a line waits there
-pub in-waits : (place : ℕ) (line : List (ℕ × ℕ)) → is_in place line ≡ true → 0 < waits_times place line
+pub in-waits : (place : ℕ) (line : List (ℕ × ℕ)) → is_in place line ≡ true → 0 < times place line
 in-waits place [] some = absurd (cc)
 in-waits place (asker ∷ rest) some =
     elim (cases_Bool (asker.0 == place)) [
@@ -87,7 +87,7 @@ in-waits place (asker ∷ rest) some =
       | inr apart ↦ omega (arith, in-waits place rest (rw apart at some))
     ]
 
-pub in-no : (place : ℕ) (line : List (ℕ × ℕ)) → is_in place line ≡ false → waits_times place line ≡ 0
+pub in-no : (place : ℕ) (line : List (ℕ × ℕ)) → is_in place line ≡ false → times place line ≡ 0
 in-no place [] none = refl
 in-no place (asker ∷ rest) none =
     elim (cases_Bool (asker.0 == place)) [
@@ -97,8 +97,8 @@ in-no place (asker ∷ rest) none =
 
 -- how often a place stands in a line, by its parts
 pub times-parts : (place : ℕ) (line front rest : List (ℕ × ℕ)) → line ≡ front ++ rest
-    → waits_times place line ≡ waits_times place front + waits_times place rest
-times-parts place line front rest parts = ap (λ (l : List (ℕ × ℕ)). waits_times place l) parts ∙ times-append place front rest
+    → times place line ≡ times place front + times place rest
+times-parts place line front rest parts = ap (λ (l : List (ℕ × ℕ)). times place l) parts ∙ times-append place front rest
 
 -- the newest of a front is there exactly where somebody stands in it
 pub front-none : (front : List (ℕ × ℕ)) (top : ℕ) → top ≡ newest 0 front → top == 0 ≡ true → front ≡ []
@@ -257,7 +257,7 @@ debts-granted words state owed shower worth me value front rest was fits parts o
             ]
       ];
   once = λ place other.
-      each-updated (λ (n : ℕ) (l : List (ℕ × ℕ)). waits_times other l ≤ 1) owed me front
+      each-updated (λ (n : ℕ) (l : List (ℕ × ℕ)). times other l ≤ 1) owed me front
       (let both = times-parts other state.line front rest parts in omega (arith, both, once other))
       (λ other_place apart. was.once other_place other)
       place;

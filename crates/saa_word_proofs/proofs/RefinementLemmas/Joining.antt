@@ -1,8 +1,8 @@
 -- Steps of a place that asks and has to write: the count, its line word, the tail.
 use Rattle.std.proofs.Common.{◌^◌, ◌≡◌, ℕ, ◌+◌, ◌<◌, ◌≤◌, Bool, true, false, List, [], ◌∷◌, ◌++◌, ◌==◌, Option, Some, None, is_some, refl, sym, ap, subst, ◌∙◌, arith, inl, inr, append-nil, append_assoc}
 use Rattle.std.proofs.lemmas.Bool.{cases_Bool}
-use Rattle.saa_core_spec.specs.Object.{one_if}
-use Rattle.saa_core_spec.proofs.Counts.{same_number, number_other, one_if-same}
+use Rattle.saa_core_spec.specs.Object.{one_if, times}
+use Rattle.saa_core_spec.proofs.Counts.{same_number, number_other, one_if-same, times-append}
 use Rattle.saa_core_words.specs.declared.word.Word.{Word}
 use Rattle.saa_core_words.specs.declared.line_word.LineWord.{LineWord}
 use Rattle.saa_core_words.specs.Words.{count_bits, word_number, line_number, line_word_of}
@@ -13,12 +13,12 @@ use Rattle.saa_word_steps.specs.declared.place.Registration.TheVariants.{Once, S
 use Rattle.saa_word_steps.specs.declared.place.Stage.TheVariants.{Quiet, AskExchange, Prepare, Join}
 use Rattle.saa_word_steps.specs.Needs.{Needs, AreNeeds, fits_count}
 use Rattle.saa_word_steps.specs.declared.event.Event.TheVariants.{Got, Joined}
-use Rattle.saa_word_steps.specs.AbstractState.{AbstractState, is_empty, is_in, waits_times, held_by, must_wait, IsSettledAt}
+use Rattle.saa_word_steps.specs.AbstractState.{AbstractState, is_empty, is_in, held_by, must_wait, IsSettledAt}
 use Rattle.saa_word_steps.specs.Steps.{IsRanged, IsSmall}
 use Rattle.saa_word_steps.proofs.AbstractRuns.{joined-settled}
 use Rattle.saa_word_proofs.specs.Refinement.{updated, main_of, line_of, newest, is_slot, is_holder, gives_up, IsAlone, IsOwn, IsShowing, waits_behind, IsMain, IsLine, AreSeats, AreDebts, AreStages, Refines}
 use Rattle.saa_word_proofs.specs.StepRefinement.{StepRefines}
-use Rattle.saa_word_proofs.proofs.RefinementLemmas.Lists.{each-updated, newest-empty, newest-append, newest-any, empty-nil, in-none, in-append, times-append, behind-frame, behind-append, in-some}
+use Rattle.saa_word_proofs.proofs.RefinementLemmas.Lists.{each-updated, newest-empty, newest-append, newest-any, empty-nil, in-none, in-append, behind-frame, behind-append, in-some}
 use Rattle.saa_word_proofs.proofs.RefinementLemmas.Frames.{holding-frame, stages-next}
 use Rattle.saa_word_proofs.proofs.RefinementLemmas.Rows.{main-found, line-main, line-at, line-other, row-other, seats-next}
 use Rattle.saa_word_proofs.proofs.RefinementLemmas.Holders.{nobody-holds, main-now, never-barren}
@@ -121,7 +121,7 @@ step-AskExchange needs lawful wide places row standing state me room here s ask 
 
 -- a place that isn't registered in the line doesn't stand in it, and nobody owes it an answer
 pub outside : (needs : Needs) (places : ℕ) (row : ℕ → ℕ) (standing : ℕ → Place) (state : AbstractState) (me : ℕ) (s : Refines needs places row standing state)
-    → is_slot (standing me).registration ≡ false → (waits_times me state.line ≡ 0) × (is_some (state.due me) ≡ false) × (is_some (state.shown me) ≡ false)
+    → is_slot (standing me).registration ≡ false → (times me state.line ≡ 0) × (is_some (state.due me) ≡ false) × (is_some (state.shown me) ≡ false)
 outside needs places row standing state me s idle =
     let held : held_by me state ≡ 0 = s.seats.held me ∙ ap one_if idle in
     (omega (arith, held), none-one (is_some (state.due me)) (omega (arith, held)), none-one (is_some (state.shown me)) (omega (arith, held)))
@@ -146,9 +146,9 @@ step-Prepare needs lawful wide places row standing state me room here s request 
     let new : ℕ → LineWord = line_of (updated row (me + 1) number) in
     let read : line_word_of number ≡ word = line_word-read word alone.0 alone.2 (omega arith) in
     let same : (place : ℕ) → (place ≡ me → ⊥) → new place ≡ line_of row place = λ place apart. line-other row me number place apart in
-    let apart_line : (place : ℕ) → 0 < waits_times place state.line → place ≡ me → ⊥ =
-    λ place there is. absurd (omega (arith, there, ap (λ (n : ℕ). waits_times n state.line) is, out.0)) in
-    let apart_owed : (place other : ℕ) → 0 < waits_times other (s.owed place) → other ≡ me → ⊥ =
+    let apart_line : (place : ℕ) → 0 < times place state.line → place ≡ me → ⊥ =
+    λ place there is. absurd (omega (arith, there, ap (λ (n : ℕ). times n state.line) is, out.0)) in
+    let apart_owed : (place other : ℕ) → 0 < times other (s.owed place) → other ≡ me → ⊥ =
     λ place other there is.
     let due = (s.debts.due_to place other (in-some other (s.owed place) there)).1 in
     let wrong : true ≡ false = ap is_some (sym due ∙ ap state.due is) ∙ out.1 in absurd (cc) in

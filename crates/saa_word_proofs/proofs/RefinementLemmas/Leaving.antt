@@ -1,8 +1,8 @@
 -- The holder of the flag leaves the line: what this leaves of the object, of the seats and of what the others remember.
 use Rattle.std.proofs.Common.{◌≡◌, ℕ, ◌+◌, ◌<◌, ◌≤◌, true, false, not, List, [], ◌∷◌, ◌++◌, ◌==◌, is_some, refl, sym, ap, subst, ◌∙◌, arith, inl, inr, append_assoc}
 use Rattle.std.proofs.lemmas.Bool.{cases_Bool}
-use Rattle.saa_core_spec.specs.Object.{one_if}
-use Rattle.saa_core_spec.proofs.Counts.{number_same, same_number, number_other, one_if-same}
+use Rattle.saa_core_spec.specs.Object.{one_if, times, without}
+use Rattle.saa_core_spec.proofs.Counts.{number_same, same_number, number_other, one_if-same, times-append}
 use Rattle.saa_core_words.specs.declared.word.Word.{Word}
 use Rattle.saa_core_words.specs.declared.line_word.LineWord.{LineWord}
 use Rattle.saa_word_steps.specs.declared.place.Place.{Place}
@@ -12,11 +12,11 @@ use Rattle.saa_word_steps.specs.declared.place.Stage.{Stage}
 use Rattle.saa_word_steps.specs.declared.place.Stage.TheVariants.{Quiet}
 use Rattle.saa_word_steps.specs.Needs.{Needs}
 use Rattle.saa_word_steps.specs.declared.event.Event.TheVariants.{Left}
-use Rattle.saa_word_steps.specs.AbstractState.{AbstractState, IsRun, is_empty, is_in, waits_times, line_without, held_by}
+use Rattle.saa_word_steps.specs.AbstractState.{AbstractState, IsRun, is_empty, is_in, held_by}
 use Rattle.saa_word_steps.specs.Steps.{IsRanged, left_line}
 use Rattle.saa_word_proofs.specs.Refinement.{updated, line_of, newest, IsBehind, is_slot, is_holder, gives_up, IsAlone, IsOwn, IsShowing, Work, IsFound, IsHolding, IsMain, AreSeats, AreDebts, Refines}
 use Rattle.saa_word_proofs.specs.StepRefinement.{of_place}
-use Rattle.saa_word_proofs.proofs.RefinementLemmas.Lists.{each-updated, in-none, in-some, times-append, newest-append, newest-in, empty-nil, behind-append, behind-frame, behind-front, behind-rest}
+use Rattle.saa_word_proofs.proofs.RefinementLemmas.Lists.{each-updated, in-none, in-some, newest-append, newest-in, empty-nil, behind-append, behind-frame, behind-front, behind-rest}
 use Rattle.saa_word_proofs.proofs.RefinementLemmas.Frames.{stages-next}
 use Rattle.saa_word_proofs.proofs.RefinementLemmas.Rows.{row-other, own-any}
 use Rattle.saa_word_proofs.proofs.RefinementLemmas.Granting.{in-waits, in-no}
@@ -29,7 +29,7 @@ left state rest = record state { line = rest; unclosed = not (is_empty rest) }
 -- Lines
 
 -- a line without a place that doesn't wait is as it was
-pub without-out : (place : ℕ) (line : List (ℕ × ℕ)) → is_in place line ≡ false → line_without place line ≡ line
+pub without-out : (place : ℕ) (line : List (ℕ × ℕ)) → is_in place line ≡ false → without place line ≡ line
 without-out place [] out = refl
 without-out place (asker ∷ rest) out =
     elim (cases_Bool (asker.0 == place)) [
@@ -39,7 +39,7 @@ without-out place (asker ∷ rest) out =
 
 -- each part of a line is left for itself
 pub without-append : (place : ℕ) (front behind : List (ℕ × ℕ))
-    → line_without place (front ++ behind) ≡ line_without place front ++ line_without place behind
+    → without place (front ++ behind) ≡ without place front ++ without place behind
 without-append place [] behind = refl
 without-append place (asker ∷ rest) behind =
     elim (cases_Bool (asker.0 == place)) [
@@ -49,19 +49,19 @@ without-append place (asker ∷ rest) behind =
 
 -- how often a place waits where one of the line is left out
 pub times-left : (place : ℕ) (before after : List (ℕ × ℕ)) (asker : ℕ × ℕ)
-    → waits_times place (before ++ asker ∷ after) ≡ one_if (asker.0 == place) + waits_times place (before ++ after)
+    → times place (before ++ asker ∷ after) ≡ one_if (asker.0 == place) + times place (before ++ after)
 times-left place before after asker = omega (arith, times-append place before (asker ∷ after), times-append place before after)
 
 -- who waits once leaves those before it and those behind it
-pub without-once : (place request : ℕ) (before after : List (ℕ × ℕ)) → waits_times place (before ++ (place, request) ∷ after) ≡ 1
-    → line_without place (before ++ (place, request) ∷ after) ≡ before ++ after
+pub without-once : (place request : ℕ) (before after : List (ℕ × ℕ)) → times place (before ++ (place, request) ∷ after) ≡ 1
+    → without place (before ++ (place, request) ∷ after) ≡ before ++ after
 without-once place request before after once =
     let all = times-append place before ((place, request) ∷ after) in
     let out_before : is_in place before ≡ false = in-none place before (omega (arith, once, all, one_if-same place)) in
     let out_after : is_in place after ≡ false = in-none place after (omega (arith, once, all, one_if-same place)) in
-    let here : line_without place ((place, request) ∷ after) ≡ after = rw (number_same place) (without-out place after out_after) in
+    let here : without place ((place, request) ∷ after) ≡ after = rw (number_same place) (without-out place after out_after) in
     without-append place before ((place, request) ∷ after)
-    ∙ ap (λ (l : List (ℕ × ℕ)). l ++ line_without place ((place, request) ∷ after)) (without-out place before out_before)
+    ∙ ap (λ (l : List (ℕ × ℕ)). l ++ without place ((place, request) ∷ after)) (without-out place before out_before)
     ∙ ap (λ (l : List (ℕ × ℕ)). before ++ l) here
 
 -- who isn't in a line isn't in one that somebody has left
@@ -69,16 +69,16 @@ pub out-left : (place : ℕ) (line before after : List (ℕ × ℕ)) (asker : �
     → is_in place line ≡ false → is_in place (before ++ after) ≡ false
 out-left place line before after asker parts out =
     in-none place (before ++ after)
-    (omega (arith, in-no place line out, ap (λ (l : List (ℕ × ℕ)). waits_times place l) parts, times-left place before after asker))
+    (omega (arith, in-no place line out, ap (λ (l : List (ℕ × ℕ)). times place l) parts, times-left place before after asker))
 
 -- nobody is behind a place that waits once and is the newest of the line
-pub alone-behind : (me request : ℕ) (before joined : List (ℕ × ℕ)) → waits_times me (before ++ (me, request) ∷ joined) ≡ 1
+pub alone-behind : (me request : ℕ) (before joined : List (ℕ × ℕ)) → times me (before ++ (me, request) ∷ joined) ≡ 1
     → newest 0 (before ++ (me, request) ∷ joined) ≡ me + 1 → joined ≡ []
 alone-behind me request before joined once last =
     elim (cases_Bool (is_empty joined)) [
       | inl none ↦ empty-nil joined none
       | inr some ↦
-          let again : 0 < waits_times me joined =
+          let again : 0 < times me joined =
           newest-in (me + 1) me joined some (sym (newest-append 0 before ((me, request) ∷ joined)) ∙ last) in
           absurd (omega (arith, again, once, times-append me before ((me, request) ∷ joined), one_if-same me))
     ]
@@ -99,18 +99,18 @@ found-room row line before after asker linked parts =
 
 -- The event, for the object with those who still wait
 pub left-run : (needs : Needs) (state : AbstractState) (me request : ℕ) (before after : List (ℕ × ℕ)) → state.line ≡ before ++ (me, request) ∷ after
-    → waits_times me state.line ≡ 1 → IsRun needs state (of_place me (Left ∷ [])) (left state (before ++ after))
+    → times me state.line ≡ 1 → IsRun needs state (of_place me (Left ∷ [])) (left state (before ++ after))
 left-run needs state me request before after parts once =
-    let rest : line_without me state.line ≡ before ++ after =
-    ap (λ (l : List (ℕ × ℕ)). line_without me l) parts
-    ∙ without-once me request before after (ap (λ (l : List (ℕ × ℕ)). waits_times me l) (sym parts) ∙ once) in
+    let rest : without me state.line ≡ before ++ after =
+    ap (λ (l : List (ℕ × ℕ)). without me l) parts
+    ∙ without-once me request before after (ap (λ (l : List (ℕ × ℕ)). times me l) (sym parts) ∙ once) in
     (in-some me state.line (omega (arith, once)), ap (λ (l : List (ℕ × ℕ)). left state l) rest)
 
 -- Links
 
 -- the first of those behind who leaves is linked to whoever is before that
 pub unlinked : (words new : ℕ → LineWord) (before rest : List (ℕ × ℕ)) (gone asker : ℕ × ℕ)
-    → IsBehind words 0 (before ++ gone ∷ (asker ∷ rest)) → waits_times asker.0 (before ++ gone ∷ (asker ∷ rest)) ≤ 1
+    → IsBehind words 0 (before ++ gone ∷ (asker ∷ rest)) → times asker.0 (before ++ gone ∷ (asker ∷ rest)) ≤ 1
     → (new asker.0).request ≡ (words asker.0).request → (new asker.0).older ≡ newest 0 before
     → ((place : ℕ) → (place ≡ asker.0 → ⊥) → new place ≡ words place)
     → IsBehind new 0 (before ++ (asker ∷ rest))
@@ -126,13 +126,13 @@ unlinked words new before rest gone asker linked once request older others =
     kept : (place : ℕ) → (place ≡ asker.0 → ⊥) → ((new place).request ≡ (words place).request) × ((new place).older ≡ (words place).older)
     kept place apart = (ap (λ (w : LineWord). w.request) (others place apart), ap (λ (w : LineWord). w.older) (others place apart))
 
-    not-before : (place : ℕ) → 0 < waits_times place before → place ≡ asker.0 → ⊥
+    not-before : (place : ℕ) → 0 < times place before → place ≡ asker.0 → ⊥
     not-before place there is =
-        omega (arith, once, times-append asker.0 before (gone ∷ (asker ∷ rest)), one_if-same asker.0, there, ap (λ (n : ℕ). waits_times n before) is)
+        omega (arith, once, times-append asker.0 before (gone ∷ (asker ∷ rest)), one_if-same asker.0, there, ap (λ (n : ℕ). times n before) is)
 
-    not-behind : (place : ℕ) → 0 < waits_times place rest → place ≡ asker.0 → ⊥
+    not-behind : (place : ℕ) → 0 < times place rest → place ≡ asker.0 → ⊥
     not-behind place there is =
-        omega (arith, once, times-append asker.0 before (gone ∷ (asker ∷ rest)), one_if-same asker.0, there, ap (λ (n : ℕ). waits_times n rest) is)
+        omega (arith, once, times-append asker.0 before (gone ∷ (asker ∷ rest)), one_if-same asker.0, there, ap (λ (n : ℕ). times n rest) is)
 
 -- a line word that is written with another older link leaves whom the newer ones name
 pub newer-same : (words new : ℕ → LineWord) (at : ℕ) → (new at).newer ≡ (words at).newer → ((place : ℕ) → (place ≡ at → ⊥) → new place ≡ words place)
@@ -147,10 +147,10 @@ newer-same words new at newer others place =
 
 -- who waits where the holder found itself waits once
 pub found-once : (places : ℕ) (standing : ℕ → Place) (state : AbstractState) (me request : ℕ) (before after : List (ℕ × ℕ))
-    → AreSeats places standing state → state.line ≡ before ++ (me, request) ∷ after → waits_times me state.line ≡ 1
+    → AreSeats places standing state → state.line ≡ before ++ (me, request) ∷ after → times me state.line ≡ 1
 found-once places standing state me request before after seats parts =
-    let waits : 0 < waits_times me state.line =
-    omega (arith, ap (λ (l : List (ℕ × ℕ)). waits_times me l) parts, times-append me before ((me, request) ∷ after), one_if-same me) in
+    let waits : 0 < times me state.line =
+    omega (arith, ap (λ (l : List (ℕ × ℕ)). times me l) parts, times-append me before ((me, request) ∷ after), one_if-same me) in
     (in-line places standing state me seats waits).2
 
 -- who leaves is held no more, and the others are held as they were
@@ -158,16 +158,16 @@ pub seats-left : (places : ℕ) (standing : ℕ → Place) (state : AbstractStat
     → AreSeats places standing state → me < places → state.line ≡ before ++ (me, request) ∷ after
     → AreSeats places (updated standing me (record (left_line (standing me)) { stage = stage })) (left state (before ++ after))
 seats-left places standing state me request before after stage was here parts =
-    let times : (place : ℕ) → waits_times place state.line ≡ one_if (me == place) + waits_times place (before ++ after) =
-    λ place. ap (λ (l : List (ℕ × ℕ)). waits_times place l) parts ∙ times-left place before after (me, request) in
-    let waits : 0 < waits_times me state.line = omega (arith, times me, one_if-same me) in
+    let counted : (place : ℕ) → times place state.line ≡ one_if (me == place) + times place (before ++ after) =
+    λ place. ap (λ (l : List (ℕ × ℕ)). times place l) parts ∙ times-left place before after (me, request) in
+    let waits : 0 < times me state.line = omega (arith, counted me, one_if-same me) in
     let slot : is_slot (standing me).registration ≡ true = (in-line places standing state me was waits).1 in
     let place_now : Place = record (left_line (standing me)) { stage = stage } in
     record {
       held = each-updated (λ (n : ℕ) (p : Place). held_by n (left state (before ++ after)) ≡ one_if (is_slot p.registration)) standing me place_now
-          (omega (arith, times me, one_if-same me, was.held me, ap one_if slot))
+          (omega (arith, counted me, one_if-same me, was.held me, ap one_if slot))
           (λ other apart.
-          omega (arith, times other, ap one_if (number_other me other (λ is. apart (sym is))), was.held other));
+          omega (arith, counted other, ap one_if (number_other me other (λ is. apart (sym is))), was.held other));
       within = each-updated (λ (n : ℕ) (p : Place). is_slot p.registration ≡ true → n < places) standing me place_now (λ slot. here)
           (λ other apart. was.within other);
       beyond = each-updated (λ (n : ℕ) (p : Place). places ≤ n → p.stage ≡ Quiet) standing me place_now (λ out. absurd (omega (arith, out, here)))
@@ -177,7 +177,7 @@ seats-left places standing state me request before after stage was here parts =
 -- no answer is due to who waits, so nobody owes it one
 pub owed-out : (places : ℕ) (words : ℕ → LineWord) (standing : ℕ → Place) (state : AbstractState) (owed : ℕ → List (ℕ × ℕ)) (shower worth : ℕ → ℕ)
     → AreSeats places standing state → AreDebts words state.due owed shower worth
-    → (place other : ℕ) → 0 < waits_times other (owed place) → is_in other state.line ≡ false
+    → (place other : ℕ) → 0 < times other (owed place) → is_in other state.line ≡ false
 owed-out places words standing state owed shower worth seats debts place other owes =
     elim (cases_Bool (is_in other state.line)) [
       | inl waits ↦

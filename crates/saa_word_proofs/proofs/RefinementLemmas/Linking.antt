@@ -1,7 +1,7 @@
 -- The holder of the flag writes the line word of a place that stands in the line: what this leaves as it was.
 use Rattle.std.proofs.Common.{◌≡◌, ℕ, ◌+◌, ◌<◌, pred, true, false, List, [], ◌∷◌, ◌++◌, ◌==◌, Some, is_some, refl, sym, ap, subst, ◌∙◌, arith, inl, inr}
 use Rattle.std.proofs.lemmas.Bool.{cases_Bool}
-use Rattle.saa_core_spec.specs.Object.{one_if}
+use Rattle.saa_core_spec.specs.Object.{one_if, times}
 use Rattle.saa_core_spec.proofs.Counts.{number_same, same_number}
 use Rattle.saa_core_words.specs.declared.word.Word.{Word}
 use Rattle.saa_core_words.specs.declared.line_word.LineWord.{LineWord}
@@ -9,7 +9,7 @@ use Rattle.saa_core_words.specs.Words.{line_word_of}
 use Rattle.saa_word_steps.specs.declared.place.Place.{Place}
 use Rattle.saa_word_steps.specs.declared.place.Stage.{Stage}
 use Rattle.saa_word_steps.specs.Needs.{Needs}
-use Rattle.saa_word_steps.specs.AbstractState.{AbstractState, is_empty, is_in, waits_times}
+use Rattle.saa_word_steps.specs.AbstractState.{AbstractState, is_empty, is_in}
 use Rattle.saa_word_steps.specs.Steps.{IsRanged}
 use Rattle.saa_word_proofs.specs.Refinement.{updated, line_of, newest, oldest, IsBehind, IsAhead, is_slot, is_holder, gives_up, IsAlone, IsOwn, IsShowing, Work, IsHolding, IsAt, IsMain, IsLine, AreSeats, Refines}
 use Rattle.saa_word_proofs.proofs.RefinementLemmas.Lists.{in-some, behind-frame, behind-rest, newest-append, newest-last, empty-nil}
@@ -32,8 +32,8 @@ pub apart-by : (one other : ℕ) → one == other ≡ false → one ≡ other �
 apart-by one other apart is = let same : one == other ≡ true = ap (λ (n : ℕ). n == other) is ∙ number_same other in absurd (cc)
 
 -- Whoever stands in the line is a place that is registered in it, stands there once, and no answer is due to it
-pub in-line : (places : ℕ) (standing : ℕ → Place) (state : AbstractState) (place : ℕ) → AreSeats places standing state → 0 < waits_times place state.line
-    → (place < places) × (is_slot (standing place).registration ≡ true) × (waits_times place state.line ≡ 1) × (is_some (state.due place) ≡ false)
+pub in-line : (places : ℕ) (standing : ℕ → Place) (state : AbstractState) (place : ℕ) → AreSeats places standing state → 0 < times place state.line
+    → (place < places) × (is_slot (standing place).registration ≡ true) × (times place state.line ≡ 1) × (is_some (state.due place) ≡ false)
 in-line places standing state place seats there =
     elim (cases_Bool (is_slot (standing place).registration)) [
       | inl slot ↦
@@ -79,7 +79,7 @@ tail-room places standing state seen work seats room some =
     )
   where
     newest-stands-behind : (older : ℕ) (line : List (ℕ × ℕ)) (link : ℕ) → is_empty line ≡ false → link ≡ newest older line
-        → (0 < waits_times (pred link) line) × (link ≡ pred link + 1)
+        → (0 < times (pred link) line) × (link ≡ pred link + 1)
     newest-stands-behind older [] link some is = absurd (cc)
     newest-stands-behind older (asker ∷ rest) link some is = newest-stands (asker ∷ rest) link refl is
 
@@ -90,7 +90,7 @@ line-room number = (omega arith, omega arith, omega arith)
 -- The holder writes the line word of a place in line, and goes on as a holder that knows the line by the new words
 pub relinked : (needs : Needs) (places : ℕ) (row : ℕ → ℕ) (standing : ℕ → Place) (state : AbstractState) (me : ℕ) (s : Refines needs places row standing state)
     (next : Stage) (at number : ℕ) (off rest : List (ℕ × ℕ))
-    → me < places → s.holder ≡ me + 1 → 0 < waits_times at state.line
+    → me < places → s.holder ≡ me + 1 → 0 < times at state.line
     → IsLine (line_of (updated row (at + 1) number)) state.line off rest
     → IsRanged needs next → IsAlone needs (standing me).registration (standing me).back next
     → (gives_up (standing me).back next ≡ true → is_in me state.line ≡ false)
@@ -135,7 +135,7 @@ relinked needs places row standing state me s next at number off rest here flag 
           (owns seat.1) (λ other differs. refl) (λ other differs. refl) (λ other differs. refl) (λ other differs is. absurd (differs (omega (arith, is, flag))));
     }
   where
-    not-owed : is_some (state.due at) ≡ false → (place other : ℕ) → 0 < waits_times other (s.owed place) → other ≡ at → ⊥
+    not-owed : is_some (state.due at) ≡ false → (place other : ℕ) → 0 < times other (s.owed place) → other ≡ at → ⊥
     not-owed none place other owes is =
         let due : state.due other ≡ Some (s.worth place) = (s.debts.due_to place other (in-some other (s.owed place) owes)).1 in
         let wrong : is_some (state.due at) ≡ true = ap (λ (n : ℕ). is_some (state.due n)) (sym is) ∙ ap is_some due in

@@ -2,11 +2,11 @@
 use Rattle.std.proofs.Common.{◌≡◌, ℕ, ◌+◌, ◌<◌, ◌≤◌, true, false, ◌||◌, List, [], ◌∷◌, ◌++◌, length, take, drop, ◌==◌, refl, sym, ap, subst, ◌∙◌, arith, inl, inr}
 use Rattle.std.proofs.lemmas.Bool.{cases_Bool}
 use Rattle.std.proofs.lemmas.Bool.Decides.{nat_tests}
-use Rattle.saa_core_spec.specs.Object.{one_if}
+use Rattle.saa_core_spec.specs.Object.{one_if, times}
 use Rattle.saa_core_spec.proofs.Counts.{number_same, same_number, one_if-same}
 use Rattle.saa_core_words.specs.declared.line_word.LineWord.{LineWord}
 use Rattle.saa_word_steps.specs.Needs.{Needs, AreNeeds}
-use Rattle.saa_word_steps.specs.AbstractState.{is_empty, is_in, waits_times, IsFront, takes_of}
+use Rattle.saa_word_steps.specs.AbstractState.{is_empty, is_in, IsFront, takes_of}
 use Rattle.saa_word_proofs.specs.Refinement.{updated, newest, oldest, IsBehind, IsAhead}
 
 -- functions that agree everywhere are one
@@ -41,7 +41,7 @@ each-updated P old at value here others other =
 
 -- Who stands in a line
 
-pub in-none : (place : ℕ) (line : List (ℕ × ℕ)) → waits_times place line ≡ 0 → is_in place line ≡ false
+pub in-none : (place : ℕ) (line : List (ℕ × ℕ)) → times place line ≡ 0 → is_in place line ≡ false
 in-none place [] none = refl
 in-none place (asker ∷ rest) none =
     elim (cases_Bool (asker.0 == place)) [
@@ -57,12 +57,8 @@ in-append place (asker ∷ rest) behind =
       | inr apart ↦ rw apart (in-append place rest behind)
     ]
 
-pub times-append : (place : ℕ) (front behind : List (ℕ × ℕ)) → waits_times place (front ++ behind) ≡ waits_times place front + waits_times place behind
-times-append place [] behind = omega arith
-times-append place (asker ∷ rest) behind = omega (arith, times-append place rest behind)
-
 -- whose times are counted is in
-pub in-some : (place : ℕ) (line : List (ℕ × ℕ)) → 0 < waits_times place line → is_in place line ≡ true
+pub in-some : (place : ℕ) (line : List (ℕ × ℕ)) → 0 < times place line → is_in place line ≡ true
 in-some place [] some = absurd (omega (arith, some))
 in-some place (asker ∷ rest) some =
     elim (cases_Bool (asker.0 == place)) [
@@ -92,7 +88,7 @@ newest-empty [] = refl
 newest-empty (asker ∷ rest) = let there = newest-some 0 (asker ∷ rest) refl in grind (arith, nat_tests)
 
 -- the newest stands in the line
-pub newest-in : (older place : ℕ) (line : List (ℕ × ℕ)) → is_empty line ≡ false → newest older line ≡ place + 1 → 0 < waits_times place line
+pub newest-in : (older place : ℕ) (line : List (ℕ × ℕ)) → is_empty line ≡ false → newest older line ≡ place + 1 → 0 < times place line
 newest-in older place [] some is = absurd (cc)
 newest-in older place (asker ∷ []) some is =
     let same : asker.0 ≡ place = omega (arith, is) in
@@ -123,7 +119,7 @@ newest-last older before last = newest-append older before (last ∷ [])
 
 -- line words that are the same for those who stand in a line say the same of it
 pub behind-frame : (old new : ℕ → LineWord) (older : ℕ) (line : List (ℕ × ℕ))
-    → ((place : ℕ) → 0 < waits_times place line → ((new place).request ≡ (old place).request) × ((new place).older ≡ (old place).older))
+    → ((place : ℕ) → 0 < times place line → ((new place).request ≡ (old place).request) × ((new place).older ≡ (old place).older))
     → IsBehind old older line → IsBehind new older line
 behind-frame old new older [] same h = tt
 behind-frame old new older (asker ∷ rest) same h =
@@ -145,7 +141,7 @@ behind-rest words older [] behind h = h
 behind-rest words older (asker ∷ rest) behind h = behind-rest words (asker.0 + 1) rest behind h.2
 
 pub ahead-frame : (old new : ℕ → LineWord) (line : List (ℕ × ℕ))
-    → ((place : ℕ) → 0 < waits_times place line → (new place).newer ≡ (old place).newer) → IsAhead old line → IsAhead new line
+    → ((place : ℕ) → 0 < times place line → (new place).newer ≡ (old place).newer) → IsAhead old line → IsAhead new line
 ahead-frame old new [] same h = tt
 ahead-frame old new (asker ∷ []) same h = tt
 ahead-frame old new (asker ∷ (next ∷ rest)) same h =

@@ -164,7 +164,7 @@ poisoned-stands needs places row standing state me s stage here unheld none lock
       stages = rw (line-main row number) stages;
     }
 
--- Whoever saw a lock that one owner has poisons it, and shows that to all who waited; or decides by the word that it found
+-- Whoever saw a lock that one owner has poisons it, and shows that to all waiters; or decides by the word that it found
 pub step-PoisonExchange : (needs : Needs) → AreNeeds needs → needs.top < 2 ^ count_bits → (places : ℕ) (row : ℕ → ℕ) (standing : ℕ → Place) (state : AbstractState) (me : ℕ)
     → places < 65536 → me < places → (s : Refines needs places row standing state)
     → (seen : Word) → (standing me).stage ≡ PoisonExchange seen → StepRefines needs places row standing state me (PoisonExchange seen)

@@ -2,8 +2,8 @@
 use Rattle.std.proofs.Common.{◌^◌, ◌≡◌, ℕ, ◌+◌, ◌<◌, ◌≤◌, Bool, true, false, ◌||◌, List, [], ◌∷◌, ◌++◌, ◌==◌, Option, Some, None, is_some, nat_lt, refl, sym, ap, subst, ◌∙◌, arith, inl, inr, append-nil}
 use Rattle.std.proofs.lemmas.Bool.{cases_Bool}
 use Rattle.std.proofs.lemmas.Bool.Decides.{nat_tests}
-use Rattle.saa_core_spec.specs.Object.{one_if}
-use Rattle.saa_core_spec.proofs.Counts.{number_same, same_number, number_other, one_if-same, one_if-le}
+use Rattle.saa_core_spec.specs.Object.{one_if, times}
+use Rattle.saa_core_spec.proofs.Counts.{number_same, same_number, number_other, one_if-same, one_if-le, times-append}
 use Rattle.saa_core_words.specs.declared.line_word.LineWord.{LineWord}
 use Rattle.saa_core_words.specs.Words.{count_bits, line_word_of, answer_number}
 use Rattle.saa_word_steps.specs.declared.place.Place.{Place}
@@ -12,12 +12,12 @@ use Rattle.saa_word_steps.specs.declared.place.Afterwards.TheVariants.{Ends, Aga
 use Rattle.saa_word_steps.specs.declared.place.Stage.{Stage}
 use Rattle.saa_word_steps.specs.declared.place.Stage.TheVariants.{Quiet, ShowLoad, ShowStore}
 use Rattle.saa_word_steps.specs.Needs.{Needs, AreNeeds}
-use Rattle.saa_word_steps.specs.AbstractState.{AbstractState, is_in, waits_times, held_by, with_answer}
+use Rattle.saa_word_steps.specs.AbstractState.{AbstractState, is_in, held_by, with_answer}
 use Rattle.saa_word_steps.specs.Steps.{IsRanged}
 use Rattle.saa_word_steps.proofs.AbstractRuns.{waits-some}
 use Rattle.saa_word_proofs.specs.Refinement.{updated, line_of, newest, IsBehind, is_slot, is_holder, gives_up, IsAlone, IsOwn, IsShowing, IsHolding, IsMain, IsLine, AreSeats, AreAnswers, AreDebts, Refines}
 use Rattle.saa_word_proofs.specs.StepRefinement.{StepRefines}
-use Rattle.saa_word_proofs.proofs.RefinementLemmas.Lists.{each-updated, updated-at, updated-other, newest-last, in-some, in-append, times-append, split-last, behind-frame, behind-front, behind-rest}
+use Rattle.saa_word_proofs.proofs.RefinementLemmas.Lists.{each-updated, updated-at, updated-other, newest-last, in-some, in-append, split-last, behind-frame, behind-front, behind-rest}
 use Rattle.saa_word_proofs.proofs.RefinementLemmas.Frames.{holding-frame, stages-next}
 use Rattle.saa_word_proofs.proofs.RefinementLemmas.Rows.{moved, loaded, row-other, apart-at}
 
@@ -28,7 +28,7 @@ slot-of false some = absurd (omega (arith, some))
 
 -- whoever stands in a line is one of the places
 pub line-inside : (needs : Needs) (places : ℕ) (row : ℕ → ℕ) (standing : ℕ → Place) (state : AbstractState) (s : Refines needs places row standing state) (other : ℕ)
-    → 0 < waits_times other state.line → other < places
+    → 0 < times other state.line → other < places
 line-inside needs places row standing state s other there =
     s.seats.within other (slot-of (is_slot (standing other).registration) (omega (arith, there, s.seats.held other)))
 
@@ -86,8 +86,8 @@ step-ShowLoad needs lawful wide places row standing state me room here s current
     let showing : IsShowing (s.owed me) (s.worth me) stage = subst (λ stage. IsShowing (s.owed me) (s.worth me) stage) at (s.stages.showing me) in
     let split = split-last (s.owed me) showing.1 in
     let link : current ≡ split.last.0 + 1 = sym showing.0 ∙ ap (newest 0) split.is ∙ newest-last 0 split.before split.last in
-    let there : 0 < waits_times split.last.0 (s.owed me) =
-    omega (arith, ap (λ (l : List (ℕ × ℕ)). waits_times split.last.0 l) split.is, times-append split.last.0 split.before (split.last ∷ []), one_if-same split.last.0) in
+    let there : 0 < times split.last.0 (s.owed me) =
+    omega (arith, ap (λ (l : List (ℕ × ℕ)). times split.last.0 l) split.is, times-append split.last.0 split.before (split.last ∷ []), one_if-same split.last.0) in
     let links = behind-rest (line_of row) 0 split.before (split.last ∷ []) (subst (λ (l : List (ℕ × ℕ)). IsBehind (line_of row) 0 l) split.is (s.debts.links me)) in
     let older : (line_word_of (row current)).older ≡ newest 0 split.before = ap (λ (n : ℕ). (line_word_of (row n)).older) link ∙ links.1 in
     let next : ℕ = (line_word_of (row current)).older in
@@ -117,16 +117,16 @@ pub line-shown : (needs : Needs) (places : ℕ) (row : ℕ → ℕ) (standing : 
     → 0 < at → IsLine (line_of (updated row (places + at) number)) state.line s.cut s.uncut
 line-shown needs places row standing state s at number some =
     let new : ℕ → LineWord = line_of (updated row (places + at) number) in
-    let same : (place : ℕ) → 0 < waits_times place state.line → new place ≡ line_of row place =
+    let same : (place : ℕ) → 0 < times place state.line → new place ≡ line_of row place =
     λ place there. line-answer row places at number place (line-inside needs places row standing state s place there) some in
-    let fields : (place : ℕ) → 0 < waits_times place state.line → ((new place).request ≡ (line_of row place).request) × ((new place).older ≡ (line_of row place).older) =
+    let fields : (place : ℕ) → 0 < times place state.line → ((new place).request ≡ (line_of row place).request) × ((new place).older ≡ (line_of row place).older) =
     λ place there. (ap (λ (w : LineWord). w.request) (same place there), ap (λ (w : LineWord). w.older) (same place there)) in
     record {
       parts = s.line.parts;
       granted = behind-frame (line_of row) new 0 s.cut (λ place there. fields place
-          (omega (arith, there, ap (λ (l : List (ℕ × ℕ)). waits_times place l) s.line.parts, times-append place s.cut s.uncut))) s.line.granted;
+          (omega (arith, there, ap (λ (l : List (ℕ × ℕ)). times place l) s.line.parts, times-append place s.cut s.uncut))) s.line.granted;
       stays = behind-frame (line_of row) new 0 s.uncut (λ place there. fields place
-          (omega (arith, there, ap (λ (l : List (ℕ × ℕ)). waits_times place l) s.line.parts, times-append place s.cut s.uncut))) s.line.stays;
+          (omega (arith, there, ap (λ (l : List (ℕ × ℕ)). times place l) s.line.parts, times-append place s.cut s.uncut))) s.line.stays;
       some = s.line.some;
     }
 
@@ -223,8 +223,8 @@ debts-shown : (needs : Needs) (places : ℕ) (row : ℕ → ℕ) (standing : ℕ
     → AreDebts (line_of (updated row (places + (asker.0 + 1)) number)) (with_answer asker.0 None state.due) (updated s.owed me before) s.shower s.worth
 debts-shown needs places row standing state s me before asker number is =
     let new : ℕ → LineWord = line_of (updated row (places + (asker.0 + 1)) number) in
-    let whole : (other : ℕ) → waits_times other (s.owed me) ≡ waits_times other before + waits_times other (asker ∷ []) =
-    λ other. ap (λ (l : List (ℕ × ℕ)). waits_times other l) is ∙ times-append other before (asker ∷ []) in
+    let whole : (other : ℕ) → times other (s.owed me) ≡ times other before + times other (asker ∷ []) =
+    λ other. ap (λ (l : List (ℕ × ℕ)). times other l) is ∙ times-append other before (asker ∷ []) in
     let still : (other : ℕ) → is_in other before ≡ true → is_in other (s.owed me) ≡ true =
     λ other there. in-some other (s.owed me) (omega (arith, whole other, waits-some other before there)) in
     let mine : is_in asker.0 (s.owed me) ≡ true = in-some asker.0 (s.owed me) (omega (arith, whole asker.0, one_if-same asker.0)) in
@@ -235,7 +235,7 @@ debts-shown needs places row standing state s me before asker number is =
       s.debts.once me asker.0,
       whole asker.0,
       one_if-same asker.0,
-      subst (λ (n : ℕ). 0 < waits_times n before) same (waits-some other before there),
+      subst (λ (n : ℕ). 0 < times n before) same (waits-some other before there),
     ))) in
     record {
       due_to = each-updated
@@ -264,7 +264,7 @@ debts-shown needs places row standing state s me before asker number is =
                   | inr to_other ↦ rw to_other there
                 ])
           ];
-      once = each-updated (λ (place : ℕ) (l : List (ℕ × ℕ)). (other : ℕ) → waits_times other l ≤ 1) s.owed me before
+      once = each-updated (λ (place : ℕ) (l : List (ℕ × ℕ)). (other : ℕ) → times other l ≤ 1) s.owed me before
           (λ other. omega (arith, s.debts.once me other, whole other)) (λ place apart other. s.debts.once place other);
       small = s.debts.small;
       links = each-updated (λ (place : ℕ) (l : List (ℕ × ℕ)). IsBehind new 0 l) s.owed me before
@@ -303,7 +303,7 @@ shown needs places row standing state me here s before asker is stage ranged alo
     let place : Place = record (standing me) { stage = stage } in
     let some : 0 < asker.0 + 1 = omega arith in
     let mine : is_in asker.0 (s.owed me) ≡ true =
-    in-some asker.0 (s.owed me) (omega (arith, ap (λ (l : List (ℕ × ℕ)). waits_times asker.0 l) is, times-append asker.0 before (asker ∷ []), one_if-same asker.0)) in
+    in-some asker.0 (s.owed me) (omega (arith, ap (λ (l : List (ℕ × ℕ)). times asker.0 l) is, times-append asker.0 before (asker ∷ []), one_if-same asker.0)) in
     let due : state.due asker.0 ≡ Some (s.worth me) = (s.debts.due_to me asker.0 mine).1 in
     let last : AbstractState = record state { due = with_answer asker.0 None state.due; shown = with_answer asker.0 (state.due asker.0) state.shown } in
     record {

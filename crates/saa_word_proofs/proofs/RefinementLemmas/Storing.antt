@@ -1,16 +1,17 @@
 -- The holder of the flag links the last of the front to those behind it: what the line is to it then.
 use Rattle.std.proofs.Common.{◌≡◌, ℕ, ◌+◌, ◌<◌, ◌≤◌, pred, false, List, [], ◌∷◌, ◌++◌, ◌==◌, refl, sym, ap, subst, ◌∙◌, arith, inl, inr, append_assoc}
 use Rattle.std.proofs.lemmas.Bool.{cases_Bool}
-use Rattle.saa_core_spec.proofs.Counts.{same_number, number_other}
+use Rattle.saa_core_spec.proofs.Counts.{same_number, number_other, times-append}
 use Rattle.saa_core_words.specs.declared.word.Word.{Word}
 use Rattle.saa_core_words.specs.declared.line_word.LineWord.{LineWord}
 use Rattle.saa_core_words.specs.Words.{line_number}
 use Rattle.saa_core_words.proofs.Words.{line_word-read}
+use Rattle.saa_core_spec.specs.Object.{times}
 use Rattle.saa_word_steps.specs.declared.place.Place.{Place}
 use Rattle.saa_word_steps.specs.Needs.{Needs}
-use Rattle.saa_word_steps.specs.AbstractState.{AbstractState, waits_times}
+use Rattle.saa_word_steps.specs.AbstractState.{AbstractState}
 use Rattle.saa_word_proofs.specs.Refinement.{updated, line_of, newest, IsBehind, Work, IsAt, IsBack, IsPassed, IsLine, Refines}
-use Rattle.saa_word_proofs.proofs.RefinementLemmas.Lists.{split-last, newest-last, times-append, behind-frame, behind-rest, ahead-frame, ahead-cons}
+use Rattle.saa_word_proofs.proofs.RefinementLemmas.Lists.{split-last, newest-last, behind-frame, behind-rest, ahead-frame, ahead-cons}
 use Rattle.saa_word_proofs.proofs.RefinementLemmas.Frames.{newest-stands, work-front}
 use Rattle.saa_word_proofs.proofs.RefinementLemmas.Rows.{line-at, line-other}
 use Rattle.saa_word_proofs.proofs.RefinementLemmas.Linking.{apart-by, in-line, oldest-room, line-room, linked-all}
@@ -25,7 +26,7 @@ pub record IsWalked (new : ℕ → LineWord) (held : ℕ) (line : List (ℕ × �
 
 -- the holder goes on to the one before: the last of the front is the first of those behind it
 walked : (words new : ℕ → LineWord) (held : ℕ) (line : List (ℕ × ℕ)) (seen : Word) (current newer : ℕ) (work : Work held line seen)
-    → IsBack words work.front work.behind current newer → IsBehind words 0 line → waits_times (pred current) line ≤ 1
+    → IsBack words work.front work.behind current newer → IsBehind words 0 line → times (pred current) line ≤ 1
     → (new (pred current)).newer ≡ newer → ((place : ℕ) → (place ≡ pred current → ⊥) → new place ≡ words place)
     → IsWalked new held line seen current (words (pred current)).older work
 walked words new held line seen current newer work back linked once written others =
@@ -39,14 +40,14 @@ walked words new held line seen current newer work back linked once written othe
     let place : pred current ≡ split.last.0 = omega (arith, link) in
     let there = newest-stands work.front current back.1 back.0 in
     let whole : IsBehind words 0 (split.before ++ ((split.last ∷ work.behind) ++ work.joined)) = subst (λ l. IsBehind words 0 l) parts linked in
-    let apart : (other : ℕ) → 0 < waits_times other work.behind → other ≡ pred current → ⊥ =
+    let apart : (other : ℕ) → 0 < times other work.behind → other ≡ pred current → ⊥ =
     λ other waits is.
     omega (
       arith,
       there.0,
       once,
-      ap (waits_times (pred current)) work.parts,
-      ap (λ (n : ℕ). waits_times n work.behind) is,
+      ap (times (pred current)) work.parts,
+      ap (λ (n : ℕ). times n work.behind) is,
       waits,
       times-append (pred current) work.front (work.behind ++ work.joined),
       times-append (pred current) work.behind work.joined,
@@ -101,7 +102,7 @@ pub record IsStored (places : ℕ) (row : ℕ → ℕ) (state : AbstractState) (
     (was : Work state.count state.line seen) : Type 0 where
   pub link : current ≡ pred current + 1
   pub inside : pred current < places
-  pub waits : 0 < waits_times (pred current) state.line
+  pub waits : 0 < times (pred current) state.line
   pub written : line_of (updated row (pred current + 1) (line_number (record line { newer = newer }))) (pred current) ≡ record line { newer = newer }
   pub linked : IsLine (line_of (updated row (pred current + 1) (line_number (record line { newer = newer })))) state.line cut uncut
   pub walk : IsWalked (line_of (updated row (pred current + 1) (line_number (record line { newer = newer })))) state.count state.line seen current line.older was

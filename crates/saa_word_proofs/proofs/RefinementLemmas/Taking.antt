@@ -1,9 +1,9 @@
 -- The step that writes an answer, and the one that takes an answer.
 use Rattle.std.proofs.Common.{◌^◌, ◌≡◌, ℕ, ◌+◌, ◌%◌, ◌<◌, ◌≤◌, Bool, true, false, not, ◌&&◌, ◌||◌, List, [], ◌∷◌, ◌++◌, ◌==◌, Option, Some, None, is_some, if◌then◌else◌, refl, sym, ap, subst, ◌∙◌, arith, inl, inr, append-nil}
 use Rattle.std.proofs.lemmas.Bool.{cases_Bool}
-use Rattle.saa_core_spec.specs.Object.{one_if}
+use Rattle.saa_core_spec.specs.Object.{one_if, times}
 use Rattle.saa_core_spec.specs.Values.{granted_value}
-use Rattle.saa_core_spec.proofs.Counts.{number_same, same_number, number_other, one_if-same}
+use Rattle.saa_core_spec.proofs.Counts.{number_same, same_number, number_other, one_if-same, times-append}
 use Rattle.saa_core_words.specs.declared.word.Word.{Word}
 use Rattle.saa_core_words.specs.declared.line_word.LineWord.{LineWord}
 use Rattle.saa_core_words.specs.Words.{count_bits, answer_number, answer_of}
@@ -25,11 +25,11 @@ use Rattle.saa_word_steps.specs.declared.place.Next.{Next}
 use Rattle.saa_word_steps.specs.declared.place.Next.TheVariants.{Going, Done}
 use Rattle.saa_word_steps.specs.Needs.{Needs, AreNeeds}
 use Rattle.saa_word_steps.specs.declared.event.Event.TheVariants.{Showed, Took, NotReady}
-use Rattle.saa_word_steps.specs.AbstractState.{AbstractState, is_empty, is_in, waits_times, held_by, with_answer}
+use Rattle.saa_word_steps.specs.AbstractState.{AbstractState, is_empty, is_in, held_by, with_answer}
 use Rattle.saa_word_steps.specs.Steps.{IsRanged, shown_all, going, taken_answer}
 use Rattle.saa_word_proofs.specs.Refinement.{updated, line_of, newest, is_slot, is_holder, takes_back, gives_up, IsReturning, IsAlone, IsOwn, IsShowing, IsHolding, AreAnswers, Refines}
 use Rattle.saa_word_proofs.specs.StepRefinement.{StepRefines, place_after, taken_events}
-use Rattle.saa_word_proofs.proofs.RefinementLemmas.Lists.{each-updated, updated-same, updated-at, newest-empty, empty-nil, in-some, times-append, behind-frame}
+use Rattle.saa_word_proofs.proofs.RefinementLemmas.Lists.{each-updated, updated-same, updated-at, newest-empty, empty-nil, in-some, behind-frame}
 use Rattle.saa_word_proofs.proofs.RefinementLemmas.Frames.{stages-next}
 use Rattle.saa_word_proofs.proofs.RefinementLemmas.Rows.{moved, row-other, apart-at}
 use Rattle.saa_word_proofs.proofs.RefinementLemmas.Outcomes.{Outcome, not-holder}
@@ -70,7 +70,7 @@ step-ShowStore needs lawful wide places row standing state me room here s curren
     let before : List (ℕ × ℕ) = showing.0 in
     let asker : ℕ × ℕ = showing.1 in
     let mine : is_in asker.0 (s.owed me) ≡ true =
-    in-some asker.0 (s.owed me) (omega (arith, ap (λ (l : List (ℕ × ℕ)). waits_times asker.0 l) showing.2, times-append asker.0 before (asker ∷ []), one_if-same asker.0)) in
+    in-some asker.0 (s.owed me) (omega (arith, ap (λ (l : List (ℕ × ℕ)). times asker.0 l) showing.2, times-append asker.0 before (asker ∷ []), one_if-same asker.0)) in
     let due : state.due asker.0 ≡ Some (s.worth me) = (s.debts.due_to me asker.0 mine).1 in
     let last : AbstractState = record state { due = with_answer asker.0 None state.due; shown = with_answer asker.0 (state.due asker.0) state.shown } in
     let row_is : updated row (places + current) (answer_number (Some value)) ≡ updated row (places + (asker.0 + 1)) (answer_number (Some (s.worth me))) =
@@ -220,10 +220,10 @@ taken needs places row standing state me value here s slot none is place idle ra
     })
 
 -- whoever has joined and has no answer waits, or its answer is due
-not-yet : (waits : Bool) (due : Bool) (times : ℕ) → (0 < times → waits ≡ true) → times + one_if due ≡ 1 → (waits || due) ≡ true
-not-yet true due times there one = refl
-not-yet false true times there one = refl
-not-yet false false times there one = absurd (let wrong : false ≡ true = there (omega (arith, one)) in absurd (cc))
+not-yet : (waits : Bool) (due : Bool) (often : ℕ) → (0 < often → waits ≡ true) → often + one_if due ≡ 1 → (waits || due) ≡ true
+not-yet true due often there one = refl
+not-yet false true often there one = refl
+not-yet false false often there one = absurd (let wrong : false ≡ true = there (omega (arith, one)) in absurd (cc))
 
 -- what is so of both ways that a place goes on is so of the one that it takes
 either : (P : Place → Type 0) (place : Place) (test : Bool) (one other : Next) → P (place_after place one) → P (place_after place other)
@@ -286,7 +286,7 @@ takes needs places row standing state me here s slot none nothing Tries None is 
   events = NotReady ∷ [];
   last = state;
   run = (
-    not-yet (is_in me state.line) (is_some (state.due me)) (waits_times me state.line) (in-some me state.line)
+    not-yet (is_in me state.line) (is_some (state.due me)) (times me state.line) (in-some me state.line)
         (omega (arith, s.seats.held me, ap one_if slot, ap (λ (a : Option ℕ). one_if (is_some a)) is)),
     refl,
   );

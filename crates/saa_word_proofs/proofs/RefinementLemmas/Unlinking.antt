@@ -6,6 +6,7 @@ use Rattle.saa_core_words.specs.declared.word.Word.{Word}
 use Rattle.saa_core_words.specs.declared.line_word.LineWord.{LineWord}
 use Rattle.saa_core_words.specs.Words.{count_bits, word_number, line_number}
 use Rattle.saa_core_words.proofs.Words.{line_word-read}
+use Rattle.saa_core_spec.specs.Object.{times}
 use Rattle.saa_word_steps.specs.declared.place.Place.{Place}
 use Rattle.saa_word_steps.specs.declared.place.Registration.TheVariants.{Idle}
 use Rattle.saa_word_steps.specs.declared.place.Back.TheVariants.{Ends as EndsCall}
@@ -15,7 +16,7 @@ use Rattle.saa_word_steps.specs.declared.call.Answer.TheVariants.{Unit as Ended}
 use Rattle.saa_word_steps.specs.declared.place.Next.{Next}
 use Rattle.saa_word_steps.specs.Needs.{Needs, AreNeeds}
 use Rattle.saa_word_steps.specs.declared.event.Event.TheVariants.{Left}
-use Rattle.saa_word_steps.specs.AbstractState.{AbstractState, IsRun, IsSettledAt, is_empty, waits_times}
+use Rattle.saa_word_steps.specs.AbstractState.{AbstractState, IsRun, IsSettledAt, is_empty}
 use Rattle.saa_word_steps.specs.Steps.{IsRanged, no_line, dropped_word, left_line, done, walking}
 use Rattle.saa_word_proofs.specs.Refinement.{updated, main_of, line_of, newest, IsBehind, IsAhead, is_holder, IsAlone, IsShowing, Work, IsAdded, IsAt, IsFound, IsHolding, IsMain, IsLeaving, IsOwn, gives_up, Refines}
 use Rattle.saa_word_proofs.specs.StepRefinement.{StepRefines, of_place, place_after}
@@ -101,7 +102,7 @@ unlinking needs places row standing state me s seen work newer older line found 
     subst (λ (l : List (ℕ × ℕ)). IsBehind new 0 (before ++ l)) (sym behind_is)
     (unlinked (line_of row) new before (look.rest ++ work.joined) (me, found.1) look.asker
     (subst (λ (l : List (ℕ × ℕ)). IsBehind (line_of row) 0 l) whole linked)
-    (omega (arith, seat.2, ap (λ (n : ℕ). waits_times n state.line) place, ap (λ (l : List (ℕ × ℕ)). waits_times look.asker.0 l) whole))
+    (omega (arith, seat.2, ap (λ (n : ℕ). times n state.line) place, ap (λ (l : List (ℕ × ℕ)). times look.asker.0 l) whole))
     (ap (λ (w : LineWord). w.request) (written_there) ∙ ap (λ (w : LineWord). w.request) word ∙ ap (λ (n : ℕ). (line_of row n).request) place)
     (ap (λ (w : LineWord). w.older) written_there ∙ found.3)
     (λ other apart. others other (λ is. apart (is ∙ place)))) in
@@ -117,7 +118,7 @@ unlinking needs places row standing state me s seen work newer older line found 
     Refines needs places (updated row link number) (updated standing me (record (left_line (standing me)) { stage = next })) (left state (before ++ after)))
     (sym there.1)
     (leaving needs places row standing state me s (pred newer + 1) number found.1 next before after s.holder here (omega (arith, seat.0)) mine parts
-    (λ other out. others other (λ is. omega (arith, waits, ap (λ (n : ℕ). waits_times n state.line) is, in-no other state.line out)))
+    (λ other out. others other (λ is. omega (arith, waits, ap (λ (n : ℕ). times n state.line) is, in-no other state.line out)))
     links
     (subst (λ (n : ℕ). IsMain needs n (left state (before ++ after)) s.holder)
     (sym (row-other row (pred newer + 1) number 0 (λ is. omega (arith, is)))) main)
@@ -220,12 +221,12 @@ dropped-step needs places row standing state me here s seen older same mine rang
     let found : main_of row ≡ seen = main-found (row 0) seen ranged alone.1 same in
     let parts : state.line ≡ before ++ (me, request) ∷ work.joined =
     found-parts me state.count older state.line seen work knows.2 ∙ ap (λ (l : List (ℕ × ℕ)). before ++ (me, request) ∷ (l ++ work.joined)) knows.3 in
-    let once : waits_times me state.line ≡ 1 = found-once places standing state me request before work.joined s.seats parts in
+    let once : times me state.line ≡ 1 = found-once places standing state me request before work.joined s.seats parts in
     let tail : seen.tail ≡ me + 1 =
     work.tail ∙ ap (λ (l : List (ℕ × ℕ)). newest 0 (work.front ++ l)) knows.3 ∙ ap (newest 0) (append-nil work.front ∙ knows.2.2)
     ∙ newest-last 0 before (me, request) in
     let alone_there : work.joined ≡ [] =
-    alone-behind me request before work.joined (ap (λ (l : List (ℕ × ℕ)). waits_times me l) (sym parts) ∙ once)
+    alone-behind me request before work.joined (ap (λ (l : List (ℕ × ℕ)). times me l) (sym parts) ∙ once)
     (ap (newest 0) (sym parts) ∙ sym s.main.tail ∙ ap (λ (w : Word). w.tail) found ∙ tail) in
     let number : ℕ = word_number count_bits (dropped_word seen older) in
     let after : Next = if older == 0 then done (left_line (standing me)) Ended else walking (left_line (standing me)) (dropped_word seen older) in

@@ -17,7 +17,7 @@ use Rattle.saa_word_steps.specs.declared.call.Answer.TheVariants.{Unit as SaysNo
 use Rattle.saa_word_steps.specs.declared.call.WordCall.TheVariants.{Cancel}
 use Rattle.saa_word_steps.specs.Needs.{Needs, lock_at, left_count}
 use Rattle.saa_word_steps.specs.declared.event.Event.TheVariants.{Took, GaveNothing}
-use Rattle.saa_word_steps.specs.AbstractState.{AbstractState, IsEnabled, after_event, is_in, line_without, with_answer}
+use Rattle.saa_word_steps.specs.AbstractState.{AbstractState, IsEnabled, after_event, is_in, with_answer}
 use Rattle.saa_word_steps.specs.Steps.{needs_of}
 use Rattle.saa_word_proofs.specs.Refinement.{updated, is_slot, AreSeats}
 use Rattle.saa_word_proofs.specs.Calls.{is_taken_up}
@@ -290,7 +290,7 @@ cancel-took-nothing rules places me is_sync standing state s request place h slo
 
 -- Leaving the line
 
-without-waiters : (needs : Needs) (me : ℕ) (line : List (ℕ × ℕ)) → without me (waiters needs line) ≡ waiters needs (line_without me line)
+without-waiters : (needs : Needs) (me : ℕ) (line : List (ℕ × ℕ)) → without me (waiters needs line) ≡ waiters needs (without me line)
 without-waiters needs me [] = refl
 without-waiters needs me (asker ∷ rest) =
     elim (cases_Bool (asker.0 == me)) [
@@ -299,7 +299,7 @@ without-waiters needs me (asker ∷ rest) =
     ]
 
 -- who stands in the line without a place stands in the line, and is another
-in-without : (me other : ℕ) (line : List (ℕ × ℕ)) → is_in other (line_without me line) ≡ true → (is_in other line ≡ true) × (other ≡ me → ⊥)
+in-without : (me other : ℕ) (line : List (ℕ × ℕ)) → is_in other (without me line) ≡ true → (is_in other line ≡ true) × (other ≡ me → ⊥)
 in-without me other [] there = absurd (cc)
 in-without me other (asker ∷ rest) there =
     elim (cases_Bool (asker.0 == me)) [
@@ -321,12 +321,12 @@ in-without me other (asker ∷ rest) there =
 
 pub cancel-left : (rules : Rules) (places me : ℕ) (is_sync : Bool) (standing : ℕ → Place) (state : AbstractState) (s : Object) (now : AbstractState) (place : Place)
     → Starts (needs_of rules) places me standing state s → is_in me state.line ≡ true
-    → Settles (needs_of rules) state.count (line_without me state.line) state.shown now → place.registration ≡ IsIdle
+    → Settles (needs_of rules) state.count (without me state.line) state.shown now → place.registration ≡ IsIdle
     → Answers (needs_of rules) places me is_sync Cancel (updated standing me place) s now SaysNothing
 cancel-left rules places me is_sync standing state s now place h there settles idle =
     let needs : Needs = needs_of rules in
     let m = h.mirrors in
-    let after : AbstractState = record state { line = line_without me state.line } in
+    let after : AbstractState = record state { line = without me state.line } in
     let left : Object = record (with_entry s me Idle) { line = without me s.line } in
     let calm : state.poisoned ≡ false =
     elim (cases_Bool state.poisoned) [

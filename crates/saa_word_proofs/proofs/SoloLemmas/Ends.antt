@@ -2,7 +2,7 @@
 use Rattle.std.proofs.Common.{◌^◌, ◌≡◌, ◌≢◌, ℕ, suc, zero, ◌+◌, ◌*◌, ◌<◌, ◌≤◌, false, true, List, length, ◌==◌, Option, Some, None, is_some, nat_lt, refl, sym, ap, subst, ◌∙◌, arith, inl, inr, Ok}
 use Rattle.std.proofs.lemmas.Bool.{cases_Bool}
 use Rattle.std.proofs.lemmas.List.{length-append}
-use Rattle.saa_core_spec.specs.Object.{one_if}
+use Rattle.saa_core_spec.specs.Object.{one_if, times}
 use Rattle.saa_core_words.specs.Words.{count_bits, answer_number}
 use Rattle.saa_word_steps.specs.declared.call.Answer.{Answer}
 use Rattle.saa_word_steps.specs.declared.call.Answer.TheVariants.{Taken}
@@ -20,7 +20,7 @@ use Rattle.saa_word_steps.specs.declared.place.Taking.{Taking}
 use Rattle.saa_word_steps.specs.declared.place.Taking.TheVariants.{Tries, Awaits}
 use Rattle.saa_word_steps.specs.Needs.{Needs, AreNeeds}
 use Rattle.saa_word_steps.specs.declared.event.Event.{Event}
-use Rattle.saa_word_steps.specs.AbstractState.{AbstractState, is_in, waits_times}
+use Rattle.saa_word_steps.specs.AbstractState.{AbstractState, is_in}
 use Rattle.saa_word_steps.specs.Steps.{is_taken, is_idle, going, operation_of, mode_number, polled_as, cancelled_as, registered_as, started}
 use Rattle.saa_word_steps.proofs.AbstractRuns.{waits-none}
 use Rattle.saa_word_proofs.specs.Refinement.{Refines, main_of, is_slot}
@@ -212,7 +212,7 @@ polled needs places me now state most here s quiet absent some Idle is place goe
 polled needs places me now state most here s quiet absent some (Once value request) is place goes = absurd (cc)
 polled needs places me now state most here s quiet absent some (Slot request) is place goes =
     let rest = at-rest needs places now.row now.standing state s quiet in
-    let found = has-answer (waits_times me state.line) (state.due me) (state.shown me) (waits-none me state.line absent) (rest.paid me)
+    let found = has-answer (times me state.line) (state.due me) (state.shown me) (waits-none me state.line absent) (rest.paid me)
     (s.seats.held me ∙ ap (λ (r : Registration). one_if (is_slot r)) is) in
     done-now needs places me (put me (going (now.standing me) (Take Awaits)) now) most (record (now.standing me) { registration = Idle; stage = Quiet })
     (Taken (Ok (found.0 == 0)))

@@ -214,7 +214,7 @@ settles needs me events start last row names run paid calm rests =
 
 -- Poison
 
--- the answers of all who waited are due or shown since the lock was poisoned, and nothing else changed
+-- the answers of all waiters are due or shown since the lock was poisoned, and nothing else changed
 record Tells (start state : AbstractState) : Type 0 where
   poison : state.poisoned ≡ true
   closed : state.unclosed ≡ false
@@ -244,7 +244,7 @@ tells-run needs me (event ∷ rest) start state last names run was =
           (tells-event needs start state me event not_named run.0 was)
     ]
 
--- Behind poison all who waited are shown that, until nothing is due
+-- Behind poison all waiters are shown that, until nothing is due
 pub tells : (needs : Needs) (me : ℕ) (events : List Event) (start last : AbstractState) → named events ≡ []
     → IsRun needs (after_event needs start me Poisoned) (of_place me events) last → start.unclosed ≡ false
     → ((place : ℕ) → start.due place ≡ None) → ((place : ℕ) → last.due place ≡ None)

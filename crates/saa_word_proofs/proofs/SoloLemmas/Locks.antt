@@ -180,7 +180,7 @@ downgrade-refused Modes places me is_sync standing state s place h taken allowed
 
 -- Poison
 
--- a lock that one owner has is poisoned, and all who wait are answered so
+-- a lock that one owner has is poisoned, and all waiters are answered so
 pub poison-done : (rules : Rules) (places me : ℕ) (is_sync : Bool) (standing : ℕ → Place) (state : AbstractState) (s : Object) (now : AbstractState) (place : Place)
     → Starts (needs_of rules) places me standing state s → is_taken (needs_of rules).is_lock PoisonLock ≡ true
     → IsEnabled (needs_of rules) state me IsPoisonedNow

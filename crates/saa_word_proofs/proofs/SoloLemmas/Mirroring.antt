@@ -4,7 +4,7 @@ use Rattle.std.proofs.lemmas.Bool.{cases_Bool}
 use Rattle.std.proofs.Math.ListN.{length-set}
 use Rattle.saa_core_spec.specs.declared.request.Request.{Request}
 use Rattle.saa_core_spec.specs.Held.{Held}
-use Rattle.saa_core_spec.specs.Object.{Object, After, Entry, Idle, Waiting, Answered, Waiter, entry_at, one_if}
+use Rattle.saa_core_spec.specs.Object.{Object, After, Entry, Idle, Waiting, Answered, Waiter, entry_at, one_if, times}
 use Rattle.saa_core_spec.proofs.Counts.{same_number, one_if-le}
 use Rattle.saa_word_steps.specs.declared.place.Place.{Place}
 use Rattle.saa_word_steps.specs.declared.place.Registration.{Registration}
@@ -12,7 +12,7 @@ use Rattle.saa_word_steps.specs.declared.place.Registration.TheVariants.{Idle as
 use Rattle.saa_word_steps.specs.declared.call.Answer.{Answer}
 use Rattle.saa_word_steps.specs.declared.call.WordCall.{WordCall}
 use Rattle.saa_word_steps.specs.Needs.{Needs}
-use Rattle.saa_word_steps.specs.AbstractState.{AbstractState, IsFront, IsSettledAt, takes_of, answered_with, is_in, waits_times, with_answer}
+use Rattle.saa_word_steps.specs.AbstractState.{AbstractState, IsFront, IsSettledAt, takes_of, answered_with, is_in, with_answer}
 use Rattle.saa_word_proofs.specs.Refinement.{updated, is_slot, AreSeats}
 use Rattle.saa_word_proofs.proofs.RefinementLemmas.Lists.{each-updated}
 use Rattle.saa_word_proofs.proofs.RefinementLemmas.Granting.{in-waits}
@@ -170,7 +170,7 @@ shown-slot places me standing state value seats shown =
 pub waits-slot : (places me : ℕ) (standing : ℕ → Place) (state : AbstractState) → AreSeats places standing state → is_in me state.line ≡ true
     → (is_slot (standing me).registration ≡ true) × (state.shown me ≡ None)
 waits-slot places me standing state seats waits =
-    let there : 0 < waits_times me state.line = in-waits me state.line waits in (
+    let there : 0 < times me state.line = in-waits me state.line waits in (
       elim (cases_Bool (is_slot (standing me).registration)) [
         | inl slot ↦ slot
         | inr none ↦ absurd (omega (arith, seats.held me, ap one_if none, there))

@@ -2,7 +2,7 @@
 -- together.
 use Rattle.std.proofs.Common.{◌≡◌, ℕ, suc, zero, ◌≤◌, Bool, true, false, ◌||◌, ◌==◌, List, [], ◌∷◌, ◌++◌, length, drop, Option, is_some, if◌then◌else◌, refl, sym, ap, subst, ◌∙◌, arith, inl, inr}
 use Rattle.std.proofs.lemmas.Bool.{cases_Bool}
-use Rattle.saa_core_spec.specs.Object.{one_if}
+use Rattle.saa_core_spec.specs.Object.{one_if, without}
 use Rattle.saa_core_spec.proofs.Counts.{number_same}
 use Rattle.saa_word_steps.specs.declared.call.WordCall.{WordCall}
 use Rattle.saa_word_steps.specs.declared.call.WordCall.TheVariants.{TryPoll, Poll, Cancel}
@@ -12,7 +12,7 @@ use Rattle.saa_word_steps.specs.declared.place.Ask.{Ask}
 use Rattle.saa_word_steps.specs.declared.place.Registration.{Registration}
 use Rattle.saa_word_steps.specs.declared.place.Registration.TheVariants.{Idle, Once, Slot}
 use Rattle.saa_word_steps.specs.Needs.{Needs}
-use Rattle.saa_word_steps.specs.AbstractState.{AbstractState, IsEnabled, after_event, IsRun, is_in, line_without, held_by}
+use Rattle.saa_word_steps.specs.AbstractState.{AbstractState, IsEnabled, after_event, IsRun, is_in, held_by}
 use Rattle.saa_word_steps.proofs.AbstractRuns.{run-once, waits-some}
 use Rattle.saa_word_proofs.specs.Refinement.{is_slot, updated}
 use Rattle.saa_word_proofs.specs.StepRefinement.{is_named, named, of_place}
@@ -36,7 +36,7 @@ others-registered registered me one other (asker ∷ rest) out are =
     (skips other ∙ sym (skips one) ∙ are.0, others-registered registered me one other rest both.1 are.1)
 
 without-registered : (registered : ℕ → Registration) (me : ℕ) (line : List (ℕ × ℕ)) → AreRegistered registered line
-    → AreRegistered registered (line_without me line)
+    → AreRegistered registered (without me line)
 without-registered registered me [] are = tt
 without-registered registered me (asker ∷ rest) are =
     elim (cases_Bool (asker.0 == me)) [
@@ -44,7 +44,7 @@ without-registered registered me (asker ∷ rest) are =
       | inr apart ↦ rw apart (are.0, without-registered registered me rest are.1)
     ]
 
-without-out : (me : ℕ) (line : List (ℕ × ℕ)) → is_in me (line_without me line) ≡ false
+without-out : (me : ℕ) (line : List (ℕ × ℕ)) → is_in me (without me line) ≡ false
 without-out me [] = refl
 without-out me (asker ∷ rest) =
     elim (cases_Bool (asker.0 == me)) [
@@ -83,7 +83,7 @@ barren-step needs state place (GaveNothing request) allowed was poisoned = was p
 barren-step needs state place Lowered allowed was poisoned = was poisoned
 barren-step needs state place NotLowered allowed was poisoned = was poisoned
 barren-step needs state place AskedPoisoned allowed was poisoned = was poisoned
-barren-step needs state place Left allowed was poisoned = ap (line_without place) (was poisoned)
+barren-step needs state place Left allowed was poisoned = ap (without place) (was poisoned)
 barren-step needs state place (Granted askers) allowed was poisoned =
     let nobody : length state.line ≡ 0 = ap length (was poisoned) in absurd (omega (arith, allowed.1, allowed.2, nobody))
 barren-step needs state place Closed allowed was poisoned = was poisoned
@@ -116,7 +116,7 @@ event-registered needs state me NotLowered asks registered was allowed once barr
 event-registered needs state me AskedPoisoned asks registered was allowed once barren are =
     subst (λ (l : List (ℕ × ℕ)). AreRegistered (updated registered me (left_by AskedPoisoned asks was)) l) (sym (barren allowed)) tt
 event-registered needs state me Left asks registered was allowed once barren are =
-    others-registered registered me was Idle (line_without me state.line) (without-out me state.line)
+    others-registered registered me was Idle (without me state.line) (without-out me state.line)
     (without-registered (updated registered me was) me state.line are)
 event-registered needs state me (Granted askers) asks registered was allowed once barren are = drop-registered (updated registered me was) askers state.line are
 event-registered needs state me Closed asks registered was allowed once barren are = are

@@ -1,16 +1,16 @@
 -- What stores of line words do to ways: a newer link leaves them, and a cut parts the line in two.
 use Rattle.std.proofs.Common.{◌≡◌, ℕ, ◌+◌, ◌<◌, ◌≤◌, pred, true, false, ◌==◌, List, [], ◌∷◌, ◌++◌, length, refl, sym, ap, subst, ◌∙◌, arith, inl, inr, ◌⊎◌, length-append}
 use Rattle.std.proofs.lemmas.Bool.{cases_Bool}
-use Rattle.saa_core_spec.specs.Object.{one_if}
-use Rattle.saa_core_spec.proofs.Counts.{number_same, same_number}
+use Rattle.saa_core_spec.specs.Object.{one_if, times}
+use Rattle.saa_core_spec.proofs.Counts.{number_same, same_number, times-append}
 use Rattle.saa_core_words.specs.declared.word.Word.{Word}
 use Rattle.saa_core_words.specs.declared.line_word.LineWord.{LineWord}
 use Rattle.saa_core_words.specs.Words.{line_number, line_word_of}
 use Rattle.saa_word_steps.specs.declared.place.Place.{Place}
 use Rattle.saa_word_steps.specs.Needs.{Needs}
-use Rattle.saa_word_steps.specs.AbstractState.{AbstractState, is_empty, waits_times}
+use Rattle.saa_word_steps.specs.AbstractState.{AbstractState, is_empty}
 use Rattle.saa_word_proofs.specs.Refinement.{updated, main_of, line_of, newest, oldest, IsBehind, IsAhead, Work, Refines}
-use Rattle.saa_word_proofs.proofs.RefinementLemmas.Lists.{updated-at, behind-frame, behind-front, behind-rest, newest-append, newest-last, times-append}
+use Rattle.saa_word_proofs.proofs.RefinementLemmas.Lists.{updated-at, behind-frame, behind-front, behind-rest, newest-append, newest-last}
 use Rattle.saa_word_proofs.proofs.RefinementLemmas.Rows.{row-other, line-at, line-other}
 use Rattle.saa_word_proofs.specs.StepBound.{way, waiting}
 use Rattle.saa_word_proofs.proofs.StepBoundLemmas.Ways.{IsWay, way-length, ways-same}
@@ -41,14 +41,14 @@ ways-store places row index number same =
     ])
 
 -- who stands once in a line is none of those before it and behind it
-apart-front : (front rest : List (ℕ × ℕ)) (asker : ℕ × ℕ) (place : ℕ) → ((other : ℕ) → waits_times other (front ++ asker ∷ rest) ≤ 1)
-    → 0 < waits_times place front → place ≡ asker.0 → ⊥
+apart-front : (front rest : List (ℕ × ℕ)) (asker : ℕ × ℕ) (place : ℕ) → ((other : ℕ) → times other (front ++ asker ∷ rest) ≤ 1)
+    → 0 < times place front → place ≡ asker.0 → ⊥
 apart-front front rest asker place once there is =
     let here : one_if (asker.0 == place) ≡ 1 = ap (λ (n : ℕ). one_if (asker.0 == n)) is ∙ ap one_if (number_same asker.0) in
     omega (arith, once place, there, here, times-append place front (asker ∷ rest))
 
-apart-rest : (front rest : List (ℕ × ℕ)) (asker : ℕ × ℕ) (place : ℕ) → ((other : ℕ) → waits_times other (front ++ asker ∷ rest) ≤ 1)
-    → 0 < waits_times place rest → place ≡ asker.0 → ⊥
+apart-rest : (front rest : List (ℕ × ℕ)) (asker : ℕ × ℕ) (place : ℕ) → ((other : ℕ) → times other (front ++ asker ∷ rest) ≤ 1)
+    → 0 < times place rest → place ≡ asker.0 → ⊥
 apart-rest front rest asker place once there is =
     let here : one_if (asker.0 == place) ≡ 1 = ap (λ (n : ℕ). one_if (asker.0 == n)) is ∙ ap one_if (number_same asker.0) in
     omega (arith, once place, there, here, times-append place front (asker ∷ rest))

@@ -1,16 +1,16 @@
 -- What unlinking does to ways: those that lead through the place that leaves get one shorter, and none gets longer.
 use Rattle.std.proofs.Common.{◌≡◌, ℕ, suc, zero, ◌+◌, ◌<◌, ◌≤◌, pred, true, false, ◌==◌, List, [], ◌∷◌, ◌++◌, length, refl, sym, ap, subst, ◌∙◌, arith, inl, inr, length-append, append_assoc}
 use Rattle.std.proofs.lemmas.Bool.{cases_Bool}
-use Rattle.saa_core_spec.specs.Object.{one_if}
-use Rattle.saa_core_spec.proofs.Counts.{number_same}
+use Rattle.saa_core_spec.specs.Object.{one_if, times}
+use Rattle.saa_core_spec.proofs.Counts.{number_same, times-append}
 use Rattle.saa_core_words.specs.declared.word.Word.{Word}
 use Rattle.saa_core_words.specs.declared.line_word.LineWord.{LineWord}
 use Rattle.saa_core_words.specs.Words.{line_number, line_word_of}
 use Rattle.saa_word_steps.specs.declared.place.Place.{Place}
 use Rattle.saa_word_steps.specs.Needs.{Needs}
-use Rattle.saa_word_steps.specs.AbstractState.{AbstractState, is_empty, waits_times}
+use Rattle.saa_word_steps.specs.AbstractState.{AbstractState, is_empty}
 use Rattle.saa_word_proofs.specs.Refinement.{updated, main_of, line_of, newest, oldest, IsBehind, IsFound, Work, Refines}
-use Rattle.saa_word_proofs.proofs.RefinementLemmas.Lists.{updated-at, behind-frame, behind-append, behind-front, behind-rest, newest-append, times-append}
+use Rattle.saa_word_proofs.proofs.RefinementLemmas.Lists.{updated-at, behind-frame, behind-append, behind-front, behind-rest, newest-append}
 use Rattle.saa_word_proofs.proofs.RefinementLemmas.Rows.{row-other, line-at, line-other}
 use Rattle.saa_word_proofs.specs.StepBound.{is_link, met, way, waiting}
 use Rattle.saa_word_proofs.proofs.StepBoundLemmas.Ways.{IsWay, way-length, way-front, link-of}
@@ -70,8 +70,8 @@ met-past places row new at gone (suc more) link some was now others =
 -- A line that somebody leaves
 
 -- who stands once in a line stands neither before nor behind itself
-alone-in : (before rest : List (ℕ × ℕ)) (gone asker : ℕ × ℕ) (place : ℕ) → ((other : ℕ) → waits_times other (before ++ gone ∷ (asker ∷ rest)) ≤ 1)
-    → 0 < waits_times place before + waits_times place rest → place ≡ asker.0 → ⊥
+alone-in : (before rest : List (ℕ × ℕ)) (gone asker : ℕ × ℕ) (place : ℕ) → ((other : ℕ) → times other (before ++ gone ∷ (asker ∷ rest)) ≤ 1)
+    → 0 < times place before + times place rest → place ≡ asker.0 → ⊥
 alone-in before rest gone asker place once there is =
     let here : one_if (asker.0 == place) ≡ 1 = ap (λ (n : ℕ). one_if (asker.0 == n)) is ∙ ap one_if (number_same asker.0) in
     omega (arith, once place, there, here, times-append place before (gone ∷ (asker ∷ rest)))
@@ -84,8 +84,8 @@ past-way places row link before rest gone asker number leads request older =
     let stands : IsBehind (line_of row) (newest 0 before) (gone ∷ (asker ∷ rest)) =
     behind-rest (line_of row) 0 before (gone ∷ (asker ∷ rest)) leads.behind in
     let at = line-at row asker.0 number in
-    let kept : (part : List (ℕ × ℕ)) → ((place : ℕ) → 0 < waits_times place part → place ≡ asker.0 → ⊥)
-    → (place : ℕ) → 0 < waits_times place part
+    let kept : (part : List (ℕ × ℕ)) → ((place : ℕ) → 0 < times place part → place ≡ asker.0 → ⊥)
+    → (place : ℕ) → 0 < times place part
     → ((line_of (updated row (asker.0 + 1) number) place).request ≡ (line_of row place).request)
     × ((line_of (updated row (asker.0 + 1) number) place).older ≡ (line_of row place).older) =
     λ part apart place there.
@@ -110,11 +110,11 @@ past-way places row link before rest gone asker number leads request older =
 
 -- a store to the line word of a place that doesn't stand in a line leaves whom a link leads along
 pub apart-way : (places : ℕ) (row : ℕ → ℕ) (link : ℕ) (line : List (ℕ × ℕ)) (place number : ℕ) → IsWay places row link line
-    → waits_times place line ≡ 0 → IsWay places (updated row (place + 1) number) link line
+    → times place line ≡ 0 → IsWay places (updated row (place + 1) number) link line
 apart-way places row link line place number leads none = record {
   behind = behind-frame (line_of row) (line_of (updated row (place + 1) number)) 0 line
       (λ other there.
-      let same = line-other row place number other (λ is. absurd (omega (arith, there, none, ap (λ (n : ℕ). waits_times n line) is))) in
+      let same = line-other row place number other (λ is. absurd (omega (arith, there, none, ap (λ (n : ℕ). times n line) is))) in
       (ap (λ (w : LineWord). w.request) same, ap (λ (w : LineWord). w.older) same))
       leads.behind;
   leads = leads.leads;
@@ -124,13 +124,13 @@ apart-way places row link line place number leads none = record {
 
 -- a store to the line word of a place that doesn't stand in a line leaves the way along it
 pub way-kept : (places : ℕ) (row : ℕ → ℕ) (link : ℕ) (line : List (ℕ × ℕ)) (place number : ℕ) → IsWay places row link line
-    → waits_times place line ≡ 0 → way places (updated row (place + 1) number) link ≡ way places row link
+    → times place line ≡ 0 → way places (updated row (place + 1) number) link ≡ way places row link
 way-kept places row link line place number leads none =
     way-length places (updated row (place + 1) number) link line (apart-way places row link line place number leads none)
     ∙ sym (way-length places row link line leads)
 
 -- What unlinking leaves of the line that the holder of the flag sees: so many stay before the place that leaves, so many are behind it,
--- and so many joined since
+-- and so many were enqueued since
 pub record IsPast (places : ℕ) (row new : ℕ → ℕ) (older newer tail before behind joined : ℕ) : Type 0 where
   pub number : new 0 ≡ row 0
   pub some : 0 < behind

@@ -1,15 +1,15 @@
 -- Ways along the line, and along those whose answers are to be shown, where words, places and the abstract state stand together.
 use Rattle.std.proofs.Common.{◌≡◌, ℕ, ◌+◌, ◌<◌, ◌≤◌, true, List, [], ◌∷◌, ◌++◌, length, Option, Some, is_some, refl, sym, ap, subst, ◌∙◌, arith, inl, inr, length-append, append_assoc}
 use Rattle.std.proofs.lemmas.Bool.{cases_Bool}
-use Rattle.saa_core_spec.specs.Object.{one_if}
-use Rattle.saa_core_spec.proofs.Counts.{one_if-le, same_number}
+use Rattle.saa_core_spec.specs.Object.{one_if, times}
+use Rattle.saa_core_spec.proofs.Counts.{one_if-le, same_number, times-append}
 use Rattle.saa_core_words.specs.declared.word.Word.{Word}
 use Rattle.saa_word_steps.specs.declared.place.Place.{Place}
 use Rattle.saa_word_steps.specs.declared.place.Stage.{Stage}
 use Rattle.saa_word_steps.specs.Needs.{Needs}
-use Rattle.saa_word_steps.specs.AbstractState.{AbstractState, is_empty, waits_times, held_by}
+use Rattle.saa_word_steps.specs.AbstractState.{AbstractState, is_empty, held_by}
 use Rattle.saa_word_proofs.specs.Refinement.{main_of, line_of, newest, is_slot, is_holder, IsShowing, Work, IsHolding, Refines}
-use Rattle.saa_word_proofs.proofs.RefinementLemmas.Lists.{newest-any, newest-append, newest-last, times-append, in-some}
+use Rattle.saa_word_proofs.proofs.RefinementLemmas.Lists.{newest-any, newest-append, newest-last, in-some}
 use Rattle.saa_word_proofs.specs.StepBound.{way, waiting}
 use Rattle.saa_word_proofs.proofs.StepBoundLemmas.Ways.{IsWay, way-length, way-front}
 
@@ -31,7 +31,7 @@ held-once needs places row standing state s place = omega (arith, s.seats.held p
 -- an answer that a place has to show is due
 pub owed-due : (needs : Needs) (places : ℕ) (row : ℕ → ℕ) (standing : ℕ → Place) (state : AbstractState) (s : Refines needs places row standing state)
     (shows place : ℕ)
-    → 0 < waits_times place (s.owed shows) → state.due place ≡ Some (s.worth shows)
+    → 0 < times place (s.owed shows) → state.due place ≡ Some (s.worth shows)
 owed-due needs places row standing state s shows place there = (s.debts.due_to shows place (in-some place (s.owed shows) there)).1
 
 -- the newest whose answer a place has to show leads along all of them
@@ -47,8 +47,8 @@ owed-way needs places row standing state s shows = record {
 
 -- how often a place stands in the parts of the line
 parts-times : (needs : Needs) (places : ℕ) (row : ℕ → ℕ) (standing : ℕ → Place) (state : AbstractState) (s : Refines needs places row standing state) (place : ℕ)
-    → waits_times place state.line ≡ waits_times place s.cut + waits_times place s.uncut
-parts-times needs places row standing state s place = ap (waits_times place) s.line.parts ∙ times-append place s.cut s.uncut
+    → times place state.line ≡ times place s.cut + times place s.uncut
+parts-times needs places row standing state s place = ap (times place) s.line.parts ∙ times-append place s.cut s.uncut
 
 -- the tail leads along those who aren't cut off
 pub tail-newest : (needs : Needs) (places : ℕ) (row : ℕ → ℕ) (standing : ℕ → Place) (state : AbstractState) (s : Refines needs places row standing state)
@@ -119,7 +119,7 @@ holds needs places row standing state s me stage at is =
     subst (λ (now : Stage). IsHolding needs (line_of row) me state.count state.line s.cut now) at
     (s.stages.holding me (holder-is needs places row standing state s me (ap is_holder at ∙ is)))
 
--- so many wait as the front, those behind it and those who joined since
+-- so many wait as the front, those behind it and those enqueued since
 pub work-rest : (needs : Needs) (places : ℕ) (row : ℕ → ℕ) (standing : ℕ → Place) (state : AbstractState) (s : Refines needs places row standing state)
     (seen : Word)
     (work : Work state.count state.line seen) → s.cut ≡ []

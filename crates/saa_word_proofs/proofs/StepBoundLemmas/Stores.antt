@@ -2,8 +2,8 @@
 -- depends on are as they were.
 use Rattle.std.proofs.Common.{◌≡◌, ℕ, suc, zero, ◌+◌, ◌*◌, ◌<◌, ◌≤◌, true, false, ◌==◌, List, [], ◌∷◌, ◌++◌, Option, is_some, refl, sym, ap, subst, ◌∙◌, arith, inl, inr, append_assoc, append-nil}
 use Rattle.std.proofs.lemmas.Bool.{cases_Bool}
-use Rattle.saa_core_spec.specs.Object.{one_if}
-use Rattle.saa_core_spec.proofs.Counts.{same_number}
+use Rattle.saa_core_spec.specs.Object.{one_if, times}
+use Rattle.saa_core_spec.proofs.Counts.{same_number, times-append}
 use Rattle.saa_core_words.specs.declared.word.Word.{Word}
 use Rattle.saa_core_words.specs.Words.{count_bits, word_number, word_of, line_number, line_word_of}
 use Rattle.saa_word_steps.specs.declared.place.Place.{Place}
@@ -15,9 +15,9 @@ use Rattle.saa_word_steps.specs.declared.place.Taking.TheVariants.{Tries, Awaits
 use Rattle.saa_word_steps.specs.declared.place.Stage.{Stage}
 use Rattle.saa_word_steps.specs.declared.place.Stage.TheVariants.{Quiet, ReadLoad, AskLoad, AskExchange, Prepare, Join, ReleaseLoad, ReleaseExchange, BackLoad, BackStore, Forward, CutToClose, CutToGoRound, Close, Empty, GoRound, ShowLoad, ShowStore, Take, FlagLoad, FlagExchange, LookLoad, LookStore, Unlink, DropTail, PoisonLoad, PoisonExchange, Clear}
 use Rattle.saa_word_steps.specs.Needs.{Needs}
-use Rattle.saa_word_steps.specs.AbstractState.{AbstractState, is_empty, waits_times, held_by}
+use Rattle.saa_word_steps.specs.AbstractState.{AbstractState, is_empty, held_by}
 use Rattle.saa_word_proofs.specs.Refinement.{updated, main_of, newest, oldest, is_slot, is_holder, Work, IsFound, Refines}
-use Rattle.saa_word_proofs.proofs.RefinementLemmas.Lists.{updated-at, newest-last, times-append}
+use Rattle.saa_word_proofs.proofs.RefinementLemmas.Lists.{updated-at, newest-last}
 use Rattle.saa_word_proofs.proofs.RefinementLemmas.Rows.{row-other}
 use Rattle.saa_word_proofs.specs.StepBound.{way, by_seen, waiting, more_to_end, left_afterwards, steps_left, step_bound}
 use Rattle.saa_word_proofs.proofs.StepBoundLemmas.Ways.{IsWay, way-front, met-cut}
@@ -220,7 +220,7 @@ module _ (needs : Needs) (places : ℕ) (row : ℕ → ℕ) (standing : ℕ → 
   rest-kept : waiting (way places (updated row (me + 1) number)) (row 0) ≡ waiting (way places row) (row 0)
   rest-kept =
       way-kept places row (main_of row).tail s.uncut me number (uncut-way needs places row standing state s)
-      (omega (arith, free, ap (waits_times me) s.line.parts, times-append me s.cut s.uncut))
+      (omega (arith, free, ap (times me) s.line.parts, times-append me s.cut s.uncut))
 
   cut-kept : (front : List (ℕ × ℕ)) (top : ℕ) → s.cut ≡ front → top ≡ newest 0 front
       → way places (updated row (me + 1) number) top ≡ way places row top
@@ -228,14 +228,14 @@ module _ (needs : Needs) (places : ℕ) (row : ℕ → ℕ) (standing : ℕ → 
       let at : top ≡ newest 0 s.cut = newest_is ∙ ap (newest 0) (sym is) in
       subst (λ (n : ℕ). way places (updated row (me + 1) number) n ≡ way places row n) (sym at)
       (way-kept places row (newest 0 s.cut) s.cut me number (cut-way needs places row standing state s)
-      (omega (arith, free, ap (waits_times me) s.line.parts, times-append me s.cut s.uncut)))
+      (omega (arith, free, ap (times me) s.line.parts, times-append me s.cut s.uncut)))
 
   part-kept : s.cut ≡ [] → (part rest : List (ℕ × ℕ)) (link : ℕ) → state.line ≡ part ++ rest → link ≡ newest 0 part
       → way places (updated row (me + 1) number) link ≡ way places row link
   part-kept whole part rest link is newest_is =
       subst (λ (n : ℕ). way places (updated row (me + 1) number) n ≡ way places row n) (sym newest_is)
       (way-kept places row (newest 0 part) part me number (part-way needs places row standing state s whole part rest is)
-      (omega (arith, free, ap (waits_times me) is, times-append me part rest)))
+      (omega (arith, free, ap (times me) is, times-append me part rest)))
 
   tail-kept : (seen : Word) → (work : Work state.count state.line seen) → s.cut ≡ []
       → way places (updated row (me + 1) number) seen.tail ≡ way places row seen.tail
@@ -266,14 +266,14 @@ module _ (needs : Needs) (places : ℕ) (row : ℕ → ℕ) (standing : ℕ → 
       subst (λ (l : List (ℕ × ℕ)). IsWay places row (newest 0 (s.owed other)) l) is (owed-way needs places row standing state s other) in
       subst (λ (n : ℕ). way places (updated row (me + 1) number) n ≡ way places row n) (sym newest_is)
       (way-kept places row (newest 0 part) part me number (way-front places row (newest 0 (s.owed other)) part rest leads)
-      (omega (arith, absent other, ap (waits_times me) is, times-append me part rest)))
+      (omega (arith, absent other, ap (times me) is, times-append me part rest)))
     where
-      absent : (other : ℕ) → waits_times me (s.owed other) ≡ 0
+      absent : (other : ℕ) → times me (s.owed other) ≡ 0
       absent other =
-          elim (cases_Bool (waits_times me (s.owed other) == 0)) [
-            | inl none ↦ same_number (waits_times me (s.owed other)) 0 none
+          elim (cases_Bool (times me (s.owed other) == 0)) [
+            | inl none ↦ same_number (times me (s.owed other)) 0 none
             | inr some ↦
-                let there : 0 < waits_times me (s.owed other) = above (waits_times me (s.owed other)) some in
+                let there : 0 < times me (s.owed other) = above (times me (s.owed other)) some in
                 absurd (omega (arith, free, ap (λ (answer : Option ℕ). one_if (is_some answer)) (owed-due needs places row standing state s other me there)))
           ]
         where

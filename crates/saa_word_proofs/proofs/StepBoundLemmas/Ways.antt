@@ -2,12 +2,12 @@
 use Rattle.std.proofs.Common.{◌≡◌, ℕ, suc, zero, ◌+◌, ◌<◌, ◌≤◌, true, false, ◌==◌, List, [], ◌∷◌, ◌++◌, length, refl, sym, ap, subst, ◌∙◌, arith, inl, inr, ◌⊎◌, length-append}
 use Rattle.std.proofs.lemmas.Bool.{cases_Bool}
 use Rattle.std.proofs.lemmas.Bool.Decides.{nat_tests}
-use Rattle.saa_core_spec.specs.Object.{one_if}
-use Rattle.saa_core_spec.proofs.Counts.{number_same, same_number, number_other, below_true}
+use Rattle.saa_core_spec.specs.Object.{one_if, times}
+use Rattle.saa_core_spec.proofs.Counts.{number_same, same_number, number_other, below_true, times-append}
 use Rattle.saa_core_words.specs.Words.{line_word_of}
-use Rattle.saa_word_steps.specs.AbstractState.{is_empty, waits_times}
+use Rattle.saa_word_steps.specs.AbstractState.{is_empty}
 use Rattle.saa_word_proofs.specs.Refinement.{updated, line_of, newest, IsBehind}
-use Rattle.saa_word_proofs.proofs.RefinementLemmas.Lists.{all-same, newest-last, empty-nil, split-last, behind-front, behind-rest, times-append}
+use Rattle.saa_word_proofs.proofs.RefinementLemmas.Lists.{all-same, newest-last, empty-nil, split-last, behind-front, behind-rest}
 use Rattle.saa_word_proofs.proofs.RefinementLemmas.Rows.{row-other}
 use Rattle.saa_word_proofs.specs.StepBound.{is_link, met, way}
 
@@ -16,7 +16,7 @@ use Rattle.saa_word_proofs.specs.StepBound.{is_link, met, way}
 -- how often all places below a number stand in a line
 abbrev total : ℕ → List (ℕ × ℕ) → ℕ
 total zero line = 0
-total (suc n) line = waits_times n line + total n line
+total (suc n) line = times n line + total n line
 
 total-out : (n : ℕ) (asker : ℕ × ℕ) (rest : List (ℕ × ℕ)) → n ≤ asker.0 → total n (asker ∷ rest) ≡ total n rest
 total-out zero asker rest out = refl
@@ -39,7 +39,7 @@ total-in (suc n) asker rest below =
     differs : (one other : ℕ) → one == other ≡ false → one < suc other → one < other
     differs one other apart below = grind (arith, nat_tests)
 
-length-total : (n : ℕ) (line : List (ℕ × ℕ)) → ((place : ℕ) → 0 < waits_times place line → place < n) → length line ≤ total n line
+length-total : (n : ℕ) (line : List (ℕ × ℕ)) → ((place : ℕ) → 0 < times place line → place < n) → length line ≤ total n line
 length-total n [] within = omega arith
 length-total n (asker ∷ rest) within =
     let here : one_if (asker.0 == asker.0) ≡ 1 = ap one_if (number_same asker.0) in
@@ -49,7 +49,7 @@ length-total n (asker ∷ rest) within =
       length-total n rest (λ place there. within place (omega (arith, there))),
     )
 
-total-once : (n : ℕ) (line : List (ℕ × ℕ)) → ((place : ℕ) → waits_times place line ≤ 1) → total n line ≤ n
+total-once : (n : ℕ) (line : List (ℕ × ℕ)) → ((place : ℕ) → times place line ≤ 1) → total n line ≤ n
 total-once zero line once = omega arith
 total-once (suc n) line once = omega (arith, once n, total-once n line once)
 
@@ -59,8 +59,8 @@ total-once (suc n) line once = omega (arith, once n, total-once n line once)
 pub record IsWay (places : ℕ) (row : ℕ → ℕ) (link : ℕ) (line : List (ℕ × ℕ)) : Type 0 where
   pub behind : IsBehind (line_of row) 0 line
   pub leads : link ≡ newest 0 line
-  pub once : (place : ℕ) → waits_times place line ≤ 1
-  pub within : (place : ℕ) → 0 < waits_times place line → place < places
+  pub once : (place : ℕ) → times place line ≤ 1
+  pub within : (place : ℕ) → 0 < times place line → place < places
 
 pub length-within : (places : ℕ) (row : ℕ → ℕ) (link : ℕ) (line : List (ℕ × ℕ)) → IsWay places row link line → length line ≤ places
 length-within places row link line leads = omega (arith, length-total places line leads.within, total-once places line leads.once)
@@ -77,7 +77,7 @@ link-of places place below =
     rw (some, below_true (place + 1) (places + 1) (omega (arith, below))) refl
 
 met-length : (places : ℕ) (row : ℕ → ℕ) (fuel : ℕ) (line : List (ℕ × ℕ)) → length line ≤ fuel → IsBehind (line_of row) 0 line
-    → ((place : ℕ) → 0 < waits_times place line → place < places) → met places row fuel (newest 0 line) ≡ length line
+    → ((place : ℕ) → 0 < times place line → place < places) → met places row fuel (newest 0 line) ≡ length line
 met-length places row zero line room behind within = omega (arith, room)
 met-length places row (suc more) line room behind within =
     elim (cases_Bool (is_empty line)) [
@@ -87,13 +87,13 @@ met-length places row (suc more) line room behind within =
           subst (λ (l : List (ℕ × ℕ)). met places row (suc more) (newest 0 l) ≡ length l) (sym parts.is)
           (by-last parts.before parts.last (subst (λ (l : List (ℕ × ℕ)). length l ≤ suc more) parts.is room)
           (subst (λ (l : List (ℕ × ℕ)). IsBehind (line_of row) 0 l) parts.is behind)
-          (subst (λ (l : List (ℕ × ℕ)). (place : ℕ) → 0 < waits_times place l → place < places) parts.is within)
+          (subst (λ (l : List (ℕ × ℕ)). (place : ℕ) → 0 < times place l → place < places) parts.is within)
           (met-length places row more parts.before))
     ]
   where
     by-last : (before : List (ℕ × ℕ)) (last : ℕ × ℕ) → length (before ++ last ∷ []) ≤ suc more → IsBehind (line_of row) 0 (before ++ last ∷ [])
-        → ((place : ℕ) → 0 < waits_times place (before ++ last ∷ []) → place < places)
-        → (length before ≤ more → IsBehind (line_of row) 0 before → ((place : ℕ) → 0 < waits_times place before → place < places)
+        → ((place : ℕ) → 0 < times place (before ++ last ∷ []) → place < places)
+        → (length before ≤ more → IsBehind (line_of row) 0 before → ((place : ℕ) → 0 < times place before → place < places)
         → met places row more (newest 0 before) ≡ length before)
         → met places row (suc more) (newest 0 (before ++ last ∷ [])) ≡ length (before ++ last ∷ [])
     by-last before last room behind within rest =
