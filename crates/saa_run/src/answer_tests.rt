@@ -4,6 +4,7 @@ use crate::answer;
 use crate::run::Wanted;
 use std::alloc::{AllocError, Global};
 use std::sync::Wait;
+use std::sync::atomic::{AtomicU64, Ordering};
 use std::thread::Threads;
 
 const SCRIPT: &str = "semaphore 63 1\ntry 60\navailable\n";
@@ -11,7 +12,7 @@ const SCRIPT: &str = "semaphore 63 1\ntry 60\navailable\n";
 const SCHEDULE: &str = "semaphore 0 1\nstart 0 try 1\nend 0\n";
 
 // What is wanted of an input, what is written then, and the status.
-const ANSWERS: [(Wanted, &str, &str, u8); 6] = [
+const ANSWERS: [(Wanted, &str, &str, u8); 9] = [
     (Wanted::Script, SCRIPT, "true\n3\n", 0),
     (Wanted::Script, SCHEDULE, "bad line 2\n", 2),
     (Wanted::Machine, SCHEDULE, "going\ndone true\n", 0),
@@ -21,6 +22,24 @@ const ANSWERS: [(Wanted, &str, &str, u8); 6] = [
         SCRIPT,
         "leaders 4\navailable 63\njournal 100\n",
         0,
+    ),
+    (
+        Wanted::Threads(32),
+        SCRIPT,
+        "leaders 4\navailable 63\njournal 1600\n",
+        0,
+    ),
+    (
+        Wanted::Threads(0),
+        SCRIPT,
+        "usage: saa-run script | machine | threads N\n",
+        2,
+    ),
+    (
+        Wanted::Threads(33),
+        SCRIPT,
+        "usage: saa-run script | machine | threads N\n",
+        2,
     ),
     (
         Wanted::Usage,
@@ -68,5 +87,25 @@ fn no_memory_to_read_is_told(rt: HostRuntime) {
             status,
             "of {wanted:?}"
         );
+    }
+}
+
+// The input is opened once where it is read, and not at all where nothing is read.
+#[test]
+fn the_input_is_opened_where_it_is_read(rt: HostRuntime) {
+    for (wanted, times) in [
+        (Wanted::Script, 1),
+        (Wanted::Machine, 1),
+        (Wanted::Threads(1), 0),
+        (Wanted::Usage, 0),
+    ] {
+        let opened = AtomicU64::new(0);
+        let mut writer = Vec::new(rt.alloc());
+        let source = || {
+            opened.fetch_add(1, Ordering::SeqCst);
+            Ok::<&[u8], AllocError>(SCRIPT.as_bytes())
+        };
+        let _status = answer(&rt, rt.alloc(), wanted, source, &mut writer);
+        assert_eq!(rt; opened.load(Ordering::SeqCst), times, "of {wanted:?}");
     }
 }

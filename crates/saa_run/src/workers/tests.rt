@@ -206,3 +206,37 @@ fn one_that_cannot_be_started_ends_all(rt: HostRuntime) -> io::Result<()> {
     }
     Ok(())
 }
+
+// Takes three permits for good, one at a time, while a worker holds some.
+#[derive(Drop)]
+struct Thief {
+    stolen: AtomicU64,
+}
+
+impl Watch for Thief {
+    fn may_start(&self, _worker: u8) -> bool {
+        true
+    }
+
+    fn begin(&self, _worker: u8) {}
+
+    fn hold<S: Wait + Drop>(&self, permits: &Semaphore<S>) {
+        if self.stolen.load(Ordering::SeqCst) < 3 && permits.try_acquire() {
+            let _ = self.stolen.fetch_add(1, Ordering::SeqCst);
+        }
+    }
+
+    fn read<J: Journal>(&self, _journal: &Journalled<SemaphoreCore, J>) {}
+}
+
+// The permits are counted when all are done: those that were taken for good meanwhile are missing.
+#[test]
+fn permits_are_counted_in_the_end(rt: HostRuntime) -> io::Result<()> {
+    let thief = Thief {
+        stolen: AtomicU64::new(0),
+    };
+    let counts = run_with(&rt, rt.alloc(), 1, &thief)?;
+    assert_eq!(rt; thief.stolen.load(Ordering::SeqCst), 3);
+    assert_eq!(rt; counts.available, 60);
+    Ok(())
+}
