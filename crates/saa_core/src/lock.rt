@@ -105,9 +105,9 @@ impl LockCore {
         matches!(self.core.needs().owner(), Owner::Poisoned)
     }
 
-    /// The lock in one number, laid out as `docs/WORDS.md` draws it: from bit 0 how many share it, in 6 bits, or 63 for one
-    /// owner alone; bit 6 clear; bit 7 set exactly where it is poisoned; from bit 8 the newest who waits, by its slot plus
-    /// 1, and 0 where nobody waits. Costs O(1).
+    /// The lock in one number, laid out as `docs/WORDS.md` draws it: from bit 0 how many share it, in 16 bits, or 63 for one
+    /// owner alone; bit 16 clear; bit 17 set exactly where it is poisoned; from bit 18 the newest who waits, by its slot
+    /// plus 1, and 0 where nobody waits. Costs O(1).
     pub fn word(&self) -> u64
         ensures number { result ≡ word_number count_bits (core_word self.now) }
         ensures read { word_of count_bits result ≡ core_word self.now }

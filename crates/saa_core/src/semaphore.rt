@@ -51,29 +51,10 @@ impl<const MAX: usize> Model for SemaphoreCoreOf<MAX> {
     ghost view = { λ core. core.core };
 }
 
-impl SemaphoreCoreOf<63> {
-    /// The most permits of a semaphore.
-    pub const MAX_PERMITS: usize = 63;
-
-    /// The semaphore in one number, laid out as `docs/WORDS.md` draws it: from bit 0 the permits that are out, in 6 bits;
-    /// bits 6 and 7 clear; from bit 8 the newest who waits, by its slot plus 1, and 0 where nobody waits. Costs O(1).
-    pub fn word(&self) -> u64
-        ensures number { result ≡ word_number count_bits (core_word self.now) }
-        ensures read { word_of count_bits result ≡ core_word self.now }
-        ensures nobody { ((word_of count_bits result).tail ≡ 0) ↔ (self.now.slots.line ≡ []) }
-        ensures within { (word_of count_bits result).tail ≤ room_of self.now.slots }
-    {
-        let word = Word {
-            count: self.core.needs().out as u16,
-            is_flagged: false,
-            is_poisoned: false,
-            tail: self.core.waiters().tail(),
-        };
-        word.pack()
-    }
-}
-
 impl<const MAX: usize> SemaphoreCoreOf<MAX> {
+    /// The most permits of a semaphore.
+    pub const MAX_PERMITS: usize = MAX;
+
     /// A semaphore with all its permits available, and room for so many waiters. Costs O(`room`).
     ///
     /// Reserves all the memory that it will ever need; the error comes only where that was refused, and so never for
@@ -112,6 +93,23 @@ impl<const MAX: usize> SemaphoreCoreOf<MAX> {
         Ok(SemaphoreCoreOf {
             core: Granting::new(needs, line),
         })
+    }
+
+    /// The semaphore in one number, laid out as `docs/WORDS.md` draws it: from bit 0 the permits that are out, in 16
+    /// bits; bits 16 and 17 clear; from bit 18 the newest who waits, by its slot plus 1, and 0 where nobody waits. Costs O(1).
+    pub fn word(&self) -> u64
+        ensures number { result ≡ word_number count_bits (core_word self.now) }
+        ensures read { word_of count_bits result ≡ core_word self.now }
+        ensures nobody { ((word_of count_bits result).tail ≡ 0) ↔ (self.now.slots.line ≡ []) }
+        ensures within { (word_of count_bits result).tail ≤ room_of self.now.slots }
+    {
+        let word = Word {
+            count: self.core.needs().out as u16,
+            is_flagged: false,
+            is_poisoned: false,
+            tail: self.core.waiters().tail(),
+        };
+        word.pack()
     }
 
     /// How many permits are available. Costs O(1).

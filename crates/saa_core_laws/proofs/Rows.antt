@@ -63,11 +63,15 @@ names = 5
 abbrev pub usual_room : ℕ
 usual_room = 4
 
--- the story of a semaphore of 63 permits, made with so many of them available and with this room, goes as it is told
-abbrev pub SemaphoreTells : (permits room : ℕ) → List (LineOf SemaphoreCall ℕ SemaphoreAnswer (Result (Unit {0}) Error)) → Type 0
-SemaphoreTells permits room story =
-    replies Permits semaphore_step semaphore_value (commands_of story) (new_semaphore max_permits permits room names)
+-- the story of a semaphore of at most so many permits, made with so many of them available and with this room, goes as it is told
+abbrev pub BoundedTells : (bound permits room : ℕ) → List (LineOf SemaphoreCall ℕ SemaphoreAnswer (Result (Unit {0}) Error)) → Type 0
+BoundedTells bound permits room story =
+    replies Permits semaphore_step semaphore_value (commands_of story) (new_semaphore bound permits room names)
     ≡ replies_of story
+
+-- the same of a semaphore of 63 permits
+abbrev pub SemaphoreTells : (permits room : ℕ) → List (LineOf SemaphoreCall ℕ SemaphoreAnswer (Result (Unit {0}) Error)) → Type 0
+SemaphoreTells = BoundedTells max_permits
 
 -- the same of a lock
 abbrev pub LockTells : (room : ℕ) → List (LineOf LockCall Mode LockAnswer (Result Bool Error)) → Type 0
@@ -261,6 +265,47 @@ pub a_dropped_grant_goes_back : SemaphoreTells 63 usual_room (
     ∷ [])
 unfolding settled
 a_dropped_grant_goes_back = refl
+
+-- A bound of its own: 1,000 permits, of which one more than all is never granted and never given back.
+pub a_thousand_permits : BoundedTells 1000 1000 4 (
+    (Call (TryAcquireMany 1001), says false)
+    ∷ (Call (TryAcquireMany 1000), says true)
+    ∷ (reg 1 300, stands)
+    ∷ (Call (ReleaseMany 299), says true)
+    ∷ (Call AvailablePermits, number 299)
+    ∷ (Call (ReleaseMany 1), says true)
+    ∷ (Call AvailablePermits, number 0)
+    ∷ (PollSync 1, granted)
+    ∷ (Call (ReleaseMany 1001), says false)
+    ∷ (Call (ReleaseMany 1000), says true)
+    ∷ (Call AvailablePermits, number 1000)
+    ∷ [])
+unfolding settled
+a_thousand_permits = refl
+
+-- The greatest bound: more permits than that are cut to it.
+pub as_many_permits_as_there_may_be : BoundedTells 65535 70000 usual_room (
+    (Call AvailablePermits, number 65535)
+    ∷ (Call (TryAcquireMany 65535), says true)
+    ∷ (Call (ReleaseMany 65536), says false)
+    ∷ (Call (ReleaseMany 65535), says true)
+    ∷ [])
+unfolding settled
+as_many_permits_as_there_may_be = refl
+
+-- The least bound: one permit, which goes from one task to the next.
+pub one_permit_goes_in_turn : BoundedTells 1 1 2 (
+    (Call (TryAcquireMany 1), says true)
+    ∷ (reg 1 1, stands)
+    ∷ (reg 2 1, stands)
+    ∷ (Call (ReleaseMany 1), says true)
+    ∷ (PollSync 1, granted)
+    ∷ (PollSync 2, not_ready)
+    ∷ (Call (ReleaseMany 1), says true)
+    ∷ (PollSync 2, granted)
+    ∷ [])
+unfolding settled
+one_permit_goes_in_turn = refl
 
 -- Lock
 

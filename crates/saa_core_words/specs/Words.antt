@@ -10,7 +10,7 @@ use Rattle.saa_core_words.specs.declared.line_word.LineWord.{LineWord}
 
 -- how many bits of a main word are the count
 abbrev pub count_bits : ℕ
-count_bits = 6
+count_bits = 16
 
 -- the number of a main word whose count has so many bits: the count, the flag, poison, the tail
 abbrev pub word_number : ℕ → Word → ℕ

@@ -1,10 +1,10 @@
 //! The main word: what is held, whether somebody works on the line, poison, and the newest who waits.
 
-ghost use Rattle.std.specs.Prelude.{◌≡◌, ◌<◌};
+ghost use Rattle.std.specs.Prelude.{◌≡◌};
 ghost use Rattle.saa_core_words.specs.Words.{count_bits, word_number, word_of};
 
 // How many counts a main word tells apart: 2 to the number of bits that it has for them.
-const COUNTS: u64 = 64;
+const COUNTS: u64 = 65_536;
 
 /// The parts of a main word.
 ///
@@ -21,7 +21,7 @@ const COUNTS: u64 = 64;
 /// No other combination occurs: the flag is set only while somebody waits, and a poisoned lock's word is one number.
 #[derive(Clone, Copy, Debug, Eq, PartialEq)]
 pub struct Word {
-    /// What is held, below 64: the permits that are out; of a lock 63 for one owner alone, and else how many share it.
+    /// What is held: the permits that are out; of a lock 63 for one owner alone, and else how many share it.
     pub count: u16,
     /// Whether somebody works on the line.
     pub is_flagged: bool,
@@ -32,10 +32,9 @@ pub struct Word {
 }
 
 impl Word {
-    /// The number of a word: from bit 0 the count, in 6 bits, then the flag, then poison, and from bit 8 the tail.
+    /// The number of a word: from bit 0 the count, in 16 bits, then the flag, then poison, and from bit 18 the tail.
     /// It is read back by [`Self::unpack`].
     pub fn pack(self) -> u64
-        requires { self.count < 64 }
         ensures number { result ≡ word_number count_bits self }
         ensures read { word_of count_bits result ≡ self }
     {

@@ -1,6 +1,7 @@
 -- What fields and words read as, and that each line's pager is one that there is.
 use Rattle.std.proofs.Common.{◌≡◌, ◌<◌, ℕ, ◌⊎◌, inl, inr, Bool, true, false, List, [], ◌∷◌, Option, Some, None, cond, length, sym, subst, arith, refl}
 use Rattle.std.specs.Prelude.{codes, decimal, nat_lt, option_and_then}
+use Rattle.std.specs.Fmt.{digits}
 use Rattle.std.specs.Option.{option_map}
 use Rattle.std.specs.Str.{bytes_eq}
 use Rattle.std.specs.List.{AllByRecursion}
@@ -9,11 +10,13 @@ use Rattle.std.proofs.lemmas.Bool.{ltb-true}
 use Rattle.std.proofs.lemmas.Bool.Decides.{nat_tests}
 use Rattle.saa_core_spec.specs.declared.run.CommandOf.TheVariants.{Call, Register}
 use Rattle.saa_core_spec.specs.Run.{IsWithin}
+use Rattle.saa_run.specs.declared.script.command.Bound.{Bound}
+use Rattle.saa_run.specs.declared.script.command.Bound.TheVariants.{One, Thousand, Greatest}
 use Rattle.saa_run.specs.declared.script.command.ScriptLine.{ScriptLine}
 use Rattle.saa_run.specs.declared.script.command.ScriptLine.TheVariants.{Do, Registered}
 use Rattle.saa_run_text.specs.Fields.{fields_of, number_of}
 use Rattle.saa_run_text.specs.Fields.{below, meaning_in, either}
-use Rattle.saa_run.specs.Language.{Readings, pager_of, room_of, mode_of, modes, pager_lines, lone_call_in, counted_call_in, ask_in, lone_line, counted_line, pager_line, registration, line_in, line_of}
+use Rattle.saa_run.specs.Language.{Readings, pager_of, room_of, bound_of, bound_number, bounds, mode_of, modes, pager_lines, lone_call_in, counted_call_in, ask_in, lone_line, counted_line, pager_line, registration, line_in, line_of}
 use Rattle.saa_run.specs.Spelling.{mode_word}
 use Rattle.saa_run_text.proofs.FieldLemmas.{number_found, number_said}
 
@@ -71,6 +74,17 @@ pub mode_said : (is_sync : Bool) → mode_of (mode_word is_sync) ≡ Some is_syn
 unfolding mode_of
 mode_said true = refl
 mode_said false = refl
+
+-- a bound that is found is written plainly
+pub bound_found : (field : List ℕ) (bound : Bound) → bound_of field ≡ Some bound → field ≡ decimal (bound_number bound)
+unfolding bound_of digits
+bound_found field bound found = meaning_in-found (λ word b. word ≡ decimal (bound_number b)) bounds (refl, (refl, (refl, tt))) field bound found
+
+pub bound_said : (bound : Bound) → bound_of (decimal (bound_number bound)) ≡ Some bound
+unfolding bound_of digits
+bound_said One = refl
+bound_said Thousand = refl
+bound_said Greatest = refl
 
 -- a mapped answer that is there
 pub option_map-found : {X Y : Type 0} (f : X → Y) (o : Option X) (y : Y) → option_map f o ≡ Some y → (x : X) × (o ≡ Some x) × (f x ≡ y)

@@ -7,17 +7,19 @@ use Rattle.std.specs.List.{AllByRecursion}
 use Rattle.std.proofs.lemmas.Slice.Eq.{bytes_eq-Decides}
 use Rattle.std.proofs.lemmas.Bool.Decides.{nat_tests}
 use Rattle.saa_core_spec.specs.declared.run.CommandOf.TheVariants.{Call, Register, TryPoll, PollSync, PollAsync, Drop}
+use Rattle.saa_run.specs.declared.script.command.Bound.{Bound}
+use Rattle.saa_run.specs.declared.script.command.Bound.TheVariants.{One, Thousand, Greatest}
 use Rattle.saa_run.specs.declared.script.command.FirstLine.{FirstLine}
-use Rattle.saa_run.specs.declared.script.command.FirstLine.TheVariants.{Semaphore, Lock, Gate, Barrier}
+use Rattle.saa_run.specs.declared.script.command.FirstLine.TheVariants.{Semaphore, Bounded, Lock, Gate, Barrier}
 use Rattle.saa_run.specs.declared.script.command.ScriptLine.{ScriptLine}
 use Rattle.saa_run.specs.declared.script.command.ScriptLine.TheVariants.{Do, Registered}
 use Rattle.saa_run_text.specs.Fields.{fields_of, number_of}
 use Rattle.saa_run_text.specs.Fields.{meaning_in}
-use Rattle.saa_run.specs.Language.{Readings, pager_of, room_of, mode_of, pager_lines, lone_call_in, counted_call_in, ask_in, lone_line, counted_line, pager_line, registration, line_in, line_of, roomed_made, counted_made, first_line_in, first_line_of}
+use Rattle.saa_run.specs.Language.{Readings, pager_of, room_of, bound_of, bound_number, mode_of, pager_lines, lone_call_in, counted_call_in, ask_in, lone_line, counted_line, pager_line, registration, line_in, line_of, roomed_made, counted_made, bounded_made, first_line_in, first_line_of}
 use Rattle.saa_run.specs.Spelling.{IsNumber, IsRoom, Spellings, AreNumbers, spelled, mode_word, line_fields, IsLineInRange, IsSpelled, first_fields, IsFirstInRange, SpellsLine, SpellsFirst}
 use Rattle.saa_run_text.proofs.FieldLemmas.{number_found, number_said}
 use Rattle.saa_run.proofs.WordLemmas.{IsWord, IsWord-literal, IsWord-decimal, fields_of-spelled, spelled-fields_of, length-spelled}
-use Rattle.saa_run.proofs.ReadingLemmas.{pager_found, pager_said, room_found, room_said, mode_found, mode_said, meaning_in-found, option_map-found, option_and_then-found, either_found}
+use Rattle.saa_run.proofs.ReadingLemmas.{pager_found, pager_said, room_found, room_said, bound_found, bound_said, mode_found, mode_said, meaning_in-found, option_map-found, option_and_then-found, either_found}
 
 -- the fields of a spelling are words: without spaces, and short
 abbrev pub AreWords : List (List ℕ) → Type 0
@@ -262,23 +264,60 @@ counted_found word number room first found =
     with_semaphore true same e = made_counted (codes "semaphore") (λ p r. Semaphore p r) word number room first (same refl) (λ p r. refl) (λ p r small fits. (small, fits)) e
     with_semaphore false same e = with_barrier (bytes_eq word (codes "barrier")) (bytes_eq-Decides word (codes "barrier")).0 e
 
+-- a word, a bound, a number and a room
+bounded_found : (word bound number room : List ℕ) (first : FirstLine) → bounded_made word (bound_of bound) (number_of number) (room_of room) ≡ Some first
+    → ((word ∷ bound ∷ number ∷ room ∷ []) ≡ first_fields first) × IsFirstInRange first
+unfolding bounded_made
+bounded_found word bound number room first found =
+    with_bounded (bytes_eq word (codes "bounded")) (bytes_eq-Decides word (codes "bounded")).0 found
+  where
+    with_bounded : (b : Bool) → (b ≡ true → word ≡ codes "bounded")
+        → cond b (option_and_then (λ m. option_and_then (λ p. option_map (λ r. Bounded m p r) (room_of room)) (number_of number)) (bound_of bound)) None ≡ Some first
+        → ((word ∷ bound ∷ number ∷ room ∷ []) ≡ first_fields first) × IsFirstInRange first
+    with_bounded true same e =
+        let m = option_and_then-found (λ m. option_and_then (λ p. option_map (λ r. Bounded m p r) (room_of room)) (number_of number)) (bound_of bound) first e in
+        let p = option_and_then-found (λ p. option_map (λ r. Bounded m.0 p r) (room_of room)) (number_of number) first m.2 in
+        let r = option_map-found (λ r. Bounded m.0 p.0 r) (room_of room) first p.2 in
+        let number_written = number_found number p.0 p.1 in
+        let room_written = room_found room r.0 r.1 in
+        let is_word : word ≡ codes "bounded" = same refl in
+        let is_bound : bound ≡ decimal (bound_number m.0) = bound_found bound m.0 m.1 in
+        let is_number : number ≡ decimal p.0 = number_written.0 in
+        let is_room : room ≡ decimal r.0 = room_written.0 in
+        let written : (word ∷ bound ∷ number ∷ room ∷ []) ≡ first_fields (Bounded m.0 p.0 r.0) = cc in
+        subst (λ f. ((word ∷ bound ∷ number ∷ room ∷ []) ≡ first_fields f) × IsFirstInRange f) {x = Bounded m.0 p.0 r.0} r.2 (written, (number_written.1, room_written.1))
+    with_bounded false same e = cc
+
 first_fields_found : (fields : List (List ℕ)) (first : FirstLine) → first_line_in fields ≡ Some first → (fields ≡ first_fields first) × IsFirstInRange first
 first_fields_found [] first found = cc
 first_fields_found (word ∷ []) first found = cc
 first_fields_found (word ∷ room ∷ []) first found = roomed_found word room first found
 first_fields_found (word ∷ number ∷ room ∷ []) first found = counted_found word number room first found
-first_fields_found (word ∷ number ∷ room ∷ field ∷ fields) first found = cc
+first_fields_found (word ∷ bound ∷ number ∷ room ∷ []) first found = bounded_found word bound number room first found
+first_fields_found (word ∷ bound ∷ number ∷ room ∷ field ∷ fields) first found = cc
 
 first_fields_said : (first : FirstLine) → IsFirstInRange first → first_line_in (first_fields first) ≡ Some first
-unfolding roomed_made counted_made
+unfolding roomed_made counted_made bounded_made
 first_fields_said (Semaphore permits room) small = rw (number_said permits small.0, room_said room small.1) refl
+first_fields_said (Bounded bound permits room) small = rw (bound_said bound, number_said permits small.0, room_said room small.1) refl
 first_fields_said (Lock room) small = rw (room_said room small) refl
 first_fields_said (Gate room) small = rw (room_said room small) refl
 first_fields_said (Barrier size room) small = rw (number_said size small.0, room_said room small.1) refl
 
+-- a bound can be written
+bound_small : (bound : Bound) → IsNumber (bound_number bound)
+bound_small One = omega arith
+bound_small Thousand = omega arith
+bound_small Greatest = omega arith
+
 first_words : (first : FirstLine) → IsFirstInRange first → Words (first_fields first)
 first_words (Semaphore permits room) small = record {
   are = (IsWord-literal (codes "semaphore") refl refl, (IsWord-decimal permits small.0, (IsWord-decimal room (omega (arith, small.1)), tt)));
+  some = omega arith;
+  few = omega arith;
+}
+first_words (Bounded bound permits room) small = record {
+  are = (IsWord-literal (codes "bounded") refl refl, (IsWord-decimal (bound_number bound) (bound_small bound), (IsWord-decimal permits small.0, (IsWord-decimal room (omega (arith, small.1)), tt))));
   some = omega arith;
   few = omega arith;
 }

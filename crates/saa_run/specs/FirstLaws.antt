@@ -4,7 +4,7 @@ use Rattle.std.proofs.Common.{◌≡◌, ◌<◌, ℕ, List, [], length, None, a
 use Rattle.std.specs.Prelude.{if◌then◌else◌}
 use Rattle.std.proofs.lemmas.Bool.{lt-ltb}
 use Rattle.saa_run.specs.declared.script.command.FirstLine.{FirstLine}
-use Rattle.saa_run.specs.declared.script.command.FirstLine.TheVariants.{Semaphore, Lock, Gate, Barrier}
+use Rattle.saa_run.specs.declared.script.command.FirstLine.TheVariants.{Semaphore, Bounded, Lock, Gate, Barrier}
 use Rattle.saa_run_text.specs.Fields.{fields_of}
 use Rattle.saa_run.specs.Language.{first_line_in, first_line_of}
 use Rattle.saa_run.specs.ScriptText.{answer_behind, answer_from, good_front}
@@ -24,6 +24,7 @@ first-empty = refl
 pub behind-none : (first : FirstLine) → answer_behind first [] ≡ no_lines
 unfolding answer_from good_front
 behind-none (Semaphore permits room) = refl
+behind-none (Bounded bound permits room) = refl
 behind-none (Lock room) = refl
 behind-none (Gate room) = refl
 behind-none (Barrier size room) = refl

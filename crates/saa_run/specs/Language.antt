@@ -3,8 +3,10 @@ use Rattle.std.specs.Prelude.{ℕ, Bool, true, false, List, [], ◌∷◌, lengt
 use Rattle.std.specs.Option.{option_map, option_map_or}
 use Rattle.std.specs.Str.{bytes_eq}
 use Rattle.saa_core_spec.specs.declared.run.CommandOf.TheVariants.{Call, Register, TryPoll, PollSync, PollAsync, Drop}
+use Rattle.saa_run.specs.declared.script.command.Bound.{Bound}
+use Rattle.saa_run.specs.declared.script.command.Bound.TheVariants.{One, Thousand, Greatest}
 use Rattle.saa_run.specs.declared.script.command.FirstLine.{FirstLine}
-use Rattle.saa_run.specs.declared.script.command.FirstLine.TheVariants.{Semaphore, Lock, Gate, Barrier}
+use Rattle.saa_run.specs.declared.script.command.FirstLine.TheVariants.{Semaphore, Bounded, Lock, Gate, Barrier}
 use Rattle.saa_run.specs.declared.script.command.ScriptLine.{ScriptLine}
 use Rattle.saa_run.specs.declared.script.command.ScriptLine.TheVariants.{Do, Registered}
 use Rattle.saa_run_text.specs.Fields.{below, either, fields_of, meaning_in, number_of}
@@ -16,6 +18,19 @@ pager_of field = below 100 (number_of field)
 -- a room is at most 65535
 unfoldable pub room_of : List ℕ → Option ℕ
 room_of field = below 65536 (number_of field)
+
+-- the number of a bound that a script can name
+abbrev pub bound_number : Bound → ℕ
+bound_number One = 1
+bound_number Thousand = 1000
+bound_number Greatest = 65535
+
+-- a bound is 1, 1000 or 65535
+abbrev pub bounds : List (List ℕ × Bound)
+bounds = (codes "1", One) ∷ (codes "1000", Thousand) ∷ (codes "65535", Greatest) ∷ []
+
+unfoldable pub bound_of : List ℕ → Option Bound
+bound_of field = meaning_in bounds field
 
 -- sync or async
 abbrev pub modes : List (List ℕ × Bool)
@@ -98,13 +113,21 @@ counted_made word number room =
     then option_and_then (λ p. option_map (λ r. Semaphore p r) room) number
     else (if bytes_eq word (codes "barrier") then option_and_then (λ n. option_map (λ r. Barrier n r) room) number else None)
 
+-- the first line bounded MAX P ROOM
+unfoldable pub bounded_made : List ℕ → Option Bound → Option ℕ → Option ℕ → Option FirstLine
+bounded_made word bound number room =
+    if bytes_eq word (codes "bounded")
+    then option_and_then (λ b. option_and_then (λ p. option_map (λ r. Bounded b p r) room) number) bound
+    else None
+
 -- the first line that these fields make
 abbrev pub first_line_in : List (List ℕ) → Option FirstLine
 first_line_in [] = None
 first_line_in (word ∷ []) = None
 first_line_in (word ∷ room ∷ []) = roomed_made word (room_of room)
 first_line_in (word ∷ number ∷ room ∷ []) = counted_made word (number_of number) (room_of room)
-first_line_in (word ∷ number ∷ room ∷ field ∷ fields) = None
+first_line_in (word ∷ bound ∷ number ∷ room ∷ []) = bounded_made word (bound_of bound) (number_of number) (room_of room)
+first_line_in (word ∷ bound ∷ number ∷ room ∷ field ∷ fields) = None
 
 -- the first line that these bytes make; a line has at most 80 bytes
 unfoldable pub first_line_of : List ℕ → Option FirstLine

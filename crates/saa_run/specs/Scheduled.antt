@@ -15,7 +15,7 @@ use Rattle.saa_word.specs.Moves.{Moved, gone}
 use Rattle.saa_run.specs.declared.schedule.said.Said.{Said}
 use Rattle.saa_run.specs.declared.schedule.said.Said.TheVariants.{Step as Did, At, Main}
 use Rattle.saa_run.specs.declared.schedule.lines.FirstOfSchedule.{FirstOfSchedule}
-use Rattle.saa_run.specs.declared.schedule.lines.FirstOfSchedule.TheVariants.{Semaphore, Lock}
+use Rattle.saa_run.specs.declared.schedule.lines.FirstOfSchedule.TheVariants.{Semaphore, Bounded, Lock}
 use Rattle.saa_run.specs.declared.schedule.lines.ScheduleLine.{ScheduleLine}
 use Rattle.saa_run.specs.declared.schedule.lines.ScheduleLine.TheVariants.{Start, Go, End, Until, Word}
 use Rattle.saa_run.specs.Schedules.{schedule_line_of}
@@ -94,9 +94,10 @@ answer_schedule number state (line ∷ lines) =
     (λ good. with_front (reply_line (said_words (line_said state good).said)) (answer_schedule (number + 1) (line_said state good).machine lines))
     (schedule_line_of (is_lock state) (length state.places) line) (bad_at number)
 
--- the machine that a first line makes: a semaphore of which so many permits are withheld, or a free lock
+-- the machine that a first line makes: a semaphore of which so many permits are withheld, all of them where that is more, or a free lock
 abbrev pub machine_of : FirstOfSchedule → State
 machine_of (Semaphore withheld places) = opened (Permits max_permits) (min withheld max_permits) places
+machine_of (Bounded bound withheld places) = opened (Permits bound) (min withheld bound) places
 machine_of (Lock places) = opened Modes 0 places
 
 -- the answer to the lines behind a good first line

@@ -6,7 +6,7 @@ use Rattle.saa_word_steps.specs.Steps.{is_taken}
 use Rattle.saa_word.specs.declared.kind.Kind.{Kind}
 use Rattle.saa_word.specs.declared.kind.Kind.TheVariants.{Ask, Prepare, Join, Release, Walk, Publish, Show, Take, Flag, Unlink, Tail, Poison, Clear}
 use Rattle.saa_run.specs.declared.schedule.lines.FirstOfSchedule.{FirstOfSchedule}
-use Rattle.saa_run.specs.declared.schedule.lines.FirstOfSchedule.TheVariants.{Semaphore, Lock}
+use Rattle.saa_run.specs.declared.schedule.lines.FirstOfSchedule.TheVariants.{Semaphore, Bounded, Lock}
 use Rattle.saa_run.specs.declared.schedule.lines.ScheduleLine.{ScheduleLine}
 use Rattle.saa_run.specs.declared.schedule.lines.ScheduleLine.TheVariants.{Start, Go, End, Until, Word}
 use Rattle.saa_run_text.specs.Fields.{fields_of, number_of}
@@ -33,6 +33,10 @@ above_zero (Some n) = if n == 0 then None else Some n
 -- the number of places that a field is: 1 to 100
 unfoldable pub places_of : List ℕ → Option ℕ
 places_of field = above_zero (below 101 (number_of field))
+
+-- the bound that a field is: 1 to 65535
+unfoldable pub bound_of : List ℕ → Option ℕ
+bound_of field = above_zero (below 65536 (number_of field))
 
 -- the kinds of step
 abbrev pub kinds : List (List ℕ × Kind)
@@ -92,13 +96,21 @@ semaphore_made word withheld of =
     then option_and_then (λ w. option_map (λ p. Semaphore w p) (places_of of)) (number_of withheld)
     else None
 
+-- the first line bounded MAX W PLACES
+unfoldable pub bounded_made : List ℕ → List ℕ → List ℕ → List ℕ → Option FirstOfSchedule
+bounded_made word bound withheld of =
+    if bytes_eq word (codes "bounded")
+    then option_and_then (λ b. option_and_then (λ w. option_map (λ p. Bounded b w p) (places_of of)) (number_of withheld)) (bound_of bound)
+    else None
+
 -- the first line that these fields make
 abbrev pub first_schedule_in : List (List ℕ) → Option FirstOfSchedule
 first_schedule_in [] = None
 first_schedule_in (word ∷ []) = None
 first_schedule_in (word ∷ of ∷ []) = lock_made word of
 first_schedule_in (word ∷ withheld ∷ of ∷ []) = semaphore_made word withheld of
-first_schedule_in (word ∷ withheld ∷ of ∷ field ∷ fields) = None
+first_schedule_in (word ∷ bound ∷ withheld ∷ of ∷ []) = bounded_made word bound withheld of
+first_schedule_in (word ∷ bound ∷ withheld ∷ of ∷ field ∷ fields) = None
 
 -- the first line that these bytes make; a line has at most 80 bytes
 unfoldable pub first_schedule_of : List ℕ → Option FirstOfSchedule

@@ -12,10 +12,10 @@ use Rattle.saa_core_spec.specs.declared.run.CommandOf.{CommandOf}
 use Rattle.saa_run_text.specs.Text.{Answer, answer_by, on_bytes, reply_line}
 use Rattle.saa_run_text.specs.Outcome.{RunsWhole}
 use Rattle.saa_run.specs.declared.script.command.FirstLine.{FirstLine}
-use Rattle.saa_run.specs.declared.script.command.FirstLine.TheVariants.{Semaphore, Lock, Gate, Barrier}
+use Rattle.saa_run.specs.declared.script.command.FirstLine.TheVariants.{Semaphore, Bounded, Lock, Gate, Barrier}
 use Rattle.saa_run.specs.declared.script.command.ScriptLine.{ScriptLine}
 use Rattle.saa_run.specs.declared.script.command.ScriptLine.TheVariants.{Do, Registered}
-use Rattle.saa_run.specs.Language.{first_line_of, line_of}
+use Rattle.saa_run.specs.Language.{bound_number, first_line_of, line_of}
 use Rattle.saa_run.specs.SemaphoreWords.{semaphore_readings, semaphore_does}
 use Rattle.saa_run.specs.LockWords.{lock_readings, lock_does}
 use Rattle.saa_run.specs.GateWords.{gate_readings, gate_does}
@@ -60,6 +60,8 @@ pagers = 100
 abbrev pub answer_behind : FirstLine → List (List ℕ) → Answer
 answer_behind (Semaphore permits room) lines =
     answer_from (line_of semaphore_readings) semaphore_does 2 (new_semaphore max_permits permits room pagers) lines
+answer_behind (Bounded bound permits room) lines =
+    answer_from (line_of semaphore_readings) semaphore_does 2 (new_semaphore (bound_number bound) permits room pagers) lines
 answer_behind (Lock room) lines = answer_from (line_of lock_readings) lock_does 2 (new_lock room pagers) lines
 answer_behind (Gate room) lines = answer_from (line_of gate_readings) gate_does 2 (new_gate room pagers) lines
 answer_behind (Barrier size room) lines =

@@ -3,10 +3,10 @@ use Rattle.std.specs.Prelude.{◌≡◌, ◌<◌, ℕ, Bool, true, false, ◌↔
 use Rattle.std.specs.List.{AllByRecursion, join_with_byte}
 use Rattle.saa_core_spec.specs.declared.run.CommandOf.TheVariants.{Call, Register, TryPoll, PollSync, PollAsync, Drop}
 use Rattle.saa_run.specs.declared.script.command.FirstLine.{FirstLine}
-use Rattle.saa_run.specs.declared.script.command.FirstLine.TheVariants.{Semaphore, Lock, Gate, Barrier}
+use Rattle.saa_run.specs.declared.script.command.FirstLine.TheVariants.{Semaphore, Bounded, Lock, Gate, Barrier}
 use Rattle.saa_run.specs.declared.script.command.ScriptLine.{ScriptLine}
 use Rattle.saa_run.specs.declared.script.command.ScriptLine.TheVariants.{Do, Registered}
-use Rattle.saa_run.specs.Language.{Readings, line_of}
+use Rattle.saa_run.specs.Language.{Readings, bound_number, line_of}
 
 -- fields joined by single spaces
 abbrev pub spelled : List (List ℕ) → List ℕ
@@ -63,6 +63,7 @@ IsLineInRange spellings (Registered p) = IsPager p
 -- the fields of a first line
 abbrev pub first_fields : FirstLine → List (List ℕ)
 first_fields (Semaphore permits room) = codes "semaphore" ∷ decimal permits ∷ decimal room ∷ []
+first_fields (Bounded bound permits room) = codes "bounded" ∷ decimal (bound_number bound) ∷ decimal permits ∷ decimal room ∷ []
 first_fields (Lock room) = codes "lock" ∷ decimal room ∷ []
 first_fields (Gate room) = codes "gate" ∷ decimal room ∷ []
 first_fields (Barrier size room) = codes "barrier" ∷ decimal size ∷ decimal room ∷ []
@@ -70,6 +71,7 @@ first_fields (Barrier size room) = codes "barrier" ∷ decimal size ∷ decimal 
 -- the numbers of a first line are in range
 abbrev pub IsFirstInRange : FirstLine → Type 0
 IsFirstInRange (Semaphore permits room) = IsNumber permits × IsRoom room
+IsFirstInRange (Bounded bound permits room) = IsNumber permits × IsRoom room
 IsFirstInRange (Lock room) = IsRoom room
 IsFirstInRange (Gate room) = IsRoom room
 IsFirstInRange (Barrier size room) = IsNumber size × IsRoom room

@@ -132,7 +132,7 @@ pub(crate) const KIND_ROWS: [Row; 36] = [
         output: "controlled 0\ntrue\nsealed\nsealed 0\ntrue\nok open\n",
         status: 0,
     },
-    // A permit lets all pass who wait.
+    // A permit lets all waiters pass.
     Row {
         input: "gate 4\nreg 1 sync\nreg 2 sync\nreg 3 sync\nreg 4 sync\npermit\npoll_sync 1\npoll_sync 2\npoll_sync 3\npoll_sync 4\npermit\n",
         output: "true\ntrue\ntrue\ntrue\nok 4\nok controlled\nok controlled\nok controlled\nok controlled\nok 0\n",

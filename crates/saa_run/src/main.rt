@@ -10,6 +10,8 @@
 mod answer_tests;
 mod arguments;
 #[cfg(test)]
+mod bound_rows;
+#[cfg(test)]
 mod cancel_rows;
 mod counts;
 #[cfg(test)]

@@ -72,6 +72,11 @@ fn made(first: FirstOfSchedule, alloc: Global) -> Result<Machine, AllocError>
         FirstOfSchedule::Semaphore { withheld, places } => {
             Machine::semaphore(alloc, withheld, places)
         }
+        FirstOfSchedule::Bounded {
+            bound,
+            withheld,
+            places,
+        } => Machine::semaphore_of(alloc, bound.get(), withheld, places),
         FirstOfSchedule::Lock { places } => Machine::lock(alloc, places),
     }
 }

@@ -1,5 +1,6 @@
 //! Schedules of a machine with the exact bytes that each writes, which were written down by hand; and the most steps of a line.
 
+use crate::bound_rows::BOUND_SCHEDULES;
 use crate::cancel_rows::CANCEL_ROWS;
 use crate::lock_rows::LOCK_ROWS;
 use crate::run::machine;
@@ -312,7 +313,12 @@ fn played(alloc: Global, input: &str) -> (Vec<u8>, u8) {
 
 #[test]
 fn schedules(rt: HostRuntime) {
-    for row in SCHEDULES.iter().chain(&CANCEL_ROWS).chain(&LOCK_ROWS) {
+    for row in SCHEDULES
+        .iter()
+        .chain(&CANCEL_ROWS)
+        .chain(&LOCK_ROWS)
+        .chain(&BOUND_SCHEDULES)
+    {
         let (output, status) = played(rt.alloc(), row.input);
         assert_eq!(rt;
             output.as_slice(),

@@ -11,16 +11,15 @@ pub mod said;
 mod semaphore_words;
 pub mod spoken;
 
-ghost use Rattle.std.specs.Prelude.{replicate};
+ghost use Rattle.std.specs.Prelude.{◌<◌, replicate};
 ghost use Rattle.saa_run_text.specs.Outcome.{OpensWith};
 ghost use Rattle.saa_core.specs.declared.ticket.Registration.TheVariants.{Unregistered};
-ghost use Rattle.saa_core_spec.specs.Held.{max_permits};
 ghost use Rattle.saa_core_spec.specs.Semaphore.{new_semaphore};
 ghost use Rattle.saa_core_spec.specs.Lock.{new_lock};
 ghost use Rattle.saa_core_spec.specs.Gate.{new_gate};
 ghost use Rattle.saa_core_spec.specs.Barrier.{new_barrier};
 ghost use Rattle.saa_core.specs.Tickets.{object_of};
-ghost use Rattle.saa_run.specs.Language.{line_of};
+ghost use Rattle.saa_run.specs.Language.{bound_number, line_of};
 ghost use Rattle.saa_run.specs.Replies.{line_does, reply_words};
 ghost use Rattle.saa_run.specs.SemaphoreWords.{semaphore_does, semaphore_readings};
 ghost use Rattle.saa_run.specs.LockWords.{lock_does, lock_readings};
@@ -29,12 +28,12 @@ ghost use Rattle.saa_run.specs.BarrierWords.{barrier_does, barrier_readings};
 ghost use Rattle.saa_run.specs.ScriptText.{answer_from, pagers};
 
 use crate::script::bench_script::BenchScript;
-use crate::script::command::{FirstLine, parse_first};
+use crate::script::command::{Bound, FirstLine, parse_first};
 use crate::script::spoken::Spoken;
 use saa_core::barrier::BarrierCore;
 use saa_core::gate::GateCore;
 use saa_core::lock::LockCore;
-use saa_core::semaphore::SemaphoreCore;
+use saa_core::semaphore::SemaphoreCoreOf;
 use saa_run_text::ended::Ended;
 use saa_run_text::opening::Opening;
 use saa_run_text::steps::run_lines;
@@ -68,8 +67,13 @@ impl Opening for FirstLine {
     ) -> Result<Ended, AllocError> {
         match self {
             FirstLine::Semaphore { permits, room } => {
-                open_semaphore(alloc, permits, room, reader, writer)
+                open_semaphore::<63, R, W>(alloc, permits, room, reader, writer)
             }
+            FirstLine::Bounded {
+                bound,
+                permits,
+                room,
+            } => open_bounded(alloc, bound, permits, room, reader, writer),
             FirstLine::Lock { room } => open_lock(alloc, room, reader, writer),
             FirstLine::Gate { room } => open_gate(alloc, room, reader, writer),
             FirstLine::Barrier { size, room } => open_barrier(alloc, size, room, reader, writer),
@@ -77,18 +81,39 @@ impl Opening for FirstLine {
     }
 }
 
-/// Makes a semaphore, and answers the lines behind the first.
-fn open_semaphore<R: Read, W: Write>(
+/// Makes a semaphore of a bound that a script named, and answers the lines behind the first.
+fn open_bounded<R: Read, W: Write>(
+    alloc: Global,
+    bound: Bound,
+    permits: usize,
+    room: u16,
+    reader: &mut R,
+    writer: &mut W,
+) -> Result<Ended, AllocError>
+    ensures { OpensWith result (answer_from (line_of semaphore_readings) semaphore_does 2 (new_semaphore (bound_number bound) permits room pagers))
+        (R.remaining reader.old) (R.remaining reader.new) (W.contents writer.old) (W.contents writer.new) }
+{
+    match bound {
+        Bound::One => open_semaphore::<1, R, W>(alloc, permits, room, reader, writer),
+        Bound::Thousand => open_semaphore::<1000, R, W>(alloc, permits, room, reader, writer),
+        Bound::Greatest => open_semaphore::<65535, R, W>(alloc, permits, room, reader, writer),
+    }
+}
+
+/// Makes a semaphore of at most `MAX` permits, and answers the lines behind the first.
+fn open_semaphore<const MAX: usize, R: Read, W: Write>(
     alloc: Global,
     permits: usize,
     room: u16,
     reader: &mut R,
     writer: &mut W,
 ) -> Result<Ended, AllocError>
-    ensures { OpensWith result (answer_from (line_of semaphore_readings) semaphore_does 2 (new_semaphore max_permits permits room pagers))
+    requires bound { 0 < MAX }
+    requires narrow { MAX < 65536 }
+    ensures { OpensWith result (answer_from (line_of semaphore_readings) semaphore_does 2 (new_semaphore MAX permits room pagers))
         (R.remaining reader.old) (R.remaining reader.new) (W.contents writer.old) (W.contents writer.new) }
 {
-    match SemaphoreCore::with_permits(alloc, permits, room) {
+    match SemaphoreCoreOf::<MAX>::with_permits(alloc, permits, room) {
         Ok(core) => run_core(alloc, core, reader, writer),
         Err(refused) => Err(refused),
     }

@@ -2,6 +2,7 @@
 //! worked rows, which were written down by hand.
 
 use crate::asked;
+use crate::bound_rows::BOUND_ROWS;
 use crate::kind_rows::KIND_ROWS;
 use crate::run::{Wanted, script, threads, usage, wanted};
 use crate::script::said::Said;
@@ -265,7 +266,7 @@ fn run_over_memory(alloc: Global, input: &str) -> (Vec<u8>, u8) {
 
 #[test]
 fn rows_and_bad_lines(rt: HostRuntime) {
-    for row in ROWS.iter().chain(&KIND_ROWS) {
+    for row in ROWS.iter().chain(&KIND_ROWS).chain(&BOUND_ROWS) {
         let (output, status) = run_over_memory(rt.alloc(), row.input);
         assert_eq!(rt;
             output.as_slice(),

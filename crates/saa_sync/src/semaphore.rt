@@ -28,6 +28,9 @@ use std::alloc::{AllocError, Global};
 use std::sync::Wait;
 use std::sync::atomic::Ordering;
 
+// The bound of the core. It is written out, since the core's own constant is its parameter, and no proof knows that as 63.
+const MAX_PERMITS: usize = 63;
+
 /// Up to 63 permits that threads share, taken in the order of asking.
 ///
 /// A task that must wait joins a line, and the line is served strictly in order: while somebody waits, nobody who asks
@@ -42,7 +45,7 @@ pub struct Semaphore<R: Wait + Drop> {
 
 impl<R: Wait + Drop> Semaphore<R> {
     /// The most permits of a semaphore.
-    pub const MAX_PERMITS: usize = SemaphoreCore::MAX_PERMITS;
+    pub const MAX_PERMITS: usize = MAX_PERMITS;
 
     /// A semaphore with all its permits available, and room for so many waiters. Costs O(`room`).
     ///
@@ -325,7 +328,7 @@ impl<R: Wait + Drop> SyncResult for Semaphore<R> {
 fn is_too_many(count: usize) -> bool
     ensures { IsTrue result ↔ (63 < count) }
 {
-    count > SemaphoreCore::MAX_PERMITS
+    count > MAX_PERMITS
 }
 
 // Whether a permit is available, of the core under the mutex.

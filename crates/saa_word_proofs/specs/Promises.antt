@@ -41,7 +41,7 @@ AreAsking words (asker ∷ rest) = ((words asker.0).request ≡ asker.1) × AreA
 pub record Observes (needs : Needs) (places : ℕ) (row : ℕ → ℕ) (state : AbstractState) : Type 0 where
   pub count : (main_of row).count ≡ state.count
   pub poisoned : (main_of row).is_poisoned ≡ state.poisoned
-  pub whole : row 0 < 2 ^ 24
+  pub whole : row 0 < 2 ^ (count_bits + 18)
   pub exact : state.poisoned ≡ true → row 0 ≡ word_number count_bits poisoned_word
   pub requests : AreAsking (line_of row) state.line
   pub shown : (place : ℕ) → place < places → row (places + place + 1) ≡ answer_number (state.shown place)

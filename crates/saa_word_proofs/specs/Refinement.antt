@@ -3,7 +3,7 @@
 --
 -- The row is a function from indexes to numbers: 0 the main word, behind it the line word of each place, behind those the answer
 -- words. A place stands in a word by its link, its number plus 1.
-use Rattle.std.specs.Prelude.{◌≡◌, ℕ, ◌+◌, ◌<◌, ◌≤◌, pred, Bool, true, false, not, ◌||◌, ◌==◌, if◌then◌else◌, List, [], ◌∷◌, ◌++◌, Option, Some, is_some}
+use Rattle.std.specs.Prelude.{◌≡◌, ℕ, ◌+◌, ◌<◌, ◌≤◌, pred, Bool, true, false, not, ◌||◌, ◌==◌, if◌then◌else◌, List, [], ◌∷◌, ◌++◌, Option, Some, is_some, ◌^◌}
 use Rattle.saa_core_spec.specs.Held.{Exclusive}
 use Rattle.saa_core_spec.specs.Object.{one_if, times}
 use Rattle.saa_core_words.specs.declared.word.Word.{Word}
@@ -236,7 +236,7 @@ IsHolding needs words me held line cut _ = ⊥
 -- Where nobody holds it the object isn't open, and where it isn't open its line is settled. Only a lock is poisoned, and then nothing is
 -- held and nobody waits
 pub record IsMain (needs : Needs) (number : ℕ) (state : AbstractState) (holder : ℕ) : Type 0 where
-  pub whole : number < 16777216
+  pub whole : number < 2 ^ (count_bits + 18)
   pub count : (word_of count_bits number).count ≡ state.count
   pub tail : (word_of count_bits number).tail ≡ newest 0 state.line
   pub flag : (word_of count_bits number).is_flagged ≡ not (holder == 0)

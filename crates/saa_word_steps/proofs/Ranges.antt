@@ -153,11 +153,11 @@ poisoning-ranged needs place seen small =
     ]
 
 looked-ranged : (needs : Needs) → AreNeeds needs → needs.top < 2 ^ count_bits → (place : Place) (seen : Word) (current count : ℕ) (line : LineWord)
-    → IsSmall seen → count < 64 → IsRangedNext needs (looked_at needs place seen current count line)
+    → IsSmall seen → count < 2 ^ count_bits → IsRangedNext needs (looked_at needs place seen current count line)
 looked-ranged needs lawful wide place seen current count line small below =
     elim (cases_Bool (fits_count needs count line.request)) [
       | inl fits ↦
-          let more : count + needs.takes line.request < 64 = omega (arith, wide, lawful.bounded count line.request fits) in
+          let more : count + needs.takes line.request < 2 ^ count_bits = omega (arith, wide, lawful.bounded count line.request fits) in
           elim (cases_Bool (current == seen.tail)) [
             | inl last ↦ rw (fits, last) (small, more)
             | inr between ↦ rw (fits, between) (small, more)
@@ -169,7 +169,7 @@ looked-ranged needs lawful wide place seen current count line small below =
           ]
     ]
 
-closing-ranged : (needs : Needs) (place : Place) (seen : Word) (count top found : ℕ) → IsSmall seen → count < 64 → IsRangedNext needs (closing place seen count top found)
+closing-ranged : (needs : Needs) (place : Place) (seen : Word) (count top found : ℕ) → IsSmall seen → count < 2 ^ count_bits → IsRangedNext needs (closing place seen count top found)
 closing-ranged needs place seen count top found small below =
     elim (cases_Bool (found == word_number count_bits seen)) [
       | inl same ↦
@@ -225,7 +225,7 @@ next-ranged needs lawful wide me place (CutToClose seen current count line) foun
 next-ranged needs lawful wide me place (CutToGoRound seen current count line) found was ranged = ranged
 next-ranged needs lawful wide me place (Close seen count top) found was ranged = closing-ranged needs place seen count top found ranged.0 ranged.1
 next-ranged needs lawful wide me place (Empty seen current count line) found was ranged =
-    let less : count - needs.takes line.request < 64 = omega (arith, ranged.1) in
+    let less : count - needs.takes line.request < 2 ^ count_bits = omega (arith, ranged.1) in
     elim (cases_Bool (found == word_number count_bits seen)) [
       | inl same ↦ rw same tt
       | inr other ↦

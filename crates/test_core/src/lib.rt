@@ -17,5 +17,6 @@ mod numbers;
 mod played;
 #[cfg(test)]
 mod semaphore;
+pub mod widths;
 #[cfg(test)]
 mod words;

@@ -393,9 +393,9 @@ const WORDS: [Row; 14] = [
     (TRY_LOCK, OWNED),
     (Call::Word, Answer::Word(63)),
     (Call::Of(0, Asked::Register(Mode::Shared, true)), JOINED),
-    (Call::Word, Answer::Word(319)),
+    (Call::Word, Answer::Word(262_207)),
     (POISON, YES),
-    (Call::Word, Answer::Word(128)),
+    (Call::Word, Answer::Word(131_072)),
     (CLEAR, YES),
     (Call::Word, Answer::Word(0)),
 ];

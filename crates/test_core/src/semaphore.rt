@@ -1,7 +1,8 @@
 //! Worked rows of the semaphore.
 
 use crate::played::{Makes, Played, play};
-use saa_core::semaphore::SemaphoreCore;
+use crate::widths::{fewest, most};
+use saa_core::semaphore::{SemaphoreCore, SemaphoreCoreOf};
 use saa_core::ticket::{Error, Full, How, Ticket};
 use std::test::Fail;
 use test_asserts::{holds, same};
@@ -87,7 +88,7 @@ const NOT_READY: Answer = Answer::Polled(Err(Error::NotReady));
 
 const POLL: Asked = Asked::Poll(How::Sync);
 
-impl Makes for Played<SemaphoreCore> {
+impl<const MAX: usize> Makes for Played<SemaphoreCoreOf<MAX>> {
     type Call = Call;
 
     type Answer = Answer;
@@ -113,7 +114,11 @@ impl Makes for Played<SemaphoreCore> {
 }
 
 // Makes a call with a ticket.
-fn ask(core: &mut SemaphoreCore, ticket: &mut Ticket, asked: Asked) -> Answer {
+fn ask<const MAX: usize>(
+    core: &mut SemaphoreCoreOf<MAX>,
+    ticket: &mut Ticket,
+    asked: Asked,
+) -> Answer {
     match asked {
         Asked::Register(count, is_sync) => Answer::Registered(core.register(
             ticket, count, is_sync,
@@ -219,7 +224,7 @@ const WORDS: [Row; 9] = [
     (Call::TryAcquireMany(63), YES),
     (Call::Word, Answer::Word(63)),
     (Call::Of(0, Asked::Register(1, true)), JOINED),
-    (Call::Word, Answer::Word(319)),
+    (Call::Word, Answer::Word(262_207)),
     (Call::Release, YES),
     (Call::Word, Answer::Word(63)),
     (Call::Of(0, POLL), TAKEN),
@@ -285,6 +290,69 @@ const A_DROPPED_GRANT: [Row; 5] = [
 fn a_dropped_grant_goes_back(rt: HostRuntime) -> Result<(), Fail> {
     let core = SemaphoreCore::new(rt.alloc(), 4)?;
     play(&rt, &mut Played::new(core), &A_DROPPED_GRANT);
+    Ok(())
+}
+
+const OF_A_THOUSAND: [Row; 11] = [
+    (Call::TryAcquireMany(1_001), NO),
+    (Call::TryAcquireMany(1_000), YES),
+    (Call::Of(1, Asked::Register(300, true)), JOINED),
+    (Call::ReleaseMany(299), YES),
+    (Call::Available, Answer::Number(299)),
+    (Call::ReleaseMany(1), YES),
+    (Call::Available, Answer::Number(0)),
+    (Call::Of(1, POLL), TAKEN),
+    (Call::ReleaseMany(1_001), NO),
+    (Call::ReleaseMany(1_000), YES),
+    (Call::Available, Answer::Number(1_000)),
+];
+
+const A_WORD_OF_A_THOUSAND: [Row; 3] = [
+    (Call::TryAcquireMany(1_000), YES),
+    (Call::Of(0, Asked::Register(1, true)), JOINED),
+    (Call::Word, Answer::Word(1_000 + 262_144)),
+];
+
+#[test]
+fn a_thousand_permits(rt: HostRuntime) -> Result<(), Fail> {
+    same!(rt; SemaphoreCoreOf::<1_000>::MAX_PERMITS, 1_000);
+    let core = SemaphoreCoreOf::<1_000>::new(rt.alloc(), 4)?;
+    play(&rt, &mut Played::new(core), &OF_A_THOUSAND);
+    let core = SemaphoreCoreOf::<1_000>::new(rt.alloc(), 1)?;
+    play(&rt, &mut Played::new(core), &A_WORD_OF_A_THOUSAND);
+    Ok(())
+}
+
+const OF_THE_MOST: [Row; 5] = [
+    (Call::Available, Answer::Number(65_535)),
+    (Call::TryAcquireMany(65_535), YES),
+    (Call::Word, Answer::Word(65_535)),
+    (Call::ReleaseMany(65_536), NO),
+    (Call::ReleaseMany(65_535), YES),
+];
+
+#[test]
+fn the_most_permits(rt: HostRuntime) -> Result<(), Fail> {
+    let core = most(rt.alloc(), 70_000, 4)?;
+    play(&rt, &mut Played::new(core), &OF_THE_MOST);
+    Ok(())
+}
+
+const OF_ONE: [Row; 8] = [
+    (Call::TryAcquireMany(1), YES),
+    (Call::Of(1, Asked::Register(1, true)), JOINED),
+    (Call::Of(2, Asked::Register(1, true)), JOINED),
+    (Call::ReleaseMany(1), YES),
+    (Call::Of(1, POLL), TAKEN),
+    (Call::Of(2, POLL), NOT_READY),
+    (Call::ReleaseMany(1), YES),
+    (Call::Of(2, POLL), TAKEN),
+];
+
+#[test]
+fn one_permit(rt: HostRuntime) -> Result<(), Fail> {
+    let core = fewest(rt.alloc(), 2)?;
+    play(&rt, &mut Played::new(core), &OF_ONE);
     Ok(())
 }
 

@@ -12,9 +12,7 @@ use std::test::Fail;
 use test_asserts::same;
 
 // A main word by its parts.
-fn word(count: u16, is_flagged: bool, is_poisoned: bool, tail: u16) -> Word
-    ensures { result.count ≡ count }
-{
+fn word(count: u16, is_flagged: bool, is_poisoned: bool, tail: u16) -> Word {
     Word {
         count,
         is_flagged,
@@ -27,18 +25,20 @@ fn word(count: u16, is_flagged: bool, is_poisoned: bool, tail: u16) -> Word
 fn a_main_word_is_its_bits(rt: HostRuntime) {
     same!(rt; word(0, false, false, 0).pack(), 0);
     same!(rt; word(63, false, false, 0).pack(), 63);
-    same!(rt; word(63, false, false, 1).pack(), 319);
-    same!(rt; word(58, true, false, 1).pack(), 378);
-    same!(rt; word(0, false, true, 0).pack(), 128);
-    same!(rt; word(1, true, true, 65_535).pack(), 16_777_153);
+    same!(rt; word(63, false, false, 1).pack(), 262_207);
+    same!(rt; word(58, true, false, 1).pack(), 327_738);
+    same!(rt; word(0, false, true, 0).pack(), 131_072);
+    same!(rt; word(1_000, true, false, 2).pack(), 1_000 + 65_536 + 524_288);
+    same!(rt; word(65_535, false, false, 0).pack(), 65_535);
+    same!(rt; word(1, true, true, 65_535).pack(), 17_179_803_649);
 }
 
 #[test]
 fn a_main_word_is_read_from_its_bits(rt: HostRuntime) {
-    same!(rt; Word::unpack(378), word(58, true, false, 1));
-    same!(rt; Word::unpack(128), word(0, false, true, 0));
-    same!(rt; Word::unpack(319), word(63, false, false, 1));
-    same!(rt; Word::unpack(u64::MAX), word(63, true, true, 65_535));
+    same!(rt; Word::unpack(327_738), word(58, true, false, 1));
+    same!(rt; Word::unpack(131_072), word(0, false, true, 0));
+    same!(rt; Word::unpack(262_207), word(63, false, false, 1));
+    same!(rt; Word::unpack(u64::MAX), word(65_535, true, true, 65_535));
 }
 
 #[test]

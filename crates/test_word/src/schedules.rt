@@ -1,5 +1,7 @@
 //! Worked schedules, move by move, and what no contract says: that a machine can be made.
 
+ghost use Rattle.std.specs.Prelude.{◌<◌};
+
 use saa_word::machine::{Answer, Error, Kind, Machine, Move, Step, WordCall};
 use saa_word_steps::call::{Mode, TryLockError};
 use std::alloc::{AllocError, Global};
@@ -68,6 +70,13 @@ struct Played {
 impl Played {
     fn new(alloc: Global, withheld: usize, places: u16) -> Result<Played, AllocError> {
         let machine = Machine::semaphore(alloc, withheld, places)?;
+        Ok(Played { machine })
+    }
+
+    fn of(alloc: Global, bound: u16, withheld: usize, places: u16) -> Result<Played, AllocError>
+        requires { 0 < bound }
+    {
+        let machine = Machine::semaphore_of(alloc, bound, withheld, places)?;
         Ok(Played { machine })
     }
 
@@ -146,7 +155,7 @@ fn play_calls(rt: &impl Abort, played: &mut Played, calls: &[(u16, WordCall, Ste
 }
 
 // Permits 63 out, place 0 waits for 10, place 1 gives 5 back and is about to publish; then place 2 gives 5 back in place.
-// A main word is 63 more than 256 where place 0 waits, 5 less with each release, and 64 more with the flag set.
+// A main word is 63 more than 262,144 where place 0 waits, 5 less with each release, and 65,536 more with the flag set.
 const RELEASE_MOVES: [Moved; 27] = [
     (Move::Start(1, WordCall::Try(63)), GOING, ASK, 0),
     (Move::Go(1), GOING, ASK, 0),
@@ -154,21 +163,31 @@ const RELEASE_MOVES: [Moved; 27] = [
     (Move::Start(0, WordCall::Register(10)), GOING, ASK, 63),
     (Move::Go(0), GOING, PREPARE, 63),
     (Move::Go(0), GOING, JOIN, 63),
-    (Move::Go(0), YES, None, 319),
-    (Move::Start(1, WordCall::Release(5)), GOING, RELEASE, 319),
-    (Move::Go(1), GOING, RELEASE, 319),
-    (Move::Go(1), GOING, WALK, 378),
-    (Move::Go(1), GOING, WALK, 378),
-    (Move::Go(1), GOING, WALK, 378),
-    (Move::Go(1), GOING, PUBLISH, 378),
-    (Move::Start(2, WordCall::Release(5)), GOING, RELEASE, 378),
-    (Move::Go(2), GOING, RELEASE, 378),
-    (Move::Go(2), YES, None, 373),
-    (Move::Go(1), GOING, PUBLISH, 373),
-    (Move::Go(1), GOING, WALK, 373),
-    (Move::Go(1), GOING, WALK, 373),
-    (Move::Go(1), GOING, WALK, 373),
-    (Move::Go(1), GOING, PUBLISH, 373),
+    (Move::Go(0), YES, None, 262_207),
+    (
+        Move::Start(1, WordCall::Release(5)),
+        GOING,
+        RELEASE,
+        262_207,
+    ),
+    (Move::Go(1), GOING, RELEASE, 262_207),
+    (Move::Go(1), GOING, WALK, 327_738),
+    (Move::Go(1), GOING, WALK, 327_738),
+    (Move::Go(1), GOING, WALK, 327_738),
+    (Move::Go(1), GOING, PUBLISH, 327_738),
+    (
+        Move::Start(2, WordCall::Release(5)),
+        GOING,
+        RELEASE,
+        327_738,
+    ),
+    (Move::Go(2), GOING, RELEASE, 327_738),
+    (Move::Go(2), YES, None, 327_733),
+    (Move::Go(1), GOING, PUBLISH, 327_733),
+    (Move::Go(1), GOING, WALK, 327_733),
+    (Move::Go(1), GOING, WALK, 327_733),
+    (Move::Go(1), GOING, WALK, 327_733),
+    (Move::Go(1), GOING, PUBLISH, 327_733),
     (Move::Go(1), GOING, SHOW, 63),
     (Move::Go(1), GOING, SHOW, 63),
     (Move::Go(1), YES, None, 63),
@@ -299,7 +318,7 @@ fn what_each_machine_takes(rt: HostRuntime) -> Result<(), Fail> {
 }
 
 // Each call of a lock that two places make in turn: the kind of its first step, how many steps it makes, its answer, and the main word
-// behind it. Place 1 in line adds 512, and poison is 128.
+// behind it. Place 1 in line adds 524,288, and poison is 131,072.
 const LOCK_CALLS: [Counted; 45] = [
     (0, WordCall::IsFree, ASK, 1, YES, 0),
     (0, WordCall::TryLock, ASK, 2, OWNED, 63),
@@ -335,22 +354,36 @@ const LOCK_CALLS: [Counted; 45] = [
         ASK,
         3,
         YES,
-        575,
+        524_351,
     ),
-    (1, WordCall::TryPoll, TAKE, 1, NOT_READY, 575),
-    (0, WordCall::PoisonLock, POISON, 4, YES, 128),
-    (1, WordCall::Poll, TAKE, 1, TOLD_POISONED, 128),
-    (1, WordCall::TryLock, ASK, 1, POISONED, 128),
-    (1, WordCall::TryShare, ASK, 1, POISONED, 128),
-    (0, WordCall::IsPoisoned, ASK, 1, YES, 128),
-    (0, WordCall::IsFree, ASK, 1, NO, 128),
-    (0, WordCall::IsLocked, ASK, 1, NO, 128),
-    (0, WordCall::ReleaseLock, RELEASE, 1, NO, 128),
-    (0, WordCall::PoisonLock, POISON, 1, NO, 128),
-    (1, WordCall::RegisterMode(Mode::Shared), ASK, 1, YES, 128),
-    (1, WordCall::Cancel, None, 0, UNIT, 128),
-    (1, WordCall::RegisterMode(Mode::Exclusive), ASK, 1, YES, 128),
-    (1, WordCall::TryPoll, None, 0, TOLD_POISONED, 128),
+    (1, WordCall::TryPoll, TAKE, 1, NOT_READY, 524_351),
+    (0, WordCall::PoisonLock, POISON, 4, YES, 131_072),
+    (1, WordCall::Poll, TAKE, 1, TOLD_POISONED, 131_072),
+    (1, WordCall::TryLock, ASK, 1, POISONED, 131_072),
+    (1, WordCall::TryShare, ASK, 1, POISONED, 131_072),
+    (0, WordCall::IsPoisoned, ASK, 1, YES, 131_072),
+    (0, WordCall::IsFree, ASK, 1, NO, 131_072),
+    (0, WordCall::IsLocked, ASK, 1, NO, 131_072),
+    (0, WordCall::ReleaseLock, RELEASE, 1, NO, 131_072),
+    (0, WordCall::PoisonLock, POISON, 1, NO, 131_072),
+    (
+        1,
+        WordCall::RegisterMode(Mode::Shared),
+        ASK,
+        1,
+        YES,
+        131_072,
+    ),
+    (1, WordCall::Cancel, None, 0, UNIT, 131_072),
+    (
+        1,
+        WordCall::RegisterMode(Mode::Exclusive),
+        ASK,
+        1,
+        YES,
+        131_072,
+    ),
+    (1, WordCall::TryPoll, None, 0, TOLD_POISONED, 131_072),
     (0, WordCall::ClearPoison, CLEAR, 1, YES, 0),
     (0, WordCall::IsFree, ASK, 1, YES, 0),
 ];
@@ -382,29 +415,30 @@ fn the_calls_of_a_lock(rt: HostRuntime) -> Result<(), Fail> {
 
 // Place 0 has the lock, and 1 and 2 wait. Place 1 leaves the line; meanwhile place 0 can't poison, nor place 2 leave. Then place 0 poisons,
 // and place 2, whose answer is due by then, gives it up once it is shown. Each move with what it did, the kind of the step that is
-// next at its place, and the main word behind it: 831 where one owner has the lock and the tail is place 2, 64 more with the flag set.
+// next at its place, and the main word behind it: 786,495 where one owner has the lock and the tail is place 2, 65,536 more with the flag
+// set.
 const POISON_MOVES: [Moved; 21] = [
-    (Move::Start(1, WordCall::Cancel), GOING, FLAG, 831),
-    (Move::Go(1), GOING, FLAG, 831),
-    (Move::Go(1), GOING, UNLINK, 895),
-    (Move::Start(0, WordCall::PoisonLock), GOING, POISON, 895),
-    (Move::Go(0), Step::Waits, POISON, 895),
-    (Move::Start(2, WordCall::Cancel), GOING, FLAG, 895),
-    (Move::Go(2), Step::Waits, FLAG, 895),
-    (Move::Go(1), GOING, UNLINK, 895),
-    (Move::Go(1), GOING, UNLINK, 895),
-    (Move::Go(1), GOING, UNLINK, 895),
-    (Move::Go(1), GOING, WALK, 895),
-    (Move::Go(1), GOING, PUBLISH, 895),
-    (Move::Go(0), Step::Waits, POISON, 895),
-    (Move::Go(1), UNIT, None, 831),
-    (Move::Go(0), GOING, POISON, 831),
-    (Move::Go(0), GOING, SHOW, 128),
-    (Move::Go(2), GOING, TAKE, 128),
-    (Move::Go(2), Step::Waits, TAKE, 128),
-    (Move::Go(0), GOING, SHOW, 128),
-    (Move::Go(0), YES, None, 128),
-    (Move::Go(2), UNIT, None, 128),
+    (Move::Start(1, WordCall::Cancel), GOING, FLAG, 786_495),
+    (Move::Go(1), GOING, FLAG, 786_495),
+    (Move::Go(1), GOING, UNLINK, 852_031),
+    (Move::Start(0, WordCall::PoisonLock), GOING, POISON, 852_031),
+    (Move::Go(0), Step::Waits, POISON, 852_031),
+    (Move::Start(2, WordCall::Cancel), GOING, FLAG, 852_031),
+    (Move::Go(2), Step::Waits, FLAG, 852_031),
+    (Move::Go(1), GOING, UNLINK, 852_031),
+    (Move::Go(1), GOING, UNLINK, 852_031),
+    (Move::Go(1), GOING, UNLINK, 852_031),
+    (Move::Go(1), GOING, WALK, 852_031),
+    (Move::Go(1), GOING, PUBLISH, 852_031),
+    (Move::Go(0), Step::Waits, POISON, 852_031),
+    (Move::Go(1), UNIT, None, 786_495),
+    (Move::Go(0), GOING, POISON, 786_495),
+    (Move::Go(0), GOING, SHOW, 131_072),
+    (Move::Go(2), GOING, TAKE, 131_072),
+    (Move::Go(2), Step::Waits, TAKE, 131_072),
+    (Move::Go(0), GOING, SHOW, 131_072),
+    (Move::Go(0), YES, None, 131_072),
+    (Move::Go(2), UNIT, None, 131_072),
 ];
 
 const TWO_WAIT: [(u16, WordCall, Step); 3] = [
@@ -422,29 +456,34 @@ fn poison_and_cancels_wait_for_who_leaves(rt: HostRuntime) -> Result<(), Fail> {
 }
 
 // Permits 60 out; places 0, 1 and 2 wait for 10, 2 and 1. Place 2 leaves the line as its tail. Then place 0 leaves, by which place 1 is
-// granted; place 1 gives that up, waits until it is shown, and gives 2 back. A main word is 828 with the tail at place 2, 572 at place 1,
-// and 64 more with the flag set.
+// granted; place 1 gives that up, waits until it is shown, and gives 2 back. A main word is 786,492 with the tail at place 2, 524,348 at
+// place 1, and 65,536 more with the flag set.
 const LEAVING_MOVES: [Moved; 29] = [
-    (Move::Start(2, WordCall::Cancel), GOING, FLAG, 828),
-    (Move::Go(2), GOING, FLAG, 828),
-    (Move::Go(2), GOING, UNLINK, 892),
-    (Move::Go(2), GOING, TAIL, 892),
-    (Move::Go(2), GOING, WALK, 636),
-    (Move::Go(2), GOING, WALK, 636),
-    (Move::Go(2), GOING, WALK, 636),
-    (Move::Go(2), GOING, WALK, 636),
-    (Move::Go(2), GOING, WALK, 636),
-    (Move::Go(2), GOING, PUBLISH, 636),
-    (Move::Go(2), UNIT, None, 572),
-    (Move::Start(2, WordCall::Poll), NOT_REGISTERED, None, 572),
-    (Move::Start(0, WordCall::Cancel), GOING, FLAG, 572),
-    (Move::Go(0), GOING, FLAG, 572),
-    (Move::Go(0), GOING, UNLINK, 636),
-    (Move::Go(0), GOING, UNLINK, 636),
-    (Move::Go(0), GOING, UNLINK, 636),
-    (Move::Go(0), GOING, UNLINK, 636),
-    (Move::Go(0), GOING, WALK, 636),
-    (Move::Go(0), GOING, PUBLISH, 636),
+    (Move::Start(2, WordCall::Cancel), GOING, FLAG, 786_492),
+    (Move::Go(2), GOING, FLAG, 786_492),
+    (Move::Go(2), GOING, UNLINK, 852_028),
+    (Move::Go(2), GOING, TAIL, 852_028),
+    (Move::Go(2), GOING, WALK, 589_884),
+    (Move::Go(2), GOING, WALK, 589_884),
+    (Move::Go(2), GOING, WALK, 589_884),
+    (Move::Go(2), GOING, WALK, 589_884),
+    (Move::Go(2), GOING, WALK, 589_884),
+    (Move::Go(2), GOING, PUBLISH, 589_884),
+    (Move::Go(2), UNIT, None, 524_348),
+    (
+        Move::Start(2, WordCall::Poll),
+        NOT_REGISTERED,
+        None,
+        524_348,
+    ),
+    (Move::Start(0, WordCall::Cancel), GOING, FLAG, 524_348),
+    (Move::Go(0), GOING, FLAG, 524_348),
+    (Move::Go(0), GOING, UNLINK, 589_884),
+    (Move::Go(0), GOING, UNLINK, 589_884),
+    (Move::Go(0), GOING, UNLINK, 589_884),
+    (Move::Go(0), GOING, UNLINK, 589_884),
+    (Move::Go(0), GOING, WALK, 589_884),
+    (Move::Go(0), GOING, PUBLISH, 589_884),
     (Move::Go(0), GOING, SHOW, 62),
     (Move::Start(1, WordCall::Cancel), GOING, FLAG, 62),
     (Move::Go(1), GOING, TAKE, 62),
@@ -491,20 +530,78 @@ fn as_many_are_withheld_as_there_are(rt: HostRuntime) -> Result<(), Fail> {
     Ok(())
 }
 
+// The main words at a bound with nothing withheld, all, and more than there are.
+fn words_at(alloc: Global, bound: u16) -> Result<[u64; 3], AllocError>
+    requires { 0 < bound }
+{
+    Ok([
+        Played::of(alloc, bound, 0, 0)?.machine.word(),
+        Played::of(alloc, bound, usize::from(bound), 0)?
+            .machine
+            .word(),
+        Played::of(alloc, bound, usize::MAX, 0)?.machine.word(),
+    ])
+}
+
+#[test]
+fn as_many_are_withheld_as_the_bound_says(rt: HostRuntime) -> Result<(), Fail> {
+    same!(rt; words_at(rt.alloc(), 1)?, [0, 1, 1]);
+    same!(rt; words_at(rt.alloc(), 1_000)?, [0, 1_000, 1_000]);
+    same!(rt; words_at(rt.alloc(), 65_535)?, [0, 65_535, 65_535]);
+    Ok(())
+}
+
+// Place 0 takes all of so many permits, place 1 waits for one, and the release of all lets it in. Each call with its answer, and the
+// main word behind it, which place 1 in line makes 524,288 more.
+fn play_to(rt: &impl Abort, played: &mut Played, bound: u16) {
+    let (all, number) = (usize::from(bound), u64::from(bound));
+    let calls = [
+        (0, WordCall::Try(all.saturating_add(1)), NO, 0),
+        (0, WordCall::Try(all), YES, number),
+        (
+            1,
+            WordCall::Register(1),
+            YES,
+            number.saturating_add(524_288),
+        ),
+        (
+            0,
+            WordCall::Release(all.saturating_add(1)),
+            NO,
+            number.saturating_add(524_288),
+        ),
+        (0, WordCall::Release(all), YES, 1),
+        (1, WordCall::Poll, TAKEN, 1),
+    ];
+    for (me, call, step, word) in calls {
+        assert_eq!(rt; played.call(me, call), step, "{call:?} of {bound}");
+        assert_eq!(rt; played.machine.word(), word, "{call:?} of {bound}");
+    }
+}
+
+#[test]
+fn a_waiter_is_granted_at_each_bound(rt: HostRuntime) -> Result<(), Fail> {
+    play_to(&rt, &mut Played::of(rt.alloc(), 1, 0, 2)?, 1);
+    play_to(&rt, &mut Played::of(rt.alloc(), 1_000, 0, 2)?, 1_000);
+    play_to(&rt, &mut Played::of(rt.alloc(), 65_535, 0, 2)?, 65_535);
+    Ok(())
+}
+
 #[test]
 fn the_last_place_waits_and_is_granted(rt: HostRuntime) -> Result<(), Fail> {
     let mut played = Played::new(rt.alloc(), 63, u16::MAX)?;
     same!(rt; played.machine.places(), u16::MAX);
     let last = u16::MAX - 1;
     same!(rt; played.call(last, WordCall::Register(1)), YES);
-    same!(rt; played.machine.word(), 63 + 256 * u64::from(u16::MAX));
+    same!(rt; played.machine.word(), 63 + 262_144 * u64::from(u16::MAX));
     same!(rt; played.call(0, WordCall::Release(1)), YES);
     same!(rt; played.call(last, WordCall::Poll), TAKEN);
     Ok(())
 }
 
 // The lock of one owner is downgraded beside a sharer and an owner who wait, with the flag taken in the same step: the sharer is let in
-// beside it, and the owner waits on. The word is read as count, flag and tail: 833 is 1, set and place 2; 770 is 2, clear and place 2.
+// beside it, and the owner waits on. The word is read as count, flag and tail: 851,969 is 1, set and place 2; 786,434 is 2, clear and
+// place 2.
 #[test]
 fn a_downgrade_lets_a_sharer_in_beside_it(rt: HostRuntime) -> Result<(), Fail> {
     let mut played = Played::lock(rt.alloc(), 3)?;
@@ -519,16 +616,16 @@ fn a_downgrade_lets_a_sharer_in_beside_it(rt: HostRuntime) -> Result<(), Fail> {
         }
     }
     same!(rt; played.next_kind(0), PUBLISH);
-    same!(rt; played.machine.word(), 833);
+    same!(rt; played.machine.word(), 851_969);
     same!(rt; played.end(0), YES);
-    same!(rt; played.machine.word(), 770);
+    same!(rt; played.machine.word(), 786_434);
     same!(rt; played.call(1, WordCall::TryPoll), TAKEN);
     same!(rt; played.call(2, WordCall::TryPoll), NOT_READY);
     Ok(())
 }
 
-// The same while a cancel holds the flag: it is made in place, and the cancel grants the sharer behind it. The main word is 895 where one
-// owner has the lock, the flag is set and the tail is place 2, and 833 once it is lowered.
+// The same while a cancel holds the flag: it is made in place, and the cancel grants the sharer behind it. The main word is 852,031 where
+// one owner has the lock, the flag is set and the tail is place 2, and 851,969 once it is lowered.
 #[test]
 fn a_downgrade_in_place_while_a_cancel_holds_the_flag(rt: HostRuntime) -> Result<(), Fail> {
     let mut played = Played::lock(rt.alloc(), 3)?;
@@ -538,11 +635,11 @@ fn a_downgrade_in_place_while_a_cancel_holds_the_flag(rt: HostRuntime) -> Result
     same!(rt; played.start(1, WordCall::Cancel), GOING);
     same!(rt; played.go(1), GOING);
     same!(rt; played.go(1), GOING);
-    same!(rt; played.machine.word(), 895);
+    same!(rt; played.machine.word(), 852_031);
     same!(rt; played.start(0, WordCall::Downgrade), GOING);
     same!(rt; played.go(0), GOING);
     same!(rt; played.go(0), YES);
-    same!(rt; played.machine.word(), 833);
+    same!(rt; played.machine.word(), 851_969);
     same!(rt; played.call(2, WordCall::TryPoll), NOT_READY);
     same!(rt; played.end(1), UNIT);
     same!(rt; played.machine.word(), 2);
@@ -561,8 +658,8 @@ const DOWNGRADES: [Counted; 12] = [
     (1, WordCall::ReleaseShare, RELEASE, 2, YES, 1),
     (0, WordCall::ReleaseShare, RELEASE, 2, YES, 0),
     (0, WordCall::TryLock, ASK, 2, OWNED, 63),
-    (0, WordCall::PoisonLock, POISON, 2, YES, 128),
-    (0, WordCall::Downgrade, RELEASE, 1, NO, 128),
+    (0, WordCall::PoisonLock, POISON, 2, YES, 131_072),
+    (0, WordCall::Downgrade, RELEASE, 1, NO, 131_072),
     (0, WordCall::ClearPoison, CLEAR, 1, YES, 0),
 ];
 

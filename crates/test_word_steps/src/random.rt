@@ -89,7 +89,7 @@ fn mover(word: u32, places: u16, slow: u16) -> u16 {
 fn moves(alloc: Global, seed: u16, held: Held, places: u16) -> Result<Option<Fault>, AllocError> {
     let mut random = Pcg32::new(u64::from(seed), 54);
     let mut watched = Watched::new(alloc, held, places)?;
-    let slow = seed % 8;
+    let slow = seed % 7;
     for _move in 0..2_000 {
         let word = random.next_word();
         let me = mover(word, places, slow);
@@ -142,15 +142,17 @@ fn alone(watched: &mut Watched, me: u16, call: WordCall) -> Result<Option<Fault>
 
 // A semaphore of few or many permits, of which all or none are out.
 fn permits(seed: u16) -> Held {
-    let bound = match seed % 6 {
+    let bound = match seed % 8 {
         0 => 1,
         1 => 2,
         2 => 3,
         3 => 5,
         4 => 10,
-        _ => 63,
+        5 => 63,
+        6 => 1_000,
+        _ => u16::MAX,
     };
-    let out = if seed % 4 < 2 { bound } else { 0 };
+    let out = if seed / 8 % 2 == 0 { bound } else { 0 };
     Held::Permits { out, bound }
 }
 
@@ -167,8 +169,8 @@ fn lock(seed: u16) -> Held {
 fn random_moves_of_a_semaphore_are_events_of_the_abstract_state(
     rt: HostRuntime,
 ) -> Result<(), Fail> {
-    for seed in 0..60u16 {
-        let places = 2 + seed / 6 % 5;
+    for seed in 0..80u16 {
+        let places = 2 + seed / 16;
         same!(rt; moves(rt.alloc(), seed, permits(seed), places)?, None);
     }
     Ok(())
@@ -185,7 +187,7 @@ fn random_moves_of_a_lock_are_events_of_the_abstract_state(rt: HostRuntime) -> R
 
 #[test]
 fn calls_that_move_alone_are_soon_done(rt: HostRuntime) -> Result<(), Fail> {
-    for seed in 0..30u16 {
+    for seed in 0..32u16 {
         let places = 2 + seed / 6 % 5;
         same!(rt; calls(rt.alloc(), seed, permits(seed), places)?, None);
         same!(rt; calls(rt.alloc(), seed, lock(seed), places)?, None);

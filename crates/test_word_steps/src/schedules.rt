@@ -52,10 +52,10 @@ fn a_release_during_the_walk_is_not_lost(rt: HostRuntime) -> Result<(), Fail> {
         }
         same!(rt; row.go(1), Step::Going);
     }
-    same!(rt; row.number(0), 58 + 64 + 256);
+    same!(rt; row.number(0), 58 + 65_536 + 262_144);
     same!(rt; row.start(2, WordCall::Release(5)), Step::Going);
     same!(rt; row.end(2), Step::Done(Answer::Bool(true)));
-    same!(rt; row.number(0), 53 + 64 + 256);
+    same!(rt; row.number(0), 53 + 65_536 + 262_144);
     same!(rt; row.end(1), Step::Done(Answer::Bool(true)));
     same!(rt; row.number(0), 63);
     same!(rt; row.start(0, WordCall::TryPoll), Step::Going);
@@ -89,14 +89,14 @@ fn a_call_that_needs_no_word_is_done_as_it_starts(rt: HostRuntime) -> Result<(),
 #[test]
 fn who_leaves_the_middle_links_its_neighbours(rt: HostRuntime) -> Result<(), Fail> {
     let mut row = three_who_wait(rt.alloc())?;
-    same!(rt; row.number(0), 1 + 3 * 256);
+    same!(rt; row.number(0), 1 + 3 * 262_144);
     same!(rt; row.call(1, WordCall::Cancel), UNIT);
-    same!(rt; row.number(0), 1 + 3 * 256);
+    same!(rt; row.number(0), 1 + 3 * 262_144);
     same!(rt; row.line(3).older, 1);
     same!(rt; row.line(1).newer, 3);
     same!(rt; row.call(1, WordCall::Release(1)), TRUE);
     same!(rt; row.call(0, WordCall::TryPoll), GRANTED);
-    same!(rt; row.number(0), 1 + 3 * 256);
+    same!(rt; row.number(0), 1 + 3 * 262_144);
     same!(rt; row.call(0, WordCall::Release(1)), TRUE);
     same!(rt; row.number(0), 1);
     same!(rt; row.call(2, WordCall::Poll), GRANTED);
@@ -108,9 +108,9 @@ fn who_leaves_the_middle_links_its_neighbours(rt: HostRuntime) -> Result<(), Fai
 fn who_leaves_as_the_newest_hands_the_tail_on(rt: HostRuntime) -> Result<(), Fail> {
     let mut row = three_who_wait(rt.alloc())?;
     same!(rt; row.call(2, WordCall::Cancel), UNIT);
-    same!(rt; row.number(0), 1 + 2 * 256);
+    same!(rt; row.number(0), 1 + 2 * 262_144);
     same!(rt; row.call(1, WordCall::Cancel), UNIT);
-    same!(rt; row.number(0), 1 + 256);
+    same!(rt; row.number(0), 1 + 262_144);
     same!(rt; row.call(0, WordCall::Cancel), UNIT);
     same!(rt; row.number(0), 1);
     same!(rt; row.call(0, WordCall::Cancel), UNIT);
@@ -124,16 +124,16 @@ fn a_cancel_waits_for_a_grant_and_gives_it_back(rt: HostRuntime) -> Result<(), F
     same!(rt; row.start(1, WordCall::Release(1)), Step::Going);
     same!(rt; row.go(1), Step::Going);
     same!(rt; row.go(1), Step::Going);
-    same!(rt; row.number(0), 64 + 3 * 256);
+    same!(rt; row.number(0), 65_536 + 3 * 262_144);
     same!(rt; row.call(0, WordCall::Cancel), Step::Waits);
-    same!(rt; row.number(0), 64 + 3 * 256);
+    same!(rt; row.number(0), 65_536 + 3 * 262_144);
     go_to_show(&mut row, 1);
-    same!(rt; row.number(0), 1 + 3 * 256);
+    same!(rt; row.number(0), 1 + 3 * 262_144);
     same!(rt; row.end(0), Step::Waits);
     same!(rt; row.end(1), TRUE);
     same!(rt; row.end(0), UNIT);
     same!(rt; row.call(1, WordCall::Poll), GRANTED);
-    same!(rt; row.number(0), 1 + 3 * 256);
+    same!(rt; row.number(0), 1 + 3 * 262_144);
     Ok(())
 }
 
@@ -145,9 +145,9 @@ fn poison_answers_all_who_wait(rt: HostRuntime) -> Result<(), Fail> {
     same!(rt; row.call(1, WordCall::RegisterMode(Mode::Shared)), TRUE);
     same!(rt; row.call(2, WordCall::RegisterMode(Mode::WaitExclusive)), TRUE);
     same!(rt; row.call(3, WordCall::RegisterMode(Mode::Exclusive)), TRUE);
-    same!(rt; row.number(0), 63 + 4 * 256);
+    same!(rt; row.number(0), 63 + 4 * 262_144);
     same!(rt; row.call(0, WordCall::PoisonLock), TRUE);
-    same!(rt; row.number(0), 128);
+    same!(rt; row.number(0), 131_072);
     same!(rt; row.call(1, WordCall::TryPoll), POISONED);
     same!(rt; row.call(2, WordCall::Poll), POISONED);
     same!(rt; row.call(3, WordCall::Cancel), UNIT);

@@ -2,19 +2,59 @@
 //!
 //! Held to `specs/Schedules.antt`. What a move does is left to the machine.
 ghost use Rattle.std.specs.Prelude.{◌≡◌, ◌<◌, Bool, IfSome};
-ghost use Rattle.saa_run.specs.Schedules.{IsLineOf, first_schedule_of, four_fields, kind_of_word, lock_made, place_below, places_of, schedule_line_of, semaphore_made, three_fields, two_fields};
+ghost use Rattle.saa_run.specs.Schedules.{IsLineOf, bound_of, bounded_made, first_schedule_of, four_fields, kind_of_word, lock_made, place_below, places_of, schedule_line_of, semaphore_made, three_fields, two_fields};
 
 use crate::schedule::calls::{lone_call, paired_call};
 use saa_run_text::fields::{count, first_field, number};
 use saa_word::machine::{Kind, WordCall};
+use std::marker::Model;
+
+/// The bound of a machine: 1 to 65535.
+#[derive(Clone, Copy, Debug)]
+pub struct MachineBound {
+    number: u16,
+}
+
+impl Model for MachineBound {
+    ghost use Rattle.std.specs.Prelude.{ℕ, ◌<◌};
+
+    ghost Value = { ℕ };
+
+    ghost view = { λ bound. bound.number };
+
+    ghost inverse = { λ number. record { number = number } };
+
+    ghost invariant = { λ bound. 0 < bound.number };
+}
+
+impl MachineBound {
+    /// Its number.
+    pub fn get(self) -> u16
+        ensures number { result ≡ self }
+        ensures some { 0 < result }
+    {
+        self.number
+    }
+}
 
 /// The first line of a schedule: which machine is made, with 1 to 100 places.
 #[derive(Clone, Copy, Debug)]
 pub enum FirstOfSchedule {
     /// `semaphore W PLACES`: a semaphore of which W permits are withheld.
-    Semaphore { withheld: usize, places: u16 },
+    Semaphore {
+        withheld: usize,
+        places: u16,
+    },
+    /// `bounded MAX W PLACES`: the same of a semaphore whose bound is MAX.
+    Bounded {
+        bound: MachineBound,
+        withheld: usize,
+        places: u16,
+    },
     /// `lock PLACES`: a free lock.
-    Lock { places: u16 },
+    Lock {
+        places: u16,
+    },
 }
 
 /// A line behind the first. A place is below the number of places.
@@ -51,6 +91,17 @@ fn places(field: &[u8]) -> Option<u16>
 {
     match number(field) {
         Some(n) if n >= 1 && n <= 100 => Some(n as u16),
+        _ => None,
+    }
+}
+
+/// The bound that a field is: 1 to 65535.
+#[tactic(auto, unfolding(crate::specs::Schedules::bound_of))]
+fn bound(field: &[u8]) -> Option<MachineBound>
+    ensures { result ≡ bound_of field.now }
+{
+    match number(field) {
+        Some(n) if n >= 1 && n <= 65535 => Some(MachineBound { number: n as u16 }),
         _ => None,
     }
 }
@@ -211,6 +262,29 @@ fn first_semaphore(word: &[u8], withheld: &[u8], of: &[u8]) -> Option<FirstOfSch
     None
 }
 
+/// The first line `bounded MAX W PLACES`.
+#[tactic(auto, unfolding(crate::specs::Schedules::bounded_made))]
+fn first_bounded(
+    word: &[u8],
+    bound_field: &[u8],
+    withheld: &[u8],
+    of: &[u8],
+) -> Option<FirstOfSchedule>
+    ensures { result ≡ bounded_made word.now bound_field.now withheld.now of.now }
+{
+    if word == b"bounded".as_slice() {
+        let bound = bound(bound_field)?;
+        let withheld = count(withheld)?;
+        let places = places(of)?;
+        return Some(FirstOfSchedule::Bounded {
+            bound,
+            withheld,
+            places,
+        });
+    }
+    None
+}
+
 /// The first line of a schedule that these bytes are.
 #[tactic(auto, using(saa_run_text::proofs::FieldLemmas::some_field), unfolding(crate::specs::Schedules::first_schedule_of))]
 pub fn parse_first_of_schedule(line: &[u8]) -> Option<FirstOfSchedule>
@@ -228,8 +302,12 @@ pub fn parse_first_of_schedule(line: &[u8]) -> Option<FirstOfSchedule>
         return first_lock(word, second);
     };
     let (third, rest) = first_field(rest);
+    let Some(rest) = rest else {
+        return first_semaphore(word, second, third);
+    };
+    let (fourth, rest) = first_field(rest);
     match rest {
         Some(_) => None,
-        None => first_semaphore(word, second, third),
+        None => first_bounded(word, second, third, fourth),
     }
 }

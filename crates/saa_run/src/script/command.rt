@@ -5,24 +5,51 @@
 //! command does is left to the primitive's core.
 ghost use Rattle.std.specs.Prelude.{◌≡◌};
 ghost use Rattle.saa_run_text.specs.Fields.{either};
-ghost use Rattle.saa_run.specs.Language.{pager_of, room_of, mode_of, lone_line, counted_line, pager_line, registration, line_of, roomed_made, counted_made, first_line_of};
+ghost use Rattle.saa_run.specs.Language.{pager_of, room_of, bound_of, mode_of, lone_line, counted_line, pager_line, registration, line_of, roomed_made, counted_made, bounded_made, first_line_of};
 ghost use Rattle.saa_run_text.specs.Fields.{number_of};
 
 use crate::script::spoken::Spoken;
 use saa_core::bench::{CommandOf, Primitive};
 use saa_run_text::fields::{count, first_field, number};
 
+/// The bounds of a semaphore that a script can name.
+#[derive(Clone, Copy, Debug)]
+pub enum Bound {
+    /// 1 permit.
+    One,
+    /// 1000 permits.
+    Thousand,
+    /// 65535 permits: no bound is greater.
+    Greatest,
+}
+
 /// The first line of a script: which primitive is made.
 #[derive(Clone, Copy, Debug)]
 pub enum FirstLine {
     /// `semaphore P ROOM`: a semaphore that has at most P permits available.
-    Semaphore { permits: usize, room: u16 },
+    Semaphore {
+        permits: usize,
+        room: u16,
+    },
+    /// `bounded MAX P ROOM`: the same of a semaphore whose bound is MAX.
+    Bounded {
+        bound: Bound,
+        permits: usize,
+        room: u16,
+    },
     /// `lock ROOM`: a free lock.
-    Lock { room: u16 },
+    Lock {
+        room: u16,
+    },
     /// `gate ROOM`: a controlled gate.
-    Gate { room: u16 },
+    Gate {
+        room: u16,
+    },
     /// `barrier N ROOM`: a barrier for at most N tasks, and at most 63.
-    Barrier { size: usize, room: u16 },
+    Barrier {
+        size: usize,
+        room: u16,
+    },
 }
 
 /// A line behind the first, over the calls `C` of a primitive and what its registrations ask, `K`.
@@ -55,6 +82,19 @@ fn room(field: &[u8]) -> Option<u16>
 {
     match number(field) {
         Some(n) if n < 65536 => Some(n as u16),
+        _ => None,
+    }
+}
+
+/// The bound that a field is: 1, 1000 or 65535.
+#[tactic(auto, unfolding(crate::specs::Language::bound_of))]
+fn named_bound(field: &[u8]) -> Option<Bound>
+    ensures { result ≡ bound_of field.now }
+{
+    match field {
+        b"1" => Some(Bound::One),
+        b"1000" => Some(Bound::Thousand),
+        b"65535" => Some(Bound::Greatest),
         _ => None,
     }
 }
@@ -203,6 +243,29 @@ fn counted_first_words(word: &[u8], field: &[u8], room_field: &[u8]) -> Option<F
     None
 }
 
+/// A first line that is a word, a bound, a number and a room: `bounded MAX P ROOM`.
+#[tactic(auto, unfolding(crate::specs::Language::bounded_made))]
+fn bounded_words(
+    word: &[u8],
+    bound_field: &[u8],
+    field: &[u8],
+    room_field: &[u8],
+) -> Option<FirstLine>
+    ensures { result ≡ bounded_made word.now (bound_of bound_field.now) (number_of field.now) (room_of room_field.now) }
+{
+    if word == b"bounded".as_slice() {
+        let bound = named_bound(bound_field)?;
+        let permits = count(field)?;
+        let room = room(room_field)?;
+        return Some(FirstLine::Bounded {
+            bound,
+            permits,
+            room,
+        });
+    }
+    None
+}
+
 /// The first line of a script that these bytes are.
 #[tactic(auto, using(saa_run_text::proofs::FieldLemmas::some_field), unfolding(crate::specs::Language::first_line_of))]
 pub fn parse_first(line: &[u8]) -> Option<FirstLine>
@@ -220,8 +283,12 @@ pub fn parse_first(line: &[u8]) -> Option<FirstLine>
         return roomed_words(word, second);
     };
     let (third, rest) = first_field(rest);
+    let Some(rest) = rest else {
+        return counted_first_words(word, second, third);
+    };
+    let (fourth, rest) = first_field(rest);
     match rest {
         Some(_) => None,
-        None => counted_first_words(word, second, third),
+        None => bounded_words(word, second, third, fourth),
     }
 }

@@ -6,11 +6,11 @@ ghost use Rattle.saa_run.specs.SemaphoreWords.{semaphore_answer, semaphore_poll,
 
 use crate::script::said::Said;
 use crate::script::spoken::Spoken;
-use saa_core::semaphore::{SemaphoreAnswer, SemaphoreCall, SemaphoreCore};
+use saa_core::semaphore::{SemaphoreAnswer, SemaphoreCall, SemaphoreCoreOf};
 use saa_core::ticket::Error;
 use saa_run_text::fields::count;
 
-impl Spoken for SemaphoreCore {
+impl<const MAX: usize> Spoken for SemaphoreCoreOf<MAX> {
     ghost readings = { semaphore_readings };
 
     ghost answer_words = { semaphore_answer };

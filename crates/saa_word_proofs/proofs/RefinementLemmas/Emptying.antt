@@ -128,7 +128,7 @@ missed-step needs places row standing state me here s seen current count word at
     let rest : List (ℕ × ℕ) = work.behind ++ work.joined in
     let fewer : ℕ = count - needs.takes word.request in
     let left : fewer ≡ seen.count + takes_of needs work.front = omega (arith, holding.7) in
-    let small : fewer < 64 = omega (arith, ranged.1) in
+    let small : fewer < 2 ^ count_bits = omega (arith, ranged.1) in
     let linked : IsBehind (line_of row) (newest 0 work.front) rest =
     behind-rest (line_of row) 0 work.front rest
     (subst (λ (l : List (ℕ × ℕ)). IsBehind (line_of row) 0 l) work.parts

@@ -109,7 +109,7 @@ apart-holders holder me other nobody apart =
 -- The flag is set where somebody waits and nobody holds it: this place holds it, and looks for itself from the tail
 flag-set : (needs : Needs) (places : ℕ) (row : ℕ → ℕ) (standing : ℕ → Place) (state : AbstractState) (me : ℕ)
     → me < places → (s : Refines needs places row standing state) → s.owed me ≡ [] → IsLeaving (standing me).registration (standing me).back
-    → (seen : Word) → seen.count < 64 → seen.tail < 65536 → (seen.tail == 0) ≡ false → seen.is_flagged ≡ false → main_of row ≡ seen
+    → (seen : Word) → seen.count < 2 ^ count_bits → seen.tail < 65536 → (seen.tail == 0) ≡ false → seen.is_flagged ≡ false → main_of row ≡ seen
     → Refines needs places (updated row 0 (word_number count_bits (flagged_word seen)))
     (updated standing me (record (standing me) { stage = LookLoad (flagged_word seen) seen.tail 0 no_line })) state
 flag-set needs places row standing state me here s nothing leaving seen small tail_small somebody clear is =

@@ -18,17 +18,17 @@ use Rattle.saa_word_proofs.proofs.RefinementLemmas.Granting.{granted, round-run,
 use Rattle.saa_word_proofs.proofs.RefinementLemmas.Linking.{flag-held}
 
 -- an addition within the bits of the count raises it, and leaves all else
-raised-word : (number more : ℕ) → number % 64 + more < 64
+raised-word : (number more : ℕ) → number % 2 ^ count_bits + more < 2 ^ count_bits
     → word_of count_bits (number + more) ≡ record (word_of count_bits number) { count = (word_of count_bits number).count + more }
 raised-word number more small =
-    let low : (number + more) % 64 ≡ number % 64 + more = omega (arith, small) in
-    let high : (number + more) / 64 ≡ number / 64 = omega (arith, small) in
+    let low : (number + more) % 2 ^ count_bits ≡ number % 2 ^ count_bits + more = omega (arith, small) in
+    let high : (number + more) / 2 ^ count_bits ≡ number / 2 ^ count_bits = omega (arith, small) in
     rw (low, high) refl
 
-raised-number : (number more : ℕ) → number < 16777216 → number % 64 + more < 64 → (number + more) % 2 ^ 64 ≡ number + more
+raised-number : (number more : ℕ) → number < 2 ^ (count_bits + 18) → number % 2 ^ count_bits + more < 2 ^ count_bits → (number + more) % 2 ^ 64 ≡ number + more
 raised-number number more whole small = omega (arith, whole, small)
 
-raised-whole : (number more : ℕ) → number < 16777216 → number % 64 + more < 64 → number + more < 16777216
+raised-whole : (number more : ℕ) → number < 2 ^ (count_bits + 18) → number % 2 ^ count_bits + more < 2 ^ count_bits → number + more < 2 ^ (count_bits + 18)
 raised-whole number more whole small = omega (arith, whole, small)
 
 -- where the line isn't open nobody is granted, and it stays settled
@@ -46,7 +46,7 @@ raised-main : (needs : Needs) → AreNeeds needs → needs.top < 2 ^ count_bits 
     → more ≡ takes_of needs front → IsMain needs ((number + more) % 2 ^ 64) (granted needs state front rest state.unclosed) holder
 raised-main needs lawful wide state number holder more front rest calm was fits parts some adds =
     let bounded : state.count + takes_of needs front ≤ needs.top = front-bounded needs lawful state.count front fits was.bounded in
-    let small : number % 64 + more < 64 = omega (arith, was.count, bounded, wide, adds) in
+    let small : number % 2 ^ count_bits + more < 2 ^ count_bits = omega (arith, was.count, bounded, wide, adds) in
     let is : (number + more) % 2 ^ 64 ≡ number + more = raised-number number more was.whole small in
     let word =
     ap (word_of count_bits) is ∙ raised-word number more small in

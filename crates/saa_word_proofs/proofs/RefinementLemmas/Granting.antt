@@ -1,5 +1,5 @@
 -- Those of a front are granted: they leave the line, and their answers are owed by whoever granted them.
-use Rattle.std.proofs.Common.{◌≡◌, ℕ, ◌+◌, ◌<◌, ◌≤◌, Bool, true, false, ◌||◌, List, [], ◌∷◌, ◌++◌, length, take, drop, ◌==◌, if◌then◌else◌, Some, is_some, refl, sym, ap, subst, ◌∙◌, arith, inl, inr}
+use Rattle.std.proofs.Common.{◌≡◌, ℕ, ◌+◌, ◌<◌, ◌≤◌, Bool, true, false, ◌||◌, List, [], ◌∷◌, ◌++◌, length, take, drop, ◌==◌, if◌then◌else◌, Some, is_some, refl, sym, ap, subst, ◌∙◌, arith, inl, inr, ◌^◌}
 use Rattle.std.proofs.lemmas.Bool.{cases_Bool}
 use Rattle.std.proofs.Math.ListN.{length-append}
 use Rattle.saa_core_spec.specs.Object.{one_if, times}
@@ -276,7 +276,7 @@ pub holder-none : (holder me other : ℕ) → holder ≡ me + 1 → (other ≡ m
 holder-none holder me other mine apart = number_other holder (other + 1) (λ is. apart (omega (arith, mine, is))) ∙ sym (nobody other)
 
 -- The main word of a line that is settled says what the object is once the line is closed
-pub settled-main : (needs : Needs) (state : AbstractState) (front rest : List (ℕ × ℕ)) (count tail : ℕ) → state.poisoned ≡ false → count < 64 → tail < 65536
+pub settled-main : (needs : Needs) (state : AbstractState) (front rest : List (ℕ × ℕ)) (count tail : ℕ) → state.poisoned ≡ false → count < 2 ^ count_bits → tail < 65536
     → count ≡ state.count + takes_of needs front → count ≤ needs.top → tail ≡ newest 0 rest → IsSettledAt needs count rest
     → IsMain needs (word_number count_bits (settled_word count tail)) (granted needs state front rest false) 0
 settled-main needs state front rest count tail calm small room adds bounded is settled =

@@ -56,7 +56,7 @@ step-LookLoad needs lawful wide places row standing state me room here s seen cu
     let seat = in-line places standing state (pred current) s.seats (work-front state.count state.line seen work (pred current) there.0) in
     let leaving : IsLeaving (standing me).registration (standing me).back =
     subst (λ stage. IsAlone needs (standing me).registration (standing me).back stage) at (s.stages.alone me) in
-    let small : seen.count < 64 = subst (λ stage. IsRanged needs stage) at (s.stages.ranged me) in
+    let small : seen.count < 2 ^ count_bits = subst (λ stage. IsRanged needs stage) at (s.stages.ranged me) in
     let nothing : s.owed me ≡ [] = subst (λ stage. IsShowing (s.owed me) (s.worth me) stage) at (s.stages.showing me) in
     let linked : IsBehind (line_of row) 0 state.line = linked-all (line_of row) state.line s.cut s.uncut s.line knows.1 in
     let line : LineWord = line_word_of (row current) in
@@ -124,7 +124,7 @@ step-LookStore needs lawful wide places row standing state me room here s seen c
     let passed : IsPassed me work.behind work.joined = store.walk.passed me knows.5 knows.3 in
     let leaving : IsLeaving (standing me).registration (standing me).back =
     subst (λ stage. IsAlone needs (standing me).registration (standing me).back stage) at (s.stages.alone me) in
-    let small : seen.count < 64 = subst (λ stage. IsRanged needs stage) at (s.stages.ranged me) in
+    let small : seen.count < 2 ^ count_bits = subst (λ stage. IsRanged needs stage) at (s.stages.ranged me) in
     let nothing : s.owed me ≡ [] = subst (λ stage. IsShowing (s.owed me) (s.worth me) stage) at (s.stages.showing me) in
     let number : ℕ = line_number (record line { newer = newer }) in
     let on : (next : Stage) → IsRanged needs next → IsAlone needs (standing me).registration (standing me).back next

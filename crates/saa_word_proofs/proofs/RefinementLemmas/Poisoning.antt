@@ -223,8 +223,8 @@ bit-kept number =
     ]
 
 -- a number of a main word is that of the word that it is read as
-number-kept : (number : ℕ) → number < 16777216 → word_number count_bits (word_of count_bits number) ≡ number
-number-kept number whole = omega (arith, whole, bit-kept (number / 64), bit-kept (number / 64 / 2))
+number-kept : (number : ℕ) → number < 2 ^ (count_bits + 18) → word_number count_bits (word_of count_bits number) ≡ number
+number-kept number whole = omega (arith, whole, bit-kept (number / 2 ^ count_bits), bit-kept (number / 2 ^ count_bits / 2))
 
 -- the main word of a poisoned lock is that of poison alone
 pub poisoned-number : (needs : Needs) (places : ℕ) (row : ℕ → ℕ) (standing : ℕ → Place) (state : AbstractState) (s : Refines needs places row standing state)

@@ -1,5 +1,5 @@
 -- What a step writes into a row, and a step that writes nothing.
-use Rattle.std.proofs.Common.{◌≡◌, ℕ, ◌+◌, ◌<◌, ◌≤◌, Bool, true, false, ◌==◌, refl, sym, ap, subst, ◌∙◌, arith, inl, inr}
+use Rattle.std.proofs.Common.{◌≡◌, ℕ, ◌+◌, ◌<◌, ◌≤◌, Bool, true, false, ◌==◌, refl, sym, ap, subst, ◌∙◌, arith, inl, inr, ◌^◌}
 use Rattle.std.proofs.lemmas.Bool.{cases_Bool}
 use Rattle.std.proofs.lemmas.Bool.Decides.{nat_tests}
 use Rattle.saa_core_spec.specs.Object.{one_if}
@@ -26,7 +26,7 @@ main-found number seen small tail same =
     ap (word_of count_bits) (same_number number (word_number count_bits seen) same) ∙ word-read count_bits seen small tail
 
 -- what a main word is written as is small, and is read again
-pub word-whole : (word : Word) → IsSmall word → word.tail < 65536 → word_number count_bits word < 16777216
+pub word-whole : (word : Word) → IsSmall word → word.tail < 65536 → word_number count_bits word < 2 ^ (count_bits + 18)
 word-whole word small tail = omega (arith, small, tail, flag-small word.is_flagged, flag-small word.is_poisoned)
   where
     flag-small : (mark : Bool) → one_if mark < 2
@@ -34,7 +34,7 @@ word-whole word small tail = omega (arith, small, tail, flag-small word.is_flagg
     flag-small false = omega arith
 
 -- the count and the tail of a number are within their bits
-pub count-small : (number : ℕ) → (word_of count_bits number).count < 64
+pub count-small : (number : ℕ) → (word_of count_bits number).count < 2 ^ count_bits
 count-small number = omega arith
 
 pub tail-small : (number : ℕ) → (word_of count_bits number).tail < 65536

@@ -189,7 +189,7 @@ dropping needs places row standing state me s seen older request before stage ne
     let number : ℕ = word_number count_bits (dropped_word seen older) in
     let whole : before ≡ before ++ [] = sym (append-nil before) in
     let main : IsMain needs number (left state before) next =
-    main-now needs (left state before) next (dropped_word seen older) (subst (λ (w : Word). w.count < 64) found (count-small (row 0))) older_small
+    main-now needs (left state before) next (dropped_word seen older) (subst (λ (w : Word). w.count < 2 ^ count_bits) found (count-small (row 0))) older_small
     (sym (ap (λ (w : Word). w.count) found) ∙ s.main.count) is (ap not flag)
     (sym (ap (λ (w : Word). w.is_poisoned) found) ∙ s.main.poison) (never-barren needs (left state before) calm) s.main.bounded
     (λ free. ap (λ (l : List (ℕ × ℕ)). not (is_empty l)) (front-none before older is (flag ∙ free)))

@@ -1,5 +1,5 @@
 -- Each step of a place that asks, joins or gives back lowers its step bound.
-use Rattle.std.proofs.Common.{◌≡◌, ℕ, ◌+◌, ◌*◌, ◌<◌, true, not, ◌&&◌, ◌==◌, if◌then◌else◌, Some, refl, sym, ap, subst, arith, inl, inr}
+use Rattle.std.proofs.Common.{◌≡◌, ℕ, ◌+◌, ◌*◌, ◌<◌, true, not, ◌&&◌, ◌==◌, if◌then◌else◌, Some, refl, sym, ap, subst, arith, inl, inr, ◌^◌}
 use Rattle.std.proofs.lemmas.Bool.{cases_Bool}
 use Rattle.saa_core_spec.proofs.Counts.{number_same}
 use Rattle.saa_core_words.specs.declared.word.Word.{Word}
@@ -50,7 +50,7 @@ lower-Join needs places row standing state me s request seen =
 
 -- what is left once something is given back is a count as well
 released-small : (needs : Needs) → AreNeeds needs → (seen : Word) (given : Given) (left : ℕ) → IsSmall seen → left_from needs seen.count given ≡ Some left
-    → (released needs seen given).count < 64
+    → (released needs seen given).count < 2 ^ count_bits
 released-small needs lawful seen given left small is =
     let now : (released needs seen given).count ≡ left = ap (count_or seen.count) is in
     omega (arith, now, small, left-shrinks needs lawful seen.count given left is)

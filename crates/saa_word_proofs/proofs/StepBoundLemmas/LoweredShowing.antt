@@ -86,16 +86,16 @@ front-bounded needs lawful count (asker ∷ rest) within fits =
 
 -- an addition that stays within the bits of the count leaves the tail
 record IsAddedTo (number added : ℕ) : Type 0 where
-  pub whole : (number + added) % 2 ^ 64 < 16777216
+  pub whole : (number + added) % 2 ^ 64 < 2 ^ (count_bits + 18)
   pub tail : (word_of count_bits ((number + added) % 2 ^ 64)).tail ≡ (word_of count_bits number).tail
 
-added-to : (number added : ℕ) → number < 16777216 → number % 64 + added < 64 → IsAddedTo number added
+added-to : (number added : ℕ) → number < 2 ^ (count_bits + 18) → number % 2 ^ count_bits + added < 2 ^ count_bits → IsAddedTo number added
 added-to number added small room =
     let whole : (number + added) % 18446744073709551616 ≡ number + added = omega (arith, small, room) in
-    let high : (number + added) / 64 ≡ number / 64 = omega (arith, small, room) in
+    let high : (number + added) / 2 ^ count_bits ≡ number / 2 ^ count_bits = omega (arith, small, room) in
     record {
       whole = omega (arith, whole, small, room, high);
-      tail = ap (λ (n : ℕ). n / 64 / 4 % 65536) whole ∙ ap (λ (n : ℕ). n / 4 % 65536) high;
+      tail = ap (λ (n : ℕ). n / 2 ^ count_bits / 4 % 65536) whole ∙ ap (λ (n : ℕ). n / 4 % 65536) high;
     }
 
 pub lower-GoRound : (needs : Needs) → AreNeeds needs → needs.top < 2 ^ count_bits → (places : ℕ) (row : ℕ → ℕ) (standing : ℕ → Place) (state : AbstractState) (me : ℕ)

@@ -1,5 +1,5 @@
 -- How much lower the step bound is with which a place goes on, by how many places are met from each link and by the main word's number.
-use Rattle.std.proofs.Common.{◌≡◌, ℕ, suc, zero, ◌+◌, ◌-◌, ◌*◌, ◌/◌, ◌%◌, ◌<◌, ◌≤◌, Bool, true, false, not, ◌&&◌, ◌||◌, ◌==◌, if◌then◌else◌, Option, Some, None, refl, sym, ap, subst, ◌∙◌, arith, inl, inr}
+use Rattle.std.proofs.Common.{◌≡◌, ℕ, suc, zero, ◌+◌, ◌-◌, ◌*◌, ◌/◌, ◌%◌, ◌<◌, ◌≤◌, Bool, true, false, not, ◌&&◌, ◌||◌, ◌==◌, if◌then◌else◌, Option, Some, None, refl, sym, ap, subst, ◌∙◌, arith, inl, inr, ◌^◌}
 use Rattle.std.proofs.lemmas.Bool.{cases_Bool}
 use Rattle.saa_core_spec.specs.Object.{one_if}
 use Rattle.saa_core_spec.proofs.Counts.{number_same}
@@ -67,12 +67,12 @@ bit-read (suc zero) small = refl
 bit-read (suc (suc more)) small = absurd (omega (arith, small))
 
 -- a small number is that of the main word that is read from it
-pub word-back : (number : ℕ) → number < 16777216 → word_number count_bits (word_of count_bits number) ≡ number
+pub word-back : (number : ℕ) → number < 2 ^ (count_bits + 18) → word_number count_bits (word_of count_bits number) ≡ number
 word-back number small =
-    rw (bit-read (number / 64 % 2) (omega arith), bit-read (number / 64 / 2 % 2) (omega arith)) (omega (arith, small))
+    rw (bit-read (number / 2 ^ count_bits % 2) (omega arith), bit-read (number / 2 ^ count_bits / 2 % 2) (omega arith)) (omega (arith, small))
 
 -- so the word that is found now is the one that was seen
-pub found-seen : (number : ℕ) → number < 16777216 → number == word_number count_bits (word_of count_bits number) ≡ true
+pub found-seen : (number : ℕ) → number < 2 ^ (count_bits + 18) → number == word_number count_bits (word_of count_bits number) ≡ true
 found-seen number small = ap (λ (n : ℕ). number == n) (word-back number small) ∙ number_same number
 
 -- so many wait as are met from the tail of what is written, or was seen
