@@ -1,4 +1,4 @@
--- The main word of a core that grants: what is held and the newest who waits, as the lock-free form keeps them.
+-- The main word of a core that grants: what is held and the newest waiter, as the lock-free form keeps them.
 use Rattle.std.specs.Prelude.{false}
 use Rattle.saa_core_spec.specs.Lock.{is_poisoned}
 use Rattle.saa_core_words.specs.declared.word.Word.{Word}

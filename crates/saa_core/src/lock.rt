@@ -106,7 +106,7 @@ impl LockCore {
     }
 
     /// The lock in one number, laid out as `docs/WORDS.md` draws it: from bit 0 how many share it, in 16 bits, or 63 for one
-    /// owner alone; bit 16 clear; bit 17 set exactly where it is poisoned; from bit 18 the newest who waits, by its slot
+    /// owner alone; bit 16 clear; bit 17 set exactly where it is poisoned; from bit 18 the newest waiter, by its slot
     /// plus 1, and 0 where nobody waits. Costs O(1).
     pub fn word(&self) -> u64
         ensures number { result ≡ word_number count_bits (core_word self.now) }

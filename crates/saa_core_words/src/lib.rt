@@ -1,6 +1,6 @@
-//! Words: what is held, who waits and what is answered, in numbers, and the links between the waiters.
+//! Words: what is held, the waiters, their links and what is answered, in numbers.
 //!
-//! A main word keeps the count of what is held, a flag, poison, and the newest who waits. Each place has a line word, which
+//! A main word keeps the count of what is held, a flag, poison, and the newest waiter. Each place has a line word, which
 //! keeps what it asks and its two neighbours, and an answer word. `docs/WORDS.md` draws them.
 #![tactic(auto)]
 

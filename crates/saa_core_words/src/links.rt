@@ -120,7 +120,7 @@ impl<K: Requests> Links<K> {
         Some((place, K::read(load(&self.words, place).request)))
     }
 
-    /// The newest who waits, by its place plus 1; 0 where nobody waits. Costs O(1).
+    /// The newest waiter, by its place plus 1; 0 where nobody waits. Costs O(1).
     pub fn tail(&self) -> u16
         ensures newest { result ≡ last_link 0 self.now.line }
         ensures nobody { (result ≡ 0) ↔ (self.now.line ≡ []) }

@@ -1,4 +1,4 @@
-//! The main word: what is held, whether somebody works on the line, poison, and the newest who waits.
+//! The main word: what is held, whether somebody works on the line, poison, and the newest waiter.
 
 ghost use Rattle.std.specs.Prelude.{◌≡◌};
 ghost use Rattle.saa_core_words.specs.Words.{count_bits, word_number, word_of};
@@ -27,7 +27,7 @@ pub struct Word {
     pub is_flagged: bool,
     /// Whether a lock is poisoned.
     pub is_poisoned: bool,
-    /// The newest who waits, by its place plus 1; 0 where nobody waits.
+    /// The newest waiter, by its place plus 1; 0 where nobody waits.
     pub tail: u16,
 }
 

@@ -346,7 +346,7 @@ poisoning-under needs call registered stage place seen is tells stays =
           ]
     ]
 
--- whoever has poisoned the lock works for the waiters
+-- a place that has poisoned the lock works for the waiters
 pub poison-working : (needs : Needs) (call : WordCall) (registered : Registration) (back : Back) → call ≡ PoisonLock → back ≡ Tells
     → IsWorking needs call registered back (Poisoned ∷ [])
 poison-working needs call registered back is tells = rw (is, tells) (Poisoned, refl, refl, λ cancel. absurd (cc))
