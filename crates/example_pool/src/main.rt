@@ -1,4 +1,4 @@
-//! Workers that share three connections: `example_pool N`, N from 1 to 16 workers.
+//! Workers that share 500 connections: `example_pool N`, N from 1 to 16 workers.
 #![tactic(auto)]
 
 mod pool;
@@ -16,8 +16,16 @@ fn main(rt: HostRuntime) -> io::Result<()> {
     }
     match wanted {
         Some(workers @ 1..=16) => {
-            let uses = share(&rt, rt.alloc(), 3, workers)?;
-            println!(rt; "3 connections were used {uses} times, and all are back")
+            let seen = share::<_, 500>(&rt, rt.alloc(), workers)?;
+            println!(rt;
+                "{} connections were out, and {} more try was refused",
+                seen.taken, seen.refused
+            )?;
+            println!(rt;
+                "one came back, and was used {} times, each time with all out",
+                seen.turns
+            )?;
+            println!(rt; "all are back, after {} uses", seen.uses)
         }
         _ => println!(rt; "usage: example_pool N, with N from 1 to 16"),
     }

@@ -2,25 +2,22 @@
 
 ghost use Rattle.std.specs.Prelude.{◌≡◌, ◌+◌, ◌≤◌, ◌<◌, ◌↔◌, All, IfErr, IfSome, IsOk, IsSome, false, length, true, vec_capacity};
 
-use saa::semaphore::{Permit, Semaphore};
+use saa::semaphore::{PermitOf, SemaphoreOf};
 use saa::ticket::Full;
 use std::alloc::{AllocError, Global};
 use std::sync::{Mutex, Wait};
 
-/// The most connections of a pool: one less than a semaphore has permits, so that shutting down has one to give.
-pub const MOST: u16 = 62;
-
-/// A connection: a plain value here, which knows whether it is in use, and counts its uses.
-#[derive(Clone, Copy, Debug, Drop, Eq, PartialEq)]
+/// A connection: a value here that can't be copied, knows whether it is in use, and counts its uses.
+#[derive(Debug, Drop)]
 pub struct Connection {
-    pub number: u16,
+    pub number: usize,
     pub uses: u64,
     is_out: bool,
 }
 
 impl Connection {
     /// A connection that nobody uses.
-    fn new(number: u16) -> Self
+    fn new(number: usize) -> Self
         ensures { result.is_out ≡ false }
     {
         Connection {
@@ -49,31 +46,37 @@ pub enum Refused {
     TooMany,
 }
 
-/// The connections that are in, and how many are out.
+/// The connections that are in, and how many are out: `MAX` together.
 #[derive(Drop)]
-struct Shelf {
+struct Shelf<const MAX: usize> {
     free: Vec<Connection>,
     out: usize,
-    total: usize,
     is_shut: bool,
-    ghost whole: { out + length free.items ≡ total },
-    ghost room: { total ≤ vec_capacity free },
+    ghost whole: { out + length free.items ≡ MAX },
+    ghost room: { MAX ≤ vec_capacity free },
     ghost unused: { All (λ connection. connection.is_out ≡ false) free.items },
 }
 
-impl Shelf {
-    // So many connections, all in.
-    fn new(alloc: Global, total: u16) -> Result<Self, AllocError> {
-        let mut free = Vec::with_capacity(alloc, usize::from(total))?;
-        for number in 0..total {
+impl<const MAX: usize> Shelf<MAX> {
+    // All connections, and all in.
+    fn new(alloc: Global) -> Result<Self, AllocError> {
+        let mut free = Vec::with_capacity(alloc, MAX)?;
+        for number in 0..MAX {
             free.push_reserved(Connection::new(number));
         }
         Ok(Shelf {
             free,
             out: 0,
-            total: usize::from(total),
             is_shut: false,
         })
+    }
+
+    // How many are out.
+    fn out(&self) -> usize
+        ensures number { result ≡ self.now.out }
+        ensures within { result ≤ MAX }
+    {
+        self.out
     }
 
     // Takes a connection out; none where all are out.
@@ -104,27 +107,29 @@ impl Shelf {
     }
 }
 
-/// Connections that tasks in threads check out, in the order of asking.
+/// `MAX` connections, 1 to 65,535, that tasks in threads check out, in the order of asking.
 #[derive(Drop)]
-pub struct Pool<'r, R: Wait> {
+pub struct Pool<'r, R: Wait, const MAX: usize> {
     rt: &'r R,
-    permits: Semaphore<&'r R>,
-    shelf: Mutex<Shelf>,
+    permits: SemaphoreOf<&'r R, MAX>,
+    shelf: Mutex<Shelf<MAX>>,
 }
 
-impl<'r, R: Wait> Pool<'r, R> {
-    /// A pool of so many connections, [`MOST`] where that is more, for which at most `tasks` wait at a time.
-    pub fn new(rt: &'r R, alloc: Global, connections: u16, tasks: u16) -> Result<Self, AllocError> {
-        let total = connections.min(MOST);
+impl<'r, R: Wait, const MAX: usize> Pool<'r, R, MAX> {
+    /// A pool for whose connections at most `tasks` wait at a time.
+    pub fn new(rt: &'r R, alloc: Global, tasks: u16) -> Result<Self, AllocError>
+        requires bound { 0 < MAX }
+        requires narrow { MAX < 65536 }
+    {
         Ok(Pool {
             rt,
-            permits: Semaphore::with_permits(rt, alloc, usize::from(total), tasks)?,
-            shelf: Mutex::new(Shelf::new(alloc, total)?),
+            permits: SemaphoreOf::new(rt, alloc, tasks)?,
+            shelf: Mutex::new(Shelf::new(alloc)?),
         })
     }
 
     /// Checks a connection out, and waits for one where all are out.
-    pub fn check_out(&self) -> Result<Checkout<'_, 'r, R>, Refused> {
+    pub fn check_out(&self) -> Result<Checkout<'_, 'r, R, MAX>, Refused> {
         match self.permits.acquire_permit() {
             Ok(permit) => self.take(permit),
             Err(Full) => Err(Refused::TooMany),
@@ -132,17 +137,31 @@ impl<'r, R: Wait> Pool<'r, R> {
     }
 
     /// Checks a connection out if one is in and nobody waits for it.
-    pub fn try_check_out(&self) -> Result<Checkout<'_, 'r, R>, Refused> {
+    pub fn try_check_out(&self) -> Result<Checkout<'_, 'r, R, MAX>, Refused> {
         match self.permits.try_acquire_permit() {
             Some(permit) => self.take(permit),
             None => Err(Refused::WouldWait),
         }
     }
 
+    /// How many connections are out; never more than there are.
+    pub fn out(&self) -> usize
+        ensures { result ≤ MAX }
+    {
+        self.shelf.lock(self.rt).out()
+    }
+
+    /// Takes back a connection that was kept out, and lets in who waits for it.
+    pub fn give_back(&self, connection: Connection) {
+        if self.put(connection) {
+            let _ = self.permits.release();
+        }
+    }
+
     /// Refuses everybody from now on, waiters among them. Connections that are out come back as their guards go.
     pub fn shut_down(&self) {
         self.shelf.lock(self.rt).is_shut = true;
-        // One waiter is let in, is refused, and lets in the next.
+        // One waiter is let in, is refused, and lets in the next. Where no permit is out nobody waits, and none is released.
         let _ = self.permits.release();
     }
 
@@ -157,7 +176,10 @@ impl<'r, R: Wait> Pool<'r, R> {
     }
 
     // Takes a connection by a permit, which goes with it. Where the pool is shut the permit lets in the next who waits.
-    fn take<'p>(&'p self, permit: Permit<'p, &'r R>) -> Result<Checkout<'p, 'r, R>, Refused> {
+    fn take<'p>(
+        &'p self,
+        permit: PermitOf<'p, &'r R, MAX>,
+    ) -> Result<Checkout<'p, 'r, R, MAX>, Refused> {
         let taken = {
             let mut shelf = self.shelf.lock(self.rt);
             if shelf.is_shut { None } else { shelf.take() }
@@ -172,27 +194,38 @@ impl<'r, R: Wait> Pool<'r, R> {
         }
     }
 
-    // Takes a connection back.
-    fn put(&self, connection: Connection) {
-        let _ = self.shelf.lock(self.rt).put(connection);
+    // Takes a connection back, if it is out.
+    fn put(&self, connection: Connection) -> bool {
+        self.shelf.lock(self.rt).put(connection).is_ok()
     }
 }
 
 /// A connection that is checked out, with its permit. Its drop returns both.
-pub struct Checkout<'p, 'r, R: Wait> {
-    pool: &'p Pool<'r, R>,
+pub struct Checkout<'p, 'r, R: Wait, const MAX: usize> {
+    pool: &'p Pool<'r, R, MAX>,
     connection: Connection,
-    permit: Permit<'p, &'r R>,
+    permit: PermitOf<'p, &'r R, MAX>,
 }
 
-impl<'p, 'r, R: Wait> Checkout<'p, 'r, R> {
+impl<'p, 'r, R: Wait, const MAX: usize> Checkout<'p, 'r, R, MAX> {
     /// The connection.
     pub fn connection(&mut self) -> &mut Connection {
         &mut self.connection
     }
+
+    /// Keeps the connection out, with its permit, until [`Pool::give_back`].
+    pub fn keep(self) -> Connection {
+        let Checkout {
+            pool: _pool,
+            connection,
+            permit,
+        } = self;
+        permit.forget();
+        connection
+    }
 }
 
-impl<R: Wait> Drop for Checkout<'_, '_, R> {
+impl<R: Wait, const MAX: usize> Drop for Checkout<'_, '_, R, MAX> {
     fn drop(self) {
         let Checkout {
             pool,
@@ -200,7 +233,7 @@ impl<R: Wait> Drop for Checkout<'_, '_, R> {
             permit,
         } = self;
         // The connection is in before the next task is let in for it.
-        pool.put(connection);
+        let _ = pool.put(connection);
         drop(permit);
     }
 }

@@ -1,20 +1,36 @@
-//! What workers count, and the pool's calls one by one.
+//! What workers see, and the pool's calls one by one.
 
 use crate::pool::{Pool, Refused};
-use crate::work::share;
+use crate::work::{Seen, share};
 use std::io;
 use std::process::Abort;
 
 #[test]
-fn one_connection_and_three(rt: HostRuntime) -> io::Result<()> {
-    assert!(rt; share(&rt, rt.alloc(), 1, 4)? == 200);
-    assert!(rt; share(&rt, rt.alloc(), 3, 16)? == 800);
+fn one_connection_and_a_hundred(rt: HostRuntime) -> io::Result<()> {
+    assert!(rt;
+        share::<_, 1>(&rt, rt.alloc(), 4)?
+            == Seen {
+                taken: 1,
+                refused: 1,
+                turns: 200,
+                uses: 201
+            }
+    );
+    assert!(rt;
+        share::<_, 100>(&rt, rt.alloc(), 16)?
+            == Seen {
+                taken: 100,
+                refused: 1,
+                turns: 800,
+                uses: 900
+            }
+    );
     Ok(())
 }
 
 #[test]
 fn a_pool_that_is_out_and_one_that_is_shut(rt: HostRuntime) -> io::Result<()> {
-    let pool = Pool::new(&rt, rt.alloc(), 2, 1)?;
+    let pool = Pool::<_, 2>::new(&rt, rt.alloc(), 1)?;
     let one = pool.try_check_out();
     let two = pool.check_out();
     assert!(rt; one.is_ok() && two.is_ok());

@@ -1,45 +1,110 @@
-//! Workers that share a pool.
+//! A pool of which all is taken, and workers that pass on the one connection that comes back.
+
+ghost use Rattle.std.specs.Prelude.{◌<◌};
 
 use crate::pool::Pool;
 use std::alloc::{AllocError, Global};
 use std::io;
 use std::sync::Wait;
+use std::sync::atomic::{AtomicU64, Ordering};
 use std::thread::{self, Threads};
 
 /// How often each worker checks a connection out.
 const TURNS: u16 = 50;
 
-// Checks a connection out again and again, and uses it once each time.
-fn work<R: Wait>(pool: &Pool<'_, R>) {
-    for _turn in 0..TURNS {
-        match pool.check_out() {
-            Ok(mut checkout) => checkout.connection().use_once(),
-            Err(_refused) => return,
-        }
+/// What was seen of a pool.
+#[derive(Clone, Copy, Debug, Eq, PartialEq)]
+pub struct Seen {
+    /// How many connections were taken one after the other, and stayed out.
+    pub taken: usize,
+    /// How many tries beside these were refused.
+    pub refused: u64,
+    /// How many turns the workers had with all connections out.
+    pub turns: u64,
+    /// How often all connections were used together.
+    pub uses: u64,
+}
+
+/// Takes all connections of a pool and tries for one more, gives one back, which so many workers pass on, and tells what
+/// was seen once all are back.
+///
+/// The error comes where memory was refused, a thread couldn't be started, or a connection isn't back.
+pub fn share<R: Threads + Wait + Sync, const MAX: usize>(
+    rt: &R,
+    alloc: Global,
+    workers: u16,
+) -> io::Result<Seen>
+    requires bound { 0 < MAX }
+    requires narrow { MAX < 65536 }
+{
+    let pool = Pool::<R, MAX>::new(rt, alloc, workers)?;
+    let (taken, refused, turns) = pass_on(rt, alloc, &pool, workers)?;
+    pool.shut_down();
+    match pool.uses() {
+        (uses, 0) => Ok(Seen {
+            taken,
+            refused,
+            turns,
+            uses,
+        }),
+        _ => Err(AllocError.into()),
     }
 }
 
-/// Has so many workers share so many connections, and tells how often all were used together when all are back.
-///
-/// The error comes where memory was refused, a thread couldn't be started, or a connection isn't back.
-pub fn share<R: Threads + Wait + Sync>(
+// Takes all connections, and lets workers pass on one of them: how many were taken, how many tries were refused, and how
+// many turns the workers had with all out.
+fn pass_on<R: Threads + Wait + Sync, const MAX: usize>(
     rt: &R,
     alloc: Global,
-    connections: u16,
+    pool: &Pool<'_, R, MAX>,
     workers: u16,
-) -> io::Result<u64> {
-    let made = Pool::new(rt, alloc, connections, workers)?;
-    let pool = &made;
+) -> Result<(usize, u64, u64), AllocError> {
+    let mut kept = Vec::new(alloc);
+    let mut refused = 0u64;
+    // One try more than there are connections.
+    for _try in 0..=MAX {
+        match pool.try_check_out() {
+            Ok(checkout) => kept.push(checkout.keep())?,
+            Err(_refused) => refused = refused.saturating_add(1),
+        }
+    }
+    let taken = kept.len();
+    for connection in &mut kept {
+        connection.use_once();
+    }
+    let last = kept.pop();
+    let counter = AtomicU64::new(0);
+    let turns = &counter;
     let is_whole = thread::scope(thread::scope_env(), rt, |scope| {
         let mut is_whole = true;
         for _worker in 0..workers {
-            is_whole = is_whole && scope.spawn(move || work(pool)).is_ok();
+            is_whole = is_whole && scope.spawn(move || work(pool, turns)).is_ok();
+        }
+        // One comes back, and goes from worker to worker, in the order of asking; the others stay out.
+        if let Some(connection) = last {
+            pool.give_back(connection);
         }
         is_whole
     });
-    pool.shut_down();
-    match pool.uses() {
-        (uses, 0) if is_whole => Ok(uses),
-        _ => Err(AllocError.into()),
+    for connection in kept {
+        pool.give_back(connection);
+    }
+    if is_whole {
+        Ok((taken, refused, turns.load(Ordering::SeqCst)))
+    } else {
+        Err(AllocError)
+    }
+}
+
+// Checks a connection out again and again, uses it once each time, and counts the turns at which all were out.
+fn work<R: Wait, const MAX: usize>(pool: &Pool<'_, R, MAX>, turns: &AtomicU64) {
+    for _turn in 0..TURNS {
+        match pool.check_out() {
+            Ok(mut checkout) => {
+                checkout.connection().use_once();
+                let _ = turns.fetch_add(u64::from(pool.out() == MAX), Ordering::SeqCst);
+            }
+            Err(_refused) => return,
+        }
     }
 }

@@ -13,7 +13,7 @@ use saa_sync::barrier::Barrier;
 use saa_sync::gate::Gate;
 use saa_sync::lock::Lock;
 use saa_sync::lock_api::{Mutex, RwLock};
-use saa_sync::semaphore::Semaphore;
+use saa_sync::semaphore::{Semaphore, SemaphoreOf};
 use std::alloc::{AllocGlobal, Global};
 use std::random::RandomSource;
 use std::rt::Runtime;
@@ -45,17 +45,18 @@ pub const PASSES: usize = 9;
 // The room of what is measured: no less than there are threads that wait.
 const ROOM: u16 = 32;
 
-/// Prints for each number of threads what a turn costs at a semaphore beside a plain counter, at a lock beside std's, at a
-/// value behind a mutex or a reader-writer lock beside std's, and at a barrier beside a plain one, and what a gate costs that
-/// lets so many pass; with the ratios. Then what one thread's turn costs at a semaphore and a lock beside two bare turns at a
-/// `Mutex`, and as a future beside a call that sleeps; how often tasks that contend are polled for nothing; and what happens in
-/// lines where many wait.
+/// Prints for each number of threads what a turn costs at a semaphore beside a plain counter, at one of 65,535 permits
+/// beside one of 63, at a lock beside std's, at a value behind a mutex or a reader-writer lock beside std's, and at a
+/// barrier beside a plain one, and what a gate costs that lets so many pass; with the ratios. Then what one thread's turn
+/// costs at a semaphore and a lock beside two bare turns at a `Mutex`, and as a future beside a call that sleeps; how
+/// often tasks that contend are polled for nothing; and what happens in lines where many wait.
 pub fn table<R: Runtime + RandomSource + AllocGlobal + Threads + Wait + Sync>(
     rt: &R,
     alloc: Global,
 ) -> io::Result<()> {
     println!(rt; "what                    threads     ours ns      std ns  ratio")?;
     semaphores(rt, alloc)?;
+    bounds(rt, alloc)?;
     locks(rt, alloc)?;
     values(rt, alloc)?;
     barriers(rt, alloc)?;
@@ -89,6 +90,18 @@ fn semaphores<R: Runtime + Threads + Wait + Sync>(rt: &R, alloc: Global) -> io::
         turns_row(rt, alloc, case, &semaphore, &counter)?;
     }
     Ok(())
+}
+
+// A semaphore of the greatest bound beside one of 63: what one thread's turn costs doesn't grow with the bound.
+fn bounds<R: Runtime + Threads + Wait + Sync>(rt: &R, alloc: Global) -> io::Result<()> {
+    let wide = SemaphoreOf::<&R, 65_535>::new(rt, alloc, ROOM)?;
+    let narrow = Semaphore::new(rt, alloc, ROOM)?;
+    let case = Case {
+        what: "65,535 beside 63",
+        threads: 1,
+        times: TURNS,
+    };
+    turns_row(rt, alloc, case, &wide, &narrow)
 }
 
 // A lock beside std's `RwLock`.

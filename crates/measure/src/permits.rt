@@ -1,7 +1,7 @@
 //! Permits that are measured: a semaphore's, and a plain counter's; and what two turns at a lock cost alone.
 
 use crate::measure::Turn;
-use saa_sync::semaphore::Semaphore;
+use saa_sync::semaphore::SemaphoreOf;
 use std::sync::{Condvar, Mutex, Wait};
 
 /// The permits of each. Two acquires don't fit beside each other.
@@ -10,7 +10,7 @@ pub const PERMITS: usize = 63;
 /// What each acquire takes.
 pub const TAKEN: usize = 40;
 
-impl<R: Wait + Drop + Sync> Turn for Semaphore<R> {
+impl<R: Wait + Drop + Sync, const MAX: usize> Turn for SemaphoreOf<R, MAX> {
     fn take_turn(&self, _number: u64) {
         if matches!(self.acquire_many_sync(TAKEN), Ok(true)) {
             self.release_many(TAKEN);

@@ -33,7 +33,7 @@ pub use Rattle.saa_core.specs.LockCalls
 pub use Rattle.saa_core.specs.SemaphoreStanding
 pub use Rattle.saa_core.specs.Tickets
 pub use Rattle.saa_core.specs.Beginning
-pub use Rattle.saa_sync.specs.Guards
+pub use Rattle.saa_sync.specs.Forms
 pub use Rattle.saa_sync.specs.Waits
 pub use Rattle.saa_sync.specs.Futures as NamedFutures
 pub use Rattle.saa_sync.specs.BarrierAnswers

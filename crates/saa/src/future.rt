@@ -2,8 +2,9 @@
 
 pub use saa_core::future::Asking;
 pub use saa_sync::future::{
-    Acquire, AcquireMany, AcquireManyWith, AcquireWith, Arrival, ArriveFuture, ArriveFutureWith,
-    Asked, AskedWith, Enter, EnterWith, LockFuture, LockFutureWith, ManyPermits, OnePermit,
+    Acquire, AcquireMany, AcquireManyOf, AcquireManyWith, AcquireManyWithOf, AcquireOf,
+    AcquireWith, AcquireWithOf, Arrival, ArriveFuture, ArriveFutureWith, Asked, AskedWith, Enter,
+    EnterWith, LockFuture, LockFutureWith, ManyPermits, ManyPermitsOf, OnePermit, OnePermitOf,
     Passing, Progress, Question, ShareFuture, ShareFutureWith, Turn,
 };
 pub use saa_sync::lock_api::{MutexFuture, ReadFuture, WriteFuture};

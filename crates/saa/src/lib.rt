@@ -18,7 +18,7 @@ pub use saa_core::lock::TryLockError;
 pub use saa_core::{journal, line, ticket, words};
 pub use saa_core_laws::laws;
 pub use saa_sync::lock_api::{
-    Mutex, MutexGuard, RwLock, RwLockReadGuard, RwLockWriteGuard, lock_async, read_async,
-    write_async,
+    Guard, Lends, Mutex, MutexGuard, PassesOn, RwLock, RwLockReadGuard, RwLockWriteGuard, Shows,
+    Writing, lock_async, read_async, write_async,
 };
 pub use saa_sync::{lock_api, pager};

@@ -1,4 +1,4 @@
-pub mod Guards
+pub mod Forms
 pub mod Waits
 pub mod Futures
 pub mod BarrierAnswers

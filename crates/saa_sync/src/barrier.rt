@@ -21,6 +21,7 @@ use saa_core::barrier::BarrierCore;
 use saa_core::bench::Primitive;
 use saa_core::ticket::{Error, Full, How, Ticket};
 use std::alloc::{AllocError, Global};
+use std::marker::Model;
 use std::sync::Wait;
 use std::sync::atomic::Ordering;
 
@@ -37,6 +38,14 @@ const LEADER: u8 = 1;
 #[derive(Drop)]
 pub struct Barrier<R: Wait + Drop> {
     shell: Shell<R, BarrierCore>,
+}
+
+impl<R: Wait + Drop> Model for Barrier<R> {
+    ghost use Rattle.saa_sync.specs.Forms.{BarrierShell};
+
+    ghost Value = { BarrierShell R };
+
+    ghost view = { λ form. form.shell };
 }
 
 impl<R: Wait + Drop> Barrier<R> {
@@ -60,14 +69,14 @@ impl<R: Wait + Drop> Barrier<R> {
     ///
     /// Its room and its patience are the shell's. Takes no memory.
     pub fn on_shell(shell: Shell<R, BarrierCore>) -> Self
-        ensures { result.shell ≡ shell }
+        ensures { result ≡ shell }
     {
         Barrier { shell }
     }
 
     /// What it stands on; for tests and measurements.
     pub fn shell(&self) -> &Shell<R, BarrierCore>
-        ensures { result.now ≡ self.now.shell }
+        ensures { result.now ≡ self.now }
     {
         &self.shell
     }
@@ -157,6 +166,7 @@ impl<R: Wait + Drop> SyncResult for Barrier<R> {
     ghost use Rattle.std.proofs.Common.{refl};
     ghost use Rattle.saa_core_spec.specs.Values.{barrier_value};
     ghost use Rattle.saa_sync.specs.BarrierAnswers.{barrier_answer};
+    ghost use Rattle.saa_sync.specs.Forms.{source_of};
 
     type Result = Result<bool, Error>;
 
@@ -172,7 +182,7 @@ impl<R: Wait + Drop> SyncResult for Barrier<R> {
 
     ghost errors = { λ value error. refl };
 
-    ghost source = { λ form. form.shell.source.id };
+    ghost source = { source_of };
 
     /// Without an error `Ok(true)` for 1, the leader, and `Ok(false)` for every other value; and else the error.
     fn to_result(value: u8, pager_error: Option<Error>) -> Result<bool, Error> {

@@ -11,5 +11,6 @@ pub use crate::future::barrier::{Arrival, ArriveFuture, ArriveFutureWith};
 pub use crate::future::gate::{Enter, EnterWith, Passing};
 pub use crate::future::lock::{LockFuture, LockFutureWith, ShareFuture, ShareFutureWith, Turn};
 pub use crate::future::semaphore::{
-    Acquire, AcquireMany, AcquireManyWith, AcquireWith, ManyPermits, OnePermit,
+    Acquire, AcquireMany, AcquireManyOf, AcquireManyWith, AcquireManyWithOf, AcquireOf,
+    AcquireWith, AcquireWithOf, ManyPermits, ManyPermitsOf, OnePermit, OnePermitOf,
 };

@@ -28,6 +28,7 @@ pub use saa_core::gate::{Error, State};
 use saa_core::ticket::{Full, How, Ticket};
 use saa_core_spec::polling;
 use std::alloc::{AllocError, Global};
+use std::marker::Model;
 use std::sync::Wait;
 use std::sync::atomic::Ordering;
 
@@ -41,6 +42,14 @@ use std::sync::atomic::Ordering;
 #[derive(Drop)]
 pub struct Gate<R: Wait + Drop> {
     shell: Shell<R, GateCore>,
+}
+
+impl<R: Wait + Drop> Model for Gate<R> {
+    ghost use Rattle.saa_sync.specs.Forms.{GateShell};
+
+    ghost Value = { GateShell R };
+
+    ghost view = { λ form. form.shell };
 }
 
 impl<R: Wait + Drop> Gate<R> {
@@ -59,14 +68,14 @@ impl<R: Wait + Drop> Gate<R> {
     ///
     /// Its room and its patience are the shell's. Takes no memory.
     pub fn on_shell(shell: Shell<R, GateCore>) -> Self
-        ensures { result.shell ≡ shell }
+        ensures { result ≡ shell }
     {
         Gate { shell }
     }
 
     /// What it stands on; for tests and measurements.
     pub fn shell(&self) -> &Shell<R, GateCore>
-        ensures { result.now ≡ self.now.shell }
+        ensures { result.now ≡ self.now }
     {
         &self.shell
     }
@@ -201,6 +210,7 @@ impl<R: Wait + Drop> SyncResult for Gate<R> {
     ghost use Rattle.saa_core_spec.specs.Values.{gate_value};
     ghost use Rattle.std.proofs.Common.{refl};
     ghost use Rattle.saa_sync.specs.GateAnswers.{gate_answer, gate_fault, gate_reading};
+    ghost use Rattle.saa_sync.specs.Forms.{source_of};
 
     type Result = Result<State, Error>;
 
@@ -216,7 +226,7 @@ impl<R: Wait + Drop> SyncResult for Gate<R> {
 
     ghost errors = { λ value error. refl };
 
-    ghost source = { λ form. form.shell.source.id };
+    ghost source = { source_of };
 
     /// Without an error the value's two low bits are the state that let it pass, and the rest is the gate's error, if it
     /// isn't 0: a gate answers 0, 2, 4, 9 and 12. Else it is the gate's error of the same name.

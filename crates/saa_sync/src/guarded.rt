@@ -6,7 +6,7 @@
 ghost use Rattle.std.specs.Prelude.{◌≡◌, IfOk, IfSome, IsOk};
 
 use crate::lock::Lock;
-use crate::turn::{Alone, Leave, Lowered, Shared};
+use crate::turn::{Alone, Lowered, Shared};
 use saa_core::ticket::Full;
 use std::alloc::{AllocError, Global};
 use std::sync::{RwLock, RwLockReadGuard, RwLockWriteGuard, Wait};
@@ -14,9 +14,8 @@ use std::sync::{RwLock, RwLockReadGuard, RwLockWriteGuard, Wait};
 /// A value, and the lock whose turns it is used in.
 #[derive(Drop)]
 pub(crate) struct Guarded<R: Wait + Drop, T> {
-    rt: R,
     /// Whose turn it is.
-    pub(crate) turn: Lock<Leave<R>>,
+    pub(crate) turn: Lock<R>,
     value: RwLock<T>,
 }
 
@@ -27,10 +26,8 @@ impl<R: Wait + Drop, T> Guarded<R, T> {
         T: Drop,
         ensures no_room { room ≡ 0 → IsOk result }
     {
-        let turn = Lock::new(Leave::of(&rt), alloc, room)?;
         Ok(Guarded {
-            rt,
-            turn,
+            turn: Lock::new(rt, alloc, room)?,
             value: RwLock::new(value),
         })
     }
@@ -42,44 +39,40 @@ impl<R: Wait + Drop, T> Guarded<R, T> {
 
     // The value, which nobody uses any more.
     pub(crate) fn into_inner(self) -> T {
-        let Guarded {
-            rt: _rt,
-            turn: _turn,
-            value,
-        } = self;
+        let Guarded { turn: _turn, value } = self;
         value.into_inner()
     }
 
     // Takes the turn alone, and the value to write, if that needs no wait.
     pub(crate) fn try_write(&self) -> Option<(Alone<'_, R>, RwLockWriteGuard<'_, T>)>
-        ensures { IfSome result (λ taken. taken.0.lock.now ≡ self.now.turn) }
+        ensures { IfSome result (λ taken. taken.0.now ≡ self.now.turn) }
     {
         let turn = Alone::try_take(&self.turn)?;
-        Some((turn, self.value.write(&self.rt)))
+        Some((turn, self.value.write(self.turn.rt())))
     }
 
     // Waits for the turn alone, and takes the value to write.
     pub(crate) fn write(&self) -> Result<(Alone<'_, R>, RwLockWriteGuard<'_, T>), Full>
-        ensures { IfOk result (λ taken. taken.0.lock.now ≡ self.now.turn) }
+        ensures { IfOk result (λ taken. taken.0.now ≡ self.now.turn) }
     {
-        let turn = Alone::take(&self.turn, &self.rt)?;
-        Ok((turn, self.value.write(&self.rt)))
+        let turn = Alone::take(&self.turn)?;
+        Ok((turn, self.value.write(self.turn.rt())))
     }
 
     // Takes a share of the turn, and the value to read, if that needs no wait.
     pub(crate) fn try_read(&self) -> Option<(Shared<'_, R>, RwLockReadGuard<'_, T>)>
-        ensures { IfSome result (λ taken. taken.0.lock.now ≡ self.now.turn) }
+        ensures { IfSome result (λ taken. taken.0.now ≡ self.now.turn) }
     {
         let turn = Shared::try_take(&self.turn)?;
-        Some((turn, self.value.read(&self.rt)))
+        Some((turn, self.value.read(self.turn.rt())))
     }
 
     // Waits for a share of the turn, and takes the value to read.
     pub(crate) fn read(&self) -> Result<(Shared<'_, R>, RwLockReadGuard<'_, T>), Full>
-        ensures { IfOk result (λ taken. taken.0.lock.now ≡ self.now.turn) }
+        ensures { IfOk result (λ taken. taken.0.now ≡ self.now.turn) }
     {
-        let turn = Shared::take(&self.turn, &self.rt)?;
-        Ok((turn, self.value.read(&self.rt)))
+        let turn = Shared::take(&self.turn)?;
+        Ok((turn, self.value.read(self.turn.rt())))
     }
 
     // Makes the turn alone a share, and the value to write a value to read.
@@ -92,22 +85,22 @@ impl<R: Wait + Drop, T> Guarded<R, T> {
         turn: Alone<'a, R>,
         value: RwLockWriteGuard<'a, T>,
     ) -> (Shared<'a, R>, RwLockReadGuard<'a, T>)
-        ensures { result.0.lock ≡ turn.entry.lock }
+        ensures { result.0 ≡ turn.entry }
     {
-        turn.lower(Lowered::from_writer(value, &self.value, &self.rt))
+        turn.lower(Lowered::from_writer(value, &self.value, self.turn.rt()))
     }
 
     // The turn alone that a future was granted, and the value to write.
     pub(crate) fn granted_to_write(&self) -> (Alone<'_, R>, RwLockWriteGuard<'_, T>)
-        ensures { result.0.lock.now ≡ self.now.turn }
+        ensures { result.0.now ≡ self.now.turn }
     {
-        (Alone::granted(&self.turn), self.value.write(&self.rt))
+        (Alone::granted(&self.turn), self.value.write(self.turn.rt()))
     }
 
     // The share of the turn that a future was granted, and the value to read.
     pub(crate) fn granted_to_read(&self) -> (Shared<'_, R>, RwLockReadGuard<'_, T>)
-        ensures { result.0.lock.now ≡ self.now.turn }
+        ensures { result.0.now ≡ self.now.turn }
     {
-        (Shared::granted(&self.turn), self.value.read(&self.rt))
+        (Shared::granted(&self.turn), self.value.read(self.turn.rt()))
     }
 }

@@ -26,6 +26,7 @@ use saa_core::lock::LockCore;
 pub use saa_core::lock::{Mode, TryLockError};
 use saa_core::ticket::{Error, Full, How, Ticket};
 use std::alloc::{AllocError, Global};
+use std::marker::Model;
 use std::sync::Wait;
 use std::sync::atomic::Ordering;
 
@@ -40,6 +41,14 @@ use std::sync::atomic::Ordering;
 #[derive(Drop)]
 pub struct Lock<R: Wait + Drop> {
     shell: Shell<R, LockCore>,
+}
+
+impl<R: Wait + Drop> Model for Lock<R> {
+    ghost use Rattle.saa_sync.specs.Forms.{LockShell};
+
+    ghost Value = { LockShell R };
+
+    ghost view = { λ form. form.shell };
 }
 
 impl<R: Wait + Drop> Lock<R> {
@@ -61,14 +70,19 @@ impl<R: Wait + Drop> Lock<R> {
     ///
     /// Its room and its patience are the shell's. Takes no memory.
     pub fn on_shell(shell: Shell<R, LockCore>) -> Self
-        ensures { result.shell ≡ shell }
+        ensures { result ≡ shell }
     {
         Lock { shell }
     }
 
+    // The leave to wait, lent to who waits in a turn.
+    pub(crate) fn rt(&self) -> &R {
+        self.shell.rt()
+    }
+
     /// What it stands on; for tests and measurements.
     pub fn shell(&self) -> &Shell<R, LockCore>
-        ensures { result.now ≡ self.now.shell }
+        ensures { result.now ≡ self.now }
     {
         &self.shell
     }
@@ -267,6 +281,7 @@ impl<R: Wait + Drop> SyncResult for Lock<R> {
     ghost use Rattle.std.proofs.Common.{refl};
     ghost use Rattle.saa_core_spec.specs.Values.{lock_value};
     ghost use Rattle.saa_sync.specs.LockAnswers.{lock_answer};
+    ghost use Rattle.saa_sync.specs.Forms.{source_of};
 
     type Result = Result<bool, Error>;
 
@@ -282,7 +297,7 @@ impl<R: Wait + Drop> SyncResult for Lock<R> {
 
     ghost errors = { λ value error. refl };
 
-    ghost source = { λ form. form.shell.source.id };
+    ghost source = { source_of };
 
     /// Without an error the value is 0, granted, or 2, poisoned: `Ok(true)` or `Ok(false)`; and else the error.
     fn to_result(value: u8, pager_error: Option<Error>) -> Result<bool, Error> {

@@ -5,9 +5,11 @@
 //! type: each guard keeps every invariant of that type.
 
 mod future;
+mod guard;
 mod mutex;
 mod rwlock;
 
 pub use future::{MutexFuture, ReadFuture, WriteFuture, lock_async, read_async, write_async};
+pub use guard::{Guard, Lends, PassesOn, Shows};
 pub use mutex::{Mutex, MutexGuard};
-pub use rwlock::{RwLock, RwLockReadGuard, RwLockWriteGuard};
+pub use rwlock::{RwLock, RwLockReadGuard, RwLockWriteGuard, Writing};

@@ -2,54 +2,84 @@
 
 ghost use Rattle.std.specs.Prelude.{◌≡◌, IfOk, IfSome};
 
-use crate::semaphore::Semaphore;
+use crate::semaphore::{SemaphoreOf, SemaphoreOn};
+use saa_core::semaphore::SemaphoreCoreOf;
 use saa_core::ticket::Full;
+use std::marker::Model;
 use std::sync::Wait;
 
-/// One permit of a [`Semaphore`], which its drop gives back, to whoever asked first.
-///
-/// It can be moved to another thread, and kept beside what it stands for. It lives no longer than its semaphore.
-pub struct Permit<'s, R: Wait + Drop> {
-    semaphore: &'s Semaphore<R>,
+/// What a permit comes from, and goes back to.
+pub trait TakesBack {
+    /// Takes one permit back, and grants the oldest waiters while they fit.
+    fn take_back(&self);
 }
 
-impl<R: Wait + Drop> Permit<'_, R> {
+/// One permit of a semaphore of any bound, which its drop gives back, to whoever asked first.
+///
+/// It can be moved to another thread, and kept beside what it stands for. It lives no longer than its semaphore, which is
+/// what contracts see of it. Its types are named [`PermitOf`] and [`Permit`].
+pub struct PermitFrom<'s, S: TakesBack> {
+    semaphore: &'s S,
+}
+
+/// One permit of a [`SemaphoreOf`].
+pub type PermitOf<'s, R, const MAX: usize> = PermitFrom<'s, SemaphoreOf<R, MAX>>;
+
+/// One permit of a `Semaphore`.
+pub type Permit<'s, R> = PermitOf<'s, R, 63>;
+
+impl<'s, S: TakesBack> Model for PermitFrom<'s, S> {
+    ghost use Rattle.std.specs.Borrow.{Bor};
+
+    ghost Value = { Bor S };
+
+    ghost view = { λ permit. permit.semaphore };
+}
+
+impl<S: TakesBack> PermitFrom<'_, S> {
     /// Keeps the permit out when this goes; nothing is given back, and nobody is woken.
     ///
     /// The semaphore's `release` gives it back later. So a permit can be handed to who gives back many at once, or for good.
     pub fn forget(self) {
-        let Permit {
+        let PermitFrom {
             semaphore: _semaphore,
         } = self;
     }
 }
 
-impl<R: Wait + Drop> Drop for Permit<'_, R> {
+impl<S: TakesBack> Drop for PermitFrom<'_, S> {
     fn drop(self) {
-        let Permit { semaphore } = self;
-        semaphore.release();
+        let PermitFrom { semaphore } = self;
+        semaphore.take_back();
     }
 }
 
-impl<R: Wait + Drop> Semaphore<R> {
+impl<R: Wait + Drop, const MAX: usize> TakesBack for SemaphoreOn<R, SemaphoreCoreOf<MAX>> {
+    /// As its `release`; what that answers is true wherever a permit is out, as one is here.
+    fn take_back(&self) {
+        self.release();
+    }
+}
+
+impl<R: Wait + Drop, const MAX: usize> SemaphoreOn<R, SemaphoreCoreOf<MAX>> {
     /// Takes one permit as [`Self::acquire_sync`] does, and gives it back when what is returned goes.
     ///
     /// `Full`: it would have to wait, and as many slots are held as there is room; nothing is changed.
-    pub fn acquire_permit(&self) -> Result<Permit<'_, R>, Full>
-        ensures { IfOk result (λ permit. permit.semaphore.now ≡ self.now) }
+    pub fn acquire_permit(&self) -> Result<PermitOf<'_, R, MAX>, Full>
+        ensures { IfOk result (λ permit. permit.now ≡ self.now) }
     {
         self.acquire_sync()?;
-        Ok(Permit { semaphore: self })
+        Ok(PermitFrom { semaphore: self })
     }
 
     /// Takes one permit as [`Self::try_acquire`] does, and gives it back when what is returned goes; never waits for it.
     ///
     /// `None`: no permit is available, or somebody waits; nothing is changed.
-    pub fn try_acquire_permit(&self) -> Option<Permit<'_, R>>
-        ensures { IfSome result (λ permit. permit.semaphore.now ≡ self.now) }
+    pub fn try_acquire_permit(&self) -> Option<PermitOf<'_, R, MAX>>
+        ensures { IfSome result (λ permit. permit.now ≡ self.now) }
     {
         if self.try_acquire() {
-            Some(Permit { semaphore: self })
+            Some(PermitFrom { semaphore: self })
         } else {
             None
         }

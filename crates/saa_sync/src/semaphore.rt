@@ -15,46 +15,72 @@ ghost use Rattle.saa_core.specs.Tickets.{Calls, is_busy, is_yes};
 ghost use Rattle.saa_core.specs.Beginning.{mode_of};
 
 use crate::future::semaphore::{
-    Acquire, AcquireMany, AcquireManyWith, AcquireWith, Asked, AskedWith,
+    AcquireManyOf, AcquireManyWithOf, AcquireOf, AcquireWithOf, Asked, AskedWith,
 };
 use crate::pager::{Pager, SyncResult};
 use crate::seat::PATIENCE;
 use crate::shell::Shell;
 use futures::task::{Context, Poll};
 use saa_core::bench::Primitive;
-use saa_core::semaphore::SemaphoreCore;
+use saa_core::semaphore::SemaphoreCoreOf;
 use saa_core::ticket::{Error, Full, How, Ticket};
 use std::alloc::{AllocError, Global};
+use std::marker::Model;
 use std::sync::Wait;
 use std::sync::atomic::Ordering;
 
-// The bound of the core. It is written out, since the core's own constant is its parameter, and no proof knows that as 63.
-const MAX_PERMITS: usize = 63;
+/// Permits that threads share, on a core that says how many there are at most; named [`SemaphoreOf`] and [`Semaphore`].
+#[derive(Drop)]
+pub struct SemaphoreOn<R: Wait + Drop, C: Primitive> {
+    shell: Shell<R, C>,
+}
 
-/// Up to 63 permits that threads share, taken in the order of asking.
+/// Up to `MAX` permits that threads share, 1 to 65,535, taken in the order of asking.
 ///
 /// A task that must wait joins a line, and the line is served strictly in order: while somebody waits, nobody who asks
 /// later is granted first, 0 permits included. `R` is the leave to wait, as a reference to the runtime. Every call may
 /// wait for the lock, which is held for one short step of the core at a time; all but making take no memory.
 ///
 /// Each ticket and pager is used with the semaphore that it was registered in.
-#[derive(Drop)]
-pub struct Semaphore<R: Wait + Drop> {
-    shell: Shell<R, SemaphoreCore>,
+pub type SemaphoreOf<R, const MAX: usize> = SemaphoreOn<R, SemaphoreCoreOf<MAX>>;
+
+/// Up to 63 permits that threads share; see [`SemaphoreOf`].
+pub type Semaphore<R> = SemaphoreOf<R, 63>;
+
+impl<R: Wait + Drop, C: Primitive> Model for SemaphoreOn<R, C> {
+    ghost use Rattle.saa_sync.specs.declared.shell.Shell.{Shell};
+
+    ghost Value = { Shell R C C.Call C.Ask C.Answer C.Value };
+
+    ghost view = { λ form. form.shell };
 }
 
-impl<R: Wait + Drop> Semaphore<R> {
-    /// The most permits of a semaphore.
-    pub const MAX_PERMITS: usize = MAX_PERMITS;
+/// A core of permits, whose type says how many there are at most.
+pub trait PermitCore: Primitive {
+    /// The most permits.
+    const MAX_PERMITS: usize;
+}
 
+impl<const MAX: usize> PermitCore for SemaphoreCoreOf<MAX> {
+    const MAX_PERMITS: usize = MAX;
+}
+
+impl<R: Wait + Drop, C: PermitCore> SemaphoreOn<R, C> {
+    /// The most permits of a semaphore.
+    pub const MAX_PERMITS: usize = C::MAX_PERMITS;
+}
+
+impl<R: Wait + Drop, const MAX: usize> SemaphoreOn<R, SemaphoreCoreOf<MAX>> {
     /// A semaphore with all its permits available, and room for so many waiters. Costs O(`room`).
     ///
     /// Reserves all the memory that it will ever need; the error comes only where that was refused, and so never for
     /// room 0, which takes none.
     pub fn new(rt: R, alloc: Global, room: u16) -> Result<Self, AllocError>
+        requires bound { 0 < MAX }
+        requires narrow { MAX < 65536 }
         ensures no_room { room ≡ 0 → IsOk result }
     {
-        Self::with_permits(rt, alloc, Self::MAX_PERMITS, room)
+        Self::with_permits(rt, alloc, MAX, room)
     }
 
     /// A semaphore with at most so many permits available; the others count as out, and may be released.
@@ -63,24 +89,26 @@ impl<R: Wait + Drop> Semaphore<R> {
     /// Reserves all the memory that it will ever need; the error comes only where that was refused, and so never for
     /// room 0, which takes none.
     pub fn with_permits(rt: R, alloc: Global, permits: usize, room: u16) -> Result<Self, AllocError>
+        requires bound { 0 < MAX }
+        requires narrow { MAX < 65536 }
         ensures no_room { room ≡ 0 → IsOk result }
     {
-        let core = SemaphoreCore::with_permits(alloc, permits, room)?;
+        let core = SemaphoreCoreOf::with_permits(alloc, permits, room)?;
         Ok(Self::on_shell(Shell::new(rt, alloc, core, room, PATIENCE)?))
     }
 
     /// The semaphore on a shell that is handed in, for who wants another patience of its waiters, or has a core in use.
     ///
     /// Its room and its patience are the shell's. Takes no memory.
-    pub fn on_shell(shell: Shell<R, SemaphoreCore>) -> Self
-        ensures { result.shell ≡ shell }
+    pub fn on_shell(shell: Shell<R, SemaphoreCoreOf<MAX>>) -> Self
+        ensures { result ≡ shell }
     {
-        Semaphore { shell }
+        SemaphoreOn { shell }
     }
 
     /// What it stands on; for tests and measurements.
-    pub fn shell(&self) -> &Shell<R, SemaphoreCore>
-        ensures { result.now ≡ self.now.shell }
+    pub fn shell(&self) -> &Shell<R, SemaphoreCoreOf<MAX>>
+        ensures { result.now ≡ self.now }
     {
         &self.shell
     }
@@ -95,9 +123,9 @@ impl<R: Wait + Drop> Semaphore<R> {
         tell_closed(&self.shell.lock().core)
     }
 
-    /// How many permits are available, 0 to 63. Every ordering acts as the sequentially consistent one; none panics.
+    /// How many permits are available, 0 to `MAX`. Every ordering acts as the sequentially consistent one; none panics.
     pub fn available_permits(&self, _mo: Ordering) -> usize
-        ensures { result ≤ 63 }
+        ensures { result ≤ MAX }
     {
         count_available(&self.shell.lock().core)
     }
@@ -112,7 +140,7 @@ impl<R: Wait + Drop> Semaphore<R> {
     /// A count above [`Self::MAX_PERMITS`] is never granted. 0 permits are refused too while somebody waits.
     /// A `false` changes nothing.
     pub fn try_acquire_many(&self, count: usize) -> bool
-        ensures too_many { 63 < count → result ≡ false }
+        ensures too_many { MAX < count → result ≡ false }
     {
         take_now(&mut self.shell.lock().core, count)
     }
@@ -130,9 +158,14 @@ impl<R: Wait + Drop> Semaphore<R> {
     #[inline(always)]
     pub fn release_many(&self, count: usize) -> bool
         ensures none { count ≡ 0 → result ≡ true }
-        ensures too_many { 63 < count → result ≡ false }
+        ensures too_many { MAX < count → result ≡ false }
     {
-        self.shell.step(|core| give_back(core, count))
+        self.shell.step(
+            |core| -> bool
+                ensures none { count ≡ 0 → result ≡ true }
+                ensures too_many { MAX < count → result ≡ false }
+            { give_back(core, count) },
+        )
     }
 
     /// Takes one permit, and waits for it in the line where it must.
@@ -152,10 +185,10 @@ impl<R: Wait + Drop> Semaphore<R> {
     /// change nothing. Nothing stays registered in any case.
     #[inline(always)]
     pub fn acquire_many_sync(&self, count: usize) -> Result<bool, Full>
-        ensures answer { IfOk result (λ is_granted. IsTrue is_granted ↔ (count ≤ 63)) }
-        ensures too_many { 63 < count → result ≡ Ok false }
+        ensures answer { IfOk result (λ is_granted. IsTrue is_granted ↔ (count ≤ MAX)) }
+        ensures too_many { MAX < count → result ≡ Ok false }
     {
-        if is_too_many(count) {
+        if is_too_many::<MAX>(count) {
             return Ok(false);
         }
         let _granted = self.shell.acquire(count)?;
@@ -183,10 +216,10 @@ impl<R: Wait + Drop> Semaphore<R> {
         begin_wait: F,
     ) -> Result<bool, Full>
         requires { F.pre begin_wait }
-        ensures answer { IfOk result (λ is_granted. IsTrue is_granted ↔ (count ≤ 63)) }
-        ensures too_many { 63 < count → result ≡ Ok false }
+        ensures answer { IfOk result (λ is_granted. IsTrue is_granted ↔ (count ≤ MAX)) }
+        ensures too_many { MAX < count → result ≡ Ok false }
     {
-        if is_too_many(count) {
+        if is_too_many::<MAX>(count) {
             return Ok(false);
         }
         let _granted = self.shell.acquire_with(count, begin_wait)?;
@@ -196,7 +229,7 @@ impl<R: Wait + Drop> Semaphore<R> {
     /// The future of one permit: its output is that of [`Self::acquire_sync`].
     ///
     /// Nothing is asked before its first poll. See [`Asked`](crate::future::asked::Asked).
-    pub fn acquire_async(&self) -> Acquire<'_, R>
+    pub fn acquire_async(&self) -> AcquireOf<'_, R, MAX>
         ensures request { result.asking.request ≡ Permits 1 }
         ensures idle { result.asking.ticket ≡ Unregistered }
         ensures fresh { result.asking.has_ended ≡ false }
@@ -208,7 +241,10 @@ impl<R: Wait + Drop> Semaphore<R> {
     ///
     /// The callback runs once, in the poll that joined, after the join and with the lock round the core free; it may use
     /// this semaphore. It doesn't run where the answer is there at once, nor where the room is full.
-    pub fn acquire_async_with<F: FnOnce() + Drop>(&self, begin_wait: F) -> AcquireWith<'_, R, F>
+    pub fn acquire_async_with<F: FnOnce() + Drop>(
+        &self,
+        begin_wait: F,
+    ) -> AcquireWithOf<'_, R, F, MAX>
         ensures request { result.asked.asking.request ≡ Permits 1 }
         ensures idle { result.asked.asking.ticket ≡ Unregistered }
         ensures fresh { result.asked.asking.has_ended ≡ false }
@@ -220,7 +256,7 @@ impl<R: Wait + Drop> Semaphore<R> {
     /// The future of `count` permits, all at once: its output is that of [`Self::acquire_many_sync`].
     ///
     /// Nothing is asked before its first poll. See [`Asked`](crate::future::asked::Asked).
-    pub fn acquire_many_async(&self, count: usize) -> AcquireMany<'_, R>
+    pub fn acquire_many_async(&self, count: usize) -> AcquireManyOf<'_, R, MAX>
         ensures request { result.asking.request ≡ Permits count }
         ensures idle { result.asking.ticket ≡ Unregistered }
         ensures fresh { result.asking.has_ended ≡ false }
@@ -236,7 +272,7 @@ impl<R: Wait + Drop> Semaphore<R> {
         &self,
         count: usize,
         begin_wait: F,
-    ) -> AcquireManyWith<'_, R, F>
+    ) -> AcquireManyWithOf<'_, R, F, MAX>
         ensures request { result.asked.asking.request ≡ Permits count }
         ensures idle { result.asked.asking.ticket ≡ Unregistered }
         ensures fresh { result.asked.asking.has_ended ≡ false }
@@ -258,12 +294,12 @@ impl<R: Wait + Drop> Semaphore<R> {
     ) -> Result<bool, Full>
         ensures registered { is_busy pager.new ≡ (is_busy pager.old || is_yes result) }
         ensures busy { is_busy pager.old ≡ true → result ≡ Ok false }
-        ensures too_many { 63 < count → result ≡ Ok false }
+        ensures too_many { MAX < count → result ≡ Ok false }
         ensures unchanged { is_yes result ≡ false → pager.new ≡ pager.old }
         ensures mode { is_yes result ≡ true → mode_of pager.new ≡ Some is_sync }
-        ensures idle { is_busy pager.old ≡ false → count ≤ 63 → IfOk result (λ is_registered. is_registered ≡ true) }
+        ensures idle { is_busy pager.old ≡ false → count ≤ MAX → IfOk result (λ is_registered. is_registered ≡ true) }
     {
-        if pager.is_registered() || is_too_many(count) {
+        if pager.is_registered() || is_too_many::<MAX>(count) {
             return Ok(false);
         }
         let mut ticket = Ticket::new();
@@ -273,11 +309,12 @@ impl<R: Wait + Drop> Semaphore<R> {
     }
 }
 
-impl<R: Wait + Drop> SyncResult for Semaphore<R> {
+impl<R: Wait + Drop, const MAX: usize> SyncResult for SemaphoreOn<R, SemaphoreCoreOf<MAX>> {
     ghost use Rattle.saa_core.specs.Tickets.{fault_of};
     ghost use Rattle.std.proofs.Common.{refl};
     ghost use Rattle.saa_core_spec.specs.Values.{semaphore_value};
     ghost use Rattle.saa_sync.specs.SemaphoreAnswers.{semaphore_answer};
+    ghost use Rattle.saa_sync.specs.Forms.{source_of};
 
     type Result = Result<(), Error>;
 
@@ -293,7 +330,7 @@ impl<R: Wait + Drop> SyncResult for Semaphore<R> {
 
     ghost errors = { λ value error. refl };
 
-    ghost source = { λ form. form.shell.source.id };
+    ghost source = { source_of };
 
     /// `Ok(())` for every value, and else the error.
     fn to_result(_value: u8, pager_error: Option<Error>) -> Result<(), Error> {
@@ -305,13 +342,13 @@ impl<R: Wait + Drop> SyncResult for Semaphore<R> {
 
     /// `Ok(())`: granted, and the ticket is idle; its slot, if it had one, is free again.
     fn take(&self, ticket: &mut Ticket, how: How) -> Result<(), Error> {
-        SemaphoreCore::value_of(self.shell.take(ticket, how))
+        SemaphoreCoreOf::<MAX>::value_of(self.shell.take(ticket, how))
     }
 
     /// As [`Self::take`] as async, for a task: it is woken once the answer is there.
     fn poll_task(&self, ticket: &mut Ticket, cx: &mut Context<'_>) -> Poll<Result<(), Error>> {
         match self.shell.poll_task(ticket, cx) {
-            Poll::Ready(answer) => Poll::Ready(SemaphoreCore::value_of(answer)),
+            Poll::Ready(answer) => Poll::Ready(SemaphoreCoreOf::<MAX>::value_of(answer)),
             Poll::Pending => Poll::Pending,
         }
     }
@@ -325,39 +362,39 @@ impl<R: Wait + Drop> SyncResult for Semaphore<R> {
 }
 
 // Whether a count is above the bound, so that it can never be granted.
-fn is_too_many(count: usize) -> bool
-    ensures { IsTrue result ↔ (63 < count) }
+fn is_too_many<const MAX: usize>(count: usize) -> bool
+    ensures { IsTrue result ↔ (MAX < count) }
 {
-    count > MAX_PERMITS
+    count > MAX
 }
 
 // Whether a permit is available, of the core under the mutex.
-fn tell_open(core: &SemaphoreCore) -> bool
+fn tell_open<const MAX: usize>(core: &SemaphoreCoreOf<MAX>) -> bool
     ensures { result ≡ nat_lt (out_of core.now.held) (bound_of core.now.held) }
 {
     core.is_open()
 }
 
 // Whether no permit is available, of the core under the mutex.
-fn tell_closed(core: &SemaphoreCore) -> bool
+fn tell_closed<const MAX: usize>(core: &SemaphoreCoreOf<MAX>) -> bool
     ensures { result ≡ (out_of core.now.held == bound_of core.now.held) }
 {
     core.is_closed()
 }
 
 // How many permits are available, of the core under the mutex.
-fn count_available(core: &SemaphoreCore) -> usize
+fn count_available<const MAX: usize>(core: &SemaphoreCoreOf<MAX>) -> usize
     ensures number { result ≡ available core.now.held }
-    ensures within { result ≤ 63 }
+    ensures within { result ≤ MAX }
 {
     core.available_permits()
 }
 
 // A try on the core under the mutex.
-fn take_now(core: &mut SemaphoreCore, count: usize) -> bool
+fn take_now<const MAX: usize>(core: &mut SemaphoreCoreOf<MAX>, count: usize) -> bool
     ensures calls { Calls core.old core.new (λ s. tried s (Permits count)) result }
     ensures answer { IsTrue result ↔ ((core.old.slots.line ≡ []) × (count ≤ available core.old.held)) }
-    ensures too_many { 63 < count → result ≡ false }
+    ensures too_many { MAX < count → result ≡ false }
     ensures refused { OnFalse result (core.new ≡ core.old) }
     ensures wakes { OwesAnswered core.old.slots core.new.slots }
 {
@@ -365,11 +402,11 @@ fn take_now(core: &mut SemaphoreCore, count: usize) -> bool
 }
 
 // A release on the core under the mutex.
-fn give_back(core: &mut SemaphoreCore, count: usize) -> bool
+fn give_back<const MAX: usize>(core: &mut SemaphoreCoreOf<MAX>, count: usize) -> bool
     ensures calls { Calls core.old core.new (λ s. given_back s (Permits count)) result }
     ensures answer { IsTrue result ↔ (count ≤ out_of core.old.held) }
     ensures none { count ≡ 0 → result ≡ true }
-    ensures too_many { 63 < count → result ≡ false }
+    ensures too_many { MAX < count → result ≡ false }
     ensures refused { OnFalse result (core.new ≡ core.old) }
     ensures wakes { OwesAnswered core.old.slots core.new.slots }
 {

@@ -219,6 +219,11 @@ impl<R: Wait + Drop, P: Primitive> Shell<R, P> {
         })
     }
 
+    /// The leave to wait, lent to what waits beside it.
+    pub(crate) fn rt(&self) -> &R {
+        &self.rt
+    }
+
     /// Takes the lock; waits for whoever has it.
     #[inline(always)]
     pub(crate) fn lock(&self) -> MutexGuard<'_, Inside<P>> {

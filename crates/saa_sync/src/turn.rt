@@ -1,6 +1,6 @@
 //! The turn at a lock, of one owner alone or shared, and that it ends behind the value's guard.
 //!
-//! No turn can be dropped, so each that is taken is passed on; and `pass_on` asks for a `PutDown`, which only giving up a
+//! No turn can be dropped, so each that is taken is given back; and `give_back` asks for a `PutDown`, which only giving up a
 //! guard of the value makes. `lower` asks for a `Lowered` in the same way, which only giving up a writer's guard makes.
 //! That a turn is really the lock's, and is given back to it, is shown by tests.
 
@@ -8,31 +8,16 @@ ghost use Rattle.std.specs.Prelude.{◌≡◌, IfOk, IfSome};
 ghost use Rattle.futures.specs.Task.{Covers, Keeps};
 ghost use Rattle.futures.specs.Poll.{OnPending};
 
-use crate::future::lock::{Asked, Turn};
+use crate::future::lock::LockFuture;
 use crate::lock::Lock;
 use futures::Future;
 use futures::task::{Context, Poll};
 use saa_core::ticket::Full;
-use std::marker::PhantomData;
+use std::marker::{Model, PhantomData};
 use std::sync::{RwLock, RwLockReadGuard, RwLockWriteGuard, Wait};
 
-/// The leave to wait that an `R` gives, for a lock that is kept beside the `R` itself.
-#[derive(Drop)]
-pub(crate) struct Leave<R: Wait + Drop> {
-    of: PhantomData<R>,
-}
-
-impl<R: Wait + Drop> Leave<R> {
-    // The leave that this one gives.
-    pub(crate) fn of(_rt: &R) -> Self {
-        Leave { of: PhantomData }
-    }
-}
-
-impl<R: Wait + Drop> Wait for Leave<R> {}
-
 /// Says that a guard of the value was given up; only that makes one.
-pub(crate) struct PutDown {
+pub struct PutDown {
     by: PhantomData<()>,
 }
 
@@ -69,16 +54,25 @@ impl<'a, T> Lowered<'a, T> {
     }
 }
 
-/// The turn of one owner alone.
-pub(crate) struct Alone<'a, R: Wait + Drop> {
+/// The turn of one owner alone. Contracts see whose turn it is.
+pub struct Alone<'a, R: Wait + Drop> {
     // Whose turn it is.
-    lock: &'a Lock<Leave<R>>,
+    lock: &'a Lock<R>,
+}
+
+impl<'a, R: Wait + Drop> Model for Alone<'a, R> {
+    ghost use Rattle.std.specs.Borrow.{Bor};
+    ghost use Rattle.saa_sync.specs.Forms.{TurnLock};
+
+    ghost Value = { Bor (TurnLock R) };
+
+    ghost view = { λ turn. turn.lock };
 }
 
 impl<'a, R: Wait + Drop> Alone<'a, R> {
     // Takes the turn if it is free and nobody waits for it.
-    pub(crate) fn try_take(lock: &'a Lock<Leave<R>>) -> Option<Self>
-        ensures { IfSome result (λ turn. turn.lock ≡ lock.entry) }
+    pub(crate) fn try_take(lock: &'a Lock<R>) -> Option<Self>
+        ensures { IfSome result (λ turn. turn ≡ lock.entry) }
     {
         match lock.try_lock() {
             Ok(()) => Some(Alone { lock }),
@@ -87,10 +81,10 @@ impl<'a, R: Wait + Drop> Alone<'a, R> {
     }
 
     // Waits for the turn. A lock that says it is poisoned, as none here ever is, is cleared and asked again.
-    pub(crate) fn take(lock: &'a Lock<Leave<R>>, rt: &R) -> Result<Self, Full>
-        ensures { IfOk result (λ turn. turn.lock ≡ lock.entry) }
+    pub(crate) fn take(lock: &'a Lock<R>) -> Result<Self, Full>
+        ensures { IfOk result (λ turn. turn ≡ lock.entry) }
     {
-        for _ in rt.forever() {
+        for _ in lock.rt().forever() {
             if lock.lock_sync()? {
                 return Ok(Alone { lock });
             }
@@ -100,15 +94,15 @@ impl<'a, R: Wait + Drop> Alone<'a, R> {
     }
 
     // The turn that a future was granted.
-    pub(crate) fn granted(lock: &'a Lock<Leave<R>>) -> Self
-        ensures { result.lock ≡ lock.entry }
+    pub(crate) fn granted(lock: &'a Lock<R>) -> Self
+        ensures { result ≡ lock.entry }
     {
         Alone { lock }
     }
 
     // Makes the turn a share, beside which others may have shares; and gives the value to read with it.
     pub(crate) fn lower<T>(self, value: Lowered<'a, T>) -> (Shared<'a, R>, RwLockReadGuard<'a, T>)
-        ensures { result.0.lock ≡ self.entry.lock }
+        ensures { result.0 ≡ self.entry }
     {
         let (Alone { lock }, Lowered { reader }) = (self, value);
         lock.downgrade();
@@ -116,22 +110,31 @@ impl<'a, R: Wait + Drop> Alone<'a, R> {
     }
 
     // Gives the turn back, to whoever is next.
-    pub(crate) fn pass_on(self, value: PutDown) {
+    pub(crate) fn give_back(self, value: PutDown) {
         let (Alone { lock }, PutDown { by: _by }) = (self, value);
         lock.release_lock();
     }
 }
 
-/// A turn that is shared with others.
-pub(crate) struct Shared<'a, R: Wait + Drop> {
+/// A turn that is shared with others. Contracts see whose turn it is.
+pub struct Shared<'a, R: Wait + Drop> {
     // Whose turn it is.
-    lock: &'a Lock<Leave<R>>,
+    lock: &'a Lock<R>,
+}
+
+impl<'a, R: Wait + Drop> Model for Shared<'a, R> {
+    ghost use Rattle.std.specs.Borrow.{Bor};
+    ghost use Rattle.saa_sync.specs.Forms.{TurnLock};
+
+    ghost Value = { Bor (TurnLock R) };
+
+    ghost view = { λ turn. turn.lock };
 }
 
 impl<'a, R: Wait + Drop> Shared<'a, R> {
     // Takes a share of the turn if one is left and nobody waits.
-    pub(crate) fn try_take(lock: &'a Lock<Leave<R>>) -> Option<Self>
-        ensures { IfSome result (λ turn. turn.lock ≡ lock.entry) }
+    pub(crate) fn try_take(lock: &'a Lock<R>) -> Option<Self>
+        ensures { IfSome result (λ turn. turn ≡ lock.entry) }
     {
         match lock.try_share() {
             Ok(()) => Some(Shared { lock }),
@@ -140,10 +143,10 @@ impl<'a, R: Wait + Drop> Shared<'a, R> {
     }
 
     // Waits for a share of the turn, as `Alone::take` does for all of it.
-    pub(crate) fn take(lock: &'a Lock<Leave<R>>, rt: &R) -> Result<Self, Full>
-        ensures { IfOk result (λ turn. turn.lock ≡ lock.entry) }
+    pub(crate) fn take(lock: &'a Lock<R>) -> Result<Self, Full>
+        ensures { IfOk result (λ turn. turn ≡ lock.entry) }
     {
-        for _ in rt.forever() {
+        for _ in lock.rt().forever() {
             if lock.share_sync()? {
                 return Ok(Shared { lock });
             }
@@ -153,14 +156,14 @@ impl<'a, R: Wait + Drop> Shared<'a, R> {
     }
 
     // The share that a future was granted.
-    pub(crate) fn granted(lock: &'a Lock<Leave<R>>) -> Self
-        ensures { result.lock ≡ lock.entry }
+    pub(crate) fn granted(lock: &'a Lock<R>) -> Self
+        ensures { result ≡ lock.entry }
     {
         Shared { lock }
     }
 
     // Gives the share back.
-    pub(crate) fn pass_on(self, value: PutDown) {
+    pub(crate) fn give_back(self, value: PutDown) {
         let (Shared { lock }, PutDown { by: _by }) = (self, value);
         lock.release_share();
     }
@@ -168,7 +171,7 @@ impl<'a, R: Wait + Drop> Shared<'a, R> {
 
 // Polls a future for the turn, alone or a share of it. A turn that is poisoned, as none here ever is, never comes.
 pub(crate) fn poll_turn<'a, R: Wait + Drop>(
-    asked: &mut Asked<'a, Leave<R>, Turn>,
+    asked: &mut LockFuture<'a, R>,
     cx: &mut Context<'_>,
 ) -> Poll<Result<(), Full>>
     ensures heard { OnPending result (Covers cx.new (λ source. source ≡ asked.new.source)) }

@@ -4,7 +4,7 @@ use saa_core::semaphore::SemaphoreCore;
 use saa_core::ticket::Full;
 use saa_sync::pager::{Error, Pager};
 use saa_sync::permit::Permit;
-use saa_sync::semaphore::Semaphore;
+use saa_sync::semaphore::{Semaphore, SemaphoreOf};
 use saa_sync::testing::{Patience, Shell};
 use std::sync::Wait;
 use std::sync::atomic::{AtomicBool, Ordering};
@@ -12,8 +12,8 @@ use std::test::Fail;
 use std::thread::{self, yield_now};
 use test_asserts::{holds, same};
 
-// How many permits are available.
-fn left<R: Wait + Drop>(semaphore: &Semaphore<R>) -> usize {
+/// How many permits are available.
+pub fn left<R: Wait + Drop, const MAX: usize>(semaphore: &SemaphoreOf<R, MAX>) -> usize {
     semaphore.available_permits(Ordering::SeqCst)
 }
 
@@ -87,11 +87,10 @@ fn left_beside<R: Wait + Drop>(semaphore: &Semaphore<R>, has_ended: &AtomicBool)
     seen
 }
 
-// Lets a permit go once somebody sleeps; whether that came before the other thread ended.
-fn let_go<R: Wait + Drop>(
+/// Waits until somebody sleeps, or the other thread has ended; whether the first came first.
+pub fn somebody_sleeps<R: Wait + Drop, const MAX: usize>(
     rt: &impl Wait,
-    permit: Permit<'_, R>,
-    semaphore: &Semaphore<R>,
+    semaphore: &SemaphoreOf<R, MAX>,
     has_ended: &AtomicBool,
 ) -> bool {
     for _ in rt.forever() {
@@ -100,7 +99,17 @@ fn let_go<R: Wait + Drop>(
         }
         yield_now();
     }
-    let is_first = !has_ended.load(Ordering::SeqCst);
+    !has_ended.load(Ordering::SeqCst)
+}
+
+// Lets a permit go once somebody sleeps; whether that came before the other thread ended.
+fn let_go<R: Wait + Drop>(
+    rt: &impl Wait,
+    permit: Permit<'_, R>,
+    semaphore: &Semaphore<R>,
+    has_ended: &AtomicBool,
+) -> bool {
+    let is_first = somebody_sleeps(rt, semaphore, has_ended);
     drop(permit);
     is_first
 }

@@ -1,6 +1,7 @@
 //! A type whose invariant matters: two numbers that agree, behind each of the two locks.
 //!
-//! Whoever writes has to leave the numbers equal, and whoever reads may use that they are.
+//! Whoever writes has to leave the numbers equal, and whoever reads may use that they are. Beside them a plain number, which
+//! shows that what is written through a guard is what it shows at its next use.
 
 ghost use Rattle.std.specs.Prelude.{◌≡◌, IfOk};
 
@@ -64,9 +65,27 @@ pub fn read<R: Wait + Drop>(rwlock: &RwLock<R, Pair>) -> Result<(u64, u64), Full
     Ok((guard.first, guard.second))
 }
 
+/// Writes a number behind a mutex, and reads it back through the same guard: it is the number that was written.
+pub fn put<R: Wait + Drop>(mutex: &Mutex<R, u64>, number: u64) -> Result<u64, Full>
+    ensures { IfOk result (λ shown. shown ≡ number) }
+{
+    let mut guard = mutex.lock()?;
+    *guard = number;
+    Ok(*guard)
+}
+
+/// Writes a number behind a reader-writer lock, and reads it back through the same guard.
+pub fn put_to_read<R: Wait + Drop>(rwlock: &RwLock<R, u64>, number: u64) -> Result<u64, Full>
+    ensures { IfOk result (λ shown. shown ≡ number) }
+{
+    let mut guard = rwlock.write()?;
+    *guard = number;
+    Ok(*guard)
+}
+
 #[cfg(test)]
 mod tests {
-    use super::{Pair, load, read, store, write};
+    use super::{Pair, load, put, put_to_read, read, store, write};
     use saa_sync::lock_api::{Mutex, RwLock};
     use std::io;
     use test_asserts::same;
@@ -81,6 +100,17 @@ mod tests {
         same!(rt; read(&rwlock), Ok((4, 4)));
         same!(rt; write(&rwlock, 8), Ok(()));
         same!(rt; read(&rwlock), Ok((8, 8)));
+        Ok(())
+    }
+
+    #[test]
+    fn a_number_that_was_put_is_shown(rt: HostRuntime) -> io::Result<()> {
+        let mutex = Mutex::new(&rt, rt.alloc(), 3, 0)?;
+        same!(rt; put(&mutex, 5), Ok(5));
+        same!(rt; mutex.into_inner(), 5);
+        let rwlock = RwLock::new(&rt, rt.alloc(), 3, 0)?;
+        same!(rt; put_to_read(&rwlock, 6), Ok(6));
+        same!(rt; rwlock.into_inner(), 6);
         Ok(())
     }
 }

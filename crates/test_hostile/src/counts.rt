@@ -1,128 +1,171 @@
-//! Odd counts and sizes, at every call that takes one: above 63 nothing is had, asked for or given back, nothing is changed,
-//! and what is made is cut to 63.
+//! Odd counts and sizes, at every call that takes one: above the bound nothing is had, asked for or given back, nothing is
+//! changed, and what is made is cut to the bound.
+
+ghost use Rattle.std.specs.Prelude.{◌<◌};
 
 use futures::executor::block_on;
 use saa::barrier::{Barrier, BarrierCore};
 use saa::gate::Gate;
 use saa::lock::Lock;
 use saa::pager::Pager;
-use saa::semaphore::{Semaphore, SemaphoreCore};
+use saa::semaphore::{Semaphore, SemaphoreCoreOf, SemaphoreOf};
 use saa::ticket::{How, Ticket};
-use std::alloc::{AllocError, Global};
+use std::alloc::{AllocError, AllocGlobal, Global};
 use std::cell::Cell;
 use std::io;
 use std::process::Abort;
+use std::random::RandomSource;
 use std::sync::Wait;
 use std::sync::atomic::Ordering;
+use test_asserts::same;
 
-// Each beside a bound of some representation: of permits, of a byte, of a slot's number, of a word.
-const COUNTS: [usize; 9] = [0, 62, 63, 64, 255, 256, 65_535, 65_536, usize::MAX];
-
-// Whether so many permits are ever had.
-fn is_had(count: usize) -> bool {
-    count <= 63
+// Each beside the bound, or beside one of some representation: of a byte, of a slot's number, of a word.
+fn counts_at(bound: usize) -> [usize; 9] {
+    [
+        0,
+        bound.saturating_sub(1),
+        bound,
+        bound.saturating_add(1),
+        255,
+        256,
+        65_535,
+        65_536,
+        usize::MAX,
+    ]
 }
 
-// How many permits are left of 63.
-fn left_of(count: usize) -> usize {
-    if is_had(count) {
-        63usize.saturating_sub(count)
+// How many permits are left of so many, where all are asked for or none.
+fn left_of(count: usize, bound: usize) -> usize {
+    if count <= bound {
+        bound.saturating_sub(count)
     } else {
-        63
+        bound
     }
 }
 
-// A count, or the most that there may be.
-fn cut(count: usize) -> usize {
-    if is_had(count) { count } else { 63 }
-}
-
-fn at_a_core(alloc: Global, count: usize) -> Result<bool, AllocError> {
-    let mut full = SemaphoreCore::new(alloc, 1)?;
-    let is_taken = full.try_acquire_many(count) == is_had(count)
-        && full.available_permits() == left_of(count);
-    let mut empty = SemaphoreCore::with_permits(alloc, 0, 1)?;
-    let is_released = empty.release_many(count) == is_had(count)
-        && empty.available_permits() == 63usize.saturating_sub(left_of(count));
-    let mut asked = SemaphoreCore::new(alloc, 1)?;
+fn at_a_core<const MAX: usize>(alloc: Global, count: usize) -> Result<bool, AllocError>
+    requires bound { 0 < MAX }
+    requires narrow { MAX < 65536 }
+{
+    let (is_had, left) = (count <= MAX, left_of(count, MAX));
+    let mut full = SemaphoreCoreOf::<MAX>::new(alloc, 1)?;
+    let is_taken = full.try_acquire_many(count) == is_had && full.available_permits() == left;
+    let mut empty = SemaphoreCoreOf::<MAX>::with_permits(alloc, 0, 1)?;
+    let is_released = empty.release_many(count) == is_had
+        && empty.available_permits() == MAX.saturating_sub(left);
+    let mut asked = SemaphoreCoreOf::<MAX>::new(alloc, 1)?;
     let mut ticket = Ticket::new();
-    let is_asked = asked.register(&mut ticket, count, true) == Ok(is_had(count))
-        && ticket.is_registered() == is_had(count)
-        && asked.available_permits() == left_of(count)
-        && asked.poll(&mut ticket, How::Sync).is_ok() == is_had(count);
-    let is_made = SemaphoreCore::with_permits(alloc, count, 1)?.available_permits() == cut(count);
-    Ok(is_taken && is_released && is_asked && is_made)
+    let is_asked = asked.register(&mut ticket, count, true) == Ok(is_had)
+        && ticket.is_registered() == is_had
+        && asked.available_permits() == left
+        && asked.poll(&mut ticket, How::Sync).is_ok() == is_had;
+    let made = SemaphoreCoreOf::<MAX>::with_permits(alloc, count, 1)?;
+    Ok(is_taken && is_released && is_asked && made.available_permits() == count.min(MAX))
 }
 
-fn at_a_semaphore(rt: &impl Wait, alloc: Global, count: usize) -> Result<bool, AllocError> {
-    let full = Semaphore::new(rt, alloc, 1)?;
-    let is_taken = full.try_acquire_many(count) == is_had(count)
-        && full.available_permits(Ordering::SeqCst) == left_of(count);
-    let empty = Semaphore::with_permits(rt, alloc, 0, 1)?;
-    let is_released = empty.release_many(count) == is_had(count)
-        && empty.available_permits(Ordering::SeqCst) == 63usize.saturating_sub(left_of(count));
-    let made = Semaphore::with_permits(rt, alloc, count, 1)?;
-    Ok(is_taken && is_released && made.available_permits(Ordering::SeqCst) == cut(count))
+// How many permits are available.
+fn left<R: Wait + Drop, const MAX: usize>(semaphore: &SemaphoreOf<R, MAX>) -> usize {
+    semaphore.available_permits(Ordering::SeqCst)
+}
+
+fn at_a_semaphore<R: Wait, const MAX: usize>(
+    rt: &R,
+    alloc: Global,
+    count: usize,
+) -> Result<bool, AllocError>
+    requires bound { 0 < MAX }
+    requires narrow { MAX < 65536 }
+{
+    let (is_had, rest) = (count <= MAX, left_of(count, MAX));
+    let full = SemaphoreOf::<&R, MAX>::new(rt, alloc, 1)?;
+    let is_taken = full.try_acquire_many(count) == is_had && left(&full) == rest;
+    let empty = SemaphoreOf::<&R, MAX>::with_permits(rt, alloc, 0, 1)?;
+    let is_released = empty.release_many(count) == is_had
+        && left(&empty) == MAX.saturating_sub(rest);
+    let made = SemaphoreOf::<&R, MAX>::with_permits(rt, alloc, count, 1)?;
+    Ok(is_taken && is_released && left(&made) == count.min(MAX))
 }
 
 // The calls that would wait where nothing is left: none does, and no callback runs.
-fn that_may_wait(rt: &impl Wait, alloc: Global, count: usize) -> Result<bool, AllocError> {
-    let plain = Semaphore::new(rt, alloc, 1)?;
-    let is_had_plain = plain.acquire_many_sync(count) == Ok(is_had(count))
-        && plain.available_permits(Ordering::SeqCst) == left_of(count);
-    let with = Semaphore::new(rt, alloc, 1)?;
+fn that_may_wait<R: Wait, const MAX: usize>(
+    rt: &R,
+    alloc: Global,
+    count: usize,
+) -> Result<bool, AllocError>
+    requires bound { 0 < MAX }
+    requires narrow { MAX < 65536 }
+{
+    let (is_had, rest) = (count <= MAX, left_of(count, MAX));
+    let plain = SemaphoreOf::<&R, MAX>::new(rt, alloc, 1)?;
+    let is_had_plain = plain.acquire_many_sync(count) == Ok(is_had) && left(&plain) == rest;
+    let with = SemaphoreOf::<&R, MAX>::new(rt, alloc, 1)?;
     let runs = Cell::new(0u8);
-    let is_had_with = with.acquire_many_sync_with(count, || runs.set(1)) == Ok(is_had(count))
-        && with.available_permits(Ordering::SeqCst) == left_of(count)
+    let is_had_with = with.acquire_many_sync_with(count, || runs.set(1)) == Ok(is_had)
+        && left(&with) == rest
         && runs.get() == 0;
     Ok(is_had_plain && is_had_with)
 }
 
-fn by_a_pager(rt: &impl Wait, alloc: Global, count: usize) -> Result<bool, AllocError> {
-    let semaphore = Semaphore::new(rt, alloc, 1)?;
+// A pager and a future that are answered at once.
+fn by_who_asks<R: Wait + RandomSource + AllocGlobal, const MAX: usize>(
+    rt: &R,
+    alloc: Global,
+    count: usize,
+) -> Result<bool, AllocError>
+    requires bound { 0 < MAX }
+    requires narrow { MAX < 65536 }
+{
+    let (is_had, rest) = (count <= MAX, left_of(count, MAX));
+    let paged = SemaphoreOf::<&R, MAX>::new(rt, alloc, 1)?;
     let mut pager = Pager::new();
-    Ok(
-        semaphore.register_pager(&mut pager, count, true) == Ok(is_had(count))
-            && pager.is_registered() == is_had(count)
-            && semaphore.available_permits(Ordering::SeqCst) == left_of(count),
-    )
+    let is_paged = paged.register_pager(&mut pager, count, true) == Ok(is_had)
+        && pager.is_registered() == is_had
+        && left(&paged) == rest;
+    let polled = SemaphoreOf::<&R, MAX>::new(rt, alloc, 1)?;
+    let is_told = block_on(rt, polled.acquire_many_async(count)).is_ok_and(|answer| answer
+        == Ok(is_had));
+    Ok(is_paged && is_told && left(&polled) == rest)
+}
+
+// The first count at which a call went wrong.
+fn wrong_count<R: Wait + RandomSource + AllocGlobal, const MAX: usize>(
+    rt: &R,
+    alloc: Global,
+) -> Result<Option<usize>, AllocError>
+    requires bound { 0 < MAX }
+    requires narrow { MAX < 65536 }
+{
+    for count in counts_at(MAX) {
+        let is_right = at_a_core::<MAX>(alloc, count)?
+            && at_a_semaphore::<R, MAX>(rt, alloc, count)?
+            && that_may_wait::<R, MAX>(rt, alloc, count)?
+            && by_who_asks::<R, MAX>(rt, alloc, count)?;
+        if !is_right {
+            return Ok(Some(count));
+        }
+    }
+    Ok(None)
 }
 
 #[test]
 fn at_every_call_of_a_semaphore(rt: HostRuntime) -> io::Result<()> {
-    for count in COUNTS {
-        assert!(rt; at_a_core(rt.alloc(), count)?, "of {count}");
-        assert!(rt; at_a_semaphore(&rt, rt.alloc(), count)?, "of {count}");
-        assert!(rt; that_may_wait(&rt, rt.alloc(), count)?, "of {count}");
-        assert!(rt; by_a_pager(&rt, rt.alloc(), count)?, "of {count}");
-    }
-    Ok(())
-}
-
-#[test]
-fn by_a_future(rt: HostRuntime) -> io::Result<()> {
-    for count in COUNTS {
-        let semaphore = Semaphore::new(&rt, rt.alloc(), 1)?;
-        let is_granted = block_on(&rt, semaphore.acquire_many_async(count));
-        assert!(rt;
-            is_granted.is_ok_and(|answer| answer == Ok(is_had(count))),
-            "of {count}"
-        );
-        assert!(rt;
-            semaphore.available_permits(Ordering::SeqCst) == left_of(count),
-            "of {count}"
-        );
-    }
+    same!(rt; wrong_count::<_, 1>(&rt, rt.alloc())?, None);
+    same!(rt; wrong_count::<_, 63>(&rt, rt.alloc())?, None);
+    same!(rt; wrong_count::<_, 1_000>(&rt, rt.alloc())?, None);
+    same!(rt; wrong_count::<_, 65_535>(&rt, rt.alloc())?, None);
     Ok(())
 }
 
 #[test]
 fn of_a_barrier(rt: HostRuntime) -> io::Result<()> {
-    for count in COUNTS {
+    for count in counts_at(63) {
         let core = BarrierCore::with_count(rt.alloc(), count, 1)?;
-        assert!(rt; core.count() == cut(count), "of {count}");
+        assert!(rt; core.count() == count.min(63), "of {count}");
         let barrier = Barrier::with_count(&rt, rt.alloc(), count, 1)?;
-        assert!(rt; barrier.count(Ordering::SeqCst) == cut(count), "of {count}");
+        assert!(rt;
+            barrier.count(Ordering::SeqCst) == count.min(63),
+            "of {count}"
+        );
     }
     Ok(())
 }

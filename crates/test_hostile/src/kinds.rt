@@ -1,11 +1,11 @@
 //! What each primitive adds to the model: how it is made, what is asked of it, its calls, and what its numbers mean.
 
-use crate::model::{Held, Model, Need, PERMITS};
+use crate::model::{Held, Model, Need};
 use saa::barrier::{BarrierAnswer, BarrierCall, BarrierCore};
 use saa::bench::{Command, CommandOf, Primitive, Reply, ReplyOf};
 use saa::gate::{self, GateAnswer, GateCall, GateCore, State};
 use saa::lock::{LockAnswer, LockCall, LockCore, Mode, TryLockError};
-use saa::semaphore::{SemaphoreAnswer, SemaphoreCall, SemaphoreCore};
+use saa::semaphore::{SemaphoreAnswer, SemaphoreCall, SemaphoreCoreOf};
 use saa::ticket::{Error, How};
 use std::alloc::{AllocError, Global};
 
@@ -44,13 +44,19 @@ pub fn reply<P: Modelled>(model: &mut Model, command: &Command<P>) -> Reply<P> {
     }
 }
 
-impl Modelled for SemaphoreCore {
+impl<const MAX: usize> Modelled for SemaphoreCoreOf<MAX> {
     fn make(alloc: Global, size: usize, room: u16) -> Result<Self, AllocError> {
-        SemaphoreCore::with_permits(alloc, size, room)
+        if MAX == 0 || MAX > 65_535 {
+            return Err(AllocError);
+        }
+        SemaphoreCoreOf::with_permits(alloc, size, room)
     }
 
     fn held(size: usize) -> Held {
-        Held::Out(PERMITS.saturating_sub(size))
+        Held::Out {
+            out: MAX.saturating_sub(size),
+            bound: MAX,
+        }
     }
 
     fn need(ask: usize) -> Need {
@@ -59,7 +65,7 @@ impl Modelled for SemaphoreCore {
 
     fn call_model(model: &mut Model, call: SemaphoreCall) -> SemaphoreAnswer {
         let out = match model.held {
-            Held::Out(out) => out,
+            Held::Out { out, .. } => out,
             _ => 0,
         };
         match call {
@@ -69,9 +75,9 @@ impl Modelled for SemaphoreCore {
             SemaphoreCall::ReleaseMany(count) => {
                 SemaphoreAnswer::Bool(model.give_back(Need::Permits(count)))
             }
-            SemaphoreCall::AvailablePermits => SemaphoreAnswer::Number(PERMITS.saturating_sub(out)),
-            SemaphoreCall::IsOpen => SemaphoreAnswer::Bool(out < PERMITS),
-            SemaphoreCall::IsClosed => SemaphoreAnswer::Bool(out >= PERMITS),
+            SemaphoreCall::AvailablePermits => SemaphoreAnswer::Number(MAX.saturating_sub(out)),
+            SemaphoreCall::IsOpen => SemaphoreAnswer::Bool(out < MAX),
+            SemaphoreCall::IsClosed => SemaphoreAnswer::Bool(out >= MAX),
         }
     }
 

@@ -5,6 +5,8 @@
 #[cfg(test)]
 mod counts;
 #[cfg(test)]
+mod crowd;
+#[cfg(test)]
 mod kinds;
 #[cfg(test)]
 mod lists;

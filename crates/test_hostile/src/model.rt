@@ -4,17 +4,14 @@ use saa::gate::State;
 use saa::lock::Mode;
 use saa::ticket::{Error, Full, How};
 
-/// The most permits of a semaphore.
-pub const PERMITS: usize = 63;
-
 // The most owners that share a lock.
 const OWNERS: usize = 62;
 
 /// What a primitive holds.
 #[derive(Clone, Copy)]
 pub enum Held {
-    /// A semaphore: so many permits are out.
-    Out(usize),
+    /// A semaphore: so many permits are out, of so many.
+    Out { out: usize, bound: usize },
     /// A lock that is nobody's.
     Free,
     /// A lock of one owner alone.
@@ -109,10 +106,10 @@ impl Model {
     // What would be held if the need were granted; nothing where it doesn't fit.
     fn granted(&self, need: Need) -> Option<Held> {
         match (self.held, need) {
-            (Held::Out(out), Need::Permits(count)) => {
+            (Held::Out { out, bound }, Need::Permits(count)) => {
                 let sum = out.saturating_add(count);
-                if sum <= PERMITS {
-                    Some(Held::Out(sum))
+                if sum <= bound {
+                    Some(Held::Out { out: sum, bound })
                 } else {
                     None
                 }
@@ -133,7 +130,10 @@ impl Model {
     // What would be held if it were given back; nothing where it isn't out.
     fn returned(&self, need: Need) -> Option<Held> {
         match (self.held, need) {
-            (Held::Out(out), Need::Permits(count)) => Some(Held::Out(out.checked_sub(count)?)),
+            (Held::Out { out, bound }, Need::Permits(count)) => {
+                let out = out.checked_sub(count)?;
+                Some(Held::Out { out, bound })
+            }
             (Held::Owned, Need::Lock(Mode::Exclusive)) => Some(Held::Free),
             (Held::Shared(1), Need::Lock(Mode::Shared)) => Some(Held::Free),
             (Held::Shared(owners), Need::Lock(Mode::Shared)) => {
@@ -243,7 +243,7 @@ impl Model {
                 self.answer_all(0);
                 Some(1)
             }
-            Held::Out(_) | Held::Free | Held::Owned | Held::Shared(_) => {
+            Held::Out { .. } | Held::Free | Held::Owned | Held::Shared(_) => {
                 if self.take(need) { Some(0) } else { None }
             }
         }
@@ -254,8 +254,8 @@ impl Model {
         if let Entry::Waiting { .. } | Entry::Answered { .. } = self.entry(name) {
             return Ok(false);
         }
-        if let Need::Permits(count) = need {
-            if count > PERMITS {
+        if let (Held::Out { bound, .. }, Need::Permits(count)) = (self.held, need) {
+            if count > bound {
                 return Ok(false);
             }
         }

@@ -1,9 +1,10 @@
 //! Random commands by sixteen pagers on the core of a semaphore, whose line is held by links, and on a semaphore whose line
-//! is a list: both reply the same, and owe the same wakes.
+//! is a list: both reply the same, and owe the same wakes. The same at a semaphore of a thousand permits beside a plain model.
 
+use crate::crowd::Crowd;
 use rand_core::utils::NextWord;
 use rand_pcg::Pcg32;
-use saa::semaphore::SemaphoreCore;
+use saa::semaphore::{SemaphoreCore, SemaphoreCoreOf};
 use saa::ticket::{How, Ticket};
 use std::alloc::{AllocError, Global};
 use std::io;
@@ -109,5 +110,91 @@ fn a_line_of_links_replies_as_a_list_does(rt: HostRuntime) -> io::Result<()> {
     holds!(rt; different == 0);
     // The room was full at times, and pagers without a slot were answered at once.
     holds!(rt; fullest > usize::from(ROOM));
+    Ok(())
+}
+
+// How many permits the greater semaphore has.
+const PERMITS: usize = 1_000;
+
+// A semaphore of a thousand permits and its model; a pager is a place and a name.
+#[derive(Drop)]
+struct Modelled {
+    core: SemaphoreCoreOf<1_000>,
+    model: Crowd,
+    tickets: Vec<Ticket>,
+}
+
+impl Modelled {
+    fn new(alloc: Global) -> Result<Modelled, AllocError> {
+        let mut tickets = Vec::new(alloc);
+        for _pager in 0..PAGERS {
+            tickets.push(Ticket::new())?;
+        }
+        Ok(Modelled {
+            core: SemaphoreCoreOf::new(alloc, ROOM)?,
+            model: Crowd::new(alloc, PERMITS, PAGERS, ROOM)?,
+            tickets,
+        })
+    }
+
+    // Does what a random word says at both, as above; whether they reply the same.
+    fn agree(&mut self, word: u32) -> Result<bool, AllocError> {
+        let count = (word >> 8) as usize % 256;
+        let pager = (word >> 16) as usize % usize::from(PAGERS);
+        let is_sync = (word >> 24).is_multiple_of(2);
+        let is_same = match word % 16 {
+            0 => self.core.try_acquire_many(count * 4) == self.model.take(count * 4),
+            1..=4 => self.core.release_many(count) == self.model.give_back(count),
+            kind => self.agree_at(kind, pager, count, is_sync)?,
+        };
+        Ok(is_same && self.core.available_permits() == self.model.available())
+    }
+
+    // Registers, polls or drops a pager at both.
+    fn agree_at(
+        &mut self,
+        kind: u32,
+        pager: usize,
+        count: usize,
+        is_sync: bool,
+    ) -> Result<bool, AllocError> {
+        let Some(ticket) = self.tickets.get_mut(pager) else {
+            return Ok(false);
+        };
+        let is_same = match kind {
+            5..=9 => {
+                let expected = self.model.register(pager, count, is_sync)?;
+                self.core.register(ticket, count, is_sync) == expected
+            }
+            10..=13 => {
+                let how = if is_sync { How::Try } else { How::Sync };
+                self.core.poll(ticket, how) == self.model.poll(pager, how)
+            }
+            _ => {
+                self.core.cancel(ticket);
+                self.model.forget(pager);
+                true
+            }
+        };
+        Ok(is_same && ticket.is_registered() == self.model.is_registered(pager))
+    }
+}
+
+#[test]
+fn a_line_at_a_thousand_permits_replies_as_a_list_does(rt: HostRuntime) -> io::Result<()> {
+    let (mut different, mut emptiest) = (0u32, PERMITS);
+    for seed in 0..32u64 {
+        let mut random = Pcg32::new(seed, 54);
+        let mut both = Modelled::new(rt.alloc())?;
+        for _command in 0..COMMANDS {
+            if !both.agree(random.next_word())? {
+                different = different.saturating_add(1);
+            }
+            emptiest = both.core.available_permits().min(emptiest);
+        }
+    }
+    holds!(rt; different == 0);
+    // Nearly all permits were out at times.
+    holds!(rt; emptiest < 63);
     Ok(())
 }

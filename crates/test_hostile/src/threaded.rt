@@ -1,10 +1,13 @@
-//! The same lists of four commands on the threaded forms, by pagers in one thread, beside the model.
+//! The same lists of commands on the threaded forms, by pagers in one thread, beside the model.
 //!
 //! All but the polls as async, which are futures; a poll as sync that would wait is passed over.
 
+ghost use Rattle.std.specs.Prelude.{◌<◌};
+
 use crate::kinds::{Modelled, reply};
 use crate::lists::{
-    barrier_calls, commands, digit, gate_calls, lock_calls, modes, semaphore_calls,
+    barrier_calls, commands, digit, gate_calls, length_of, lists_of, lock_calls, modes, odd_counts,
+    semaphore_calls,
 };
 use crate::model::Model;
 use saa::barrier::{Barrier, BarrierAnswer, BarrierCall, BarrierCore};
@@ -12,16 +15,14 @@ use saa::bench::{Command, CommandOf, Primitive, ReplyOf};
 use saa::gate::{self, Gate, GateAnswer, GateCall, GateCore, State};
 use saa::lock::{Lock, LockAnswer, LockCall, LockCore, Mode};
 use saa::pager::{Pager, SyncResult};
-use saa::semaphore::{Semaphore, SemaphoreAnswer, SemaphoreCall, SemaphoreCore};
+use saa::semaphore::{SemaphoreAnswer, SemaphoreCall, SemaphoreCoreOf, SemaphoreOf};
 use saa::ticket::{Error, Full};
 use std::alloc::{AllocError, Global};
 use std::io;
 use std::process::Abort;
 use std::sync::Wait;
 use std::sync::atomic::Ordering;
-use test_asserts::holds;
-
-const LENGTH: u32 = 4;
+use test_asserts::{holds, same};
 
 // A threaded form, and the core whose commands it does.
 trait Form: SyncResult + Drop {
@@ -103,7 +104,7 @@ where
 
     // Does the list of this number at both: its digits are the places of its commands, first first.
     fn agree_on_list(&mut self, commands: &[Command<F::Core>], number: u64) -> bool {
-        for turn in 0..LENGTH {
+        for turn in 0..length_of(commands) {
             let Some(command) = digit(commands, number, turn) else {
                 return false;
             };
@@ -139,8 +140,8 @@ where
         && pair.agree(&CommandOf::Call(read))
 }
 
-impl<R: Wait + Drop> Form for Semaphore<R> {
-    type Core = SemaphoreCore;
+impl<R: Wait + Drop, const MAX: usize> Form for SemaphoreOf<R, MAX> {
+    type Core = SemaphoreCoreOf<MAX>;
 
     fn call(&self, call: SemaphoreCall) -> SemaphoreAnswer {
         match call {
@@ -258,18 +259,22 @@ impl<R: Wait + Drop> Form for Barrier<R> {
     }
 }
 
-// How many lists there are of so many commands.
-fn lists_of<C>(commands: &[C]) -> u64 {
-    (commands.len() as u64).saturating_pow(LENGTH)
-}
-
-// Every list at a semaphore of all permits in this room: how many, and in how many a reply differed.
-fn at_semaphores(rt: &impl Wait, alloc: Global, room: u16) -> Result<(u64, u64), AllocError> {
-    let commands = commands::<SemaphoreCore>(alloc, &semaphore_calls(), &[0, 1, 63], false)?;
+// Every list at a semaphore of all permits in this room, with these counts: how many, and in how many a reply differed.
+fn at_semaphores<R: Wait, const MAX: usize>(
+    rt: &R,
+    alloc: Global,
+    room: u16,
+    counts: &[usize],
+) -> Result<(u64, u64), AllocError>
+    requires bound { 0 < MAX }
+    requires narrow { MAX < 65536 }
+{
+    let calls = semaphore_calls(alloc, counts)?;
+    let commands = commands::<SemaphoreCoreOf<MAX>>(alloc, &calls, counts, false)?;
     let (lists, mut different) = (lists_of(&commands), 0u64);
     for number in 0..lists {
-        let semaphore = Semaphore::new(rt, alloc, room)?;
-        let model = Model::new(SemaphoreCore::held(63), room);
+        let semaphore = SemaphoreOf::<&R, MAX>::new(rt, alloc, room)?;
+        let model = Model::new(SemaphoreCoreOf::<MAX>::held(MAX), room);
         let read = SemaphoreCall::AvailablePermits;
         let is_same = one_list(&semaphore, model, &commands, number, read);
         different = different.saturating_add(u64::from(!is_same));
@@ -324,9 +329,22 @@ fn at_barriers(
 #[test]
 fn at_a_semaphore(rt: HostRuntime) -> io::Result<()> {
     for room in 0..3u16 {
-        let (lists, different) = at_semaphores(&rt, rt.alloc(), room)?;
+        let (lists, different) = at_semaphores::<_, 63>(&rt, rt.alloc(), room, &[0, 1, 63])?;
         holds!(rt; lists == 531_441);
         assert!(rt; different == 0, "in a room for {room}");
+    }
+    Ok(())
+}
+
+// 45 commands, so lists of three, with odd counts.
+#[test]
+fn at_semaphores_of_any_bound(rt: HostRuntime) -> io::Result<()> {
+    let wanted = (91_125, 0);
+    for room in 0..3u16 {
+        same!(rt; at_semaphores::<_, 1>(&rt, rt.alloc(), room, &odd_counts(1))?, wanted);
+        same!(rt; at_semaphores::<_, 63>(&rt, rt.alloc(), room, &odd_counts(63))?, wanted);
+        same!(rt; at_semaphores::<_, 1_000>(&rt, rt.alloc(), room, &odd_counts(1_000))?, wanted);
+        same!(rt; at_semaphores::<_, 65_535>(&rt, rt.alloc(), room, &odd_counts(65_535))?, wanted);
     }
     Ok(())
 }

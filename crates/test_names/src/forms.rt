@@ -4,10 +4,12 @@ use saa::barrier::Barrier;
 use saa::gate::{Error as GateError, Gate, State};
 use saa::lock::{Lock, Mode};
 use saa::pager::{Error, How, Pager, SyncResult, Ticket};
-use saa::semaphore::{Permit, Semaphore};
+use saa::semaphore::{
+    Permit, PermitCore, PermitFrom, PermitOf, Semaphore, SemaphoreOf, SemaphoreOn, TakesBack,
+};
 use saa::{
-    Mutex, MutexGuard, RwLock, RwLockReadGuard, RwLockWriteGuard, lock_api, lock_async, read_async,
-    write_async,
+    Guard, Lends, Mutex, MutexGuard, PassesOn, RwLock, RwLockReadGuard, RwLockWriteGuard, Shows,
+    Writing, lock_api, lock_async, read_async, write_async,
 };
 use std::io;
 use std::sync::Wait;
@@ -20,6 +22,31 @@ fn a_semaphore_gives_permits(rt: HostRuntime) -> io::Result<()> {
     let permit: Option<Permit<'_, &HostRuntime>> = semaphore.try_acquire_permit();
     holds!(rt; permit.is_some());
     same!(rt; semaphore.available_permits(Ordering::SeqCst), 1);
+    Ok(())
+}
+
+// The most permits of a semaphore, whatever its core.
+fn most<R: Wait + Drop, C: PermitCore>(_semaphore: &SemaphoreOn<R, C>) -> usize {
+    SemaphoreOn::<R, C>::MAX_PERMITS
+}
+
+// Keeps a permit out, and gives it back to what it came from.
+fn put_back<S: TakesBack>(permit: PermitFrom<'_, S>, semaphore: &S) {
+    permit.forget();
+    semaphore.take_back();
+}
+
+#[test]
+fn a_semaphore_of_any_bound_gives_permits(rt: HostRuntime) -> io::Result<()> {
+    let semaphore: SemaphoreOf<&HostRuntime, 1_000> = SemaphoreOf::new(&rt, rt.alloc(), 0)?;
+    same!(rt; most(&semaphore), 1_000);
+    let permit: Option<PermitOf<'_, &HostRuntime, 1_000>> = semaphore.try_acquire_permit();
+    same!(rt; semaphore.available_permits(Ordering::SeqCst), 999);
+    if let Some(permit) = permit {
+        put_back(permit, &semaphore);
+    }
+    same!(rt; semaphore.available_permits(Ordering::SeqCst), 1_000);
+    same!(rt; Semaphore::<&HostRuntime>::MAX_PERMITS, 63);
     Ok(())
 }
 
@@ -67,6 +94,21 @@ fn values<R: Wait + Drop>(
     (*alone, *shared)
 }
 
+// The value of any guard.
+fn value<V: Shows<Value = u32>, U: PassesOn>(guard: &Guard<V, U>) -> u32 {
+    **guard
+}
+
+// Puts a value behind any guard that writes.
+fn put<V: Lends<Value = u32>, U: PassesOn>(guard: &mut Guard<V, U>, number: u32) {
+    **guard = number;
+}
+
+// Gives up a guard in a writer's turn.
+fn end<'a, V: Shows, R: Wait + Drop>(guard: Guard<V, Writing<'a, R, u32>>) {
+    Guard::unlock_fair(guard);
+}
+
 // What a writer leaves.
 fn written<R: Wait + Drop>(guard: RwLockWriteGuard<'_, R, u32>) -> u32 {
     let mut guard = guard;
@@ -80,6 +122,11 @@ fn guards_give_their_values(rt: HostRuntime) -> io::Result<()> {
     let lock = RwLock::new(&rt, rt.alloc(), 7, 0)?;
     if let (Ok(alone), Ok(shared)) = (mutex.lock(), lock.read()) {
         same!(rt; values(alone, shared), (5, 7));
+    }
+    if let Ok(mut guard) = lock.write() {
+        put(&mut guard, 6);
+        same!(rt; value(&guard), 6);
+        end(guard);
     }
     same!(rt; lock.write().map(written), Ok(8));
     let other: lock_api::Mutex<&HostRuntime, u32> = lock_api::Mutex::new(&rt, rt.alloc(), 3, 0)?;

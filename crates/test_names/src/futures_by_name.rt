@@ -4,15 +4,16 @@ use futures::task::Poll;
 use futures::test::MockTask;
 use saa::barrier::Barrier;
 use saa::future::{
-    Acquire, AcquireMany, AcquireManyWith, AcquireWith, Arrival, ArriveFuture, ArriveFutureWith,
-    Asked, AskedWith, Enter, EnterWith, LockFuture, LockFutureWith, ManyPermits, MutexFuture,
-    OnePermit, Passing, PollPager, Question, ReadFuture, ShareFuture, ShareFutureWith, Turn,
+    Acquire, AcquireMany, AcquireManyOf, AcquireManyWith, AcquireManyWithOf, AcquireOf,
+    AcquireWith, AcquireWithOf, Arrival, ArriveFuture, ArriveFutureWith, Asked, AskedWith, Enter,
+    EnterWith, LockFuture, LockFutureWith, ManyPermits, ManyPermitsOf, MutexFuture, OnePermit,
+    OnePermitOf, Passing, PollPager, Question, ReadFuture, ShareFuture, ShareFutureWith, Turn,
     WriteFuture,
 };
 use saa::gate::{Error as GateError, Gate};
 use saa::lock::Lock;
 use saa::pager::Pager;
-use saa::semaphore::Semaphore;
+use saa::semaphore::{Semaphore, SemaphoreOf};
 use saa::{Mutex, RwLock, lock_async, read_async, write_async};
 use std::io;
 use std::sync::Wait;
@@ -55,6 +56,26 @@ fn permits_are_told(rt: HostRuntime) -> io::Result<()> {
     let mut many: AcquireManyWith<'_, Runtime, Callback> = semaphore.acquire_many_async_with(
         2, nothing,
     );
+    holds!(rt; matches!(task.poll(&mut many), Poll::Ready(Ok(true))));
+    Ok(())
+}
+
+#[test]
+fn permits_of_any_bound_are_told(rt: HostRuntime) -> io::Result<()> {
+    let task = MockTask::new(&rt)?;
+    let semaphore: SemaphoreOf<Runtime<'_>, 1_000> = SemaphoreOf::new(&rt, rt.alloc(), 0)?;
+    let one: AcquireOf<'_, Runtime, 1_000> = semaphore.acquire_async();
+    let many: AcquireManyOf<'_, Runtime, 1_000> = semaphore.acquire_many_async(2);
+    same!(rt; (
+            told::<_, OnePermitOf<1_000>>(&task, one),
+            told::<_, ManyPermitsOf<1_000>>(&task, many),
+        ), (Some(()), Some(true)));
+    let mut one: AcquireWithOf<'_, Runtime, Callback, 1_000> = semaphore.acquire_async_with(
+        nothing,
+    );
+    holds!(rt; matches!(task.poll(&mut one), Poll::Ready(Ok(()))));
+    let mut many: AcquireManyWithOf<'_, Runtime, Callback, 1_000> =
+        semaphore.acquire_many_async_with(2, nothing);
     holds!(rt; matches!(task.poll(&mut many), Poll::Ready(Ok(true))));
     Ok(())
 }

@@ -10,6 +10,7 @@ ghost use Rattle.saa_core_spec.specs.Asking.{registered};
 ghost use Rattle.saa_core.specs.Tickets.{Acts, dropping, is_busy};
 ghost use Rattle.saa_core.specs.Beginning.{BeginOwes, alone};
 ghost use Rattle.saa_core.specs.Futures.{asked, has_joined, is_end, is_waiting, progress_as, waited};
+ghost use Rattle.saa_sync.specs.Forms.{source_of};
 ghost use Rattle.futures.specs.Task.{Hears, IsArmed, Keeps};
 ghost use Rattle.futures.specs.Poll.{IfReady, OnPending};
 
@@ -53,16 +54,17 @@ pub struct Asked<'s, R: Wait + Drop, Q: Question> {
 
 impl<'s, R: Wait + Drop, Q: Question> Model for Asked<'s, R, Q> {
     ghost use Rattle.saa_sync.specs.Futures.{FutureState};
+    ghost use Rattle.saa_sync.specs.Forms.{source_of};
 
     ghost Value = { FutureState };
 
-    ghost view = { λ future. record { asking = future.asking; source = future.shell.now.source.id } };
+    ghost view = { λ future. record { asking = future.asking; source = source_of future.shell.now } };
 }
 
 impl<'s, R: Wait + Drop, Q: Question> Asked<'s, R, Q> {
     /// A future that asks this at a shell, and isn't registered yet; for the calls of a form.
     pub fn new(shell: &'s Shell<R, Q::Core>, ask: <Q::Core as Primitive>::Ask) -> Self
-        ensures source { result.source ≡ shell.now.source.id }
+        ensures source { result.source ≡ source_of shell.now }
         ensures request { result.asking.request ≡ Q.Core.request ask }
         ensures idle { result.asking.ticket ≡ Unregistered }
         ensures fresh { result.asking.has_ended ≡ false }

@@ -11,28 +11,37 @@ ghost use Rattle.saa_core.specs.declared.ticket.Registration.TheVariants.{Unregi
 use crate::future::lock::{LockFuture, ShareFuture};
 use crate::guarded::Guarded;
 use crate::lock_api::mutex::{Mutex, MutexGuard};
-use crate::lock_api::rwlock::{RwLock, RwLockReadGuard, RwLockWriteGuard};
-use crate::turn::{Leave, poll_turn};
+use crate::lock_api::rwlock::{RwLock, RwLockReadGuard, RwLockWriteGuard, Writing};
+use crate::turn::poll_turn;
 use futures::task::{Context, Poll};
 use futures::{Future, ready};
 use saa_core::ticket::Full;
+use std::marker::Model;
 use std::sync::Wait;
 
-/// The future of [`lock_async`].
+/// The future of [`lock_async`]. Contracts see the lock whose turn it waits for, and the future of that turn.
 #[derive(Drop)]
 pub struct MutexFuture<'a, R: Wait + Drop, T> {
     guarded: &'a Guarded<R, T>,
-    turn: LockFuture<'a, Leave<R>>,
+    turn: LockFuture<'a, R>,
+}
+
+impl<'a, R: Wait + Drop, T> Model for MutexFuture<'a, R, T> {
+    ghost use Rattle.saa_sync.specs.Forms.{GuardFutureState};
+
+    ghost Value = { GuardFutureState R };
+
+    ghost view = { λ future. record { lock = future.guarded.now.turn; asked = future.turn } };
 }
 
 /// The future of a mutex's guard: its output is that of [`Mutex::lock`].
 ///
 /// Nothing is asked before its first poll.
 pub fn lock_async<R: Wait + Drop, T>(mutex: &Mutex<R, T>) -> MutexFuture<'_, R, T>
-    ensures mutex { result.guarded.now ≡ mutex.now.guarded }
-    ensures request { result.turn.asking.request ≡ AskExclusive }
-    ensures idle { result.turn.asking.ticket ≡ Unregistered }
-    ensures fresh { result.turn.asking.has_ended ≡ false }
+    ensures mutex { result.lock ≡ mutex.now }
+    ensures request { result.asked.asking.request ≡ AskExclusive }
+    ensures idle { result.asked.asking.ticket ≡ Unregistered }
+    ensures fresh { result.asked.asking.has_ended ≡ false }
 {
     MutexFuture {
         guarded: &mutex.guarded,
@@ -43,9 +52,9 @@ pub fn lock_async<R: Wait + Drop, T>(mutex: &Mutex<R, T>) -> MutexFuture<'_, R, 
 impl<'a, R: Wait + Drop, T> Future for MutexFuture<'a, R, T> {
     type Output = Result<MutexGuard<'a, R, T>, Full>;
 
-    ghost needs = { λ future source. source ≡ future.turn.source };
+    ghost needs = { λ future source. source ≡ future.asked.source };
 
-    ghost gives = { λ future answer. IfOk answer (λ guard. guard.turn.lock.now ≡ future.guarded.now.turn) };
+    ghost gives = { λ future answer. IfOk answer (λ guard. guard.turn.now ≡ future.lock) };
 
     fn poll(&mut self, cx: &mut Context<'_>) -> Poll<Result<MutexGuard<'a, R, T>, Full>> {
         let guarded = self.guarded;
@@ -59,21 +68,29 @@ impl<'a, R: Wait + Drop, T> Future for MutexFuture<'a, R, T> {
     }
 }
 
-/// The future of [`write_async`].
+/// The future of [`write_async`]. Contracts see the lock whose turn it waits for, and the future of that turn.
 #[derive(Drop)]
 pub struct WriteFuture<'a, R: Wait + Drop, T> {
     guarded: &'a Guarded<R, T>,
-    turn: LockFuture<'a, Leave<R>>,
+    turn: LockFuture<'a, R>,
+}
+
+impl<'a, R: Wait + Drop, T> Model for WriteFuture<'a, R, T> {
+    ghost use Rattle.saa_sync.specs.Forms.{GuardFutureState};
+
+    ghost Value = { GuardFutureState R };
+
+    ghost view = { λ future. record { lock = future.guarded.now.turn; asked = future.turn } };
 }
 
 /// The future of a writer's guard: its output is that of [`RwLock::write`].
 ///
 /// Nothing is asked before its first poll.
 pub fn write_async<R: Wait + Drop, T>(rwlock: &RwLock<R, T>) -> WriteFuture<'_, R, T>
-    ensures rwlock { result.guarded.now ≡ rwlock.now.guarded }
-    ensures request { result.turn.asking.request ≡ AskExclusive }
-    ensures idle { result.turn.asking.ticket ≡ Unregistered }
-    ensures fresh { result.turn.asking.has_ended ≡ false }
+    ensures rwlock { result.lock ≡ rwlock.now }
+    ensures request { result.asked.asking.request ≡ AskExclusive }
+    ensures idle { result.asked.asking.ticket ≡ Unregistered }
+    ensures fresh { result.asked.asking.has_ended ≡ false }
 {
     WriteFuture {
         guarded: &rwlock.guarded,
@@ -84,37 +101,46 @@ pub fn write_async<R: Wait + Drop, T>(rwlock: &RwLock<R, T>) -> WriteFuture<'_, 
 impl<'a, R: Wait + Drop, T> Future for WriteFuture<'a, R, T> {
     type Output = Result<RwLockWriteGuard<'a, R, T>, Full>;
 
-    ghost needs = { λ future source. source ≡ future.turn.source };
+    ghost needs = { λ future source. source ≡ future.asked.source };
 
-    ghost gives = { λ future answer. IfOk answer (λ guard. guard.turn.lock.now ≡ future.guarded.now.turn) };
+    ghost gives = { λ future answer. IfOk answer (λ guard. guard.turn.now ≡ future.lock) };
 
     fn poll(&mut self, cx: &mut Context<'_>) -> Poll<Result<RwLockWriteGuard<'a, R, T>, Full>> {
         let guarded = self.guarded;
         match ready!(poll_turn(&mut self.turn, cx)) {
             Ok(()) => {
                 let (turn, value) = guarded.granted_to_write();
-                Poll::Ready(Ok(RwLockWriteGuard::new(guarded, turn, value)))
+                let turn = Writing::new(guarded, turn);
+                Poll::Ready(Ok(RwLockWriteGuard::new(turn, value)))
             }
             Err(full) => Poll::Ready(Err(full)),
         }
     }
 }
 
-/// The future of [`read_async`].
+/// The future of [`read_async`]. Contracts see the lock whose turn it waits for, and the future of that turn.
 #[derive(Drop)]
 pub struct ReadFuture<'a, R: Wait + Drop, T> {
     guarded: &'a Guarded<R, T>,
-    turn: ShareFuture<'a, Leave<R>>,
+    turn: ShareFuture<'a, R>,
+}
+
+impl<'a, R: Wait + Drop, T> Model for ReadFuture<'a, R, T> {
+    ghost use Rattle.saa_sync.specs.Forms.{GuardFutureState};
+
+    ghost Value = { GuardFutureState R };
+
+    ghost view = { λ future. record { lock = future.guarded.now.turn; asked = future.turn } };
 }
 
 /// The future of a reader's guard: its output is that of [`RwLock::read`].
 ///
 /// Nothing is asked before its first poll.
 pub fn read_async<R: Wait + Drop, T>(rwlock: &RwLock<R, T>) -> ReadFuture<'_, R, T>
-    ensures rwlock { result.guarded.now ≡ rwlock.now.guarded }
-    ensures request { result.turn.asking.request ≡ AskShared }
-    ensures idle { result.turn.asking.ticket ≡ Unregistered }
-    ensures fresh { result.turn.asking.has_ended ≡ false }
+    ensures rwlock { result.lock ≡ rwlock.now }
+    ensures request { result.asked.asking.request ≡ AskShared }
+    ensures idle { result.asked.asking.ticket ≡ Unregistered }
+    ensures fresh { result.asked.asking.has_ended ≡ false }
 {
     ReadFuture {
         guarded: &rwlock.guarded,
@@ -125,9 +151,9 @@ pub fn read_async<R: Wait + Drop, T>(rwlock: &RwLock<R, T>) -> ReadFuture<'_, R,
 impl<'a, R: Wait + Drop, T> Future for ReadFuture<'a, R, T> {
     type Output = Result<RwLockReadGuard<'a, R, T>, Full>;
 
-    ghost needs = { λ future source. source ≡ future.turn.source };
+    ghost needs = { λ future source. source ≡ future.asked.source };
 
-    ghost gives = { λ future answer. IfOk answer (λ guard. guard.turn.lock.now ≡ future.guarded.now.turn) };
+    ghost gives = { λ future answer. IfOk answer (λ guard. guard.turn.now ≡ future.lock) };
 
     fn poll(&mut self, cx: &mut Context<'_>) -> Poll<Result<RwLockReadGuard<'a, R, T>, Full>> {
         let guarded = self.guarded;

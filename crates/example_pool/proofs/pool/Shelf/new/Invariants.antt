@@ -3,4 +3,4 @@ use Rattle.example_pool.proofs.pool.Shelf.new.Given as goal
 
 -- so many connections are made, none in use, and there is room for all
 abbrev pub invariant-loop-number : goal.invariant-loop-number
-invariant-loop-number l = (length l.free.items ≡ l.number) × (l.total ≤ vec_capacity l.free) × All (λ connection. connection.is_out ≡ false) l.free.items
+invariant-loop-number g l = (length l.free.items ≡ l.number) × (g.row.MAX ≤ vec_capacity l.free) × All (λ connection. connection.is_out ≡ false) l.free.items

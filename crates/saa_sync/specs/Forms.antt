@@ -1,0 +1,48 @@
+-- What contracts see of the forms that threads share, of the locks round a value, and of their guards and futures.
+use Rattle.std.specs.Prelude.{ℕ, Bool, Result}
+use Rattle.saa_core_spec.specs.declared.barrier.BarrierAnswer.{BarrierAnswer}
+use Rattle.saa_core_spec.specs.declared.barrier.BarrierCall.{BarrierCall}
+use Rattle.saa_core_spec.specs.declared.gate.Error.{Error as GateError}
+use Rattle.saa_core_spec.specs.declared.gate.GateAnswer.{GateAnswer}
+use Rattle.saa_core_spec.specs.declared.gate.GateCall.{GateCall}
+use Rattle.saa_core_spec.specs.declared.gate.State.{State}
+use Rattle.saa_core_spec.specs.declared.lock.LockAnswer.{LockAnswer}
+use Rattle.saa_core_spec.specs.declared.lock.LockCall.{LockCall}
+use Rattle.saa_core_spec.specs.declared.lock.Mode.{Mode}
+use Rattle.saa_core_spec.specs.declared.polling.Error.{Error}
+use Rattle.saa_core.specs.Tickets.{Core}
+use Rattle.saa_sync.specs.declared.shell.Shell.{Shell}
+use Rattle.saa_sync.specs.Futures.{FutureState}
+
+-- A form is the shell that it stands on, whose core is told by the types of its calls, of what is asked, of its answers, and of
+-- what these are read as
+abbrev pub LockShell : Type 0 → Type 0
+LockShell R = Shell R Core LockCall Mode LockAnswer (Result Bool Error)
+
+abbrev pub GateShell : Type 0 → Type 0
+GateShell R = Shell R Core GateCall (Unit {0}) GateAnswer (Result State GateError)
+
+abbrev pub BarrierShell : Type 0 → Type 0
+BarrierShell R = Shell R Core BarrierCall (Unit {0}) BarrierAnswer (Result Bool Error)
+
+-- what tasks that poll at a shell wait for
+abbrev pub source_of : {R P Call Ask Answer Value : Type 0} → Shell R P Call Ask Answer Value → ℕ
+source_of shell = shell.source.id
+
+-- a lock round a value is the lock whose turns the value is used in
+abbrev pub TurnLock : Type 0 → Type 0
+TurnLock R = LockShell R
+
+-- a guard is its hold on the value, and its turn
+pub record GuardState (V U : Type 0) : Type 0 where
+  pub value : V
+  pub turn : U
+
+-- the guard after this was written through it, by what that makes of its hold
+abbrev pub written_through : {V U T : Type 0} → (V → T → V) → GuardState V U → T → GuardState V U
+written_through with_value guard written = record { value = with_value guard.value written; turn = guard.turn }
+
+-- a future of a guard is the lock whose turn it waits for, and the future of the turn
+pub record GuardFutureState (R : Type 0) : Type 0 where
+  pub lock : TurnLock R
+  pub asked : FutureState
