@@ -18,8 +18,8 @@ fn main(rt: HostRuntime) -> io::Result<()> {
         Some(workers @ 1..=16) => {
             let seen = share::<_, 500>(&rt, rt.alloc(), workers)?;
             println!(rt;
-                "{} connections were out, and {} more try was refused",
-                seen.taken, seen.refused
+                "{} connections were out, {} more try was refused, and {} wait ended in time",
+                seen.taken, seen.refused, seen.late
             )?;
             println!(rt;
                 "one came back, and was used {} times, each time with all out",

@@ -6,6 +6,7 @@ use saa::semaphore::{PermitOf, SemaphoreOf};
 use saa::ticket::Full;
 use std::alloc::{AllocError, Global};
 use std::sync::{Mutex, Wait};
+use std::time::{Clock, Duration};
 
 /// A connection: a value here that can't be copied, knows whether it is in use, and counts its uses.
 #[derive(Debug, Drop)]
@@ -42,6 +43,8 @@ pub enum Refused {
     Shut,
     /// All connections are out, and the caller doesn't wait.
     WouldWait,
+    /// All connections are out, and the caller waited for as long as it would.
+    TooLate,
     /// As many tasks wait as the pool was made for.
     TooMany,
 }
@@ -173,6 +176,18 @@ impl<'r, R: Wait, const MAX: usize> Pool<'r, R, MAX> {
             uses = uses.saturating_add(connection.uses);
         }
         (uses, shelf.out)
+    }
+
+    /// Checks a connection out, and waits for one at most so long where all are out.
+    pub fn check_out_for(&self, patience: Duration) -> Result<Checkout<'_, 'r, R, MAX>, Refused>
+    where
+        R: Clock,
+    {
+        match self.permits.acquire_permit_for(patience) {
+            Ok(Some(permit)) => self.take(permit),
+            Ok(None) => Err(Refused::TooLate),
+            Err(Full) => Err(Refused::TooMany),
+        }
     }
 
     // Takes a connection by a permit, which goes with it. Where the pool is shut the permit lets in the next who waits.

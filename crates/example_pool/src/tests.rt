@@ -4,6 +4,7 @@ use crate::pool::{Pool, Refused};
 use crate::work::{Seen, share};
 use std::io;
 use std::process::Abort;
+use std::time::Duration;
 
 #[test]
 fn one_connection_and_a_hundred(rt: HostRuntime) -> io::Result<()> {
@@ -12,6 +13,7 @@ fn one_connection_and_a_hundred(rt: HostRuntime) -> io::Result<()> {
             == Seen {
                 taken: 1,
                 refused: 1,
+                late: 1,
                 turns: 200,
                 uses: 201
             }
@@ -21,6 +23,7 @@ fn one_connection_and_a_hundred(rt: HostRuntime) -> io::Result<()> {
             == Seen {
                 taken: 100,
                 refused: 1,
+                late: 1,
                 turns: 800,
                 uses: 900
             }
@@ -36,7 +39,9 @@ fn a_pool_that_is_out_and_one_that_is_shut(rt: HostRuntime) -> io::Result<()> {
     assert!(rt; one.is_ok() && two.is_ok());
     assert!(rt; pool.uses() == (0, 2));
     assert!(rt; matches!(pool.try_check_out(), Err(Refused::WouldWait)));
+    assert!(rt; matches!(pool.check_out_for(Duration::ZERO), Err(Refused::TooLate)));
     drop(one);
+    assert!(rt; pool.check_out_for(Duration::ZERO).is_ok());
     assert!(rt; pool.uses() == (0, 1));
     match pool.try_check_out() {
         Ok(mut checkout) => checkout.connection().use_once(),

@@ -2,15 +2,19 @@
 
 ghost use Rattle.std.specs.Prelude.{◌<◌};
 
-use crate::pool::Pool;
+use crate::pool::{Pool, Refused};
 use std::alloc::{AllocError, Global};
 use std::io;
 use std::sync::Wait;
 use std::sync::atomic::{AtomicU64, Ordering};
 use std::thread::{self, Threads};
+use std::time::{Clock, Duration};
 
 /// How often each worker checks a connection out.
 const TURNS: u16 = 50;
+
+// How long one more connection is waited for, in milliseconds.
+const PATIENCE: u64 = 5;
 
 /// What was seen of a pool.
 #[derive(Clone, Copy, Debug, Eq, PartialEq)]
@@ -19,17 +23,19 @@ pub struct Seen {
     pub taken: usize,
     /// How many tries beside these were refused.
     pub refused: u64,
+    /// How many waits for one more ended in time.
+    pub late: u64,
     /// How many turns the workers had with all connections out.
     pub turns: u64,
     /// How often all connections were used together.
     pub uses: u64,
 }
 
-/// Takes all connections of a pool and tries for one more, gives one back, which so many workers pass on, and tells what
+/// Takes all connections of a pool, tries for one more, and waits for it in vain; gives one back, which so many workers pass on, and tells what
 /// was seen once all are back.
 ///
 /// The error comes where memory was refused, a thread couldn't be started, or a connection isn't back.
-pub fn share<R: Threads + Wait + Sync, const MAX: usize>(
+pub fn share<R: Threads + Wait + Clock + Sync, const MAX: usize>(
     rt: &R,
     alloc: Global,
     workers: u16,
@@ -38,27 +44,21 @@ pub fn share<R: Threads + Wait + Sync, const MAX: usize>(
     requires narrow { MAX < 65536 }
 {
     let pool = Pool::<R, MAX>::new(rt, alloc, workers)?;
-    let (taken, refused, turns) = pass_on(rt, alloc, &pool, workers)?;
+    let seen = pass_on(rt, alloc, &pool, workers)?;
     pool.shut_down();
     match pool.uses() {
-        (uses, 0) => Ok(Seen {
-            taken,
-            refused,
-            turns,
-            uses,
-        }),
+        (uses, 0) => Ok(Seen { uses, ..seen }),
         _ => Err(AllocError.into()),
     }
 }
 
-// Takes all connections, and lets workers pass on one of them: how many were taken, how many tries were refused, and how
-// many turns the workers had with all out.
-fn pass_on<R: Threads + Wait + Sync, const MAX: usize>(
+// Takes all connections, and lets workers pass on one of them: all that was seen but how often they were used.
+fn pass_on<R: Threads + Wait + Clock + Sync, const MAX: usize>(
     rt: &R,
     alloc: Global,
     pool: &Pool<'_, R, MAX>,
     workers: u16,
-) -> Result<(usize, u64, u64), AllocError> {
+) -> Result<Seen, AllocError> {
     let mut kept = Vec::new(alloc);
     let mut refused = 0u64;
     // One try more than there are connections.
@@ -69,6 +69,10 @@ fn pass_on<R: Threads + Wait + Sync, const MAX: usize>(
         }
     }
     let taken = kept.len();
+    let is_late = matches!(
+        pool.check_out_for(Duration::from_millis(PATIENCE)),
+        Err(Refused::TooLate)
+    );
     for connection in &mut kept {
         connection.use_once();
     }
@@ -90,7 +94,13 @@ fn pass_on<R: Threads + Wait + Sync, const MAX: usize>(
         pool.give_back(connection);
     }
     if is_whole {
-        Ok((taken, refused, turns.load(Ordering::SeqCst)))
+        Ok(Seen {
+            taken,
+            refused,
+            late: u64::from(is_late),
+            turns: turns.load(Ordering::SeqCst),
+            uses: 0,
+        })
     } else {
         Err(AllocError)
     }

@@ -1,11 +1,12 @@
 //! Threads that push and pop, and what they count.
 
-use crate::queue::Queue;
+use crate::queue::{Popped, Queue, Refused};
 use saa::Mutex;
 use std::alloc::{AllocError, Global};
 use std::io;
 use std::sync::Wait;
 use std::thread::{self, Threads};
+use std::time::{Clock, Duration};
 
 /// How many items each producer pushes, and for how many the queue has places.
 const ITEMS: u16 = 100;
@@ -107,4 +108,19 @@ pub fn exchange<R: Threads + Wait + Sync>(rt: &R, alloc: Global, pairs: u16) -> 
     } else {
         Err(AllocError.into())
     }
+}
+
+/// Pushes to a queue for one item, which stays full, and pops from it once it is empty, with so much patience; whether both
+/// were told that time was up, and what was pushed came out.
+pub fn ends_in_time<R: Wait + Clock>(
+    rt: &R,
+    alloc: Global,
+    patience: Duration,
+) -> io::Result<bool> {
+    let queue = Queue::new(rt, alloc, 1, 1)?;
+    let is_pushed = queue.push_for(1u8, patience) == Ok(());
+    let is_late = queue.push_for(2u8, patience) == Err(Refused::TooLate(2));
+    let is_popped = queue.pop_for(patience) == Ok(Popped::Item(1));
+    let is_empty = queue.pop_for(patience) == Ok(Popped::TooLate);
+    Ok(is_pushed && is_late && is_popped && is_empty)
 }

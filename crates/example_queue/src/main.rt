@@ -8,7 +8,8 @@ mod queue;
 #[cfg(test)]
 mod tests;
 
-use crate::exchange::exchange;
+use crate::exchange::{ends_in_time, exchange};
+use std::time::Duration;
 use std::{env, io};
 
 fn main(rt: HostRuntime) -> io::Result<()> {
@@ -20,7 +21,9 @@ fn main(rt: HostRuntime) -> io::Result<()> {
         Some(pairs @ 1..=16) => {
             let tally = exchange(&rt, rt.alloc(), pairs)?;
             println!(rt; "{} items, of the sum {}", tally.items, tally.sum)?;
-            println!(rt; "{} out of order", tally.out_of_order)
+            println!(rt; "{} out of order", tally.out_of_order)?;
+            let is_told = ends_in_time(&rt, rt.alloc(), Duration::from_millis(5))?;
+            println!(rt; "who waited in vain was told in time: {is_told}")
         }
         _ => println!(rt; "usage: example_queue N, with N from 1 to 16"),
     }

@@ -11,6 +11,7 @@ use saa::semaphore::{Permit, Semaphore};
 use saa::ticket::Full;
 use std::alloc::{AllocError, Global};
 use std::sync::Wait;
+use std::time::{Clock, Duration};
 
 /// The most items that a queue holds: one less than a semaphore has permits, so that closing has one to give.
 pub const MOST: u16 = 62;
@@ -22,8 +23,21 @@ pub enum Refused<T> {
     Closed(T),
     /// The queue is full, and the caller doesn't wait.
     WouldWait(T),
+    /// The queue is full, and the caller waited for as long as it would.
+    TooLate(T),
     /// As many tasks wait as the queue was made for.
     TooMany(T),
+}
+
+/// What a wait for an item came to that ends in time.
+#[derive(Clone, Copy, Debug, Eq, PartialEq)]
+pub enum Popped<T> {
+    /// The oldest item.
+    Item(T),
+    /// The queue is closed, and all items were taken.
+    Closed,
+    /// The queue is empty, and the caller waited for as long as it would.
+    TooLate,
 }
 
 /// The items that stand in a queue, oldest first, and whether it takes more.
@@ -102,6 +116,18 @@ impl<R: Wait + Drop + Copy, T: Drop> Queue<R, T> {
         }
     }
 
+    /// Puts an item behind the others, and waits for a place at most so long where there is none.
+    pub fn push_for(&self, item: T, patience: Duration) -> Result<(), Refused<T>>
+    where
+        R: Clock,
+    {
+        match self.free.acquire_permit_for(patience) {
+            Ok(Some(place)) => self.put(place, item),
+            Ok(None) => Err(Refused::TooLate(item)),
+            Err(Full) => Err(Refused::TooMany(item)),
+        }
+    }
+
     /// Takes the oldest item, and waits for one where there is none.
     ///
     /// `None`: the queue is closed, and all items were taken. `Full`: as many tasks wait as the queue was made for.
@@ -115,6 +141,20 @@ impl<R: Wait + Drop + Copy, T: Drop> Queue<R, T> {
         match self.filled.try_acquire_permit() {
             Some(filled) => self.take(filled),
             None => Ok(None),
+        }
+    }
+
+    /// Takes the oldest item, and waits for one at most so long where there is none.
+    pub fn pop_for(&self, patience: Duration) -> Result<Popped<T>, Full>
+    where
+        R: Clock,
+    {
+        match self.filled.acquire_permit_for(patience)? {
+            Some(filled) => match self.take(filled)? {
+                Some(item) => Ok(Popped::Item(item)),
+                None => Ok(Popped::Closed),
+            },
+            None => Ok(Popped::TooLate),
         }
     }
 

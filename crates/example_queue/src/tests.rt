@@ -1,9 +1,10 @@
 //! What the program counts, and the queue's calls one by one.
 
 use crate::exchange::exchange;
-use crate::queue::{Queue, Refused};
+use crate::queue::{Popped, Queue, Refused};
 use std::io;
 use std::process::Abort;
+use std::time::Duration;
 
 #[test]
 fn a_pair_and_more(rt: HostRuntime) -> io::Result<()> {
@@ -21,6 +22,7 @@ fn a_full_queue_and_a_closed_one(rt: HostRuntime) -> io::Result<()> {
     assert!(rt; queue.push(1).is_ok());
     assert!(rt; queue.try_push(2).is_ok());
     assert!(rt; queue.try_push(3) == Err(Refused::WouldWait(3)));
+    assert!(rt; queue.push_for(3, Duration::ZERO) == Err(Refused::TooLate(3)));
     assert!(rt; queue.close().is_ok());
     assert!(rt; queue.push(4) == Err(Refused::Closed(4)));
     assert!(rt; queue.pop().is_ok_and(|item| item == Some(1)));
@@ -28,5 +30,7 @@ fn a_full_queue_and_a_closed_one(rt: HostRuntime) -> io::Result<()> {
     assert!(rt; queue.pop().is_ok_and(|item| item.is_none()));
     assert!(rt; queue.pop().is_ok_and(|item| item.is_none()));
     assert!(rt; queue.push(5) == Err(Refused::Closed(5)));
+    assert!(rt; queue.push_for(5, Duration::MAX) == Err(Refused::Closed(5)));
+    assert!(rt; queue.pop_for(Duration::MAX) == Ok(Popped::Closed));
     Ok(())
 }

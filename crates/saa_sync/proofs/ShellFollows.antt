@@ -1,19 +1,20 @@
 -- How a call that may wait begins, as one step of the object, and what a registration at a core that stands answers.
-use Rattle.std.proofs.Common.{◌≡◌, ℕ, Result, Ok, Err, IfOk, IsErr, List, [], ◌∷◌, Bool, true, refl, ap, subst}
+use Rattle.std.proofs.Common.{◌≡◌, ℕ, Result, Ok, Err, IfOk, IsErr, List, [], ◌∷◌, Bool, true, refl, ap, subst, sym}
 use Rattle.saa_core_spec.specs.declared.request.Request.{Request}
 use Rattle.saa_core_spec.specs.declared.request.Full.{Full}
 use Rattle.saa_core_spec.specs.declared.polling.Error.{Error}
+use Rattle.saa_core_spec.specs.declared.polling.Error.TheVariants.{NotReady}
 use Rattle.saa_core_spec.specs.declared.polling.How.TheVariants.{Sync}
 use Rattle.saa_core.specs.declared.ticket.Registration.{Registration}
-use Rattle.saa_core_spec.specs.Object.{Object}
+use Rattle.saa_core_spec.specs.Object.{Object, After}
 use Rattle.saa_core_spec.specs.Asking.{registered}
 use Rattle.saa_core_spec.specs.Polling.{polled, read_as}
 use Rattle.saa_core.specs.declared.ticket.Registration.TheVariants.{Unregistered}
-use Rattle.saa_core.specs.Tickets.{Core, Acts, IsNeverTooMuch, object_of}
+use Rattle.saa_core.specs.Tickets.{Core, Acts, IsNeverTooMuch, dropping, object_of}
 use Rattle.saa_core.proofs.TicketLemmas.Modes.{registered-or-full}
 use Rattle.saa_core.proofs.TicketLemmas.Follows.{follow, then}
 use Rattle.saa_sync.specs.declared.shell.Begun.{Begun}
-use Rattle.saa_sync.specs.Waits.{begun, begun_from, begun_poll, registration_of}
+use Rattle.saa_sync.specs.Waits.{begun, begun_from, begun_poll, concluded, concluded_from, registration_of}
 
 -- a true registration as sync and then a poll as sync are the beginning of a call that may wait
 pub begun-polled : (old mid new : Core) (t0 t1 t2 : Registration) (request : Request) (is_registered : Bool) (answer : Result ℕ Error)
@@ -28,6 +29,24 @@ begun-polled old mid new t0 t1 t2 request is_registered answer is_true call late
     (subst (λ b. Acts old mid t0 t1 (λ s name. registered s name request true) (Ok b)) is_true call)
     (then mid new t1 t2 (λ s name. polled s name Sync) (λ s name. read_as begun_poll (polled s name Sync)) answer (begun_poll answer)
     (λ s next name leads. ap (read_as begun_poll) leads) later)
+
+-- the drop behind a poll that found no answer
+abbrev unanswered : {A : Type 0} → After A → After (Result ℕ Error)
+unanswered after = record { state = after.state; reply = Err NotReady }
+
+-- a poll as sync that finds no answer and then a drop are the end of a wait whose time is up
+pub polled-dropped : (old mid new : Core) (t0 t1 t2 : Registration) (answer : Result ℕ Error)
+    → answer ≡ Err NotReady
+    → Acts old mid t0 t1 (λ s name. polled s name Sync) answer
+    → Acts mid new t1 t2 dropping tt
+    → Acts old new t0 t2 concluded answer
+polled-dropped old mid new t0 t1 t2 answer is call later =
+    subst (λ a. Acts old new t0 t2 concluded a) (sym is)
+    (follow old mid new t0 t1 t2 (λ s name. polled s name Sync) (λ s name. unanswered (dropping s name)) concluded (Err NotReady) (Err NotReady)
+    (λ s next name leads. ap (concluded_from name) leads)
+    (subst (λ a. Acts old mid t0 t1 (λ s name. polled s name Sync) a) is call)
+    (then mid new t1 t2 dropping (λ s name. unanswered (dropping s name)) tt (Err NotReady)
+    (λ s next name leads. ap unanswered leads) later))
 
 -- a refusal hands its one error on
 pub full-stays : (begun : Result Begun Full) (full : Full) → IsErr begun → registration_of begun ≡ Err full

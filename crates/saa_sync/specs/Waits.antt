@@ -4,9 +4,10 @@ use Rattle.saa_core_spec.specs.declared.request.Request.{Request}
 use Rattle.saa_core_spec.specs.declared.polling.Error.{Error}
 use Rattle.saa_core_spec.specs.declared.request.Full.{Full}
 use Rattle.saa_core_spec.specs.declared.polling.How.TheVariants.{Sync}
+use Rattle.saa_core_spec.specs.declared.polling.Error.TheVariants.{NotReady, NotRegistered, WrongMode}
 use Rattle.saa_core_spec.specs.Asking.{registered}
 use Rattle.saa_core_spec.specs.Object.{Object, After}
-use Rattle.saa_core_spec.specs.Polling.{polled, read_as}
+use Rattle.saa_core_spec.specs.Polling.{dropped, polled, read_as}
 use Rattle.saa_core.specs.declared.ticket.Registration.{Registration}
 use Rattle.saa_core.specs.Tickets.{HasAnswer}
 use Rattle.saa_sync.specs.declared.shell.Begun.{Begun}
@@ -44,6 +45,20 @@ begun_from name after = begun_of name after.state after.reply
 -- A call that may wait begins by registering its name as sync; an answer that is there at once is consumed
 abbrev pub begun : Object → ℕ → Request → After (Result Begun Full)
 begun s name request = begun_from name (registered s name request true)
+
+-- how a wait ends whose time is up, by what a last poll says: where the answer isn't there, what the name is registered for is dropped
+abbrev pub concluded_of : ℕ → Object → Result ℕ Error → After (Result ℕ Error)
+concluded_of name s (Ok value) = record { state = s; reply = Ok value }
+concluded_of name s (Err NotReady) = record { state = dropped s name; reply = Err NotReady }
+concluded_of name s (Err NotRegistered) = record { state = s; reply = Err NotRegistered }
+concluded_of name s (Err WrongMode) = record { state = s; reply = Err WrongMode }
+
+abbrev pub concluded_from : ℕ → After (Result ℕ Error) → After (Result ℕ Error)
+concluded_from name after = concluded_of name after.state after.reply
+
+-- A wait whose time is up ends with a poll as sync: an answer that is there is consumed, and else the name is dropped
+abbrev pub concluded : Object → ℕ → After (Result ℕ Error)
+concluded s name = concluded_from name (polled s name Sync)
 
 -- the slot of a wake, if there is one
 abbrev pub slot_woken : Option Wake → Option ℕ

@@ -260,7 +260,7 @@ impl<R: Wait + Drop> SyncResult for Gate<R> {
 }
 
 // What a poll is told, by the number that the core answered, or by why there is none.
-fn read_answer(answer: Result<u8, polling::Error>) -> Result<State, Error>
+pub(crate) fn read_answer(answer: Result<u8, polling::Error>) -> Result<State, Error>
     ensures reads { result ≡ gate_reading answer }
     ensures fault { gate_fault result ≡ fault_of answer }
 {
@@ -274,7 +274,7 @@ fn read_answer(answer: Result<u8, polling::Error>) -> Result<State, Error>
 //
 // No gate answers a number that reads as an error of a poll. Such a one would say that somebody gave up, so that whoever
 // has an answer isn't told that it has none.
-fn read_value(value: u8) -> Result<State, Error>
+pub(crate) fn read_value(value: u8) -> Result<State, Error>
     ensures reads { result ≡ gate_reading (Ok value) }
     ensures means { gate_fault (gate_value (Ok value)) ≡ None → result ≡ gate_value (Ok value) }
     ensures answered { gate_fault result ≡ None }

@@ -6,10 +6,12 @@
 ghost use Rattle.std.specs.Prelude.{◌≡◌, IfOk, IfSome, IsOk};
 
 use crate::lock::Lock;
+use crate::timed::Deadline;
 use crate::turn::{Alone, Lowered, Shared};
 use saa_core::ticket::Full;
 use std::alloc::{AllocError, Global};
 use std::sync::{RwLock, RwLockReadGuard, RwLockWriteGuard, Wait};
+use std::time::Clock;
 
 /// A value, and the lock whose turns it is used in.
 #[derive(Drop)]
@@ -73,6 +75,36 @@ impl<R: Wait + Drop, T> Guarded<R, T> {
     {
         let turn = Shared::take(&self.turn)?;
         Ok((turn, self.value.read(self.turn.rt())))
+    }
+
+    // Waits for the turn alone until the deadline, and takes the value to write. `None`: time is up.
+    pub(crate) fn write_by(
+        &self,
+        deadline: Deadline,
+    ) -> Result<Option<(Alone<'_, R>, RwLockWriteGuard<'_, T>)>, Full>
+    where
+        R: Clock,
+        ensures { IfOk result (λ told. IfSome told (λ taken. taken.0.now ≡ self.now.turn)) }
+    {
+        match Alone::take_by(&self.turn, deadline)? {
+            Some(turn) => Ok(Some((turn, self.value.write(self.turn.rt())))),
+            None => Ok(None),
+        }
+    }
+
+    // Waits for a share of the turn until the deadline, and takes the value to read. `None`: time is up.
+    pub(crate) fn read_by(
+        &self,
+        deadline: Deadline,
+    ) -> Result<Option<(Shared<'_, R>, RwLockReadGuard<'_, T>)>, Full>
+    where
+        R: Clock,
+        ensures { IfOk result (λ told. IfSome told (λ taken. taken.0.now ≡ self.now.turn)) }
+    {
+        match Shared::take_by(&self.turn, deadline)? {
+            Some(turn) => Ok(Some((turn, self.value.read(self.turn.rt())))),
+            None => Ok(None),
+        }
     }
 
     // Makes the turn alone a share, and the value to write a value to read.

@@ -18,5 +18,6 @@ mod seat;
 pub mod semaphore;
 mod shell;
 pub mod testing;
+pub mod timed;
 mod turn;
 mod wakers;

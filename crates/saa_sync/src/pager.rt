@@ -3,7 +3,7 @@
 //! `SyncResult` is what generic code knows of a threaded form. A pager is held to the plain clause of every poll: it
 //! is registered afterwards exactly where it was before and the answer is one of the three errors of a poll.
 
-ghost use Rattle.std.specs.Prelude.{◌≡◌, ℕ, false, Option, Some, None, Result, Err};
+ghost use Rattle.std.specs.Prelude.{◌≡◌, ℕ, false, Option, Some, None, Result, Err, IfSome, IsNone, is_some};
 ghost use Rattle.saa_core_spec.specs.declared.polling.Error.{Error};
 ghost use Rattle.saa_core_spec.specs.declared.polling.How.TheVariants.{Try, Sync, Async};
 ghost use Rattle.saa_core.specs.declared.ticket.Registration.TheVariants.{Unregistered};
@@ -12,6 +12,7 @@ ghost use Rattle.saa_sync.specs.Waits.{IsTold};
 ghost use Rattle.futures.specs.Task.{Hears, IsArmed, Keeps};
 ghost use Rattle.futures.specs.Poll.{IfReady, OnPending};
 
+use crate::timed::{Deadline, Timed};
 use futures::Future;
 use futures::task::{Context, Poll};
 pub use saa_core::ticket::{Error, How, Ticket};
@@ -212,6 +213,29 @@ impl<'s, S: SyncResult> Pager<'s, S> {
             self.at = None;
         }
         polled
+    }
+
+    // The primitive that it is registered at.
+    pub(crate) fn primitive(&self) -> Option<&'s S>
+        ensures { is_some result ≡ is_busy self.now }
+    {
+        self.at
+    }
+
+    // A poll as sync at its primitive, which ends in time.
+    pub(crate) fn poll_by(&mut self, primitive: &S, deadline: Deadline) -> Option<S::Result>
+    where
+        S: Timed,
+        ensures polled { IfSome result (λ answer. Polled self.old self.new Sync (S.fault answer)) }
+        ensures told { IfSome result (λ answer. IsTold S.reading self.old answer) }
+        ensures waited { IfSome result (λ answer. is_not_ready (S.fault answer) ≡ false) }
+        ensures unanswered { IsNone result → self.new ≡ self.old }
+    {
+        let answer = primitive.take_until(&mut self.ticket, deadline);
+        if !self.ticket.is_registered() {
+            self.at = None;
+        }
+        answer
     }
 
     // The slot in which it waits, or its answer stands.

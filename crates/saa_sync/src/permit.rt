@@ -69,7 +69,7 @@ impl<R: Wait + Drop, const MAX: usize> SemaphoreOn<R, SemaphoreCoreOf<MAX>> {
         ensures { IfOk result (λ permit. permit.now ≡ self.now) }
     {
         self.acquire_sync()?;
-        Ok(PermitFrom { semaphore: self })
+        Ok(self.permit())
     }
 
     /// Takes one permit as [`Self::try_acquire`] does, and gives it back when what is returned goes; never waits for it.
@@ -79,9 +79,16 @@ impl<R: Wait + Drop, const MAX: usize> SemaphoreOn<R, SemaphoreCoreOf<MAX>> {
         ensures { IfSome result (λ permit. permit.now ≡ self.now) }
     {
         if self.try_acquire() {
-            Some(PermitFrom { semaphore: self })
+            Some(self.permit())
         } else {
             None
         }
+    }
+
+    // The permit of one that was granted.
+    pub(crate) fn permit(&self) -> PermitOf<'_, R, MAX>
+        ensures { result.now ≡ self.now }
+    {
+        PermitFrom { semaphore: self }
     }
 }

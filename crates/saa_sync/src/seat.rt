@@ -3,10 +3,12 @@
 //! A wait is over for whoever polls and finds an answer; a seat only says when it is worth polling again. How long a
 //! task stays awake is a value, `Patience`, so that tests can send every wait to sleep.
 
+use crate::timed::Deadline;
 use std::hint::spin_loop;
 use std::sync::atomic::{AtomicU64, Ordering};
-use std::sync::{Condvar, MutexGuard, Wait};
+use std::sync::{Condvar, CondvarTimeouts, MutexGuard, Wait};
 use std::thread::yield_now;
+use std::time::{Clock, Duration};
 
 /// How long a task that waits stays awake.
 #[derive(Clone, Copy)]
@@ -86,6 +88,39 @@ impl Seat {
     pub fn sleep<'g, T>(&self, rt: &impl Wait, inside: MutexGuard<'g, T>) -> MutexGuard<'g, T> {
         self.state.store(ASLEEP, Ordering::SeqCst);
         self.bell.wait(rt, inside)
+    }
+
+    /// Looks and yields as [`Self::linger`] does, and no longer than there is time.
+    pub fn linger_until(&self, patience: Patience, clock: &impl Clock, deadline: Deadline) {
+        for _turn in 0..patience.looks {
+            if self.is_rung() {
+                return;
+            }
+            spin_loop();
+        }
+        for _turn in 0..patience.yields {
+            if self.is_rung() || deadline.left(clock).is_none() {
+                return;
+            }
+            yield_now();
+        }
+    }
+
+    /// Sleeps as [`Self::sleep`] does, and for so long at most.
+    pub fn sleep_for<'g, R: Wait + Clock, T>(
+        &self,
+        rt: &R,
+        inside: MutexGuard<'g, T>,
+        left: Duration,
+    ) -> MutexGuard<'g, T> {
+        self.state.store(ASLEEP, Ordering::SeqCst);
+        let (inside, _timed_out) = self.bell.wait_timeout(rt, inside, left);
+
+        // Its wait may end here, and then nobody sleeps. A ring that came meanwhile stays.
+        let _state = self
+            .state
+            .compare_exchange(ASLEEP, AWAKE, Ordering::SeqCst, Ordering::SeqCst);
+        inside
     }
 
     /// Whether the slot may have been answered since its holder joined.

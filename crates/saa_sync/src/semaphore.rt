@@ -362,7 +362,7 @@ impl<R: Wait + Drop, const MAX: usize> SyncResult for SemaphoreOn<R, SemaphoreCo
 }
 
 // Whether a count is above the bound, so that it can never be granted.
-fn is_too_many<const MAX: usize>(count: usize) -> bool
+pub(crate) fn is_too_many<const MAX: usize>(count: usize) -> bool
     ensures { IsTrue result ↔ (MAX < count) }
 {
     count > MAX

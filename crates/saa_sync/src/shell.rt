@@ -5,10 +5,10 @@
 //! core, and say what they do to it; those of `Shell` only take the lock round one of them, and wake.
 //!
 //! What nobody waits in is inlined, and the waiting and waking isn't: each register that a call saves in memory before it
-//! takes the lock is waited for there, which cost a lock some 10 ns.
+//! takes the lock is waited for there, which cost a lock some 10 ns. Waits that end in time stand in `timed`.
 
-ghost use Rattle.std.specs.Prelude.{◌≡◌, ◌||◌, ◌&&◌, not, true, false, Some, IfErr, IfOk, IsOk, slice_get};
-ghost use Rattle.saa_core_spec.specs.declared.polling.Error.TheVariants.{NotRegistered};
+ghost use Rattle.std.specs.Prelude.{◌≡◌, ◌⊎◌, ◌||◌, ◌&&◌, not, true, false, Some, IfErr, IfOk, IsOk, slice_get};
+ghost use Rattle.saa_core_spec.specs.declared.polling.Error.TheVariants.{NotReady, NotRegistered};
 ghost use Rattle.saa_core_spec.specs.declared.polling.How.TheVariants.{Sync, Async};
 ghost use Rattle.saa_core.specs.declared.ticket.Registration.TheVariants.{Unregistered};
 ghost use Rattle.saa_core_spec.specs.Asking.{registered};
@@ -16,9 +16,11 @@ ghost use Rattle.saa_core_spec.specs.Polling.{polled};
 ghost use Rattle.saa_core.specs.Tickets.{Acts, HasAnswer, Polled, dropping, fault_of, is_busy, is_not_ready, is_yes, IsNeverTooMuch};
 ghost use Rattle.saa_core.specs.Slots.{OwesAnswered, wake_told};
 ghost use Rattle.saa_core.specs.Beginning.{BeginOwes, alone, mode_of};
-ghost use Rattle.saa_sync.specs.Waits.{begun, has_joined, registration_of, slot_woken};
+ghost use Rattle.saa_sync.specs.Waits.{begun, concluded, has_joined, registration_of, slot_woken};
 ghost use Rattle.futures.specs.Task.{Hears, IsArmed, Keeps};
 ghost use Rattle.futures.specs.Poll.{IfReady, OnPending};
+
+mod timed;
 
 use crate::seat::{Patience, Seat};
 use crate::wakers::Wakers;
@@ -155,6 +157,23 @@ impl<P: Primitive> Inside<P> {
         ensures owed { (P.core self.new.core).slots.owed ≡ (P.core self.old.core).slots.owed }
     {
         self.core.poll_number(ticket, how)
+    }
+
+    // Ends the wait of a ticket that was registered as sync: takes the answer if it is there, and else drops what the ticket is
+    // registered for, and says `NotReady`.
+    fn conclude(&mut self, ticket: &mut Ticket) -> Result<u8, Error>
+        ensures acts { Acts (P.core self.old.core) (P.core self.new.core) ticket.old ticket.new concluded result }
+        ensures idle { is_not_ready (fault_of result) ≡ true → ticket.new ≡ Unregistered }
+        ensures polled { is_not_ready (fault_of result) ≡ false → Polled ticket.old ticket.new Sync (fault_of result) }
+        ensures answered { HasAnswer ticket.old result }
+        ensures lost { mode_of ticket.old ≡ Some true → IfErr result (λ error. (error ≡ NotReady) ⊎ (error ≡ NotRegistered)) }
+    {
+        let answer = self.poll(ticket, How::Sync);
+        let is_unanswered = matches!(answer, Err(Error::NotReady));
+        if is_unanswered {
+            self.cancel(ticket);
+        }
+        answer
     }
 
     // Drops what a ticket is registered for.

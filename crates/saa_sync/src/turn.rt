@@ -9,12 +9,14 @@ ghost use Rattle.futures.specs.Task.{Covers, Keeps};
 ghost use Rattle.futures.specs.Poll.{OnPending};
 
 use crate::future::lock::LockFuture;
-use crate::lock::Lock;
+use crate::lock::{Lock, Mode};
+use crate::timed::Deadline;
 use futures::Future;
 use futures::task::{Context, Poll};
 use saa_core::ticket::Full;
 use std::marker::{Model, PhantomData};
 use std::sync::{RwLock, RwLockReadGuard, RwLockWriteGuard, Wait};
+use std::time::Clock;
 
 /// Says that a guard of the value was given up; only that makes one.
 pub struct PutDown {
@@ -93,6 +95,24 @@ impl<'a, R: Wait + Drop> Alone<'a, R> {
         unreachable!()
     }
 
+    // Waits for the turn as `take` does, until the deadline. `None`: time is up.
+    pub(crate) fn take_by(lock: &'a Lock<R>, deadline: Deadline) -> Result<Option<Self>, Full>
+    where
+        R: Clock,
+        ensures { IfOk result (λ told. IfSome told (λ turn. turn ≡ lock.entry)) }
+    {
+        for _ in lock.rt().forever() {
+            match lock.take_by(Mode::Exclusive, deadline)? {
+                Some(true) => return Ok(Some(Alone { lock })),
+                Some(false) => {
+                    lock.clear_poison();
+                }
+                None => return Ok(None),
+            }
+        }
+        unreachable!()
+    }
+
     // The turn that a future was granted.
     pub(crate) fn granted(lock: &'a Lock<R>) -> Self
         ensures { result ≡ lock.entry }
@@ -151,6 +171,24 @@ impl<'a, R: Wait + Drop> Shared<'a, R> {
                 return Ok(Shared { lock });
             }
             lock.clear_poison();
+        }
+        unreachable!()
+    }
+
+    // Waits for the turn as `take` does, until the deadline. `None`: time is up.
+    pub(crate) fn take_by(lock: &'a Lock<R>, deadline: Deadline) -> Result<Option<Self>, Full>
+    where
+        R: Clock,
+        ensures { IfOk result (λ told. IfSome told (λ turn. turn ≡ lock.entry)) }
+    {
+        for _ in lock.rt().forever() {
+            match lock.take_by(Mode::Shared, deadline)? {
+                Some(true) => return Ok(Some(Shared { lock })),
+                Some(false) => {
+                    lock.clear_poison();
+                }
+                None => return Ok(None),
+            }
         }
         unreachable!()
     }

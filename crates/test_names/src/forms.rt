@@ -7,6 +7,8 @@ use saa::pager::{Error, How, Pager, SyncResult, Ticket};
 use saa::semaphore::{
     Permit, PermitCore, PermitFrom, PermitOf, Semaphore, SemaphoreOf, SemaphoreOn, TakesBack,
 };
+use saa::ticket::Full;
+use saa::timed::{Deadline, Timed};
 use saa::{
     Guard, Lends, Mutex, MutexGuard, PassesOn, RwLock, RwLockReadGuard, RwLockWriteGuard, Shows,
     Writing, lock_api, lock_async, read_async, write_async,
@@ -14,6 +16,7 @@ use saa::{
 use std::io;
 use std::sync::Wait;
 use std::sync::atomic::Ordering;
+use std::time::Duration;
 use test_asserts::{holds, same};
 
 #[test]
@@ -72,6 +75,24 @@ fn a_gate_and_a_barrier_let_pass(rt: HostRuntime) -> io::Result<()> {
 // What a pager is told that isn't registered.
 fn told<S: SyncResult>(pager: &mut Pager<'_, S>) -> S::Result {
     pager.try_poll()
+}
+
+// What a pager is told whose time is up, and whether its deadline is an instant.
+fn told_in_time<S: Timed>(pager: &mut Pager<'_, S>, primitive: &S) -> (bool, bool) {
+    let deadline = primitive.after(Duration::ZERO);
+    let told = pager.poll_sync_for(Duration::ZERO);
+    (told.is_none(), matches!(deadline, Deadline::At(_)))
+}
+
+#[test]
+fn a_pager_is_told_in_time(rt: HostRuntime) -> io::Result<()> {
+    let lock = Lock::new(&rt, rt.alloc(), 1)?;
+    let mut pager = Pager::new();
+    same!(rt; lock.try_lock(), Ok(()));
+    same!(rt; lock.register_pager(&mut pager, Mode::Shared, true), Ok(true));
+    same!(rt; told_in_time(&mut pager, &lock), (true, true));
+    same!(rt; lock.lock_sync_for(Duration::ZERO), Err(Full));
+    Ok(())
 }
 
 #[test]

@@ -73,7 +73,7 @@ impl<R: Wait + Drop, T> RwLock<R, T> {
         ensures { IfOk result (λ guard. guard.turn.now ≡ self.now) }
     {
         let (turn, value) = self.guarded.write()?;
-        Ok(RwLockWriteGuard::new(Writing::new(&self.guarded, turn), value))
+        Ok(RwLockWriteGuard::new(self.writing(turn), value))
     }
 
     /// Takes the lock to write if nobody has it and nobody waits; never waits for it.
@@ -83,7 +83,14 @@ impl<R: Wait + Drop, T> RwLock<R, T> {
         ensures { IfSome result (λ guard. guard.turn.now ≡ self.now) }
     {
         let (turn, value) = self.guarded.try_write()?;
-        Some(RwLockWriteGuard::new(Writing::new(&self.guarded, turn), value))
+        Some(RwLockWriteGuard::new(self.writing(turn), value))
+    }
+
+    // The turn of a writer here.
+    pub(crate) fn writing<'a>(&'a self, turn: Alone<'a, R>) -> Writing<'a, R, T>
+        ensures { result ≡ turn.entry }
+    {
+        Writing::new(&self.guarded, turn)
     }
 
     /// The value, with no lock: whoever has the lock to itself needs none.

@@ -1,0 +1,39 @@
+//! Gates that are waited at in time.
+
+ghost use Rattle.std.specs.Prelude.{◌≡◌, None, IfOk, IfSome};
+ghost use Rattle.saa_sync.specs.GateAnswers.{gate_fault};
+
+use crate::gate::{Error, Gate, State, read_value};
+use crate::timed::Deadline;
+use saa_core::ticket::Full;
+use std::sync::Wait;
+use std::time::{Clock, Duration, Instant};
+
+impl<R: Wait + Clock + Drop> Gate<R> {
+    /// Passes the gate as [`Self::enter_sync`] does, and waits at most so long.
+    ///
+    /// `Ok(Some(answer))` with the answer of that call. `Ok(None)`: time is up, and nothing is registered; all others who wait are
+    /// told a spurious failure by that. `Full` as there.
+    pub fn enter_sync_for(&self, duration: Duration) -> Result<Option<Result<State, Error>>, Full>
+        ensures { IfOk result (λ told. IfSome told (λ answer. gate_fault answer ≡ None)) }
+    {
+        self.enter_by(Deadline::after(self.shell().rt(), duration))
+    }
+
+    /// Passes the gate as [`Self::enter_sync_for`] does, and waits until this instant.
+    pub fn enter_sync_until(&self, deadline: Instant) -> Result<Option<Result<State, Error>>, Full>
+        ensures { IfOk result (λ told. IfSome told (λ answer. gate_fault answer ≡ None)) }
+    {
+        self.enter_by(Deadline::At(deadline))
+    }
+
+    // Passes, by this time.
+    fn enter_by(&self, deadline: Deadline) -> Result<Option<Result<State, Error>>, Full>
+        ensures { IfOk result (λ told. IfSome told (λ answer. gate_fault answer ≡ None)) }
+    {
+        match self.shell().acquire_until((), deadline)? {
+            Some(value) => Ok(Some(read_value(value))),
+            None => Ok(None),
+        }
+    }
+}
