@@ -1,7 +1,8 @@
 //! Waits at a shell that end in time.
 //!
 //! A wait whose time is up looks once more, under the lock, and where the answer isn't there it drops what it is registered for
-//! under the same lock. So an answer either is returned, or comes after the drop, to nobody: none is lost, and none is told twice.
+//! under the same lock. So an answer that comes before the drop is returned, and none can come behind it: no grant is lost, and
+//! none is told twice.
 
 ghost use Rattle.std.specs.Prelude.{◌≡◌, false, true, Some, IfSome, IsNone};
 ghost use Rattle.saa_core_spec.specs.declared.polling.How.TheVariants.{Sync};
@@ -66,7 +67,6 @@ impl<R: Wait + Clock + Drop, P: Primitive> Shell<R, P> {
         requires { mode_of ticket.old ≡ Some true }
         ensures idle { is_busy ticket.new ≡ false }
     {
-        let slot = ticket.slot();
         let (mut inside, told) = self.wait_until(ticket, deadline);
         let answer = match told {
             Some(answer) => answer,
