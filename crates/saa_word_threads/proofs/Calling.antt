@@ -1,0 +1,329 @@
+-- A call goes on: what it has named so far, how its place's view has grown, and what the place is registered as.
+use Rattle.std.proofs.Common.{◌≡◌, ℕ, ◌<◌, ◌⊎◌, ◌==◌, ◌%◌, nat_lt, if◌then◌else◌, Bool, true, false, List, [], ◌++◌, Option, Some, None, refl, sym, ap, subst, ◌∙◌, inl, inr}
+use Rattle.std.specs.Prelude.{Ok}
+use Rattle.std.proofs.lemmas.Bool.{cases_Bool}
+use Rattle.saa_core_spec.specs.Values.{granted_value}
+use Rattle.saa_word_steps.specs.declared.call.Answer.{Answer}
+use Rattle.saa_word_steps.specs.declared.call.Answer.TheVariants.{Bool as Says, Taken}
+use Rattle.saa_word_steps.specs.declared.call.WordCall.{WordCall}
+use Rattle.saa_word_steps.specs.declared.call.WordCall.TheVariants.{Try, Register, Release, Available, TryLock, TryShare, RegisterMode, ReleaseLock, ReleaseShare, Downgrade, PoisonLock, ClearPoison, IsFree, IsLocked, IsShared, IsPoisoned, TryPoll, Poll, Cancel}
+use Rattle.saa_word_steps.specs.declared.event.Event.{Event}
+use Rattle.saa_word_steps.specs.declared.place.Next.{Next}
+use Rattle.saa_word_steps.specs.declared.place.Next.TheVariants.{Going, Waits, Done}
+use Rattle.saa_word_steps.specs.declared.place.Place.{Place}
+use Rattle.saa_word_steps.specs.declared.place.Registration.{Registration}
+use Rattle.saa_word_steps.specs.declared.place.Registration.TheVariants.{Idle, Once, Slot}
+use Rattle.saa_word_steps.specs.declared.place.Stage.{Stage}
+use Rattle.saa_word_steps.specs.declared.place.Stage.TheVariants.{Quiet, AskLoad, Take}
+use Rattle.saa_word_steps.specs.declared.place.Taking.{Taking}
+use Rattle.saa_word_steps.specs.declared.place.Taking.TheVariants.{Tries, Awaits}
+use Rattle.saa_core_words.specs.Words.{answer_of}
+use Rattle.saa_word_steps.specs.declared.place.Back.{Back}
+use Rattle.saa_word_steps.specs.Needs.{Needs}
+use Rattle.saa_word_steps.specs.Steps.{cancelled_as, going, is_idle, is_taken, mode_number, next_of, polled_as, started, taken_answer}
+use Rattle.saa_word_proofs.specs.Calls.{IsBegun, IsUnderNext, asked_by, is_taken_up}
+use Rattle.saa_word_proofs.specs.Registering.{IsLeft, IsReadyNext, IsStartedAs, begun_as, left_behind, starting_answer}
+use Rattle.saa_word_proofs.specs.StepRefinement.{named, named_at, place_after}
+use Rattle.saa_word_proofs.proofs.RefinementLemmas.Calls.{under-next}
+use Rattle.saa_word_proofs.proofs.RefinementLemmas.Starting.{call-begun}
+use Rattle.saa_word_proofs.proofs.SoloLemmas.Paths.{left-append, left-next}
+use Rattle.saa_word_proofs.proofs.SoloLemmas.Ready.{started-ready}
+use Rattle.saa_word_proofs.proofs.SoloLemmas.Registered.{started-as}
+use Rattle.saa_word_threads.specs.declared.table.View.{View}
+use Rattle.saa_word_threads.specs.Called.{HasEvents, IsCalled, IsCalledFrom, Midway, MidwayNext, is_single}
+use Rattle.saa_word_threads.specs.Public.{is_granted}
+use Rattle.saa_word_threads.specs.Told.{Extends, IsSince, Moves, resting_as, taken_once}
+use Rattle.saa_word_threads.proofs.Growing.{extends-append, extends-none, named-append}
+
+-- a place that is done rests where it stands
+rest-same : (registration : Registration) (stage : Stage) (back : Back)
+    → (let place : Place = record { registration = registration; stage = stage; back = back } in place ≡ resting_as place (is_idle registration))
+rest-same Idle stage back = refl
+rest-same (Once value request) stage back = refl
+rest-same (Slot request) stage back = refl
+
+pub since-done : (place : Place) → place.stage ≡ Quiet → IsSince place place
+since-done place quiet = (quiet, rest-same place.registration place.stage place.back)
+
+-- The start of a call
+
+started-going : (said : Option Answer) (now : Registration) (first : Place) → IsStartedAs said now (Going first) → (said ≡ None) × (first.registration ≡ now)
+started-going None now first is = (refl, is)
+started-going (Some answer) now first is = absurd is
+
+started-done : (said : Option Answer) (now : Registration) (place : Place) (answer : Answer) → IsStartedAs said now (Done place answer)
+    → (said ≡ Some answer) × (place.registration ≡ now) × (place.stage ≡ Quiet)
+started-done None now place answer is = absurd is
+started-done (Some said) now place answer is = (ap (λ (a : Answer). Some a) (sym is.0), is.1, is.2)
+
+started-waits : (said : Option Answer) (now : Registration) → IsStartedAs said now Waits → ⊥
+started-waits None now is = is
+started-waits (Some said) now is = is
+
+module _ (needs : Needs) (call : WordCall) (rest : Place) (quiet : rest.stage ≡ Quiet) where
+  so : (next : Next) → started needs rest call ≡ next → IsStartedAs (starting_answer needs call rest.registration) (begun_as call rest.registration) next
+  so next is =
+      subst (IsStartedAs (starting_answer needs call rest.registration) (begun_as call rest.registration)) is (started-as needs rest call quiet)
+
+  -- it never waits
+  pub never-waits : started needs rest call ≡ Waits → ⊥
+  never-waits is = started-waits (starting_answer needs call rest.registration) (begun_as call rest.registration) (so Waits is)
+
+  -- it has the events that it has where it goes on
+  pub going-called : (first : Place) (answer : Answer) (now : Registration) (v w : View) → started needs rest call ≡ Going first
+      → HasEvents needs call rest.registration answer now v w → IsCalled needs call rest.registration answer now v w
+  going-called first answer now v w is has =
+      subst (λ (s : Option Answer). IsCalledFrom s needs call rest.registration answer now v w)
+      (sym (started-going (starting_answer needs call rest.registration) (begun_as call rest.registration) first (so (Going first) is)).0) has
+
+  -- it is done at once
+  pub done-called : (place : Place) (answer : Answer) (v w : View) → started needs rest call ≡ Done place answer → w ≡ v
+      → IsCalled needs call rest.registration answer place.registration v w
+  done-called place answer v w is same =
+      let done = started-done (starting_answer needs call rest.registration) (begun_as call rest.registration) place answer (so (Done place answer) is) in
+      subst (λ (s : Option Answer). IsCalledFrom s needs call rest.registration answer place.registration v w) (sym done.0) (refl, done.1, same)
+
+-- a poll of what was answered at once
+pub once-polled : (needs : Needs) (was : Registration) (value request : ℕ) (v : View) → was ≡ Once value request
+    → (answer : Answer) × (value == granted_value ≡ is_granted answer) × IsCalled needs Poll was answer Idle v v
+once-polled needs was value request v is = (
+  Taken (Ok (value == granted_value)),
+  granted-is (value == granted_value),
+  subst (λ (r : Registration). IsCalled needs Poll r (Taken (Ok (value == granted_value))) Idle v v) (sym is) (refl, refl, refl),
+)
+  where
+    granted-is : (test : Bool) → test ≡ is_granted (Taken (Ok test))
+    granted-is true = refl
+    granted-is false = refl
+
+-- what is left of a place's back where a call is done at once
+back_of : Place → Next → Back
+back_of rest (Going place) = rest.back
+back_of rest Waits = rest.back
+back_of rest (Done place answer) = place.back
+
+registering-back : (rest : Place) (request : ℕ) (registration : Registration)
+    → back_of rest (if is_idle registration then going rest (AskLoad (record { request = request; joins = true })) else Done rest (Says false)) ≡ rest.back
+unfolding back_of
+registering-back rest request Idle = refl
+registering-back rest request (Once value asked) = refl
+registering-back rest request (Slot asked) = refl
+
+polling-back : (rest : Place) (taking : Taking) (registration : Registration) → back_of rest (polled_as rest taking registration) ≡ rest.back
+unfolding back_of
+polling-back rest taking Idle = refl
+polling-back rest taking (Once value request) = refl
+polling-back rest taking (Slot request) = refl
+
+cancelling-back : (needs : Needs) (rest : Place) (registration : Registration) → back_of rest (cancelled_as needs rest registration) ≡ rest.back
+unfolding back_of
+cancelling-back needs rest Idle = refl
+cancelling-back needs rest (Once value request) =
+    elim (cases_Bool (is_taken_up needs request value)) [
+      | inl up ↦ rw up refl
+      | inr free ↦ rw free refl
+    ]
+cancelling-back needs rest (Slot request) = refl
+
+started-back : (needs : Needs) (rest : Place) (call : WordCall) → back_of rest (started needs rest call) ≡ rest.back
+unfolding back_of
+started-back needs rest (Try count) =
+    elim (cases_Bool (nat_lt needs.top count)) [
+      | inl more ↦ rw more refl
+      | inr fits ↦ rw fits refl
+    ]
+started-back needs rest (Register count) =
+    elim (cases_Bool (nat_lt needs.top count)) [
+      | inl more ↦ rw more refl
+      | inr fits ↦ rw fits (registering-back rest count rest.registration)
+    ]
+started-back needs rest (Release count) =
+    elim (cases_Bool (nat_lt needs.top count)) [
+      | inl more ↦ rw more refl
+      | inr fits ↦
+          elim (cases_Bool (count == 0)) [
+            | inl nothing ↦ rw (fits, nothing) refl
+            | inr some ↦ rw (fits, some) refl
+          ]
+    ]
+started-back needs rest Available = refl
+started-back needs rest TryLock = refl
+started-back needs rest TryShare = refl
+started-back needs rest (RegisterMode mode) = registering-back rest (mode_number mode) rest.registration
+started-back needs rest ReleaseLock = refl
+started-back needs rest ReleaseShare = refl
+started-back needs rest Downgrade = refl
+started-back needs rest PoisonLock = refl
+started-back needs rest ClearPoison = refl
+started-back needs rest IsFree = refl
+started-back needs rest IsLocked = refl
+started-back needs rest IsShared = refl
+started-back needs rest IsPoisoned = refl
+started-back needs rest TryPoll = polling-back rest Tries rest.registration
+started-back needs rest Poll = polling-back rest Awaits rest.registration
+started-back needs rest Cancel = cancelling-back needs rest rest.registration
+
+begun-cases : (call : WordCall) (registration : Registration)
+    → (begun_as call registration ≡ registration)
+    ⊎ ((value : ℕ) × (request : ℕ) × (registration ≡ Once value request) × (begun_as call registration ≡ Idle))
+begun-cases TryPoll Idle = inl refl
+begun-cases TryPoll (Once value request) = inr (value, request, refl, refl)
+begun-cases TryPoll (Slot request) = inl refl
+begun-cases Poll Idle = inl refl
+begun-cases Poll (Once value request) = inr (value, request, refl, refl)
+begun-cases Poll (Slot request) = inl refl
+begun-cases Cancel Idle = inl refl
+begun-cases Cancel (Once value request) = inr (value, request, refl, refl)
+begun-cases Cancel (Slot request) = inl refl
+begun-cases call registration = inl refl
+
+-- a place that rests still does where it takes what was given at once
+since-begun : (was rest : Place) (call : WordCall) → IsSince was rest → IsSince was (record rest { registration = begun_as call rest.registration })
+since-begun was rest call since =
+    elim (begun-cases call rest.registration) [
+      | inl same ↦ subst (λ (r : Registration). IsSince was (record rest { registration = r })) (sym same) since
+      | inr once ↦
+          let idles : is_idle rest.registration ≡ false = ap is_idle once.2 in
+          let is : rest ≡ was = since.1 ∙ ap (resting_as was) idles in
+          let took : taken_once was.registration ≡ Idle = ap taken_once (ap (λ (p : Place). p.registration) (sym is) ∙ once.2) in
+          subst (λ (r : Registration). IsSince was (record rest { registration = r })) (sym once.3)
+          (since.0, ap (λ (p : Place). record p { registration = Idle }) is ∙ ap (λ (r : Registration). record was { registration = r }) (sym took))
+    ]
+
+-- a call that is done at once leaves its place at rest
+pub since-started : (needs : Needs) (was rest : Place) (call : WordCall) (place : Place) (answer : Answer) → IsSince was rest
+    → started needs rest call ≡ Done place answer → IsSince was place
+unfolding back_of
+since-started needs was rest call place answer since is =
+    let done =
+    started-done (starting_answer needs call rest.registration) (begun_as call rest.registration) place answer (so needs call rest since.0 (Done place answer) is) in
+    let back : rest.back ≡ place.back = sym (started-back needs rest call) ∙ ap (back_of rest) is in
+    subst (λ (b : Back). IsSince was (record place { back = b })) back
+    (subst (λ (r : Registration). IsSince was (record { registration = r; stage = place.stage; back = rest.back })) (sym done.1)
+    (subst (λ (s : Stage). IsSince was (record { registration = begun_as call rest.registration; stage = s; back = rest.back })) (since.0 ∙ sym done.2)
+    (since-begun was rest call since)))
+
+-- The steps of a call
+
+-- it has named nothing where it starts
+pub midway-first : (needs : Needs) (places me : ℕ) (call : WordCall) (rest first : Place) (v : View) → me < places → IsSince v.position rest
+    → is_taken needs.is_lock call ≡ true → started needs rest call ≡ Going first → Midway needs places me call rest.registration v first v
+midway-first needs places me call rest first v here since takes is = record {
+  events = [];
+  under = subst (IsBegun needs call rest.registration) is (call-begun needs rest call since.0);
+  extends = extends-none v;
+  registered = (started-going (starting_answer needs call rest.registration) (begun_as call rest.registration) first (so needs call rest since.0 (Going first) is)).1;
+  begins = inr (rest, call, since, takes, ap (place_after rest) (sym is));
+  ready = subst (IsReadyNext needs places me) is (started-ready needs places me rest call here);
+}
+
+module _ (needs : Needs) (places me : ℕ) (call : WordCall) (was : Registration) (began : View) (place : Place) (v w : View) (found : ℕ)
+    (m : Midway needs places me call was began place v) (number : v.number ≡ me) where
+  module _ (next : Next) (is : next ≡ next_of needs me place place.stage found) (moved : Moves needs places place next found v w) where
+    names : named (m.events ++ moved.events) ≡ named m.events ++ named_at needs place.stage found
+    names = named-append m.events moved.events ∙ ap (λ (l : List Event). named m.events ++ l) moved.names
+
+    under : IsUnderNext needs call was place.back place.stage (named (m.events ++ moved.events)) next
+    under =
+        subst (λ (n : Next). IsUnderNext needs call was place.back place.stage (named (m.events ++ moved.events)) n) (sym is)
+        (subst (λ (l : List Event). IsUnderNext needs call was place.back place.stage l (next_of needs me place place.stage found)) (sym names)
+        (under-next needs call was me place place.stage found (named m.events) m.under))
+
+    left : IsLeft place.registration (left_behind (named (m.events ++ moved.events)) (asked_by call) (begun_as call was)) next
+    left =
+        subst (λ (r : Registration). IsLeft place.registration r next)
+        (ap (left_behind (named_at needs place.stage found) (asked_by call)) m.registered
+        ∙ sym (ap (λ (l : List Event). left_behind l (asked_by call) (begun_as call was)) names
+        ∙ left-append (named m.events) (named_at needs place.stage found) (asked_by call) (begun_as call was)))
+        (subst (λ (n : Next). IsLeft place.registration (left_behind (named_at needs place.stage found) (asked_by call) place.registration) n) (sym is)
+        (left-next needs call was me place place.stage found (named m.events) m.under))
+
+    grown : Extends began (m.events ++ moved.events) w
+    grown = extends-append began v w m.events moved.events m.extends moved.extends
+
+    ready : (behind : Place) → place_after place next ≡ behind → IsReadyNext needs places me (Going behind)
+    ready behind at =
+        subst (λ (p : Place). IsReadyNext needs places me (Going p)) (moved.position ∙ at)
+        (subst (λ (n : ℕ). IsReadyNext needs places n (Going w.position)) number moved.ready)
+
+  pub midway-going : (next : Place) → Going next ≡ next_of needs me place place.stage found → Moves needs places place (Going next) found v w
+      → Midway needs places me call was began next w
+  midway-going next is moved = record {
+    events = m.events ++ moved.events;
+    under = under (Going next) is moved;
+    extends = grown (Going next) is moved;
+    registered = left (Going next) is moved;
+    begins = inl (sym moved.position);
+    ready = ready (Going next) is moved next refl;
+  }
+
+  pub midway-waits : Waits ≡ next_of needs me place place.stage found → Moves needs places place Waits found v w
+      → Midway needs places me call was began place w
+  midway-waits is moved = record {
+    events = m.events ++ moved.events;
+    under = under Waits is moved;
+    extends = grown Waits is moved;
+    registered = left Waits is moved;
+    begins = inl (sym moved.position);
+    ready = ready Waits is moved place refl;
+  }
+
+  pub midway-done : (behind : Place) (answer : Answer) → Done behind answer ≡ next_of needs me place place.stage found
+      → Moves needs places place (Done behind answer) found v w → HasEvents needs call was answer behind.registration began w
+  midway-done behind answer is moved = record {
+    events = m.events ++ moved.events;
+    extends = grown (Done behind answer) is moved;
+    answers = under (Done behind answer) is moved;
+    registered = (left (Done behind answer) is moved).0;
+  }
+
+  pub midway-since : (behind : Place) (answer : Answer) → Done behind answer ≡ next_of needs me place place.stage found
+      → Moves needs places place (Done behind answer) found v w → IsSince w.position behind
+  midway-since behind answer is moved =
+      subst (λ (p : Place). IsSince p behind) (sym moved.position) (since-done behind (left (Done behind answer) is moved).1)
+
+  pub midway-next : (next : Next) → next ≡ next_of needs me place place.stage found → Moves needs places place next found v w
+      → MidwayNext needs places me call was began place w next
+  midway-next (Going next) is moved = midway-going next is moved
+  midway-next Waits is moved = midway-waits is moved
+  midway-next (Done behind answer) is moved = (midway-done behind answer is moved, midway-since behind answer is moved)
+
+-- The calls of one step at most
+
+-- whether a place is done
+abbrev is_done : Next → Bool
+is_done (Done place answer) = true
+is_done next = false
+
+done-form : (next : Next) → is_done next ≡ true → (place : Place) × (answer : Answer) × (next ≡ Done place answer)
+done-form (Done place answer) is = (place, answer, refl)
+done-form (Going place) is = absurd (cc)
+done-form Waits is = absurd (cc)
+
+-- a place that reads, or tries to take its answer, is done with its first step
+abbrev IsSingleNext : Needs → ℕ → Next → Type 0
+IsSingleNext needs me (Going first) = (found : ℕ) → is_done (next_of needs me first first.stage found) ≡ true
+IsSingleNext needs me next = Unit {0}
+
+tries-done : (needs : Needs) (place : Place) (answer : Option ℕ) → is_done (taken_answer needs place Tries answer) ≡ true
+tries-done needs place None = refl
+tries-done needs place (Some value) = refl
+
+try-single : (needs : Needs) (me : ℕ) (rest : Place) (registration : Registration) → IsSingleNext needs me (polled_as rest Tries registration)
+try-single needs me rest Idle = tt
+try-single needs me rest (Once value request) = tt
+try-single needs me rest (Slot request) = λ found. tries-done needs (record rest { stage = Take Tries }) (answer_of (found % 65536))
+
+single-next : (needs : Needs) (me : ℕ) (rest : Place) (call : WordCall) → is_single call ≡ true → IsSingleNext needs me (started needs rest call)
+single-next needs me rest Available single = λ found. refl
+single-next needs me rest IsFree single = λ found. refl
+single-next needs me rest IsLocked single = λ found. refl
+single-next needs me rest IsShared single = λ found. refl
+single-next needs me rest IsPoisoned single = λ found. refl
+single-next needs me rest TryPoll single = try-single needs me rest rest.registration
+single-next needs me rest call single = absurd (cc)
+
+pub single-done : (needs : Needs) (me : ℕ) (rest first : Place) (call : WordCall) (found : ℕ) (next : Next) → is_single call ≡ true
+    → started needs rest call ≡ Going first → next ≡ next_of needs me first first.stage found → (place : Place) × (answer : Answer) × (next ≡ Done place answer)
+single-done needs me rest first call found next single is goes =
+    done-form next (ap is_done goes ∙ subst (IsSingleNext needs me) is (single-next needs me rest call single) found)

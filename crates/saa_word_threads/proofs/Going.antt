@@ -1,0 +1,164 @@
+-- A call that goes straight: each of its steps goes on with the call as every step does.
+use Rattle.std.proofs.Common.{◌≡◌, ℕ, ◌<◌, ◌==◌, Bool, true, false, not, ◌&&◌, ◌||◌, Some, if◌then◌else◌, refl, sym, ap, subst, ◌∙◌, inl, inr}
+use Rattle.std.proofs.lemmas.Bool.{cases_Bool}
+use Rattle.saa_core_spec.proofs.Counts.{number_same}
+use Rattle.saa_core_spec.specs.Lock.{try_answer}
+use Rattle.saa_core_spec.specs.Values.{granted_value}
+use Rattle.saa_core_words.specs.declared.word.Word.{Word}
+use Rattle.saa_core_words.specs.Words.{count_bits, word_number, word_of}
+use Rattle.saa_word_steps.specs.declared.call.Answer.TheVariants.{Bool as Says, Tried}
+use Rattle.saa_word_steps.specs.declared.call.WordCall.{WordCall}
+use Rattle.saa_word_steps.specs.declared.place.Ask.{Ask}
+use Rattle.saa_word_steps.specs.declared.place.Next.{Next}
+use Rattle.saa_word_steps.specs.declared.place.Next.TheVariants.{Going}
+use Rattle.saa_word_steps.specs.declared.place.Place.{Place}
+use Rattle.saa_word_steps.specs.declared.place.Registration.TheVariants.{Once}
+use Rattle.saa_word_steps.specs.declared.place.Back.TheVariants.{Tells}
+use Rattle.saa_word_steps.specs.declared.place.Given.TheVariants.{Asked}
+use Rattle.saa_word_steps.specs.declared.place.Stage.TheVariants.{Quiet, AskLoad, AskExchange, ReleaseLoad, ReleaseExchange}
+use Rattle.saa_word_steps.specs.Needs.{Needs, fits_count, left_count}
+use Rattle.saa_word_steps.specs.Steps.{decided, given, going, granted, is_taken, next_of, released, started}
+use Rattle.saa_word_threads.specs.declared.table.View.{View}
+use Rattle.saa_word_threads.specs.Called.{HasEvents, Midway, MidwayNext}
+use Rattle.saa_word_threads.specs.Straight.{grants_at, lowers_to}
+use Rattle.saa_word_threads.specs.Told.{IsSince, Moves}
+use Rattle.saa_word_threads.proofs.Calling.{midway-first, midway-going, midway-next}
+
+both : (one other : Bool) → one && other ≡ true → (one ≡ true) × (other ≡ true)
+both true other is = (refl, is)
+both false other is = absurd (cc)
+
+not-true : (test : Bool) → not test ≡ true → test ≡ false
+not-true true is = absurd (cc)
+not-true false is = refl
+
+same-number : (one two : ℕ) → one ≡ two → one == two ≡ true
+same-number one two is = ap (λ (n : ℕ). one == n) (sym is) ∙ number_same one
+
+-- a word that grants an ask sends it on to its exchange
+decided-straight : (needs : Needs) (place : Place) (ask : Ask) (seen : Word) → grants_at needs seen ask ≡ true
+    → decided needs place ask seen ≡ going place (AskExchange ask seen)
+decided-straight needs place ask seen grants =
+    let takes = both (not seen.is_poisoned && (seen.tail == 0) && fits_count needs seen.count ask.request) (not (needs.takes ask.request == 0)) grants in
+    let fits = both (not seen.is_poisoned && (seen.tail == 0)) (fits_count needs seen.count ask.request) takes.0 in
+    let free = both (not seen.is_poisoned) (seen.tail == 0) fits.0 in
+    let calm : seen.is_poisoned ≡ false = not-true seen.is_poisoned free.0 in
+    let none : seen.tail == 0 ≡ true = free.1 in
+    let room : fits_count needs seen.count ask.request ≡ true = fits.1 in
+    let some : needs.takes ask.request == 0 ≡ false = not-true (needs.takes ask.request == 0) takes.1 in
+    rw (calm, none, room, some) refl
+
+-- what a step tells of a place that is another name for one
+named-so : (needs : Needs) (places me found : ℕ) (one other : Place) (v w : View) → one ≡ other
+    → Moves needs places one (next_of needs me one one.stage found) found v w → Moves needs places other (next_of needs me other other.stage found) found v w
+named-so needs places me found one other v w is moved =
+    subst (λ (p : Place). Moves needs places p (next_of needs me p p.stage found) found v w) is moved
+
+-- A call of two steps, from the place as it looks to the place as it exchanges the word that it saw
+module _ (needs : Needs) (places me : ℕ) (call : WordCall) (rest looks : Place) (v w : View) (found : ℕ) (here : me < places)
+    (number : v.number ≡ me) (since : IsSince v.position rest) (taken : is_taken needs.is_lock call ≡ true) (starts : started needs rest call ≡ Going looks)
+    (one : Place) (is_one : one ≡ looks) (looked : Moves needs places one (next_of needs me one one.stage found) found v w) where
+  midway-looks : Midway needs places me call rest.registration v looks v
+  midway-looks = midway-first needs places me call rest looks v here since taken starts
+
+  told : Moves needs places looks (next_of needs me looks looks.stage found) found v w
+  told = named-so needs places me found one looks v w is_one looked
+
+  -- how it goes on behind the look
+  pub looked-next : MidwayNext needs places me call rest.registration v looks w (next_of needs me looks looks.stage found)
+  looked-next =
+      midway-next needs places me call rest.registration v looks v w found midway-looks number (next_of needs me looks looks.stage found) refl told
+
+  module _ (changes : Place) (goes : next_of needs me looks looks.stage found ≡ Going changes) where
+    midway-changes : Midway needs places me call rest.registration v changes w
+    midway-changes =
+        midway-going needs places me call rest.registration v looks v w found midway-looks number changes (sym goes)
+        (subst (λ (n : Next). Moves needs places looks n found v w) goes told)
+
+    still : w.number ≡ me
+    still = told.extends.number ∙ number
+
+    -- how it goes on behind the exchange
+    pub changed-next : (x : View) (other : ℕ) (two : Place) → two ≡ changes → Moves needs places two (next_of needs me two two.stage other) other w x
+        → MidwayNext needs places me call rest.registration v changes x (next_of needs me changes changes.stage other)
+    changed-next x other two is_two changed =
+        midway-next needs places me call rest.registration v changes w x other midway-changes still (next_of needs me changes changes.stage other) refl
+        (named-so needs places me other two changes w x is_two changed)
+
+-- Asks
+
+-- a look at a word that grants an ask goes on to the exchange
+pub ask-goes : (needs : Needs) (me : ℕ) (rest : Place) (ask : Ask) (found : ℕ) (seen : Word) → seen ≡ word_of count_bits found → grants_at needs seen ask ≡ true
+    → next_of needs me (record rest { stage = AskLoad ask }) (AskLoad ask) found ≡ Going (record rest { stage = AskExchange ask seen })
+ask-goes needs me rest ask found seen sees grants =
+    decided-straight needs (record rest { stage = AskLoad ask }) ask (word_of count_bits found)
+    (subst (λ (s : Word). grants_at needs s ask ≡ true) sees grants)
+    ∙ ap (λ (s : Word). Going (record rest { stage = AskExchange ask s })) (sym sees)
+
+module _ (needs : Needs) (places me : ℕ) (call : WordCall) (rest : Place) (ask : Ask) (seen : Word) (v x : View) (other : ℕ) (hit : other ≡ word_number count_bits seen)
+    (next : MidwayNext needs places me call rest.registration v (record rest { stage = AskExchange ask seen }) x
+    (next_of needs me (record rest { stage = AskExchange ask seen }) (AskExchange ask seen) other)) where
+  ask-done : MidwayNext needs places me call rest.registration v (record rest { stage = AskExchange ask seen }) x
+      (granted needs (record rest { stage = AskExchange ask seen }) ask)
+  ask-done = let test : other == word_number count_bits seen ≡ true = same-number other (word_number count_bits seen) hit in rw test at next
+
+  -- it is granted as it asked: a registration is kept, and a try leaves the place as it was
+  pub registered-events : ask.joins ≡ true → HasEvents needs call rest.registration (Says true) (Once granted_value ask.request) v x
+      × IsSince x.position (record rest { registration = Once granted_value ask.request; stage = Quiet })
+  registered-events joins = rw joins at ask-done
+
+  pub tried-events : needs.is_lock ≡ false → ask.joins ≡ false
+      → HasEvents needs call rest.registration (Says true) rest.registration v x × IsSince x.position (record rest { stage = Quiet })
+  tried-events semaphore tries =
+      subst (λ (b : Bool). HasEvents needs call rest.registration (if b then Tried (try_answer true false) else Says true) rest.registration v x
+      × IsSince x.position (record rest { stage = Quiet })) semaphore (rw tries at ask-done)
+
+-- Releases
+
+-- a word of which something is left
+left-some : (needs : Needs) (seen : Word) (request left : ℕ) → lowers_to needs seen request ≡ Some left
+    → (seen.is_poisoned ≡ false) × (seen.tail == 0 ≡ true) × (left_count needs seen.count request ≡ Some left)
+left-some needs seen request left lowers =
+    elim (cases_Bool seen.is_poisoned) [
+      | inl poisoned ↦ (let wrong = rw poisoned at lowers in absurd (cc))
+      | inr calm ↦
+          elim (cases_Bool (seen.tail == 0)) [
+            | inl none ↦ (calm, none, rw (calm, none) at lowers)
+            | inr some ↦ (let wrong = rw (calm, some) at lowers in absurd (cc))
+          ]
+    ]
+
+-- a look at it goes on to the exchange
+given-straight : (needs : Needs) (place : Place) (request left : ℕ) (seen : Word) → lowers_to needs seen request ≡ Some left
+    → given needs place (Asked request) seen ≡ going place (ReleaseExchange (Asked request) seen)
+given-straight needs place request left seen lowers =
+    let is = left-some needs seen request left lowers in
+    let calm : seen.is_poisoned ≡ false = is.0 in
+    let some : left_count needs seen.count request ≡ Some left = is.2 in
+    rw (calm, some) refl
+
+pub give-goes : (needs : Needs) (me : ℕ) (rest : Place) (request left found : ℕ) (seen : Word) → seen ≡ word_of count_bits found
+    → lowers_to needs seen request ≡ Some left
+    → next_of needs me (record rest { stage = ReleaseLoad (Asked request); back = Tells }) (ReleaseLoad (Asked request)) found
+    ≡ Going (record rest { stage = ReleaseExchange (Asked request) seen; back = Tells })
+give-goes needs me rest request left found seen sees lowers =
+    given-straight needs (record rest { stage = ReleaseLoad (Asked request); back = Tells }) request left (word_of count_bits found)
+    (subst (λ (s : Word). lowers_to needs s request ≡ Some left) sees lowers)
+    ∙ ap (λ (s : Word). Going (record rest { stage = ReleaseExchange (Asked request) s; back = Tells })) (sym sees)
+
+-- the word that it writes
+pub lowered : (needs : Needs) (seen : Word) (request left : ℕ) → lowers_to needs seen request ≡ Some left
+    → record { count = left; is_flagged = seen.is_flagged || not (seen.tail == 0); is_poisoned = false; tail = seen.tail } ≡ released needs seen (Asked request)
+lowered needs seen request left lowers =
+    let some : left_count needs seen.count request ≡ Some left = (left-some needs seen request left lowers).2 in rw some refl
+
+-- it is given back
+pub gave-events : (needs : Needs) (places me : ℕ) (call : WordCall) (rest : Place) (request left : ℕ) (seen : Word) (v x : View) (other : ℕ)
+    → other ≡ word_number count_bits seen → lowers_to needs seen request ≡ Some left
+    → MidwayNext needs places me call rest.registration v (record rest { stage = ReleaseExchange (Asked request) seen; back = Tells }) x
+    (next_of needs me (record rest { stage = ReleaseExchange (Asked request) seen; back = Tells }) (ReleaseExchange (Asked request) seen) other)
+    → HasEvents needs call rest.registration (Says true) rest.registration v x × IsSince x.position (record rest { stage = Quiet; back = Tells })
+gave-events needs places me call rest request left seen v x other hit lowers next =
+    let test : other == word_number count_bits seen ≡ true = same-number other (word_number count_bits seen) hit in
+    let none : seen.tail == 0 ≡ true = (left-some needs seen request left lowers).1 in
+    rw (test, none) at next

@@ -1,0 +1,183 @@
+-- Histories that grow by the events of one place, and what each place has seen of them.
+use Rattle.std.proofs.Common.{◌≡◌, ℕ, Bool, true, false, ◌||◌, ◌==◌, List, [], ◌∷◌, ◌++◌, refl, sym, ap, subst, ◌∙◌, inl, inr, append-nil, append_assoc}
+use Rattle.std.proofs.lemmas.Bool.{cases_Bool}
+use Rattle.saa_core_spec.proofs.Counts.{number_same}
+use Rattle.saa_word_steps.specs.declared.event.Event.{Event}
+use Rattle.saa_word_steps.specs.Needs.{Needs}
+use Rattle.saa_word_steps.specs.AbstractState.{AbstractState, IsRun, after_event}
+use Rattle.saa_word_proofs.specs.History.{has_part, part_of, seen_by}
+use Rattle.saa_word_proofs.specs.StepRefinement.{is_named, named, of_place}
+use Rattle.saa_word_threads.specs.declared.table.View.{View}
+use Rattle.saa_word_threads.specs.Told.{Extends}
+
+-- A history behind another one
+
+pub part-append : (place : ℕ) (front rest : List (ℕ × Event)) → part_of place (front ++ rest) ≡ part_of place front ++ part_of place rest
+part-append place [] rest = refl
+part-append place (entry ∷ front) rest =
+    elim (cases_Bool (entry.0 == place)) [
+      | inl mine ↦ rw mine (ap (λ (l : List Event). entry.1 ∷ l) (part-append place front rest))
+      | inr another ↦ rw another (part-append place front rest)
+    ]
+
+or-false : (test : Bool) → test || false ≡ test
+or-false true = refl
+or-false false = refl
+
+or-true : (test : Bool) → test || true ≡ true
+or-true true = refl
+or-true false = refl
+
+or-swapped : (one other more : Bool) → one || (other || more) ≡ (one || other) || more
+or-swapped true other more = refl
+or-swapped false other more = refl
+
+pub has-append : (place : ℕ) (front rest : List (ℕ × Event)) → has_part place (front ++ rest) ≡ has_part place front || has_part place rest
+has-append place [] rest = refl
+has-append place (entry ∷ front) rest =
+    ap (λ (b : Bool). (entry.0 == place) || b) (has-append place front rest)
+    ∙ or-swapped (entry.0 == place) (has_part place front) (has_part place rest)
+
+pub none-seen : (place : ℕ) (history : List (ℕ × Event)) → has_part place history ≡ false → seen_by place history ≡ []
+none-seen place [] none = refl
+none-seen place (entry ∷ rest) none = rw none refl
+
+neither : (one other : Bool) → one || other ≡ false → (one ≡ false) × (other ≡ false)
+neither true other is = absurd (cc)
+neither false other is = (refl, is)
+
+pub part-none : (place : ℕ) (history : List (ℕ × Event)) → has_part place history ≡ false → part_of place history ≡ []
+part-none place [] none = refl
+part-none place (entry ∷ rest) none =
+    let both = neither (entry.0 == place) (has_part place rest) none in rw both.0 (part-none place rest both.1)
+
+-- what a place has seen goes to its last event, whatever stands before that
+pub seen-append : (place : ℕ) (front rest : List (ℕ × Event)) → has_part place rest ≡ true → seen_by place (front ++ rest) ≡ front ++ seen_by place rest
+seen-append place [] rest some = refl
+seen-append place (entry ∷ front) rest some =
+    let behind : has_part place (front ++ rest) ≡ true =
+    has-append place front rest ∙ ap (λ (b : Bool). has_part place front || b) some ∙ or-true (has_part place front) in
+    let test : has_part place (entry ∷ (front ++ rest)) ≡ true = ap (λ (b : Bool). (entry.0 == place) || b) behind ∙ or-true (entry.0 == place) in
+    rw test (ap (λ (l : List (ℕ × Event)). entry ∷ l) (seen-append place front rest some))
+
+-- events of others behind it are none that it has seen
+pub seen-apart : (place : ℕ) (front rest : List (ℕ × Event)) → has_part place rest ≡ false → seen_by place (front ++ rest) ≡ seen_by place front
+seen-apart place [] rest none = none-seen place rest none
+seen-apart place (entry ∷ front) rest none =
+    let behind : has_part place (front ++ rest) ≡ has_part place front =
+    has-append place front rest ∙ ap (λ (b : Bool). has_part place front || b) none ∙ or-false (has_part place front) in
+    let test : has_part place (entry ∷ (front ++ rest)) ≡ has_part place (entry ∷ front) = ap (λ (b : Bool). (entry.0 == place) || b) behind in
+    elim (cases_Bool (has_part place (entry ∷ front))) [
+      | inl some ↦
+          let also : has_part place (entry ∷ (front ++ rest)) ≡ true = test ∙ some in
+          rw (also, some) (ap (λ (l : List (ℕ × Event)). entry ∷ l) (seen-apart place front rest none))
+      | inr not ↦ let also : has_part place (entry ∷ (front ++ rest)) ≡ false = test ∙ not in rw (also, not) refl
+    ]
+
+-- The events of one place
+
+pub part-own : (place : ℕ) (events : List Event) → part_of place (of_place place events) ≡ events
+part-own place [] = refl
+part-own place (event ∷ rest) = rw (number_same place) (ap (λ (l : List Event). event ∷ l) (part-own place rest))
+
+pub has-other : (place other : ℕ) (events : List Event) → other == place ≡ false → has_part place (of_place other events) ≡ false
+has-other place other [] apart = refl
+has-other place other (event ∷ rest) apart = rw apart (has-other place other rest apart)
+
+pub seen-own : (place : ℕ) (events : List Event) → seen_by place (of_place place events) ≡ of_place place events
+seen-own place [] = refl
+seen-own place (event ∷ rest) = rw (number_same place) (ap (λ (l : List (ℕ × Event)). (place, event) ∷ l) (seen-own place rest))
+
+-- a history goes on behind what a place has seen of it, with events of others
+pub seen-rest : (place : ℕ) (history : List (ℕ × Event))
+    → (rest : List (ℕ × Event)) × (history ≡ seen_by place history ++ rest) × (has_part place rest ≡ false)
+seen-rest place [] = ([], refl, refl)
+seen-rest place (entry ∷ history) =
+    elim (cases_Bool (has_part place (entry ∷ history))) [
+      | inl some ↦
+          rw some (let more = seen-rest place history in (more.0, ap (λ (l : List (ℕ × Event)). entry ∷ l) more.1, more.2))
+      | inr none ↦ rw none (entry ∷ history, refl, none)
+    ]
+
+-- What a place has seen once it has these events more: what it had seen, events of others, and these
+pub record IsSeenOn (place : ℕ) (history : List (ℕ × Event)) (events : List Event) : Type 0 where
+  pub more : List (ℕ × Event)
+  pub seen : seen_by place (history ++ of_place place events) ≡ seen_by place history ++ more
+  pub own : part_of place more ≡ events
+  pub latest : seen_by place more ≡ more
+
+pub seen-on : (place : ℕ) (history : List (ℕ × Event)) (events : List Event) → IsSeenOn place history events
+seen-on place history [] = record {
+  more = [];
+  seen = seen-apart place history [] refl ∙ sym (append-nil (seen_by place history));
+  own = refl;
+  latest = refl;
+}
+seen-on place history (event ∷ events) =
+    let tail = seen-rest place history in
+    let own : List (ℕ × Event) = of_place place (event ∷ events) in
+    let some : has_part place own ≡ true = rw (number_same place) refl in
+    record {
+      more = tail.0 ++ own;
+      seen =
+          seen-append place history own some ∙ ap (λ (l : List (ℕ × Event)). history ++ l) (seen-own place (event ∷ events))
+          ∙ ap (λ (l : List (ℕ × Event)). l ++ own) tail.1 ∙ append_assoc (seen_by place history) tail.0 own;
+      own =
+          part-append place tail.0 own ∙ ap (λ (l : List Event). l ++ part_of place own) (part-none place tail.0 tail.2)
+          ∙ part-own place (event ∷ events);
+      latest = seen-append place tail.0 own some ∙ ap (λ (l : List (ℕ × Event)). tail.0 ++ l) (seen-own place (event ∷ events));
+    }
+
+-- Runs
+
+pub run-append : (needs : Needs) (state middle last : AbstractState) (front rest : List (ℕ × Event)) → IsRun needs state front middle
+    → IsRun needs middle rest last → IsRun needs state (front ++ rest) last
+run-append needs state middle last [] rest one other = subst (λ (z : AbstractState). IsRun needs z rest last) (sym one) other
+run-append needs state middle last (event ∷ front) rest one other =
+    (one.0, run-append needs (after_event needs state event.0 event.1) middle last front rest one.1 other)
+
+-- Views that grow
+
+pub named-append : (front rest : List Event) → named (front ++ rest) ≡ named front ++ named rest
+named-append [] rest = refl
+named-append (event ∷ front) rest =
+    elim (cases_Bool (is_named event)) [
+      | inl is ↦ rw is (ap (λ (l : List Event). event ∷ l) (named-append front rest))
+      | inr not ↦ rw not (named-append front rest)
+    ]
+
+-- a view is its own beginning
+pub extends-none : (v : View) → Extends v [] v
+extends-none v = record {
+  deals = refl;
+  number = refl;
+  part = sym (append-nil v.part);
+  more = [];
+  seen = sym (append-nil v.seen);
+  own = refl;
+  latest = refl;
+}
+
+latest-append : (place : ℕ) (front rest : List (ℕ × Event)) → seen_by place front ≡ front → seen_by place rest ≡ rest
+    → seen_by place (front ++ rest) ≡ front ++ rest
+latest-append place front rest one other =
+    elim (cases_Bool (has_part place rest)) [
+      | inl some ↦ seen-append place front rest some ∙ ap (λ (l : List (ℕ × Event)). front ++ l) other
+      | inr none ↦
+          let nothing : rest ≡ [] = sym other ∙ none-seen place rest none in
+          seen-apart place front rest none ∙ one ∙ sym (append-nil front) ∙ ap (λ (l : List (ℕ × Event)). front ++ l) (sym nothing)
+    ]
+
+-- two growths are one
+pub extends-append : (u v w : View) (front rest : List Event) → Extends u front v → Extends v rest w → Extends u (front ++ rest) w
+extends-append u v w front rest one other = record {
+  deals = other.deals ∙ one.deals;
+  number = other.number ∙ one.number;
+  part = other.part ∙ ap (λ (l : List Event). l ++ rest) one.part ∙ append_assoc u.part front rest;
+  more = one.more ++ other.more;
+  seen = other.seen ∙ ap (λ (l : List (ℕ × Event)). l ++ other.more) one.seen ∙ append_assoc u.seen one.more other.more;
+  own =
+      part-append u.number one.more other.more ∙ ap (λ (l : List Event). l ++ part_of u.number other.more) one.own
+      ∙ ap (λ (l : List Event). front ++ l) (subst (λ n. part_of n other.more ≡ rest) one.number other.own);
+  latest = latest-append u.number one.more other.more one.latest (subst (λ n. seen_by n other.more ≡ other.more) one.number other.latest);
+}

@@ -1,0 +1,59 @@
+-- What a call of a place does.
+use Rattle.std.specs.Prelude.{◌≡◌, ℕ, Bool, true, false, List, Option, Some, None}
+use Rattle.saa_word_steps.specs.declared.call.Answer.{Answer}
+use Rattle.saa_word_steps.specs.declared.call.WordCall.{WordCall}
+use Rattle.saa_word_steps.specs.declared.call.WordCall.TheVariants.{Available, IsFree, IsLocked, IsShared, IsPoisoned, TryPoll}
+use Rattle.saa_word_steps.specs.declared.event.Event.{Event}
+use Rattle.saa_word_steps.specs.declared.place.Next.{Next}
+use Rattle.saa_word_steps.specs.declared.place.Next.TheVariants.{Going, Waits, Done}
+use Rattle.saa_word_steps.specs.declared.place.Place.{Place}
+use Rattle.saa_word_steps.specs.declared.place.Registration.{Registration}
+use Rattle.saa_word_steps.specs.Needs.{Needs}
+use Rattle.saa_word_proofs.specs.Calls.{IsAnswered, IsUnder, asked_by}
+use Rattle.saa_word_proofs.specs.Registering.{IsReadyNext, begun_as, left_behind, starting_answer}
+use Rattle.saa_word_proofs.specs.StepRefinement.{named}
+use Rattle.saa_word_threads.specs.declared.table.View.{View}
+use Rattle.saa_word_threads.specs.Told.{Begins, Extends, IsSince}
+
+-- A call of a place that was registered so has these events, which end in this answer: the place's view grows by them, the answer is the one
+-- that they name (others among them are granted, closed and showed, which no answer names), and what the place is registered as is read off them
+pub record HasEvents (needs : Needs) (call : WordCall) (was : Registration) (answer : Answer) (now : Registration) (v w : View) : Type 0 where
+  pub events : List Event
+  pub extends : Extends v events w
+  pub answers : IsAnswered needs call was (named events) answer
+  pub registered : now ≡ left_behind (named events) (asked_by call) (begun_as call was)
+
+-- A call that needs no shared word answers at its start, and has no events; each other call has
+abbrev pub IsCalledFrom : Option Answer → Needs → WordCall → Registration → Answer → Registration → View → View → Type 0
+IsCalledFrom (Some said) needs call was answer now v w = (answer ≡ said) × (now ≡ begun_as call was) × (w ≡ v)
+IsCalledFrom None needs call was answer now v w = HasEvents needs call was answer now v w
+
+abbrev pub IsCalled : Needs → WordCall → Registration → Answer → Registration → View → View → Type 0
+IsCalled needs call was answer now v w = IsCalledFrom (starting_answer needs call was) needs call was answer now v w
+
+-- A call of a place that was registered so, which began at a view, stands at this place: what it has named so far goes with where it stands, and
+-- the place's view has grown by its events. Internal: nobody has to believe this; it is the invariant of the loop of a call
+pub record Midway (needs : Needs) (places me : ℕ) (call : WordCall) (was : Registration) (began : View) (place : Place) (v : View) : Type 0 where
+  pub events : List Event
+  pub under : IsUnder needs call was place.back place.stage (named events)
+  pub extends : Extends began events v
+  pub registered : place.registration ≡ left_behind (named events) (asked_by call) (begun_as call was)
+  pub begins : Begins needs v.position place
+  pub ready : IsReadyNext needs places me (Going place)
+
+-- the calls of one step at most
+abbrev pub is_single : WordCall → Bool
+is_single Available = true
+is_single IsFree = true
+is_single IsLocked = true
+is_single IsShared = true
+is_single IsPoisoned = true
+is_single TryPoll = true
+is_single _ = false
+
+-- How a call goes on behind a step: from the next place, from where it was, or it is done and its place rests. Internal, as the invariant
+abbrev pub MidwayNext : Needs → ℕ → ℕ → WordCall → Registration → View → Place → View → Next → Type 0
+MidwayNext needs places me call was began place v (Going next) = Midway needs places me call was began next v
+MidwayNext needs places me call was began place v Waits = Midway needs places me call was began place v
+MidwayNext needs places me call was began place v (Done behind answer) =
+    HasEvents needs call was answer behind.registration began v × IsSince v.position behind

@@ -1,0 +1,40 @@
+-- What a form deals as it is made, and what it gives as it is closed.
+use Rattle.std.specs.Prelude.{◌≡◌, ℕ, ◌+◌, nat_lt, if◌then◌else◌, List, [], ◌∷◌, Option, Some, None, slice_index}
+use Rattle.std.specs.Slots.{slots_items}
+use Rattle.atomic_table.specs.Seated.{TableId}
+use Rattle.saa_word_steps.specs.declared.event.Event.{Event}
+use Rattle.saa_word_steps.specs.Steps.{needs_of}
+use Rattle.saa_word_proofs.specs.History.{BeginsWith, LeadsTo, part_of, seen_by}
+use Rattle.saa_word_proofs.specs.Promises.{idle_place}
+use Rattle.saa_word_threads.specs.declared.table.About.{About}
+use Rattle.saa_word_threads.specs.declared.table.View.{View}
+use Rattle.saa_word_threads.specs.declared.place.Place.{Place}
+use Rattle.saa_word_threads.specs.declared.words.Words.{Words}
+use Rattle.saa_word_threads.specs.Kept.{newcomer, row_of}
+
+-- a place of a table that has this number, is idle, and has done nothing yet
+abbrev pub IsNew : TableId → ℕ → Place → Type 0
+IsNew table number place =
+    (place.seat.table_id ≡ table) × (place.number ≡ number) × (place.position ≡ idle_place) × (place.seat.me.0 ≡ newcomer number)
+
+-- new places of a table, numbered in order from a number on
+abbrev pub AreNew : TableId → ℕ → List Place → Type 0
+AreNew table number [] = Unit {0}
+AreNew table number (place ∷ rest) = IsNew table number place × AreNew table (number + 1) rest
+
+-- There is a legal history that leads to these words. It begins with what the place of this view has seen, which is all of it up to the place's
+-- last event, and its part at that place is just the place's events
+pub record IsLedTo (about : About) (words : List ℕ) (v : View) : Type 0 where
+  pub history : List (ℕ × Event)
+  pub leads : LeadsTo (needs_of about.rules) about.places about.withheld history (row_of words)
+  pub begins : BeginsWith history v.seen
+  pub latest : v.seen ≡ seen_by v.number history
+  pub part : v.part ≡ part_of v.number history
+
+-- the numbers of the words at the end
+abbrev pub numbers : Words → List ℕ
+numbers words = slots_items words.closed.words
+
+-- the number of a place's word, which stands at its index
+abbrev pub number_at : Words → ℕ → ℕ → Option ℕ
+number_at words place index = if nat_lt place words.places then Some (slice_index (numbers words) index) else None

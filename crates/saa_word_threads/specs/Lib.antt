@@ -1,0 +1,7 @@
+pub mod Kept
+pub mod Told
+pub mod Called
+pub mod Dealt
+pub mod Public
+pub mod Semaphores
+pub mod Straight

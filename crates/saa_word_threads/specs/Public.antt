@@ -1,0 +1,63 @@
+-- What the calls of a form do, as their contracts say it.
+use Rattle.std.specs.Prelude.{◌≡◌, ℕ, Bool, true, false, Result, Ok, Err}
+use Rattle.saa_word_steps.specs.declared.call.Answer.{Answer}
+use Rattle.saa_word_steps.specs.declared.call.Answer.TheVariants.{Bool as Says, Taken}
+use Rattle.saa_word_steps.specs.declared.call.WordCall.{WordCall}
+use Rattle.saa_word_steps.specs.declared.call.WordCall.TheVariants.{Register, Poll, Cancel}
+use Rattle.saa_word_steps.specs.declared.place.Registration.{Registration}
+use Rattle.saa_word_steps.specs.Needs.{Needs}
+use Rattle.saa_core_spec.specs.declared.polling.Error.{Error}
+use Rattle.saa_word_threads.specs.declared.place.Place.{Place}
+use Rattle.saa_word_threads.specs.declared.place.Left.{Left}
+use Rattle.saa_word_threads.specs.declared.table.View.{View}
+use Rattle.saa_word_threads.specs.Called.{IsCalled}
+
+-- what a place is registered as, and what it has seen and knows as its part
+abbrev pub registered : Place → Registration
+registered place = place.position.registration
+
+abbrev pub view_of : Place → View
+view_of place = place.seat.me.0
+
+abbrev pub view_left : Left → View
+view_left left = left.seat.me.0
+
+-- a place is another moment of a place: it has its number, and is of its table
+abbrev pub IsSamePlace : Place → Place → Type 0
+IsSamePlace old new = (new.number ≡ old.number) × (new.seat.table_id ≡ old.seat.table_id)
+
+-- A call was made at a place, and answered so
+abbrev pub IsMade : Needs → WordCall → Place → Answer → Place → Type 0
+IsMade needs call old answer new = IsSamePlace old new × IsCalled needs call (registered old) answer (registered new) (view_of old) (view_of new)
+
+-- whether an answer is yes, and whether it is that of a poll that was granted
+abbrev pub is_yes : Answer → Bool
+is_yes (Says true) = true
+is_yes _ = false
+
+abbrev pub is_granted : Answer → Bool
+is_granted (Taken (Ok true)) = true
+is_granted _ = false
+
+-- what a poll of a semaphore answers
+abbrev pub polled : Answer → Result (Unit {0}) Error
+polled (Taken (Err error)) = Err error
+polled _ = Ok tt
+
+-- A wait is a registration, and then a poll where the registration was made
+abbrev pub IsWaitedFrom : Bool → Needs → Registration → Registration → View → View → Bool → Type 0
+IsWaitedFrom false needs was now v w result = (now ≡ was) × (w ≡ v) × (result ≡ false)
+IsWaitedFrom true needs was now v w result = (answer : Answer) × IsCalled needs Poll was answer now v w × (result ≡ is_granted answer)
+
+abbrev pub IsWaited : Needs → ℕ → Place → Bool → Place → Type 0
+IsWaited needs count old result new =
+    IsSamePlace old new
+    × ((answer : Answer) × (between : Registration) × (v : View)
+    × IsCalled needs (Register count) (registered old) answer between (view_of old) v
+    × IsWaitedFrom (is_yes answer) needs between (registered new) v (view_of new) result)
+
+-- A place has left: it has cancelled first
+abbrev pub HasLeft : Needs → Place → Left → Type 0
+HasLeft needs place left =
+    (left.number ≡ place.number) × (left.seat.table_id ≡ place.seat.table_id)
+    × ((answer : Answer) × (now : Registration) × IsCalled needs Cancel (registered place) answer now (view_of place) (view_left left))

@@ -1,0 +1,72 @@
+-- What a step of a place tells it.
+use Rattle.std.specs.Prelude.{◌≡◌, ℕ, ◌⊎◌, ◌+◌, ◌<◌, Bool, true, false, List, ◌++◌}
+use Rattle.atomic_table.specs.Table.{Me, Step}
+use Rattle.saa_word_steps.specs.declared.call.WordCall.{WordCall}
+use Rattle.saa_word_steps.specs.declared.event.Event.{Event}
+use Rattle.saa_word_steps.specs.declared.place.Next.{Next}
+use Rattle.saa_word_steps.specs.declared.place.Next.TheVariants.{Going}
+use Rattle.saa_word_steps.specs.declared.place.Place.{Place}
+use Rattle.saa_word_steps.specs.declared.place.Registration.{Registration}
+use Rattle.saa_word_steps.specs.declared.place.Registration.TheVariants.{Idle, Once}
+use Rattle.saa_word_steps.specs.declared.place.Stage.TheVariants.{Quiet}
+use Rattle.saa_word_steps.specs.Needs.{Needs}
+use Rattle.saa_word_steps.specs.declared.operation.Operation.{Operation}
+use Rattle.saa_word_steps.specs.Steps.{is_idle, is_taken, needs_of, next_of, operation_of, started, word_at}
+use Rattle.saa_word_proofs.specs.History.{part_of, seen_by}
+use Rattle.saa_word_proofs.specs.Registering.{IsReadyNext}
+use Rattle.saa_word_proofs.specs.StepRefinement.{named, named_at, place_after}
+use Rattle.saa_word_threads.specs.declared.table.View.{View}
+use Rattle.saa_word_threads.specs.declared.table.About.{About}
+
+-- A place's view grows by these events: they are what its part has more. What it has seen begins with what it had seen; behind that are
+-- events of others and just these of its own, one of them last
+pub record Extends (v : View) (events : List Event) (w : View) : Type 0 where
+  pub deals : w.deals ≡ v.deals
+  pub number : w.number ≡ v.number
+  pub part : w.part ≡ v.part ++ events
+  pub more : List (ℕ × Event)
+  pub seen : w.seen ≡ v.seen ++ more
+  pub own : part_of v.number more ≡ events
+  pub latest : seen_by v.number more ≡ more
+
+-- A place makes its step and goes on so with the number that it found: it stands where that says, what answers name of its events is said by
+-- its stage and the number, its view grows by these events, and it can make its next step
+pub record Moves (needs : Needs) (places : ℕ) (place : Place) (next : Next) (found : ℕ) (v w : View) : Type 0 where
+  pub position : w.position ≡ place_after place next
+  pub events : List Event
+  pub names : named events ≡ named_at needs place.stage found
+  pub extends : Extends v events w
+  pub ready : IsReadyNext needs places v.number (Going w.position)
+
+abbrev pub told : About → Place → ℕ → Step (Unit {0}) → Me (Unit {0}) View → ℕ → Me (Unit {0}) View → Type 0
+told about place me st before found after =
+    Moves (needs_of about.rules) about.places place (next_of (needs_of about.rules) me place place.stage found) found before.0 after.0
+
+-- an answer that was given at once is taken
+abbrev pub taken_once : Registration → Registration
+taken_once (Once value request) = Idle
+taken_once registration = registration
+
+-- a place as it was behind its last step, but for an answer that was given at once, which it has taken where it is idle now
+abbrev pub resting_as : Place → Bool → Place
+resting_as was true = record was { registration = taken_once was.registration }
+resting_as was false = was
+
+-- a place rests so in no call, and has made no step since
+abbrev pub IsSince : Place → Place → Type 0
+IsSince was rest = (rest.stage ≡ Quiet) × (rest ≡ resting_as was (is_idle rest.registration))
+
+-- a place is where it was behind its last step, or has started a call since
+abbrev pub Begins : Needs → Place → Place → Type 0
+Begins needs was place =
+    (place ≡ was)
+    ⊎ ((rest : Place) × (call : WordCall) × IsSince was rest × (is_taken needs.is_lock call ≡ true) × (place ≡ place_after rest (started needs rest call)))
+
+-- A place of this number, which is no dealer's, makes this operation next, out of so many places
+pub record IsNext (needs : Needs) (places me : ℕ) (place : Place) (operation : Operation) (v : View) : Type 0 where
+  pub deals : v.deals ≡ false
+  pub number : v.number ≡ me
+  pub here : me < places
+  pub begins : Begins needs v.position place
+  pub makes : operation ≡ operation_of needs places me place.stage
+  pub inside : word_at operation < places + places + 1

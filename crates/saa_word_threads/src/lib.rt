@@ -1,0 +1,18 @@
+//! The word's semaphore on shared memory: threads that make the word's single steps on a table of atomic words.
+//!
+//! What a place does next, and how it goes on with what it finds, is `saa_word_steps`', and that each step keeps the refinement is
+//! `saa_word_proofs`'. Here stand the table with its rule (`table`), the form that makes steps and calls on it (`form`, `step`, `call`), how
+//! a place waits (`waiting`), and the public semaphore. `docs/WORD.md` tells the protocol.
+#![tactic(auto)]
+
+mod call;
+mod form;
+mod open;
+pub mod place;
+pub mod semaphore;
+mod step;
+mod straight;
+mod table;
+mod waiting;
+mod watch;
+pub mod words;

@@ -1,0 +1,126 @@
+//! A form is made, with its places, and closed.
+
+ghost use Rattle.std.specs.Prelude.{◌^◌, ◌≡◌, ◌+◌, ◌<◌, ◌≤◌, [], IfOk, replicate, slice_set, vec_capacity, vec_len};
+ghost use Rattle.saa_core_words.specs.Words.{count_bits};
+ghost use Rattle.saa_word_steps.specs.Steps.{needs_of};
+ghost use Rattle.saa_word_threads.specs.Kept.{dealer};
+ghost use Rattle.saa_word_threads.specs.Dealt.{AreNew, IsLedTo, IsNew, numbers};
+
+use crate::form::Form;
+use crate::place::{Left, Place};
+use crate::table::{About, Dealt, View};
+use crate::words::Words;
+use atomic_table::{Seat, Table};
+use saa_word_steps::place::{Back, Place as Position, Registration, Stage};
+use saa_word_steps::rules::Rules;
+use std::alloc::{AllocError, Global};
+use std::sync::atomic::AtomicBool;
+
+impl Form {
+    // A form of these rules in which so much is held, and its places.
+    pub(crate) fn open(
+        alloc: Global,
+        rules: Rules,
+        withheld: u16,
+        places: u16,
+    ) -> Result<(Form, Vec<Place>), AllocError>
+        requires wide { (needs_of rules).top < 2 ^ count_bits }
+        requires count { withheld ≤ (needs_of rules).top }
+        ensures made { IfOk result (λ made. (made.0.rules ≡ rules) × (made.0.places ≡ places) × (made.0.table.shared.key.withheld ≡ withheld)) }
+        ensures dealt { IfOk result (λ made. (vec_len made.1 ≡ places) × AreNew made.0.table.shared.table_id 0 made.1.items) }
+    {
+        let words = opening_words(alloc, withheld, places)?;
+        let parked = marks(alloc, places)?;
+        let about = About {
+            rules,
+            withheld,
+            places,
+        };
+        let (table, dealer) = Table::of_words(alloc, words.as_slice(), &about)?;
+        let form = Form {
+            table,
+            rules,
+            places,
+            parked,
+        };
+        let room = Vec::with_capacity(alloc, usize::from(places))?;
+        let dealt = form.deal(dealer, room);
+        Ok((form, dealt))
+    }
+
+    // Deals all places, in order, into an empty list with room for them.
+    fn deal(&self, mut seat: Seat<(), View>, room: Vec<Place>) -> Vec<Place>
+        requires table { seat.table_id ≡ self.now.table.shared.table_id }
+        requires dealer { seat.me.0 ≡ dealer 0 }
+        requires room { (room.items ≡ []) × (vec_len room ≡ 0) × (self.now.places ≤ vec_capacity room) }
+        ensures count { vec_len result ≡ self.now.places }
+        ensures dealt { AreNew self.now.table.shared.table_id 0 result.items }
+    {
+        let mut dealt = room;
+        for number in 0..self.places {
+            let place = self.deal_one(&mut seat, number);
+            dealt.push_reserved(place);
+        }
+        dealt
+    }
+
+    // Deals the place of this number.
+    fn deal_one(&self, dealing: &mut Seat<(), View>, number: u16) -> Place
+        requires table { dealing.old.table_id ≡ self.now.table.shared.table_id }
+        requires dealer { dealing.old.me.0 ≡ dealer number }
+        requires within { number < self.now.places }
+        ensures table { dealing.new.table_id ≡ dealing.old.table_id }
+        ensures dealer { dealing.new.me.0 ≡ dealer (number + 1) }
+        ensures dealt { IsNew self.now.table.shared.table_id number result }
+    {
+        let seat = self.table.shared.split_seat::<Dealt>(dealing);
+        let position = Position {
+            registration: Registration::Idle,
+            stage: Stage::Quiet,
+            back: Back::Tells,
+        };
+        Place {
+            seat,
+            number,
+            position,
+        }
+    }
+
+    // The words at the end. They are those that the one history leads to, of which this place knows its part.
+    pub(crate) fn close(self, left: Left) -> Words
+        requires { left.seat.table_id ≡ self.table.shared.table_id }
+        ensures places { result.places ≡ self.places }
+        ensures led { IsLedTo self.table.shared.key (numbers result) left.seat.me.0 }
+    {
+        let Form {
+            table,
+            rules: _,
+            places,
+            parked: _,
+        } = self;
+        let Left { seat, number: _ } = left;
+        let closed = table.close_with(seat);
+        Words { closed, places }
+    }
+}
+
+// The words of a form in which so much is held: all are 0 but the main word.
+fn opening_words(alloc: Global, withheld: u16, places: u16) -> Result<Vec<u64>, AllocError>
+    ensures { IfOk result (λ words. words.items ≡ slice_set (replicate (places + places + 1) 0) 0 withheld) }
+{
+    let count = usize::from(places) + usize::from(places) + 1;
+    let mut words = Vec::from_elem(alloc, 0u64, count)?;
+    words[0] = u64::from(withheld);
+    Ok(words)
+}
+
+// A mark for each place, that it isn't parked.
+fn marks(alloc: Global, places: u16) -> Result<Vec<AtomicBool>, AllocError>
+    ensures { IfOk result (λ marks. vec_len marks ≡ places) }
+{
+    let mut marks = Vec::with_capacity(alloc, usize::from(places))?;
+    for _place in 0..places {
+        marks.push_reserved(AtomicBool::new(false));
+    }
+    Ok(marks)
+}

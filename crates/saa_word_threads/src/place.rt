@@ -1,0 +1,52 @@
+//! A place of a form: one task's seat at its words.
+//!
+//! Places are dealt by the form that they are used with; nobody else makes or copies one. A place between its calls stands where it stood
+//! behind its last step, or has taken an answer that was given at once since.
+
+ghost use Rattle.std.specs.Prelude.{◌≡◌, ◌+◌, ◌<◌, false};
+ghost use Rattle.saa_word_steps.specs.Steps.{is_idle};
+ghost use Rattle.saa_word_threads.specs.Told.{IsSince};
+
+use crate::table::View;
+use atomic_table::Seat;
+use saa_word_steps::place::{Place as Position, Registration};
+
+/// A place of the object that dealt it, between its calls.
+///
+/// One task has it at a time, and makes one call after another with it. `leave` spends it. A place that is dropped instead stays as it is: one
+/// that waits is still served in its turn, and what it was granted isn't given back.
+#[derive(Drop)]
+pub struct Place {
+    pub(crate) seat: Seat<(), View>,
+    pub(crate) number: u16,
+    pub(crate) position: Position,
+    ghost numbered: { (seat.me.0.deals ≡ false) × (seat.me.0.number ≡ number) },
+    ghost within: { number + number + 1 < seat.table_id.words },
+    ghost since: { IsSince seat.me.0.position position },
+}
+
+impl Place {
+    // Whether it is registered as nothing.
+    pub(crate) fn is_idle(&self) -> bool
+        ensures { result ≡ is_idle self.now.position.registration }
+    {
+        matches!(self.position.registration, Registration::Idle)
+    }
+}
+
+/// A place that has left the object that dealt it.
+#[derive(Drop)]
+pub struct Left {
+    pub(crate) seat: Seat<(), View>,
+    pub(crate) number: u16,
+    ghost numbered: { (seat.me.0.deals ≡ false) × (seat.me.0.number ≡ number) },
+}
+
+impl Left {
+    /// The number of the place that left. Costs O(1).
+    pub fn place(&self) -> u16
+        ensures { result ≡ self.now.number }
+    {
+        self.number
+    }
+}

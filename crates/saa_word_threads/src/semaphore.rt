@@ -1,0 +1,203 @@
+//! A lock-free semaphore: permits in one atomic word, for a fixed set of places.
+//!
+//! Every call is one call of a place of the form (`call`), and is held to `specs/Public.antt`. The history of all calls is one: it leads to
+//! the words, begins with what each place has seen, and has of each place just its own events.
+
+ghost use Rattle.std.specs.Prelude.{◌≡◌, ◌<◌, All, IfOk, min, vec_len};
+ghost use Rattle.saa_core_spec.specs.declared.polling.Error.{Error};
+ghost use Rattle.saa_word_steps.specs.Needs.{permit_needs};
+ghost use Rattle.saa_word_steps.specs.declared.call.Answer.{Answer};
+ghost use Rattle.saa_word_steps.specs.declared.call.Answer.TheVariants.{Number};
+ghost use Rattle.saa_word_steps.specs.declared.call.WordCall.TheVariants.{Try, Register, Release, Available, TryPoll, Poll, Cancel};
+ghost use Rattle.saa_word_steps.specs.declared.rules.Rules.TheVariants.{Permits};
+ghost use Rattle.saa_word_threads.specs.Dealt.{AreNew, IsLedTo, numbers};
+ghost use Rattle.saa_word_threads.specs.Public.{HasLeft, IsMade, IsWaited, is_yes, polled, view_left};
+
+#[cfg(test)]
+mod tests;
+
+use crate::form::Form;
+pub use crate::place::{Left, Place};
+use crate::straight::yes;
+use crate::watch::Unwatched;
+pub use crate::words::Words;
+pub use saa_word_steps::call::Error;
+use saa_word_steps::call::{Answer, WordCall};
+use saa_word_steps::place::Ask;
+use saa_word_steps::rules::Rules;
+use std::alloc::{AllocError, Global};
+use std::sync::Wait;
+
+/// Up to `MAX` permits, 1 to 65,535, in one atomic word, taken in the order of asking.
+///
+/// Each task has a [`Place`] of its own, which `new` deals; a place makes one call at a time. A waiter spins, yields and then parks. No call
+/// takes a lock or memory but `new`: while one thread is stopped in the middle of a call, the others still take and give back permits.
+#[derive(Drop)]
+pub struct SemaphoreOf<const MAX: usize> {
+    form: Form,
+    ghost permits: { form.rules ≡ Permits MAX },
+    ghost narrow: { MAX < 65536 },
+}
+
+/// Up to 63 permits; see [`SemaphoreOf`].
+pub type Semaphore = SemaphoreOf<63>;
+
+impl<const MAX: usize> SemaphoreOf<MAX> {
+    ghost use Rattle.saa_word_threads.specs.Semaphores.{IsDealtBy, IsLeftOf, about_of, table_of};
+
+    /// The most permits of a semaphore.
+    pub const MAX_PERMITS: usize = MAX;
+
+    /// A semaphore of which so many permits are withheld (all, where it is more), and its places, in the order of their numbers.
+    ///
+    /// Withheld permits count as taken, and may be released. Costs O(`places`). The error comes only where memory was refused.
+    pub fn new(
+        alloc: Global,
+        withheld: usize,
+        places: u16,
+    ) -> Result<(Self, Vec<Place>), AllocError>
+        requires bound { 0 < MAX }
+        requires narrow { MAX < 65536 }
+        ensures made { IfOk result (λ made. about_of made.0 ≡ record { rules = Permits MAX; withheld = min withheld MAX; places = places }) }
+        ensures dealt { IfOk result (λ made. (vec_len made.1 ≡ places) × AreNew (table_of made.0) 0 made.1.items) }
+        ensures ours { IfOk result (λ made. All (IsDealtBy made.0) made.1.items) }
+    {
+        let withheld = withheld.min(MAX) as u16;
+        let (form, dealt) = Form::open(alloc, Rules::Permits(MAX as u16), withheld, places)?;
+        Ok((SemaphoreOf { form }, dealt))
+    }
+
+    /// Takes `count` permits if nobody waits and they are available; never waits for a permit.
+    ///
+    /// Counts above [`Self::MAX_PERMITS`] are never granted. A `false` takes nothing. Costs two steps on the word, and one more for each
+    /// other task that changed it meanwhile.
+    pub fn try_acquire_many<R: Wait>(&self, rt: &R, place: &mut Place, count: usize) -> bool
+        requires { IsDealtBy self.now place.old }
+        ensures { (answer : Answer) × (result ≡ is_yes answer) × IsMade (permit_needs MAX) (Try count) place.old answer place.new }
+    {
+        let call = WordCall::Try(count);
+        if count > MAX {
+            return yes(self.form.call(rt, &Unwatched, place, call));
+        }
+        let ask = Ask {
+            request: count as u16,
+            joins: false,
+        };
+        self.form.ask(rt, &Unwatched, place, call, ask)
+    }
+
+    /// Takes `count` permits, and waits for them where it must.
+    ///
+    /// `false`, without waiting, for a count above [`Self::MAX_PERMITS`] and at a place that is registered.
+    pub fn acquire_many<R: Wait>(&self, rt: &R, place: &mut Place, count: usize) -> bool
+        requires { IsDealtBy self.now place.old }
+        ensures { IsWaited (permit_needs MAX) count place.old result place.new }
+    {
+        if !self.register(rt, place, count) {
+            return false;
+        }
+        self.form.await_grant(rt, &Unwatched, place)
+    }
+
+    /// Gives `count` permits back, and grants those who wait for them and fit, oldest first.
+    ///
+    /// `false`, and nothing changes, where fewer are taken. Any place may give back what another one took.
+    pub fn release_many<R: Wait>(&self, rt: &R, place: &mut Place, count: usize) -> bool
+        requires { IsDealtBy self.now place.old }
+        ensures { (answer : Answer) × (result ≡ is_yes answer) × IsMade (permit_needs MAX) (Release count) place.old answer place.new }
+    {
+        let call = WordCall::Release(count);
+        if count == 0 || count > MAX {
+            return yes(self.form.call(rt, &Unwatched, place, call));
+        }
+        self.form.give(rt, &Unwatched, place, call, count as u16)
+    }
+
+    /// Asks for `count` permits: they are granted at once, or the place joins the waiters.
+    ///
+    /// `false`, and nothing changes, for a count above [`Self::MAX_PERMITS`] and at a place that is registered. The answer is taken by
+    /// [`Self::poll`] or [`Self::try_poll`].
+    pub fn register<R: Wait>(&self, rt: &R, place: &mut Place, count: usize) -> bool
+        requires { IsDealtBy self.now place.old }
+        ensures { (answer : Answer) × (result ≡ is_yes answer) × IsMade (permit_needs MAX) (Register count) place.old answer place.new }
+    {
+        let call = WordCall::Register(count);
+        if count > MAX || !place.is_idle() {
+            return yes(self.form.call(rt, &Unwatched, place, call));
+        }
+        let ask = Ask {
+            request: count as u16,
+            joins: true,
+        };
+        self.form.ask(rt, &Unwatched, place, call, ask)
+    }
+
+    /// Takes the answer of a registration where it is there; waits for nobody.
+    ///
+    /// `NotReady` while the place waits, `NotRegistered` where it is registered as nothing. Costs one step at most.
+    pub fn try_poll(&self, place: &mut Place) -> Result<(), Error>
+        requires { IsDealtBy self.now place.old }
+        ensures { (answer : Answer) × (result ≡ polled answer) × IsMade (permit_needs MAX) TryPoll place.old answer place.new }
+    {
+        taken(self.form.call_at_once(place, WordCall::TryPoll))
+    }
+
+    /// Takes the answer of a registration, and waits for it where it must.
+    ///
+    /// `NotRegistered` where the place is registered as nothing; no other error comes.
+    pub fn poll<R: Wait>(&self, rt: &R, place: &mut Place) -> Result<(), Error>
+        requires { IsDealtBy self.now place.old }
+        ensures { (answer : Answer) × (result ≡ polled answer) × IsMade (permit_needs MAX) Poll place.old answer place.new }
+    {
+        taken(self.form.call(rt, &Unwatched, place, WordCall::Poll))
+    }
+
+    /// Cancels a registration: the place leaves the waiters, or gives back what it was granted. Nothing, where it is registered as nothing.
+    ///
+    /// It yields while another place works on the line.
+    pub fn cancel<R: Wait>(&self, rt: &R, place: &mut Place)
+        requires { IsDealtBy self.now place.old }
+        ensures { (answer : Answer) × IsMade (permit_needs MAX) Cancel place.old answer place.new }
+    {
+        self.form.call(rt, &Unwatched, place, WordCall::Cancel);
+    }
+
+    /// How many permits are available; waits for nobody. Costs one step.
+    pub fn available_permits(&self, place: &mut Place) -> u16
+        requires { IsDealtBy self.now place.old }
+        ensures { IsMade (permit_needs MAX) Available place.old (Number result) place.new }
+    {
+        match self.form.call_at_once(place, WordCall::Available) {
+            Answer::Number(number) => number,
+            _ => unreachable!(),
+        }
+    }
+
+    /// The place leaves; it cancels first.
+    pub fn leave<R: Wait>(&self, rt: &R, place: Place) -> Left
+        requires { IsDealtBy self.now place }
+        ensures { HasLeft (permit_needs MAX) place result }
+    {
+        self.form.leave(rt, &Unwatched, place)
+    }
+
+    /// The words at the end, with the place of `left` as the witness of what led there; waits for nobody. Costs O(1).
+    pub fn close(self, left: Left) -> Words
+        requires { IsLeftOf self left }
+        ensures places { result.places ≡ (about_of self.entry).places }
+        ensures led { IsLedTo (about_of self.entry) (numbers result) (view_left left) }
+    {
+        let SemaphoreOf { form } = self;
+        form.close(left)
+    }
+}
+
+// What a poll answers.
+fn taken(answer: Answer) -> Result<(), Error>
+    ensures { result ≡ polled answer }
+{
+    match answer {
+        Answer::Taken(Err(error)) => Err(error),
+        _ => Ok(()),
+    }
+}

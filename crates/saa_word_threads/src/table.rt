@@ -1,0 +1,87 @@
+//! The table that places share: what a seat of it knows, and what is always so of its words and seats.
+//!
+//! Held to `specs/Kept.antt`: there is one legal history that leads to the words, and each place knows its part of it. What a step tells
+//! its place is `specs/Told.antt`.
+
+use atomic_table::{Play, Split, TableRule};
+use saa_word_steps::event::Event;
+use saa_word_steps::place::Place as Position;
+use saa_word_steps::rules::Rules;
+use std::collections::LinkedList;
+use std::marker::{Brand, PhantomData};
+
+/// What a seat knows. The dealer: how many places it has dealt. A place: its number, where it stood behind its last step, the history as it
+/// was at its last event, and its own events in it. No value of it is made.
+pub struct View {
+    pub deals: bool,
+    pub number: u16,
+    pub position: Position,
+    pub seen: LinkedList<(u16, Event)>,
+    pub part: LinkedList<Event>,
+}
+
+/// What a table is told when it is made: the rules, how much is held, and how many places there are.
+#[derive(Drop)]
+pub struct About {
+    pub rules: Rules,
+    pub withheld: u16,
+    pub places: u16,
+}
+
+/// The rule of a table: one history leads to its words.
+pub struct OneHistory;
+
+impl TableRule<(), View, About> for OneHistory {
+    ghost use Rattle.saa_word_threads.specs.Kept.{Kept, dealer};
+
+    ghost holds = { λ about. Kept about };
+
+    ghost first = { λ about. dealer 0 };
+}
+
+/// Of which table a step is, and which place makes it from where. The call picks it.
+pub trait Mover {
+    ghost use Rattle.std.specs.Prelude.{ℕ};
+    ghost use Rattle.saa_word_threads.specs.declared.table.About.{About};
+    ghost use Rattle.saa_word_steps.specs.declared.place.Place.{Place};
+
+    ghost about: { About };
+
+    ghost place: { Place };
+
+    ghost me: { ℕ };
+}
+
+impl Mover for Brand {
+    ghost use Rattle.saa_word_steps.specs.declared.rules.Rules.TheVariants.{Modes};
+    ghost use Rattle.saa_word_proofs.specs.Promises.{idle_place};
+
+    ghost about = { record { rules = Modes; withheld = 0; places = 0 } };
+
+    ghost place = { idle_place };
+
+    ghost me = { 0 };
+}
+
+/// A step of a place.
+pub struct Moved<M> {
+    of: PhantomData<M>,
+}
+
+impl<M: Mover> Play<(), View> for Moved<M> {
+    ghost use Rattle.saa_word_threads.specs.Told.{told};
+
+    ghost then = { told M.about M.place M.me };
+}
+
+/// The dealer deals one more place.
+pub struct Dealt;
+
+impl Split<View> for Dealt {
+    ghost use Rattle.std.specs.Prelude.{◌+◌};
+    ghost use Rattle.saa_word_threads.specs.Kept.{dealer, newcomer};
+
+    ghost left = { λ v. dealer (v.number + 1) };
+
+    ghost right = { λ v. newcomer v.number };
+}

@@ -1,0 +1,53 @@
+//! How a place waits for another one: it spins, yields, and then parks on its own answer word.
+
+ghost use Rattle.std.specs.Prelude.{◌<◌};
+
+use crate::form::Form;
+use saa_word_steps::place::Stage;
+use std::hint::spin_loop;
+use std::sync::Wait;
+use std::sync::atomic::Ordering;
+use std::thread::yield_now;
+
+// How often a place looks at its answer word before it begins to yield, and how often it yields before it parks.
+const LOOKS: u32 = 500;
+
+const YIELDS: u32 = 500;
+
+impl Form {
+    // Waits a while at this stage: for the own answer, and else for the flag's holder, who has no word to park on.
+    pub(crate) fn wait<R: Wait>(&self, rt: &R, me: u16, stage: Stage)
+        requires { me < self.now.places }
+    {
+        if let Stage::Take { .. } = stage {
+            self.await_answer(rt, me);
+        } else {
+            yield_now();
+        }
+    }
+
+    // Waits until the answer word of a place may have changed.
+    fn await_answer<R: Wait>(&self, rt: &R, me: u16)
+        requires { me < self.now.places }
+    {
+        let index = usize::from(self.places) + usize::from(me) + 1;
+        for _turn in 0..LOOKS {
+            if self.table.shared.peek(index) != 0 {
+                return;
+            }
+            spin_loop();
+        }
+        for _turn in 0..YIELDS {
+            if self.table.shared.peek(index) != 0 {
+                return;
+            }
+            yield_now();
+        }
+        // Why this order: whoever shows the answer looks at this mark once the answer is written, and parking looks at the word once the mark
+        // is set. The other way round an answer between the two would wake nobody.
+        let mark = &self.parked[usize::from(me)];
+        mark.store(true, Ordering::SeqCst);
+        self.table.shared.park(rt, index, 0);
+        mark.store(false, Ordering::SeqCst);
+    }
+}

@@ -1,0 +1,169 @@
+//! Waiters that surely park, more than there are processors: each is woken by the answer that is its own, and nobody else ends.
+//!
+//! A wake that is left out, or that goes to another place, leaves a waiter asleep, and the test never ends.
+
+ghost use Rattle.std.specs.Prelude.{◌<◌};
+
+use crate::worker::{Call, Told, Worker, last_of, workers_of};
+use saa_word_threads::semaphore::Semaphore;
+use std::alloc::AllocError;
+use std::sync::Wait;
+use std::sync::atomic::{AtomicU64, Ordering};
+use std::test::Fail;
+use std::thread;
+use std::thread::{Threads, yield_now};
+use test_asserts::same;
+
+// How many wait for a permit each.
+const SLEEPERS: u64 = 24;
+
+// How often whoever answers yields first: much more often than a waiter does before it parks.
+const RESTS: u32 = 5_000;
+
+// How the sleepers are answered: by releases of so many permits, or by one who stands before them all and cancels.
+#[derive(Clone, Copy)]
+enum Way {
+    Releases(u64),
+    Cancel,
+}
+
+// What is told of the sleepers: how many have ended, and how many of these as their turn came.
+#[derive(Drop)]
+struct Watched {
+    ended: AtomicU64,
+    in_turn: AtomicU64,
+}
+
+// How many are answered together.
+fn together(way: Way) -> u64
+    ensures { 0 < result }
+{
+    match way {
+        Way::Releases(count) => count.max(1),
+        Way::Cancel => SLEEPERS,
+    }
+}
+
+// Waits for its answer, and tells whether it ends together with those whom it is answered with.
+fn sleep(rt: &impl Wait, mut worker: Worker<'_, 63>, turn: u64, way: Way, watched: &Watched) {
+    let told = worker.make(rt, Call::Poll);
+    let rank = watched.ended.fetch_add(1, Ordering::SeqCst);
+    if told == Told::Polled(Ok(())) && rank / together(way) == turn {
+        watched.in_turn.fetch_add(1, Ordering::SeqCst);
+    }
+    worker.leave(rt);
+}
+
+// Lets the sleepers park, and tells how many have ended beyond those who were answered.
+fn rest(watched: &Watched, answered: u64) -> u64 {
+    for _turn in 0..RESTS {
+        yield_now();
+    }
+    let ended = watched.ended.load(Ordering::SeqCst);
+    ended.saturating_sub(answered)
+}
+
+// Waits until so many have ended.
+fn await_ended(rt: &impl Wait, watched: &Watched, wanted: u64) {
+    for _turn in rt.forever() {
+        if watched.ended.load(Ordering::SeqCst) >= wanted {
+            return;
+        }
+        yield_now();
+    }
+}
+
+// Answers all sleepers, some at a time; how many ended before they were answered.
+fn release_some(rt: &impl Wait, giver: &mut Worker<'_, 63>, count: u64, watched: &Watched) -> u64 {
+    let mut early = 0u64;
+    let mut answered = 0u64;
+    for _turn in 0..SLEEPERS {
+        if answered >= SLEEPERS {
+            return early;
+        }
+        early = early.max(rest(watched, answered));
+        giver.make(rt, Call::Release(count as usize));
+        answered = answered.saturating_add(count);
+        await_ended(rt, watched, answered);
+    }
+    early
+}
+
+// Releases permits for all sleepers, who wait behind the giver, and lets them have these by a cancel; how many ended before that.
+fn cancel_before(rt: &impl Wait, giver: &mut Worker<'_, 63>, watched: &Watched) -> u64 {
+    giver.make(rt, Call::Release(SLEEPERS as usize));
+    let early = rest(watched, 0);
+    giver.make(rt, Call::Cancel);
+    await_ended(rt, watched, SLEEPERS);
+    early
+}
+
+// The last worker gives; each other one registers, and waits in a thread of its own until it is answered. How many ended before.
+fn answer_sleepers<R: Wait + Threads + Sync>(
+    rt: &R,
+    mut workers: Vec<Worker<'_, 63>>,
+    way: Way,
+    watched: &Watched,
+) -> u64 {
+    let Some(mut giver) = workers.pop() else {
+        return 0;
+    };
+    if matches!(way, Way::Cancel) {
+        giver.make(rt, Call::Register(40));
+    }
+    let early = thread::scope(thread::scope_env(), rt, |scope| {
+        let mut before = 0u64;
+        for mut worker in workers {
+            worker.make(rt, Call::Register(1));
+            let turn = before / together(way);
+            if scope
+                .spawn(move || sleep(rt, worker, turn, way, watched))
+                .is_err()
+            {
+                watched.ended.fetch_add(1, Ordering::SeqCst);
+            }
+            before = before.saturating_add(1);
+        }
+        match way {
+            Way::Releases(count) => release_some(rt, &mut giver, count, watched),
+            Way::Cancel => cancel_before(rt, &mut giver, watched),
+        }
+    });
+    giver.leave(rt);
+    early
+}
+
+// How many sleepers ended before they were answered, how many as their turn came, and the main word once all have left.
+fn run<R: Wait + Threads + Sync + AllocGlobal>(
+    rt: &R,
+    way: Way,
+) -> Result<(u64, u64, Option<u64>), AllocError> {
+    let watched = Watched {
+        ended: AtomicU64::new(0),
+        in_turn: AtomicU64::new(0),
+    };
+    let (semaphore, mut places) = Semaphore::new(rt.alloc(), 63, SLEEPERS as u16 + 2)?;
+    let witness = last_of(&semaphore, &mut places);
+    let workers = workers_of(rt.alloc(), &semaphore, places)?;
+    let early = answer_sleepers(rt, workers, way, &watched);
+    let in_turn = watched.in_turn.load(Ordering::SeqCst);
+    let Some(place) = witness else {
+        return Ok((early, in_turn, None));
+    };
+    let left = semaphore.leave(rt, place);
+    Ok((early, in_turn, Some(semaphore.close(left).main())))
+}
+
+#[test]
+fn each_sleeper_is_woken_by_its_own_answer(rt: HostRuntime) -> Result<(), Fail> {
+    for count in [1, 4, SLEEPERS] {
+        same!(rt; run(&rt, Way::Releases(count))?, (0, SLEEPERS, Some(63)));
+    }
+    Ok(())
+}
+
+#[test]
+fn who_cancels_wakes_those_behind(rt: HostRuntime) -> Result<(), Fail> {
+    same!(rt; run(&rt, Way::Cancel)?, (0, SLEEPERS, Some(63)));
+    Ok(())
+}

@@ -1,0 +1,102 @@
+//! Places beside the semaphore that dealt them, so that a test can keep many in a list and hand each to a thread.
+
+ghost use Rattle.std.specs.Prelude.{IfSome};
+ghost use Rattle.saa_word_threads.specs.Dealt.{AreNew};
+ghost use Rattle.saa_word_threads.specs.Semaphores.{IsDealtBy, IsLeftOf, table_of};
+
+use saa_word_threads::semaphore::{Error, Left, Place, SemaphoreOf};
+use std::alloc::{AllocError, Global};
+use std::sync::Wait;
+
+/// A place, and the semaphore that dealt it.
+#[derive(Drop)]
+pub struct Worker<'s, const MAX: usize> {
+    semaphore: &'s SemaphoreOf<MAX>,
+    place: Place,
+    ghost dealt: { IsDealtBy semaphore.now place },
+}
+
+/// A call of a place.
+#[derive(Clone, Copy, Debug)]
+pub enum Call {
+    Try(usize),
+    Register(usize),
+    Acquire(usize),
+    Release(usize),
+    TryPoll,
+    Poll,
+    Cancel,
+    Available,
+}
+
+/// What a call answers.
+#[derive(Clone, Copy, Debug, Eq, PartialEq)]
+pub enum Told {
+    Bool(bool),
+    Polled(Result<(), Error>),
+    Number(u16),
+    Nothing,
+}
+
+impl<'s, const MAX: usize> Worker<'s, MAX> {
+    /// A place that this semaphore dealt.
+    pub fn new(semaphore: &'s SemaphoreOf<MAX>, place: Place) -> Self
+        requires { IsDealtBy semaphore.now place }
+    {
+        Worker { semaphore, place }
+    }
+
+    /// Makes a call.
+    pub fn make(&mut self, rt: &impl Wait, call: Call) -> Told {
+        let place = &mut self.place;
+        match call {
+            Call::Try(count) => Told::Bool(self.semaphore.try_acquire_many(rt, place, count)),
+            Call::Register(count) => Told::Bool(self.semaphore.register(rt, place, count)),
+            Call::Acquire(count) => Told::Bool(self.semaphore.acquire_many(rt, place, count)),
+            Call::Release(count) => Told::Bool(self.semaphore.release_many(rt, place, count)),
+            Call::TryPoll => Told::Polled(self.semaphore.try_poll(place)),
+            Call::Poll => Told::Polled(self.semaphore.poll(rt, place)),
+            Call::Cancel => {
+                self.semaphore.cancel(rt, place);
+                Told::Nothing
+            }
+            Call::Available => Told::Number(self.semaphore.available_permits(place)),
+        }
+    }
+
+    /// Leaves the semaphore.
+    pub fn leave(self, rt: &impl Wait) -> Left {
+        let Worker { semaphore, place } = self;
+        semaphore.leave(rt, place)
+    }
+}
+
+/// Takes the last of the places that a semaphore dealt, which has the greatest number.
+pub fn last_of<const MAX: usize>(
+    semaphore: &SemaphoreOf<MAX>,
+    places: &mut Vec<Place>,
+) -> Option<Place>
+    requires { AreNew (table_of semaphore.now) 0 places.old.items }
+    ensures rest { AreNew (table_of semaphore.now) 0 places.new.items }
+    ensures last { IfSome result (λ place. IsDealtBy semaphore.now place) }
+{
+    let _shared = semaphore;
+    places.pop()
+}
+
+/// A worker of each of the places that a semaphore dealt, the last first.
+pub fn workers_of<'s, const MAX: usize>(
+    alloc: Global,
+    semaphore: &'s SemaphoreOf<MAX>,
+    mut places: Vec<Place>,
+) -> Result<Vec<Worker<'s, MAX>>, AllocError>
+    requires { AreNew (table_of semaphore.now) 0 places.items }
+{
+    let mut workers = Vec::new(alloc);
+    for _place in 0..places.len() {
+        if let Some(place) = last_of(semaphore, &mut places) {
+            workers.push(Worker::new(semaphore, place))?;
+        }
+    }
+    Ok(workers)
+}
