@@ -54,3 +54,9 @@ pub use Rattle.saa_word.specs.Moves
 pub use Rattle.saa_word.specs.Trace
 pub use Rattle.saa_word.specs.Simulation
 pub use Rattle.saa_word.specs.Alone
+pub use Rattle.saa_word_threads.specs.Semaphores as WordSemaphores
+pub use Rattle.saa_word_threads.specs.Public as WordCalls
+pub use Rattle.saa_word_threads.specs.Called as WordEvents
+pub use Rattle.saa_word_threads.specs.Told as WordViews
+pub use Rattle.saa_word_threads.specs.Dealt as WordPlaces
+pub use Rattle.saa_word_threads.specs.Kept as WordHistory

@@ -1,9 +1,10 @@
-//! Words, the line that is held by them, and the machine of single steps.
+//! Words, the line that is held by them, the semaphore that threads share in them, and the machine of its single steps.
 
 use saa::line::order::{Order, Queue};
 use saa::line::{Line, LineOf, LinkedLine, laws};
 use saa::request::Request;
 use saa::word::machine::{Answer, Error, Kind, Machine, Mode, Move, Step, TryLockError, WordCall};
+use saa::word::{Left, Place, Semaphore, SemaphoreOf, Words};
 use saa::words::answer_word::{self, AnswerWord};
 use saa::words::line_word::LineWord;
 use saa::words::links::Links;
@@ -55,5 +56,38 @@ fn a_machine_goes(rt: HostRuntime) -> Result<(), Fail> {
     let (mode, refused) = (Mode::Exclusive, TryLockError::Poisoned);
     holds!(rt; machine.takes(WordCall::RegisterMode(mode)));
     same!(rt; refused, TryLockError::Poisoned);
+    Ok(())
+}
+
+#[test]
+fn a_place_makes_each_call(rt: HostRuntime) -> Result<(), Fail> {
+    let (semaphore, mut places): (SemaphoreOf<2>, Vec<Place>) = SemaphoreOf::new(rt.alloc(), 1, 1)?;
+    let Some(mut place) = places.pop() else {
+        unreachable!()
+    };
+    same!(rt; SemaphoreOf::<2>::MAX_PERMITS, 2);
+    same!(rt; semaphore.try_acquire_many(&rt, &mut place, 2), false);
+    same!(rt; semaphore.acquire_many(&rt, &mut place, 1), true);
+    same!(rt; semaphore.register(&rt, &mut place, 1), true);
+    let fault: Result<(), saa::word::Error> = Err(Error::NotReady);
+    same!(rt; semaphore.try_poll(&mut place), fault);
+    semaphore.cancel(&rt, &mut place);
+    same!(rt; semaphore.try_poll(&mut place), Err(Error::NotRegistered));
+    same!(rt; semaphore.poll(&rt, &mut place), Err(Error::NotRegistered));
+    same!(rt; semaphore.release_many(&rt, &mut place, 2), true);
+    same!(rt; semaphore.available_permits(&mut place), 2);
+    let left: Left = semaphore.leave(&rt, place);
+    same!(rt; left.place(), 0);
+    let words: Words = semaphore.close(left);
+    same!(rt; words.main(), 0);
+    same!(rt; (words.line(0).is_some(), words.line(1)), (true, None));
+    same!(rt; (words.answer(0), words.answer(1)), (Some(0), None));
+    Ok(())
+}
+
+#[test]
+fn a_semaphore_has_63(rt: HostRuntime) -> Result<(), Fail> {
+    let (_semaphore, places) = Semaphore::new(rt.alloc(), 0, 3)?;
+    same!(rt; (Semaphore::MAX_PERMITS, places.len()), (63, 3));
     Ok(())
 }
