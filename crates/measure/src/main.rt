@@ -1,5 +1,6 @@
 //! Times the threaded semaphore, barrier and gate beside plain ones under std's `Mutex` and `Condvar`, the threaded lock
-//! beside std's `RwLock`, values behind our `Mutex` and `RwLock` beside std's, and futures beside calls, in one run.
+//! beside std's `RwLock`, values behind our `Mutex` and `RwLock` beside std's, the word's semaphore beside the one under a mutex, and
+//! futures beside calls, in one run.
 //!
 //! With the argument `measure` it prints, for some numbers of threads, what one acquire with its release costs by each,
 //! and the ratio, and for one thread the ratios to two bare turns at a `Mutex`; with any other arguments only how to run
@@ -13,6 +14,7 @@ mod permits;
 mod rounds;
 mod tasks;
 mod values;
+mod words;
 
 use std::{env, io};
 

@@ -3,12 +3,12 @@
 //! What is compared is measured in turn, several times, so that whatever else the machine does hurts both alike. Of
 //! one thread the best time counts, since all that disturbs it makes it longer; of several threads the median.
 
-use crate::lines;
 use crate::locks::{Exclusive, MostlyShared, Plain};
 use crate::permits::{Counter, PERMITS, TwoTurns};
 use crate::rounds::{Passage, PlainBarrier, PlainGate};
 use crate::tasks::{alone_nanos, idle_polls};
 use crate::values::{PlainMutex, PlainRwLock};
+use crate::{lines, words};
 use saa_sync::barrier::Barrier;
 use saa_sync::gate::Gate;
 use saa_sync::lock::Lock;
@@ -46,7 +46,7 @@ pub const PASSES: usize = 9;
 const ROOM: u16 = 32;
 
 /// Prints for each number of threads what a turn costs at a semaphore beside a plain counter, at one of 65,535 permits
-/// beside one of 63, at a lock beside std's, at a value behind a mutex or a reader-writer lock beside std's, and at a
+/// beside one of 63, at the word's semaphore beside these two, at a lock beside std's, at a value behind a mutex or a reader-writer lock beside std's, and at a
 /// barrier beside a plain one, and what a gate costs that lets so many pass; with the ratios. Then what one thread's turn
 /// costs at a semaphore and a lock beside two bare turns at a `Mutex`, and as a future beside a call that sleeps; how
 /// often tasks that contend are polled for nothing; and what happens in lines where many wait.
@@ -57,6 +57,7 @@ pub fn table<R: Runtime + RandomSource + AllocGlobal + Threads + Wait + Sync>(
     println!(rt; "what                    threads     ours ns      std ns  ratio")?;
     semaphores(rt, alloc)?;
     bounds(rt, alloc)?;
+    words(rt, alloc)?;
     locks(rt, alloc)?;
     values(rt, alloc)?;
     barriers(rt, alloc)?;
@@ -102,6 +103,25 @@ fn bounds<R: Runtime + Threads + Wait + Sync>(rt: &R, alloc: Global) -> io::Resu
         times: TURNS,
     };
     turns_row(rt, alloc, case, &wide, &narrow)
+}
+
+// The word's semaphore beside the one under a mutex, and beside a plain counter.
+fn words<R: Runtime + Threads + Wait + Sync>(rt: &R, alloc: Global) -> io::Result<()> {
+    for threads in [1, 2, 4, 8] {
+        let case = Case {
+            what: "word, beside semaphore",
+            threads,
+            times: TURNS,
+        };
+        words::row(rt, alloc, case, &Semaphore::new(rt, alloc, ROOM)?)?;
+        let case = Case {
+            what: "word, 40 of 63",
+            threads,
+            times: TURNS,
+        };
+        words::row(rt, alloc, case, &Counter::new(rt, PERMITS))?;
+    }
+    Ok(())
 }
 
 // A lock beside std's `RwLock`.
@@ -298,8 +318,8 @@ fn quotient(first: u64, second: u64, parts: u64) -> (u64, u64) {
     )
 }
 
-// How long all turns take together in one measurement, in nanoseconds.
-fn turns_nanos<R: Runtime + Threads + Wait + Sync, T: Turn>(
+/// How long all turns take together in one measurement, in nanoseconds.
+pub fn turns_nanos<R: Runtime + Threads + Wait + Sync, T: Turn>(
     rt: &R,
     turn: &T,
     case: Case<'_>,
