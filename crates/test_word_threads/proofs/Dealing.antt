@@ -1,5 +1,5 @@
 -- New places of a semaphore in a list: all but the last are new, and the last is of that semaphore.
-use Rattle.std.proofs.Common.{◌≡◌, ℕ, ◌+◌, List, [], ◌∷◌, ◌++◌, Option, Some, None, IfSome, option_to_list}
+use Rattle.std.proofs.Common.{ℕ, ◌+◌, List, [], ◌∷◌, ◌++◌, Option, Some, None, IfSome, option_to_list}
 use Rattle.saa_word_threads.specs.declared.place.Place.{Place}
 use Rattle.saa_word_threads.specs.declared.semaphore.SemaphoreOf.{SemaphoreOf}
 use Rattle.saa_word_threads.specs.Dealt.{AreNew}
