@@ -103,7 +103,7 @@ impl<'p, const MAX: usize> Desk<'p, MAX> {
         if !pool.permits.acquire_many(rt, &mut self.place, 1) {
             return None;
         }
-        // Who has a permit finds a free buffer: no more permits are out than there are buffers, and a buffer is put back before its permit.
+        // A permit's holder finds a free buffer: no more permits are out than there are buffers, and a buffer is put back before its permit.
         for _ in rt.forever() {
             for buffer in &pool.buffers {
                 if buffer.take() {
@@ -115,7 +115,7 @@ impl<'p, const MAX: usize> Desk<'p, MAX> {
         unreachable!()
     }
 
-    /// Puts a buffer back, and lets in who waits for one.
+    /// Puts a buffer back, and grants the oldest waiter.
     pub fn give_back<R: Wait>(&mut self, rt: &R, buffer: &Buffer) {
         buffer.put_back();
         let _ = self.pool.permits.release_many(rt, &mut self.place, 1);

@@ -154,7 +154,7 @@ impl<'r, R: Wait, const MAX: usize> Pool<'r, R, MAX> {
         self.shelf.lock(self.rt).out()
     }
 
-    /// Takes back a connection that was kept out, and lets in who waits for it.
+    /// Takes back a connection that was kept out, and grants the oldest waiter.
     pub fn give_back(&self, connection: Connection) {
         if self.put(connection) {
             let _ = self.permits.release();

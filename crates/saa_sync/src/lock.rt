@@ -75,7 +75,7 @@ impl<R: Wait + Drop> Lock<R> {
         Lock { shell }
     }
 
-    // The leave to wait, lent to who waits in a turn.
+    // The permission to block, for waits in a turn.
     pub(crate) fn rt(&self) -> &R {
         self.shell.rt()
     }

@@ -14,7 +14,7 @@ pub trait TakesBack {
     fn take_back(&self);
 }
 
-/// One permit of a semaphore of any bound, which its drop gives back, to whoever asked first.
+/// One permit of a semaphore of any bound, which its drop gives back, to the oldest waiter.
 ///
 /// It can be moved to another thread, and kept beside what it stands for. It lives no longer than its semaphore, which is
 /// what contracts see of it. Its types are named [`PermitOf`] and [`Permit`].

@@ -238,7 +238,7 @@ impl<R: Wait + Drop, P: Primitive> Shell<R, P> {
         })
     }
 
-    /// The leave to wait, lent to what waits beside it.
+    /// The permission to block, for waits beside the shell.
     pub(crate) fn rt(&self) -> &R {
         &self.rt
     }

@@ -13,7 +13,7 @@ use Rattle.saa_word_proofs.specs.Refinement.{Refines}
 use Rattle.saa_word_threads.specs.declared.table.View.{View}
 use Rattle.saa_word_threads.specs.declared.table.About.{About}
 
--- the view of the dealer, who has dealt so many places
+-- the view of the dealer, which has dealt so many places
 abbrev pub dealer : ℕ → View
 dealer dealt = record { deals = true; number = dealt; position = idle_place; seen = []; part = [] }
 

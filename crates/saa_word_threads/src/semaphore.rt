@@ -99,7 +99,7 @@ impl<const MAX: usize> SemaphoreOf<MAX> {
         self.form.await_grant(rt, &Unwatched, place)
     }
 
-    /// Gives `count` permits back, and grants those who wait for them and fit, oldest first.
+    /// Gives `count` permits back, and grants the oldest waiters while they fit.
     ///
     /// `false`, and nothing changes, where fewer are taken. Any place may give back what another one took.
     pub fn release_many<R: Wait>(&self, rt: &R, place: &mut Place, count: usize) -> bool

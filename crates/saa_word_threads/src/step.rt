@@ -111,7 +111,7 @@ impl Form {
 
     // Wakes the place whose answer word this is, where it may be parked there.
     //
-    // Why this order: whoever parks says so before it looks at its word for the last time, and the answer was written before this look. So
+    // Why this order: a waiter sets its mark before it looks at its word for the last time, and the answer was written before this look. So
     // one of the two sees the other.
     fn wake(&self, index: usize)
         requires { index < self.now.places + self.now.places + 1 }

@@ -43,7 +43,7 @@ impl Form {
             }
             yield_now();
         }
-        // Why this order: whoever shows the answer looks at this mark once the answer is written, and parking looks at the word once the mark
+        // Why this order: the place that shows the answer looks at this mark once the answer is written, and parking looks at the word once the mark
         // is set. The other way round an answer between the two would wake nobody.
         let mark = &self.parked[usize::from(me)];
         mark.store(true, Ordering::SeqCst);

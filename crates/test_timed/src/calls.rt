@@ -17,7 +17,7 @@ use test_asserts::{holds, same};
 // A short while, in milliseconds.
 const WHILE: u64 = 3;
 
-// Who waits sleeps at once, yields for as long as there is time, or looks a million times first.
+// Waiters sleep at once, yield for as long as there is time, or look a million times first.
 const PATIENCES: [Patience; 3] = [
     Patience {
         looks: 0,

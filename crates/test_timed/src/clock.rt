@@ -6,7 +6,7 @@ use std::sync::Wait;
 use std::sync::atomic::{AtomicU64, Ordering};
 use std::time::{Clock, Duration};
 
-/// The leave to wait of a runtime, and a clock of its own, in microseconds.
+/// The permission to block of a runtime, and a clock of its own, in microseconds.
 #[derive(Drop)]
 pub struct OnClock<R: Wait> {
     of: PhantomData<R>,

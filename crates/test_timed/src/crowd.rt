@@ -16,7 +16,7 @@ use std::time::{Clock, Duration};
 use std::{io, thread};
 use test_asserts::{holds, same};
 
-// Who waits sleeps at once.
+// Waiters sleep at once.
 const ASLEEP: Patience = Patience {
     looks: 0,
     yields: 0,
@@ -119,7 +119,7 @@ fn every_other_sleeper_is_out_of_time(rt: HostRuntime) -> io::Result<()> {
     Ok(())
 }
 
-// Whoever stands behind a wait whose time is up doesn't wait for more than that.
+// A waiter behind one whose time is up waits for no more than that.
 #[test]
 fn who_is_behind_is_granted_at_once(rt: HostRuntime) -> Result<(), Fail> {
     let clock = OnClock::new(&rt, 0);

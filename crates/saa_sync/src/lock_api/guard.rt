@@ -78,7 +78,7 @@ impl<T> Lends for Writer<'_, T> {
 
 /// A turn at a lock, to be passed on once the value is put down.
 pub trait PassesOn {
-    /// Gives the turn up, to whoever asked first.
+    /// Gives the turn up, to the oldest waiter.
     fn pass_on(self, value: PutDown);
 }
 
@@ -120,7 +120,7 @@ impl<V: Shows, U: PassesOn> Guard<V, U> {
         Guard { value, turn }
     }
 
-    // The turn and the value, for who makes another guard of them.
+    // The turn and the value, to make another guard of them.
     pub(crate) fn into_parts(self) -> (U, V)
         ensures turn { result.0 ≡ self.turn }
         ensures value { result.1 ≡ self.value }
@@ -129,9 +129,9 @@ impl<V: Shows, U: PassesOn> Guard<V, U> {
         (turn, value)
     }
 
-    /// Gives the guard up, to whoever asked first; the same as a drop, which is fair too.
+    /// Gives the guard up, to the oldest waiter; the same as a drop, which is fair too.
     ///
-    /// Of several readers the last to do so lets in whoever asked first.
+    /// Of several readers the last to do so grants the oldest waiter.
     pub fn unlock_fair(guard: Self) {
         drop(guard);
     }

@@ -13,7 +13,7 @@ use std::sync::{RwLockWriteGuard as Writer, Wait};
 /// A value that one owner at a time uses, in the order of asking.
 ///
 /// `R` is the leave to wait, as a reference to the runtime. What holds of the value whenever nobody uses it is said by its
-/// type: a guard is given up only where every invariant of the type holds, and whoever has one may use them. Contracts see
+/// type: a guard is given up only where every invariant of the type holds, and its holder may use them. Contracts see
 /// a mutex as the lock whose turns the value is used in.
 #[derive(Drop)]
 pub struct Mutex<R: Wait + Drop, T> {

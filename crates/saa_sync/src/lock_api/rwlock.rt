@@ -14,7 +14,7 @@ use std::sync::{RwLockReadGuard as Reader, RwLockWriteGuard as Writer, Wait};
 ///
 /// While somebody waits, nobody who asks later is served first, readers beside readers included. `R` is the leave to wait,
 /// as a reference to the runtime. What holds of the value whenever nobody writes it is said by its type: a guard is given
-/// up only where every invariant of the type holds, and whoever has one may use them. Contracts see a lock round a value as
+/// up only where every invariant of the type holds, and its holder may use them. Contracts see a lock round a value as
 /// the lock whose turns the value is used in.
 #[derive(Drop)]
 pub struct RwLock<R: Wait + Drop, T> {

@@ -80,7 +80,7 @@ impl<R: Wait + Clock + Drop, P: Primitive> Shell<R, P> {
     }
 
     // Waits for the answer of a ticket: until a poll as sync says anything else than that it isn't there yet, or the time is up;
-    // then it isn't polled any more. The lock is still held, so whoever looks last looks at what the drop behind it finds.
+    // then it isn't polled any more. The lock is still held, so the last look and the drop behind it find the same.
     //
     // A ticket without a seat has its answer, or is refused, so it waits for nothing.
     fn wait_until<'s>(

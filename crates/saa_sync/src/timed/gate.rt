@@ -12,7 +12,7 @@ use std::time::{Clock, Duration, Instant};
 impl<R: Wait + Clock + Drop> Gate<R> {
     /// Passes the gate as [`Self::enter_sync`] does, and waits at most so long.
     ///
-    /// `Ok(Some(answer))` with the answer of that call. `Ok(None)`: time is up, and nothing is registered; all others who wait are
+    /// `Ok(Some(answer))` with the answer of that call. `Ok(None)`: time is up, and nothing is registered; all other waiters are
     /// told a spurious failure by that. `Full` as there.
     pub fn enter_sync_for(&self, duration: Duration) -> Result<Option<Result<State, Error>>, Full>
         ensures { IfOk result (λ told. IfSome told (λ answer. gate_fault answer ≡ None)) }

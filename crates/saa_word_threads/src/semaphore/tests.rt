@@ -15,7 +15,7 @@ use std::thread::{self, yield_now};
 // How long a thread is held at most.
 const TURNS: u32 = 10_000;
 
-// Holds whoever is about to publish until the other release is answered.
+// Holds the flag's holder right before it publishes, until the other release is answered.
 #[derive(Drop)]
 struct Gate {
     is_held: AtomicBool,
