@@ -6,6 +6,9 @@ use saa_sync::barrier::Barrier;
 use saa_sync::gate::{Gate, State};
 use saa_sync::lock::Lock;
 use saa_sync::lock_api::{Mutex, RwLock};
+use saa_sync::pager::Pager;
+use saa_sync::semaphore::Semaphore;
+use saa_sync::timed::Timed;
 use std::io;
 use std::sync::Wait;
 use std::sync::atomic::{AtomicBool, Ordering};
@@ -71,6 +74,30 @@ fn gates_and_barriers_answer_in_time(rt: HostRuntime) -> io::Result<()> {
         },
     );
     same!(rt; (first, last), (Ok(Some(false)), Ok(true)));
+    Ok(())
+}
+
+// What a pager is told in time.
+fn polled_in_time<S: Timed>(pager: Pager<'_, S>) -> Option<S::Result> {
+    let mut pager = pager;
+    pager.poll_sync_for(long())
+}
+
+#[test]
+fn a_pager_is_answered_in_time(rt: HostRuntime) -> io::Result<()> {
+    let clock = OnClock::new(&rt, 0);
+    let semaphore = Semaphore::with_permits(&clock, rt.alloc(), 0, 1)?;
+    let mut pager = Pager::new();
+    same!(rt; semaphore.register_pager(&mut pager, 1, true), Ok(true));
+    let (told, is_released) = thread::join(
+        &rt,
+        || polled_in_time(pager),
+        || {
+            await_asleep(&rt, semaphore.shell(), 1);
+            semaphore.release()
+        },
+    );
+    same!(rt; (told, is_released), (Some(Ok(())), true));
     Ok(())
 }
 
