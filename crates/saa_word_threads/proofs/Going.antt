@@ -1,13 +1,13 @@
 -- A call that goes straight: each of its steps goes on with the call as every step does.
-use Rattle.std.proofs.Common.{◌≡◌, ℕ, ◌<◌, ◌==◌, Bool, true, false, not, ◌&&◌, ◌||◌, Some, if◌then◌else◌, refl, sym, ap, subst, ◌∙◌, inl, inr}
+use Rattle.std.proofs.Common.{◌≡◌, ℕ, ◌<◌, ◌+◌, ◌==◌, Bool, true, false, not, ◌&&◌, ◌||◌, Some, refl, sym, ap, subst, ◌∙◌, inl, inr}
 use Rattle.std.proofs.lemmas.Bool.{cases_Bool}
 use Rattle.saa_core_spec.proofs.Counts.{number_same}
-use Rattle.saa_core_spec.specs.Lock.{try_answer}
 use Rattle.saa_core_spec.specs.Values.{granted_value}
 use Rattle.saa_core_words.specs.declared.word.Word.{Word}
 use Rattle.saa_core_words.specs.Words.{count_bits, word_number, word_of}
-use Rattle.saa_word_steps.specs.declared.call.Answer.TheVariants.{Bool as Says, Tried}
+use Rattle.saa_word_steps.specs.declared.call.Answer.TheVariants.{Bool as Says}
 use Rattle.saa_word_steps.specs.declared.call.WordCall.{WordCall}
+use Rattle.saa_word_steps.specs.declared.operation.Operation.{Operation}
 use Rattle.saa_word_steps.specs.declared.place.Ask.{Ask}
 use Rattle.saa_word_steps.specs.declared.place.Next.{Next}
 use Rattle.saa_word_steps.specs.declared.place.Next.TheVariants.{Going}
@@ -17,11 +17,11 @@ use Rattle.saa_word_steps.specs.declared.place.Back.TheVariants.{Tells}
 use Rattle.saa_word_steps.specs.declared.place.Given.TheVariants.{Asked}
 use Rattle.saa_word_steps.specs.declared.place.Stage.TheVariants.{Quiet, AskLoad, AskExchange, ReleaseLoad, ReleaseExchange}
 use Rattle.saa_word_steps.specs.Needs.{Needs, fits_count, left_count}
-use Rattle.saa_word_steps.specs.Steps.{decided, given, going, granted, is_taken, next_of, released, started}
+use Rattle.saa_word_steps.specs.Steps.{decided, given, going, granted, is_taken, next_of, operation_of, released, started, tried_answer, word_at}
 use Rattle.saa_word_threads.specs.declared.table.View.{View}
 use Rattle.saa_word_threads.specs.Called.{HasEvents, Midway, MidwayNext}
 use Rattle.saa_word_threads.specs.Straight.{grants_at, lowers_to}
-use Rattle.saa_word_threads.specs.Told.{IsSince, Moves}
+use Rattle.saa_word_threads.specs.Told.{IsNext, IsSince, Moves}
 use Rattle.saa_word_threads.proofs.Calling.{midway-first, midway-going, midway-next}
 
 both : (one other : Bool) → one && other ≡ true → (one ≡ true) × (other ≡ true)
@@ -78,6 +78,19 @@ module _ (needs : Needs) (places me : ℕ) (call : WordCall) (rest looks : Place
     still : w.number ≡ me
     still = told.extends.number ∙ number
 
+    -- the exchange is what it makes next
+    pub change-next : v.deals ≡ false → (operation : Operation) → operation ≡ operation_of needs places me changes.stage
+        → (two : Place) → two ≡ changes → IsNext needs places me two operation w
+    change-next dealt operation makes two is_two =
+        subst (λ (p : Place). IsNext needs places me p operation w) (sym is_two) (record {
+          deals = told.extends.deals ∙ dealt;
+          number = still;
+          here = here;
+          begins = midway-changes.begins;
+          makes = makes;
+          inside = subst (λ (o : Operation). word_at o < places + places + 1) (sym makes) midway-changes.ready.1;
+        })
+
     -- how it goes on behind the exchange
     pub changed-next : (x : View) (other : ℕ) (two : Place) → two ≡ changes → Moves needs places two (next_of needs me two two.stage other) other w x
         → MidwayNext needs places me call rest.registration v changes x (next_of needs me changes changes.stage other)
@@ -107,11 +120,9 @@ module _ (needs : Needs) (places me : ℕ) (call : WordCall) (rest : Place) (ask
       × IsSince x.position (record rest { registration = Once granted_value ask.request; stage = Quiet })
   registered-events joins = rw joins at ask-done
 
-  pub tried-events : needs.is_lock ≡ false → ask.joins ≡ false
-      → HasEvents needs call rest.registration (Says true) rest.registration v x × IsSince x.position (record rest { stage = Quiet })
-  tried-events semaphore tries =
-      subst (λ (b : Bool). HasEvents needs call rest.registration (if b then Tried (try_answer true false) else Says true) rest.registration v x
-      × IsSince x.position (record rest { stage = Quiet })) semaphore (rw tries at ask-done)
+  pub tried-events : ask.joins ≡ false
+      → HasEvents needs call rest.registration (tried_answer needs true) rest.registration v x × IsSince x.position (record rest { stage = Quiet })
+  tried-events tries = rw tries at ask-done
 
 -- Releases
 

@@ -4,3 +4,4 @@ pub mod Moving
 pub mod Calling
 pub mod Opening
 pub mod Going
+pub mod Inner

@@ -4,4 +4,5 @@ pub mod Called
 pub mod Dealt
 pub mod Public
 pub mod Semaphores
+pub mod Locks
 pub mod Straight

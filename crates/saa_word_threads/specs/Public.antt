@@ -1,11 +1,13 @@
 -- What the calls of a form do, as their contracts say it.
-use Rattle.std.specs.Prelude.{◌≡◌, ℕ, Bool, true, false, Result, Ok, Err}
+use Rattle.std.specs.Prelude.{◌≡◌, Bool, true, false, Result, Ok, Err}
 use Rattle.saa_word_steps.specs.declared.call.Answer.{Answer}
-use Rattle.saa_word_steps.specs.declared.call.Answer.TheVariants.{Bool as Says, Taken}
+use Rattle.saa_word_steps.specs.declared.call.Answer.TheVariants.{Bool as Says, Tried, Taken}
 use Rattle.saa_word_steps.specs.declared.call.WordCall.{WordCall}
-use Rattle.saa_word_steps.specs.declared.call.WordCall.TheVariants.{Register, Poll, Cancel}
+use Rattle.saa_word_steps.specs.declared.call.WordCall.TheVariants.{Poll, Cancel}
 use Rattle.saa_word_steps.specs.declared.place.Registration.{Registration}
 use Rattle.saa_word_steps.specs.Needs.{Needs}
+use Rattle.saa_core_spec.specs.declared.lock.TryLockError.{TryLockError}
+use Rattle.saa_core_spec.specs.declared.lock.TryLockError.TheVariants.{WouldBlock}
 use Rattle.saa_core_spec.specs.declared.polling.Error.{Error}
 use Rattle.saa_word_threads.specs.declared.place.Place.{Place}
 use Rattle.saa_word_threads.specs.declared.place.Left.{Left}
@@ -44,16 +46,25 @@ abbrev pub polled : Answer → Result (Unit {0}) Error
 polled (Taken (Err error)) = Err error
 polled _ = Ok tt
 
+-- what a try of a lock answers, and what a poll of it does
+abbrev pub tried : Answer → Result (Unit {0}) TryLockError
+tried (Tried result) = result
+tried _ = Err WouldBlock
+
+abbrev pub polled_lock : Answer → Result Bool Error
+polled_lock (Taken result) = result
+polled_lock _ = Ok false
+
 -- A wait is a registration, and then a poll where the registration was made
 abbrev pub IsWaitedFrom : Bool → Needs → Registration → Registration → View → View → Bool → Type 0
 IsWaitedFrom false needs was now v w result = (now ≡ was) × (w ≡ v) × (result ≡ false)
 IsWaitedFrom true needs was now v w result = (answer : Answer) × IsCalled needs Poll was answer now v w × (result ≡ is_granted answer)
 
-abbrev pub IsWaited : Needs → ℕ → Place → Bool → Place → Type 0
-IsWaited needs count old result new =
+abbrev pub IsWaited : Needs → WordCall → Place → Bool → Place → Type 0
+IsWaited needs registers old result new =
     IsSamePlace old new
     × ((answer : Answer) × (between : Registration) × (v : View)
-    × IsCalled needs (Register count) (registered old) answer between (view_of old) v
+    × IsCalled needs registers (registered old) answer between (view_of old) v
     × IsWaitedFrom (is_yes answer) needs between (registered new) v (view_of new) result)
 
 -- A place has left: it has cancelled first

@@ -76,7 +76,7 @@ impl Form {
         }
     }
 
-    // Makes a call of one step at most, which waits for nobody.
+    // Makes a call of one step at most, which never blocks.
     pub(crate) fn call_at_once(&self, place: &mut Place, call: WordCall) -> Answer
         requires dealt { place.old.seat.table_id ≡ self.now.table.shared.table_id }
         requires taken { is_taken (needs_of self.now.rules).is_lock call ≡ true }

@@ -1,12 +1,13 @@
-//! The word's semaphore on shared memory: threads that make the word's single steps on a table of atomic words.
+//! The word's semaphore and lock on shared memory: threads that make the word's single steps on a table of atomic words.
 //!
 //! What a place does next, and how it goes on with what it finds, is `saa_word_steps`', and that each step keeps the refinement is
 //! `saa_word_proofs`'. Here stand the table with its rule (`table`), the form that makes steps and calls on it (`form`, `step`, `call`), how
-//! a place waits (`waiting`), and the public semaphore. `docs/WORD.md` tells the protocol.
+//! a place waits (`waiting`), and the public semaphore and lock. `docs/PROTOCOL.md` tells the protocol.
 #![tactic(auto)]
 
 mod call;
 mod form;
+pub mod lock;
 mod open;
 pub mod place;
 pub mod semaphore;

@@ -1,6 +1,6 @@
 //! A place of a form: one task's seat at its words.
 //!
-//! Places are dealt by the form that they are used with; nobody else makes or copies one. A place between its calls stands where it stood
+//! Places are dealt by the form that they are used with, and by nothing else; they can't be copied. Between its calls a place is as it was
 //! behind its last step, or has taken an answer that was given at once since.
 
 ghost use Rattle.std.specs.Prelude.{◌≡◌, ◌+◌, ◌<◌, false};

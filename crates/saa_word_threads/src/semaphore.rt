@@ -67,7 +67,7 @@ impl<const MAX: usize> SemaphoreOf<MAX> {
         Ok((SemaphoreOf { form }, dealt))
     }
 
-    /// Takes `count` permits if nobody waits and they are available; never waits for a permit.
+    /// Takes `count` permits if there is no waiter and they are available; never waits for a permit.
     ///
     /// Counts above [`Self::MAX_PERMITS`] are never granted. A `false` takes nothing. Costs two steps on the word, and one more for each
     /// other task that changed it meanwhile.
@@ -83,7 +83,7 @@ impl<const MAX: usize> SemaphoreOf<MAX> {
             request: count as u16,
             joins: false,
         };
-        self.form.ask(rt, &Unwatched, place, call, ask)
+        yes(self.form.ask(rt, &Unwatched, place, call, ask))
     }
 
     /// Takes `count` permits, and waits for them where it must.
@@ -91,7 +91,7 @@ impl<const MAX: usize> SemaphoreOf<MAX> {
     /// `false`, without waiting, for a count above [`Self::MAX_PERMITS`] and at a place that is registered.
     pub fn acquire_many<R: Wait>(&self, rt: &R, place: &mut Place, count: usize) -> bool
         requires { IsDealtBy self.now place.old }
-        ensures { IsWaited (permit_needs MAX) count place.old result place.new }
+        ensures { IsWaited (permit_needs MAX) (Register count) place.old result place.new }
     {
         if !self.register(rt, place, count) {
             return false;
@@ -129,10 +129,10 @@ impl<const MAX: usize> SemaphoreOf<MAX> {
             request: count as u16,
             joins: true,
         };
-        self.form.ask(rt, &Unwatched, place, call, ask)
+        yes(self.form.ask(rt, &Unwatched, place, call, ask))
     }
 
-    /// Takes the answer of a registration where it is there; waits for nobody.
+    /// Takes the answer of a registration where it is there; never blocks.
     ///
     /// `NotReady` while the place waits, `NotRegistered` where it is registered as nothing. Costs one step at most.
     pub fn try_poll(&self, place: &mut Place) -> Result<(), Error>
@@ -162,7 +162,7 @@ impl<const MAX: usize> SemaphoreOf<MAX> {
         self.form.call(rt, &Unwatched, place, WordCall::Cancel);
     }
 
-    /// How many permits are available; waits for nobody. Costs one step.
+    /// How many permits are available; never blocks. Costs one step.
     pub fn available_permits(&self, place: &mut Place) -> u16
         requires { IsDealtBy self.now place.old }
         ensures { IsMade (permit_needs MAX) Available place.old (Number result) place.new }
@@ -181,7 +181,7 @@ impl<const MAX: usize> SemaphoreOf<MAX> {
         self.form.leave(rt, &Unwatched, place)
     }
 
-    /// The words at the end, with the place of `left` as the witness of what led there; waits for nobody. Costs O(1).
+    /// The words at the end, with the place of `left` as the witness of what led there; never blocks. Costs O(1).
     pub fn close(self, left: Left) -> Words
         requires { IsLeftOf self left }
         ensures places { result.places ≡ (about_of self.entry).places }

@@ -1,9 +1,9 @@
-//! The straight path of a call that nobody contends: it looks at the main word, and exchanges it.
+//! The straight path of an uncontended call: it loads the main word, and exchanges it.
 //!
 //! These are the very steps of `act`, of the same stages, but the places that stand at them are seen by contracts alone, so that nothing is
 //! built or copied. Where somebody waits or the exchange fails the call goes on step by step, from the stage that it has reached.
 
-ghost use Rattle.std.specs.Prelude.{◌≡◌, ◌<◌, false, true};
+ghost use Rattle.std.specs.Prelude.{◌≡◌, ◌<◌, ◌==◌, ◌||◌, false, not, true};
 ghost use Rattle.saa_core_words.specs.Words.{count_bits, word_of};
 ghost use Rattle.saa_word_steps.specs.declared.operation.Operation.TheVariants.{Load, Exchange};
 ghost use Rattle.saa_word_steps.specs.declared.call.WordCall.TheVariants.{Poll};
@@ -11,7 +11,7 @@ ghost use Rattle.saa_word_steps.specs.declared.call.Answer.{Answer};
 ghost use Rattle.saa_word_steps.specs.declared.place.Back.TheVariants.{Tells};
 ghost use Rattle.saa_word_steps.specs.declared.place.Stage.TheVariants.{AskLoad, AskExchange, ReleaseLoad, ReleaseExchange};
 ghost use Rattle.saa_word_steps.specs.declared.place.Given.TheVariants.{Asked};
-ghost use Rattle.saa_word_steps.specs.Steps.{IsRanged, going, is_taken, needs_of, next_of, released_as, started};
+ghost use Rattle.saa_word_steps.specs.Steps.{IsRanged, going, is_taken, needs_of, next_of, released_as, started, tried_answer};
 ghost use Rattle.saa_word_threads.specs.Public.{is_granted, is_yes};
 ghost use Rattle.saa_word_threads.specs.Straight.{grants_at, lowers_to};
 ghost use Rattle.saa_word_threads.specs.Told.{IsNext, IsSince, Moves};
@@ -35,7 +35,7 @@ use std::sync::Wait;
 const GRANTED: u8 = 0;
 
 impl Form {
-    // Asks for something: of a word that grants it by one exchange. Whether the answer is yes.
+    // Asks for something: of a word that grants it by one exchange.
     #[inline(always)]
     pub(crate) fn ask<R: Wait, W: Watch>(
         &self,
@@ -44,62 +44,43 @@ impl Form {
         place: &mut Place,
         call: WordCall,
         ask: Ask,
-    ) -> bool
+    ) -> Answer
         requires dealt { place.old.seat.table_id ≡ self.now.table.shared.table_id }
         requires taken { is_taken (needs_of self.now.rules).is_lock call ≡ true }
-        requires semaphore { (needs_of self.now.rules).is_lock ≡ false }
         requires starts { started (needs_of self.now.rules) place.old.position call ≡ going place.old.position (AskLoad ask) }
         ensures same { (place.new.seat.table_id ≡ place.old.seat.table_id) × (place.new.number ≡ place.old.number) }
-        ensures called { (answer : Answer) × (result ≡ is_yes answer) × IsCalled (needs_of self.now.rules) call place.old.position.registration answer place.new.position.registration place.old.seat.me.0 place.new.seat.me.0 }
+        ensures called { IsCalled (needs_of self.now.rules) call place.old.position.registration result place.new.position.registration place.old.seat.me.0 place.new.seat.me.0 }
     {
         let begun = Begun::of(call, place);
         let me = place.number;
-        let looks = Snapshot::of(&Position {
+        let looking = Snapshot::of(&Position {
             stage: Stage::AskLoad { ask },
             ..place.position
         });
-        let found = self.look::<Brand>(&mut place.seat, me, looks);
+        let found = self.look::<Brand>(&mut place.seat, me, looking);
         let seen = Word::unpack(found);
         if !self.grants(seen, ask) {
-            let answer = self.ask_on(
-                rt,
-                watch,
-                &mut place.seat,
-                &mut place.position,
-                me,
-                ask,
-                found,
-                begun,
-            );
-            return yes(answer);
+            let (seat, position) = (&mut place.seat, &mut place.position);
+            return self.ask_on(rt, watch, seat, position, me, ask, found, begun);
         }
-        let changes = Snapshot::of(&Position {
+        let changing = Snapshot::of(&Position {
             stage: Stage::AskExchange { ask, seen },
             ..place.position
         });
         let count = self.rules.plus(seen.count, ask.request);
         let old = seen.pack();
         let raised = Word { count, ..seen };
-        let other = self.change::<Brand>(&mut place.seat, me, changes, old, raised.pack());
+        let new = raised.pack();
+        let other = self.change::<Brand>(&mut place.seat, me, changing, old, new);
         if other != old {
-            let answer = self.ask_anew(
-                rt,
-                watch,
-                &mut place.seat,
-                &mut place.position,
-                me,
-                ask,
-                found,
-                other,
-                begun,
-            );
-            return yes(answer);
+            let (seat, position) = (&mut place.seat, &mut place.position);
+            return self.ask_anew(rt, watch, seat, position, me, ask, found, other, begun);
         }
         if ask.joins {
             place.position.registration = Registration::Once(GRANTED, ask.request);
-            return true;
+            return Answer::Bool(true);
         }
-        true
+        self.granted_try()
     }
 
     // Waits for the answer of a registration where it must, and takes it: at once where it was given at once. Whether it grants.
@@ -140,50 +121,30 @@ impl Form {
         let begun = Begun::of(call, place);
         let me = place.number;
         let given = Given::Asked(request);
-        let looks = Snapshot::of(&Position {
+        let looking = Snapshot::of(&Position {
             stage: Stage::ReleaseLoad { given },
             back: Back::Tells,
             ..place.position
         });
-        let found = self.look::<Brand>(&mut place.seat, me, looks);
+        let found = self.look::<Brand>(&mut place.seat, me, looking);
         let seen = Word::unpack(found);
         let Some(count) = self.lowers(seen, request) else {
-            let answer = self.give_on(
-                rt,
-                watch,
-                &mut place.seat,
-                &mut place.position,
-                me,
-                request,
-                found,
-                begun,
-            );
+            let (seat, position) = (&mut place.seat, &mut place.position);
+            let answer = self.give_on(rt, watch, seat, position, me, request, found, begun);
             return yes(answer);
         };
-        let changes = Snapshot::of(&Position {
+        let changing = Snapshot::of(&Position {
             stage: Stage::ReleaseExchange { given, seen },
             back: Back::Tells,
             ..place.position
         });
         let old = seen.pack();
-        let lowered = Word {
-            count,
-            is_flagged: seen.is_flagged || seen.tail != 0,
-            is_poisoned: false,
-            tail: seen.tail,
-        };
-        let other = self.change::<Brand>(&mut place.seat, me, changes, old, lowered.pack());
+        let new = lowered(seen, count).pack();
+        let other = self.change::<Brand>(&mut place.seat, me, changing, old, new);
         if other != old {
+            let (seat, position) = (&mut place.seat, &mut place.position);
             let answer = self.give_anew(
-                rt,
-                watch,
-                &mut place.seat,
-                &mut place.position,
-                me,
-                request,
-                found,
-                other,
-                begun,
+                rt, watch, seat, position, me, request, found, other, begun,
             );
             return yes(answer);
         }
@@ -209,6 +170,16 @@ impl Form {
             return None;
         }
         self.rules.less(seen.count, request)
+    }
+
+    // What a try answers that is granted.
+    fn granted_try(&self) -> Answer
+        ensures { result ≡ tried_answer (needs_of self.now.rules) true }
+    {
+        if self.rules.is_lock() {
+            return Answer::Tried(Ok(()));
+        }
+        Answer::Bool(true)
     }
 
     // Loads the main word, for a place that stands so.
@@ -402,6 +373,18 @@ impl Form {
             Next::Waits => self.go_on(rt, watch, seat, me, place, begun),
             Next::Done(behind, answer) => (behind, answer),
         }
+    }
+}
+
+// A word that nobody waits at, with this count.
+fn lowered(seen: Word, count: u16) -> Word
+    ensures { result ≡ record { count = count; is_flagged = seen.is_flagged || not (seen.tail == 0); is_poisoned = false; tail = seen.tail } }
+{
+    Word {
+        count,
+        is_flagged: seen.is_flagged || seen.tail != 0,
+        is_poisoned: false,
+        tail: seen.tail,
     }
 }
 

@@ -1,4 +1,4 @@
-//! The words of a form at the end, when nobody shares them any more.
+//! The words of a form at the end, when they are no longer shared.
 
 ghost use Rattle.std.specs.Prelude.{◌≡◌, ◌+◌};
 ghost use Rattle.std.specs.Slots.{IsFull, slots_len};

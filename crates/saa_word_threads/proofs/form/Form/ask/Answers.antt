@@ -4,34 +4,32 @@ use Rattle.saa_core_words.specs.declared.word.Word.{Word}
 use Rattle.saa_core_words.specs.Words.{count_bits, word_number}
 use Rattle.saa_word_steps.specs.declared.call.Answer.TheVariants.{Bool as Says}
 use Rattle.saa_word_steps.specs.declared.place.Registration.TheVariants.{Once}
+use Rattle.saa_word_steps.specs.declared.operation.Operation.TheVariants.{Exchange}
 use Rattle.saa_word_steps.specs.declared.place.Stage.TheVariants.{AskLoad, AskExchange}
-use Rattle.saa_word_steps.specs.Steps.{needs_of, next_of}
+use Rattle.saa_word_steps.specs.Steps.{needs_of, next_of, tried_answer}
 use Rattle.saa_word_threads.specs.Called.{MidwayNext}
 use Rattle.saa_word_threads.specs.Straight.{grants_at}
 use Rattle.saa_word_threads.proofs.Calling.{going-called}
-use Rattle.saa_word_threads.proofs.Going.{ask-goes, changed-next, looked-next, registered-events, tried-events}
+use Rattle.saa_word_threads.proofs.Going.{ask-goes, change-next, changed-next, looked-next, registered-events, tried-events}
 use Rattle.saa_word_threads.proofs.form.Form.ask.Goals as goal
 
-pub ask_on-answer-requires-clause-midway : goal.ask_on-answer-requires-clause-midway
-ask_on-answer-requires-clause-midway g c =
+pub ask_on-requires-clause-midway : goal.ask_on-requires-clause-midway
+ask_on-requires-clause-midway g c =
     let here : c.args.place.now.number < c.args.self.now.places = search rules in
     rw (c.of-begun.ensures.call, c.of-begun.ensures.registered, c.of-begun.ensures.seat)
     (looked-next (needs_of c.args.self.now.rules) c.args.self.now.places c.args.place.now.number c.args.call c.args.place.now.position
     (record c.args.place.now.position { stage = AskLoad c.args.ask }) c.args.place.now.seat.me.0 c.look-found.new.seat.me.0 c.look-found.result here c.args.place.now.numbered.1
-    c.args.place.now.since c.requires.taken c.requires.starts c.of-looks.result.value c.of-looks.ensures c.look-found.ensures.moved)
+    c.args.place.now.since c.requires.taken c.requires.starts c.of-looking.result.value c.of-looking.ensures c.look-found.ensures.moved)
 
 pub returns-then-not-grants-clause-called : goal.returns-then-not-grants-clause-called
-returns-then-not-grants-clause-called g c = (
-  c.ask_on-answer.result,
-  c.yes.ensures,
-  going-called (needs_of c.args.self.now.rules) c.args.call c.args.place.now.position c.args.place.now.since.0
-      (record c.args.place.now.position { stage = AskLoad c.args.ask }) c.ask_on-answer.result c.ask_on-answer.new.position.registration
-      c.args.place.now.seat.me.0 c.ask_on-answer.new.seat.me.0 c.requires.starts
-      (rw (c.of-begun.ensures.call, c.of-begun.ensures.registered, c.of-begun.ensures.seat) at c.ask_on-answer.ensures.events),
-)
+returns-then-not-grants-clause-called g c =
+    going-called (needs_of c.args.self.now.rules) c.args.call c.args.place.now.position c.args.place.now.since.0
+    (record c.args.place.now.position { stage = AskLoad c.args.ask }) c.ask_on.result c.ask_on.new.position.registration
+    c.args.place.now.seat.me.0 c.ask_on.new.seat.me.0 c.requires.starts
+    (rw (c.of-begun.ensures.call, c.of-begun.ensures.registered, c.of-begun.ensures.seat) at c.ask_on.ensures.events)
 
-pub ask_anew-answer-requires-clause-midway : goal.ask_anew-answer-requires-clause-midway
-ask_anew-answer-requires-clause-midway g c =
+pub ask_anew-requires-clause-midway : goal.ask_anew-requires-clause-midway
+ask_anew-requires-clause-midway g c =
     let here : c.args.place.now.number < c.args.self.now.places = search rules in
     let grants : grants_at (needs_of c.args.self.now.rules) c.unpack-seen.result c.args.ask ≡ true = search rules in
     rw (c.of-begun.ensures.call, c.of-begun.ensures.registered, c.of-begun.ensures.seat)
@@ -41,60 +39,63 @@ ask_anew-answer-requires-clause-midway g c =
     (record c.args.place.now.position { stage = AskExchange c.args.ask s }) (AskExchange c.args.ask s) c.change-other.result)) c.unpack-seen.ensures
     (changed-next (needs_of c.args.self.now.rules) c.args.self.now.places c.args.place.now.number c.args.call c.args.place.now.position
     (record c.args.place.now.position { stage = AskLoad c.args.ask }) c.args.place.now.seat.me.0 c.look-found.new.seat.me.0 c.look-found.result here c.args.place.now.numbered.1
-    c.args.place.now.since c.requires.taken c.requires.starts c.of-looks.result.value c.of-looks.ensures c.look-found.ensures.moved
+    c.args.place.now.since c.requires.taken c.requires.starts c.of-looking.result.value c.of-looking.ensures c.look-found.ensures.moved
     (record c.args.place.now.position { stage = AskExchange c.args.ask c.unpack-seen.result })
     (ask-goes (needs_of c.args.self.now.rules) c.args.place.now.number c.args.place.now.position c.args.ask c.look-found.result c.unpack-seen.result
-    c.unpack-seen.ensures grants) c.change-other.new.seat.me.0 c.change-other.result c.of-changes.result.value
-    c.of-changes.ensures c.change-other.ensures.moved))
+    c.unpack-seen.ensures grants) c.change-other.new.seat.me.0 c.change-other.result c.of-changing.result.value
+    c.of-changing.ensures c.change-other.ensures.moved))
 
 pub returns-then-other-old-clause-called : goal.returns-then-other-old-clause-called
-returns-then-other-old-clause-called g c = (
-  c.ask_anew-answer.result,
-  c.yes-then-other-old.ensures,
-  going-called (needs_of c.args.self.now.rules) c.args.call c.args.place.now.position c.args.place.now.since.0
-      (record c.args.place.now.position { stage = AskLoad c.args.ask }) c.ask_anew-answer.result c.ask_anew-answer.new.position.registration
-      c.args.place.now.seat.me.0 c.ask_anew-answer.new.seat.me.0 c.requires.starts
-      (rw (c.of-begun.ensures.call, c.of-begun.ensures.registered, c.of-begun.ensures.seat) at c.ask_anew-answer.ensures.events),
-)
+returns-then-other-old-clause-called g c =
+    going-called (needs_of c.args.self.now.rules) c.args.call c.args.place.now.position c.args.place.now.since.0
+    (record c.args.place.now.position { stage = AskLoad c.args.ask }) c.ask_anew.result c.ask_anew.new.position.registration
+    c.args.place.now.seat.me.0 c.ask_anew.new.seat.me.0 c.requires.starts
+    (rw (c.of-begun.ensures.call, c.of-begun.ensures.registered, c.of-begun.ensures.seat) at c.ask_anew.ensures.events)
 
 pub returns-then-ask-clause-called : goal.returns-then-ask-clause-called
 returns-then-ask-clause-called g c =
     let here : c.args.place.now.number < c.args.self.now.places = search rules in
     let grants : grants_at (needs_of c.args.self.now.rules) c.unpack-seen.result c.args.ask ≡ true = search rules in
-    let hit : c.change-other.result ≡ word_number count_bits c.unpack-seen.result = search rules in (
-      Says true,
-      refl,
-      going-called (needs_of c.args.self.now.rules) c.args.call c.args.place.now.position c.args.place.now.since.0
-          (record c.args.place.now.position { stage = AskLoad c.args.ask }) (Says true) (Once granted_value c.args.ask.request)
-          c.args.place.now.seat.me.0 c.change-other.new.seat.me.0 c.requires.starts
-          (registered-events (needs_of c.args.self.now.rules) c.args.self.now.places c.args.place.now.number c.args.call c.args.place.now.position c.args.ask
-          c.unpack-seen.result c.args.place.now.seat.me.0 c.change-other.new.seat.me.0 c.change-other.result hit
-          (changed-next (needs_of c.args.self.now.rules) c.args.self.now.places c.args.place.now.number c.args.call c.args.place.now.position
-          (record c.args.place.now.position { stage = AskLoad c.args.ask }) c.args.place.now.seat.me.0 c.look-found.new.seat.me.0 c.look-found.result here c.args.place.now.numbered.1
-          c.args.place.now.since c.requires.taken c.requires.starts c.of-looks.result.value c.of-looks.ensures c.look-found.ensures.moved
-          (record c.args.place.now.position { stage = AskExchange c.args.ask c.unpack-seen.result })
-          (ask-goes (needs_of c.args.self.now.rules) c.args.place.now.number c.args.place.now.position c.args.ask c.look-found.result c.unpack-seen.result
-          c.unpack-seen.ensures grants) c.change-other.new.seat.me.0 c.change-other.result c.of-changes.result.value
-          c.of-changes.ensures c.change-other.ensures.moved) c.if-ask.true).0,
-    )
+    let hit : c.change-other.result ≡ word_number count_bits c.unpack-seen.result = search rules in
+    going-called (needs_of c.args.self.now.rules) c.args.call c.args.place.now.position c.args.place.now.since.0
+    (record c.args.place.now.position { stage = AskLoad c.args.ask }) (Says true) (Once granted_value c.args.ask.request)
+    c.args.place.now.seat.me.0 c.change-other.new.seat.me.0 c.requires.starts
+    ((registered-events (needs_of c.args.self.now.rules) c.args.self.now.places c.args.place.now.number c.args.call c.args.place.now.position c.args.ask
+    c.unpack-seen.result c.args.place.now.seat.me.0 c.change-other.new.seat.me.0 c.change-other.result hit
+    (changed-next (needs_of c.args.self.now.rules) c.args.self.now.places c.args.place.now.number c.args.call c.args.place.now.position
+    (record c.args.place.now.position { stage = AskLoad c.args.ask }) c.args.place.now.seat.me.0 c.look-found.new.seat.me.0 c.look-found.result here c.args.place.now.numbered.1
+    c.args.place.now.since c.requires.taken c.requires.starts c.of-looking.result.value c.of-looking.ensures c.look-found.ensures.moved
+    (record c.args.place.now.position { stage = AskExchange c.args.ask c.unpack-seen.result })
+    (ask-goes (needs_of c.args.self.now.rules) c.args.place.now.number c.args.place.now.position c.args.ask c.look-found.result c.unpack-seen.result c.unpack-seen.ensures grants)
+    c.change-other.new.seat.me.0 c.change-other.result c.of-changing.result.value c.of-changing.ensures c.change-other.ensures.moved) c.if-ask.true).0)
 
 pub returns-clause-called : goal.returns-clause-called
 returns-clause-called g c =
     let here : c.args.place.now.number < c.args.self.now.places = search rules in
     let grants : grants_at (needs_of c.args.self.now.rules) c.unpack-seen.result c.args.ask ≡ true = search rules in
-    let hit : c.change-other.result ≡ word_number count_bits c.unpack-seen.result = search rules in (
-      Says true,
-      refl,
-      going-called (needs_of c.args.self.now.rules) c.args.call c.args.place.now.position c.args.place.now.since.0
-          (record c.args.place.now.position { stage = AskLoad c.args.ask }) (Says true) c.args.place.now.position.registration
-          c.args.place.now.seat.me.0 c.change-other.new.seat.me.0 c.requires.starts
-          (tried-events (needs_of c.args.self.now.rules) c.args.self.now.places c.args.place.now.number c.args.call c.args.place.now.position c.args.ask
-          c.unpack-seen.result c.args.place.now.seat.me.0 c.change-other.new.seat.me.0 c.change-other.result hit
-          (changed-next (needs_of c.args.self.now.rules) c.args.self.now.places c.args.place.now.number c.args.call c.args.place.now.position
-          (record c.args.place.now.position { stage = AskLoad c.args.ask }) c.args.place.now.seat.me.0 c.look-found.new.seat.me.0 c.look-found.result here c.args.place.now.numbered.1
-          c.args.place.now.since c.requires.taken c.requires.starts c.of-looks.result.value c.of-looks.ensures c.look-found.ensures.moved
-          (record c.args.place.now.position { stage = AskExchange c.args.ask c.unpack-seen.result })
-          (ask-goes (needs_of c.args.self.now.rules) c.args.place.now.number c.args.place.now.position c.args.ask c.look-found.result c.unpack-seen.result
-          c.unpack-seen.ensures grants) c.change-other.new.seat.me.0 c.change-other.result c.of-changes.result.value
-          c.of-changes.ensures c.change-other.ensures.moved) c.requires.semaphore c.if-ask.false).0,
-    )
+    let hit : c.change-other.result ≡ word_number count_bits c.unpack-seen.result = search rules in
+    rw (c.granted_try.ensures) (
+    going-called (needs_of c.args.self.now.rules) c.args.call c.args.place.now.position c.args.place.now.since.0
+    (record c.args.place.now.position { stage = AskLoad c.args.ask }) (tried_answer (needs_of c.args.self.now.rules) true) c.args.place.now.position.registration
+    c.args.place.now.seat.me.0 c.change-other.new.seat.me.0 c.requires.starts
+    ((tried-events (needs_of c.args.self.now.rules) c.args.self.now.places c.args.place.now.number c.args.call c.args.place.now.position c.args.ask
+    c.unpack-seen.result c.args.place.now.seat.me.0 c.change-other.new.seat.me.0 c.change-other.result hit
+    (changed-next (needs_of c.args.self.now.rules) c.args.self.now.places c.args.place.now.number c.args.call c.args.place.now.position
+    (record c.args.place.now.position { stage = AskLoad c.args.ask }) c.args.place.now.seat.me.0 c.look-found.new.seat.me.0 c.look-found.result here c.args.place.now.numbered.1
+    c.args.place.now.since c.requires.taken c.requires.starts c.of-looking.result.value c.of-looking.ensures c.look-found.ensures.moved
+    (record c.args.place.now.position { stage = AskExchange c.args.ask c.unpack-seen.result })
+    (ask-goes (needs_of c.args.self.now.rules) c.args.place.now.number c.args.place.now.position c.args.ask c.look-found.result c.unpack-seen.result c.unpack-seen.ensures grants)
+    c.change-other.new.seat.me.0 c.change-other.result c.of-changing.result.value c.of-changing.ensures c.change-other.ensures.moved) c.if-ask.false).0))
+
+pub change-other-requires-clause-next : goal.change-other-requires-clause-next
+change-other-requires-clause-next g c =
+    let here : c.args.place.now.number < c.args.self.now.places = search rules in
+    let grants : grants_at (needs_of c.args.self.now.rules) c.unpack-seen.result c.args.ask ≡ true = search rules in
+    change-next (needs_of c.args.self.now.rules) c.args.self.now.places c.args.place.now.number c.args.call c.args.place.now.position
+    (record c.args.place.now.position { stage = AskLoad c.args.ask }) c.args.place.now.seat.me.0 c.look-found.new.seat.me.0 c.look-found.result here c.args.place.now.numbered.1
+    c.args.place.now.since c.requires.taken c.requires.starts c.of-looking.result.value c.of-looking.ensures c.look-found.ensures.moved
+    (record c.args.place.now.position { stage = AskExchange c.args.ask c.unpack-seen.result })
+    (ask-goes (needs_of c.args.self.now.rules) c.args.place.now.number c.args.place.now.position c.args.ask c.look-found.result c.unpack-seen.result c.unpack-seen.ensures grants) c.args.place.now.numbered.0
+    (Exchange 0 c.pack-old.result c.pack-new.result)
+    (rw (c.pack-old.ensures.number, c.pack-new.ensures.number, c.plus-count.ensures.plus) refl)
+    c.of-changing.result.value c.of-changing.ensures

@@ -1,15 +1,16 @@
-use Rattle.std.proofs.Common.{rules, ◌∙◌, ◌≡◌, ◌<◌, true, Some, refl, sym, subst}
+use Rattle.std.proofs.Common.{rules, ◌∙◌, ◌≡◌, ◌<◌, true, Some, refl, sym, ap, subst}
 use Rattle.saa_core_words.specs.declared.word.Word.{Word}
 use Rattle.saa_core_words.specs.Words.{count_bits, word_number}
 use Rattle.saa_word_steps.specs.declared.call.Answer.TheVariants.{Bool as Says}
+use Rattle.saa_word_steps.specs.declared.operation.Operation.TheVariants.{Exchange}
 use Rattle.saa_word_steps.specs.declared.place.Back.TheVariants.{Tells}
 use Rattle.saa_word_steps.specs.declared.place.Given.TheVariants.{Asked}
 use Rattle.saa_word_steps.specs.declared.place.Stage.TheVariants.{ReleaseLoad, ReleaseExchange}
-use Rattle.saa_word_steps.specs.Steps.{needs_of, next_of}
+use Rattle.saa_word_steps.specs.Steps.{exchanged, needs_of, next_of}
 use Rattle.saa_word_threads.specs.Called.{MidwayNext}
 use Rattle.saa_word_threads.specs.Straight.{lowers_to}
 use Rattle.saa_word_threads.proofs.Calling.{going-called}
-use Rattle.saa_word_threads.proofs.Going.{changed-next, gave-events, give-goes, looked-next}
+use Rattle.saa_word_threads.proofs.Going.{change-next, changed-next, gave-events, give-goes, looked-next, lowered}
 use Rattle.saa_word_threads.proofs.form.Form.give.Goals as goal
 
 pub give_on-answer-requires-clause-midway : goal.give_on-answer-requires-clause-midway
@@ -18,7 +19,7 @@ give_on-answer-requires-clause-midway g c =
     rw (c.of-begun.ensures.call, c.of-begun.ensures.registered, c.of-begun.ensures.seat)
     (looked-next (needs_of c.args.self.now.rules) c.args.self.now.places c.args.place.now.number c.args.call c.args.place.now.position
     (record c.args.place.now.position { stage = ReleaseLoad (Asked c.args.request); back = Tells }) c.args.place.now.seat.me.0 c.look-found.new.seat.me.0 c.look-found.result here c.args.place.now.numbered.1
-    c.args.place.now.since c.requires.taken c.requires.starts c.of-looks.result.value c.of-looks.ensures c.look-found.ensures.moved)
+    c.args.place.now.since c.requires.taken c.requires.starts c.of-looking.result.value c.of-looking.ensures c.look-found.ensures.moved)
 
 pub returns-in_default-clause-called : goal.returns-in_default-clause-called
 returns-in_default-clause-called g c = (
@@ -41,11 +42,11 @@ give_anew-answer-requires-clause-midway g c =
     (record c.args.place.now.position { stage = ReleaseExchange (Asked c.args.request) s; back = Tells }) (ReleaseExchange (Asked c.args.request) s) c.change-other.result)) c.unpack-seen.ensures
     (changed-next (needs_of c.args.self.now.rules) c.args.self.now.places c.args.place.now.number c.args.call c.args.place.now.position
     (record c.args.place.now.position { stage = ReleaseLoad (Asked c.args.request); back = Tells }) c.args.place.now.seat.me.0 c.look-found.new.seat.me.0 c.look-found.result here c.args.place.now.numbered.1
-    c.args.place.now.since c.requires.taken c.requires.starts c.of-looks.result.value c.of-looks.ensures c.look-found.ensures.moved
+    c.args.place.now.since c.requires.taken c.requires.starts c.of-looking.result.value c.of-looking.ensures c.look-found.ensures.moved
     (record c.args.place.now.position { stage = ReleaseExchange (Asked c.args.request) c.unpack-seen.result; back = Tells })
     (give-goes (needs_of c.args.self.now.rules) c.args.place.now.number c.args.place.now.position c.args.request c.in-Some.count c.look-found.result
-    c.unpack-seen.result c.unpack-seen.ensures lowers) c.change-other.new.seat.me.0 c.change-other.result c.of-changes.result.value
-    c.of-changes.ensures c.change-other.ensures.moved))
+    c.unpack-seen.result c.unpack-seen.ensures lowers) c.change-other.new.seat.me.0 c.change-other.result c.of-changing.result.value
+    c.of-changing.ensures c.change-other.ensures.moved))
 
 pub returns-then-other-old-clause-called : goal.returns-then-other-old-clause-called
 returns-then-other-old-clause-called g c = (
@@ -71,9 +72,22 @@ returns-clause-called g c =
           c.in-Some.count c.unpack-seen.result c.args.place.now.seat.me.0 c.change-other.new.seat.me.0 c.change-other.result hit lowers
           (changed-next (needs_of c.args.self.now.rules) c.args.self.now.places c.args.place.now.number c.args.call c.args.place.now.position
           (record c.args.place.now.position { stage = ReleaseLoad (Asked c.args.request); back = Tells }) c.args.place.now.seat.me.0 c.look-found.new.seat.me.0 c.look-found.result here c.args.place.now.numbered.1
-          c.args.place.now.since c.requires.taken c.requires.starts c.of-looks.result.value c.of-looks.ensures c.look-found.ensures.moved
+          c.args.place.now.since c.requires.taken c.requires.starts c.of-looking.result.value c.of-looking.ensures c.look-found.ensures.moved
           (record c.args.place.now.position { stage = ReleaseExchange (Asked c.args.request) c.unpack-seen.result; back = Tells })
           (give-goes (needs_of c.args.self.now.rules) c.args.place.now.number c.args.place.now.position c.args.request c.in-Some.count c.look-found.result
-          c.unpack-seen.result c.unpack-seen.ensures lowers) c.change-other.new.seat.me.0 c.change-other.result c.of-changes.result.value
-          c.of-changes.ensures c.change-other.ensures.moved)).0,
+          c.unpack-seen.result c.unpack-seen.ensures lowers) c.change-other.new.seat.me.0 c.change-other.result c.of-changing.result.value
+          c.of-changing.ensures c.change-other.ensures.moved)).0,
     )
+
+pub change-other-requires-clause-next : goal.change-other-requires-clause-next
+change-other-requires-clause-next g c =
+    let here : c.args.place.now.number < c.args.self.now.places = search rules in
+    let lowers : lowers_to (needs_of c.args.self.now.rules) c.unpack-seen.result c.args.request ≡ Some c.in-Some.count = sym c.lowers.ensures ∙ c.in-Some.is in
+    change-next (needs_of c.args.self.now.rules) c.args.self.now.places c.args.place.now.number c.args.call c.args.place.now.position
+    (record c.args.place.now.position { stage = ReleaseLoad (Asked c.args.request); back = Tells }) c.args.place.now.seat.me.0 c.look-found.new.seat.me.0 c.look-found.result here
+    c.args.place.now.numbered.1 c.args.place.now.since c.requires.taken c.requires.starts c.of-looking.result.value c.of-looking.ensures c.look-found.ensures.moved
+    (record c.args.place.now.position { stage = ReleaseExchange (Asked c.args.request) c.unpack-seen.result; back = Tells })
+    (give-goes (needs_of c.args.self.now.rules) c.args.place.now.number c.args.place.now.position c.args.request c.in-Some.count c.look-found.result c.unpack-seen.result c.unpack-seen.ensures lowers) c.args.place.now.numbered.0
+    (Exchange 0 c.pack-old.result c.pack-new.result)
+    (rw (c.pack-old.ensures.number, c.pack-new.ensures.number) (ap (λ (w : Word). exchanged c.unpack-seen.result w) (c.lowered.ensures ∙ lowered (needs_of c.args.self.now.rules) c.unpack-seen.result c.args.request c.in-Some.count lowers)))
+    c.of-changing.result.value c.of-changing.ensures

@@ -1,0 +1,56 @@
+-- What contracts see of a lock, and what its calls do.
+use Rattle.std.specs.Prelude.{◌≡◌, ℕ, Bool, List, [], ◌∷◌}
+use Rattle.atomic_table.specs.Seated.{TableId}
+use Rattle.saa_core_spec.specs.declared.lock.Mode.{Mode}
+use Rattle.saa_word_steps.specs.declared.call.Answer.{Answer}
+use Rattle.saa_word_steps.specs.declared.call.WordCall.{WordCall}
+use Rattle.saa_word_steps.specs.declared.call.WordCall.TheVariants.{RegisterMode}
+use Rattle.saa_word_steps.specs.Needs.{lock_needs}
+use Rattle.saa_word_threads.specs.declared.lock.Lock.{Lock}
+use Rattle.saa_word_threads.specs.declared.lock.Place.{Place}
+use Rattle.saa_word_threads.specs.declared.lock.Left.{Left}
+use Rattle.saa_word_threads.specs.declared.place.Place.{Place as FormPlace}
+use Rattle.saa_word_threads.specs.declared.table.About.{About}
+use Rattle.saa_word_threads.specs.declared.table.View.{View}
+use Rattle.saa_word_threads.specs.Dealt.{AreNew as FormAreNew}
+use Rattle.saa_word_threads.specs.Public.{HasLeft as FormHasLeft, IsMade as FormIsMade, IsWaited as FormIsWaited, view_left as form_view_left}
+
+-- its rules, that nothing is held as it is made, and how many places it has
+abbrev pub about_of : Lock → About
+about_of lock = lock.form.table.shared.key
+
+-- which of all tables its words are
+abbrev pub table_of : Lock → TableId
+table_of lock = lock.form.table.shared.table_id
+
+-- a place was dealt by a lock, and so was a place that has left
+abbrev pub IsDealtBy : Lock → Place → Type 0
+IsDealtBy lock place = place.inner.seat.table_id ≡ table_of lock
+
+abbrev pub IsLeftOf : Lock → Left → Type 0
+IsLeftOf lock left = left.inner.seat.table_id ≡ table_of lock
+
+-- the form's places of some places of a lock
+abbrev pub inners : List Place → List FormPlace
+inners [] = []
+inners (place ∷ rest) = place.inner ∷ inners rest
+
+-- new places of a table, numbered in order from a number on
+abbrev pub AreNew : TableId → ℕ → List Place → Type 0
+AreNew table number places = FormAreNew table number (inners places)
+
+-- A call was made at a place of a lock, and answered so
+abbrev pub IsMade : WordCall → Place → Answer → Place → Type 0
+IsMade call old answer new = FormIsMade lock_needs call old.inner answer new.inner
+
+-- A wait is a registration in a mode, and then a poll where the registration was made
+abbrev pub IsWaited : Mode → Place → Bool → Place → Type 0
+IsWaited mode old result new = FormIsWaited lock_needs (RegisterMode mode) old.inner result new.inner
+
+-- A place has left: it has cancelled first
+abbrev pub HasLeft : Place → Left → Type 0
+HasLeft place left = FormHasLeft lock_needs place.inner left.inner
+
+-- what a place that has left has seen, and knows as its part
+abbrev pub view_left : Left → View
+view_left left = form_view_left left.inner

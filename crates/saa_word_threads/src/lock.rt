@@ -1,0 +1,377 @@
+//! A lock-free lock: its owners, and poison, in one atomic word, for a fixed set of places.
+//!
+//! Every call is one call of a place of the form (`call`), and is held to `specs/Locks.antt`, which says the same of a lock's places as
+//! `specs/Public.antt` of a semaphore's. Which owners may be there together is said by the steps (`saa_word_steps`), and nowhere here.
+
+ghost use Rattle.std.specs.Prelude.{◌≡◌, All, IfOk, vec_len};
+ghost use Rattle.saa_core_spec.specs.declared.lock.Mode.TheVariants.{Exclusive, Shared};
+ghost use Rattle.saa_word_steps.specs.declared.call.Answer.{Answer};
+ghost use Rattle.saa_word_steps.specs.declared.call.WordCall.TheVariants.{TryLock, TryShare, RegisterMode, ReleaseLock, ReleaseShare, Downgrade, PoisonLock, ClearPoison, IsFree, IsLocked, IsShared, IsPoisoned, TryPoll, Poll, Cancel};
+ghost use Rattle.saa_word_steps.specs.declared.rules.Rules.TheVariants.{Modes};
+ghost use Rattle.saa_word_steps.specs.Steps.{mode_number};
+ghost use Rattle.saa_word_threads.specs.Dealt.{IsLedTo, numbers};
+ghost use Rattle.saa_word_threads.specs.Public.{is_yes, polled_lock, tried};
+
+#[cfg(test)]
+mod tests;
+
+use crate::form::Form;
+use crate::place::{Left as FormLeft, Place as FormPlace};
+use crate::straight::yes;
+use crate::watch::Unwatched;
+pub use crate::words::Words;
+pub use saa_word_steps::call::{Error, Mode, TryLockError};
+use saa_word_steps::call::{Answer, WordCall};
+use saa_word_steps::place::Ask;
+use saa_word_steps::rules::Rules;
+use std::alloc::{AllocError, Global};
+use std::sync::Wait;
+
+// The numbers of what the tries and the releases ask and give back.
+const EXCLUSIVE: u16 = 0;
+
+const SHARED: u16 = 1;
+
+/// A lock in one atomic word: one owner alone, or up to 62 that share it, taken in the order of asking; and poison.
+///
+/// Each task has a [`Place`] of its own, which `new` deals; a place makes one call at a time. A waiter spins, yields and then parks. No call
+/// takes another lock, or memory but `new`. The lock doesn't know its owners: any caller may release.
+#[derive(Drop)]
+pub struct Lock {
+    form: Form,
+    ghost modes: { form.rules ≡ Modes },
+}
+
+/// A place of the lock that dealt it, between its calls.
+///
+/// One task has it at a time, and makes one call after another with it. `leave` spends it. A place that is dropped instead stays as it is: one
+/// that waits is still served in its turn, and what it was granted isn't given back.
+#[derive(Drop)]
+pub struct Place {
+    pub(crate) inner: FormPlace,
+}
+
+/// A place that has left the lock that dealt it.
+#[derive(Drop)]
+pub struct Left {
+    pub(crate) inner: FormLeft,
+}
+
+impl Place {
+    ghost use Rattle.saa_word_threads.specs.Locks.{inners};
+
+    // The places of a lock, of those that its form dealt.
+    fn of_all(alloc: Global, dealt: Vec<FormPlace>) -> Result<Vec<Place>, AllocError>
+        ensures wrapped { IfOk result (λ places. inners places.items ≡ dealt.items) }
+        ensures count { IfOk result (λ places. vec_len places ≡ vec_len dealt) }
+    {
+        let mut places = Vec::with_capacity(alloc, dealt.len())?;
+        for inner in dealt {
+            places.push_reserved(Place { inner });
+        }
+        Ok(places)
+    }
+}
+
+impl Left {
+    /// The number of the place that left. Costs O(1).
+    pub fn place(&self) -> u16
+        ensures { result ≡ self.now.inner.number }
+    {
+        self.inner.place()
+    }
+}
+
+impl Lock {
+    ghost use Rattle.saa_word_threads.specs.Locks.{AreNew, HasLeft, IsDealtBy, IsLeftOf, IsMade, IsWaited, about_of, table_of, view_left};
+
+    /// The most owners that share a lock.
+    pub const MAX_SHARED_OWNERS: usize = 62;
+
+    /// A free lock, and its places, in the order of their numbers.
+    ///
+    /// Costs O(`places`). The error comes only where memory was refused.
+    pub fn new(alloc: Global, places: u16) -> Result<(Self, Vec<Place>), AllocError>
+        ensures made { IfOk result (λ made. about_of made.0 ≡ record { rules = Modes; withheld = 0; places = places }) }
+        ensures dealt { IfOk result (λ made. (vec_len made.1 ≡ places) × AreNew (table_of made.0) 0 made.1.items) }
+        ensures ours { IfOk result (λ made. All (IsDealtBy made.0) made.1.items) }
+    {
+        let (form, dealt) = Form::open(alloc, Rules::Modes, 0, places)?;
+        let places = Place::of_all(alloc, dealt)?;
+        Ok((Lock { form }, places))
+    }
+
+    /// Takes the lock for one owner alone if there is no waiter and it is free; never waits for an owner.
+    ///
+    /// `Poisoned`: the lock is poisoned. `WouldBlock`: somebody has it, or there is a waiter. Both change nothing. Costs two steps on the word, and
+    /// one more for each other task that changed it meanwhile.
+    pub fn try_lock<R: Wait>(&self, rt: &R, place: &mut Place) -> Result<(), TryLockError>
+        requires { IsDealtBy self.now place.old }
+        ensures { (answer : Answer) × (result ≡ tried answer) × IsMade TryLock place.old answer place.new }
+    {
+        let ask = Ask {
+            request: EXCLUSIVE,
+            joins: false,
+        };
+        tried(
+            self.form
+                .ask(rt, &Unwatched, &mut place.inner, WordCall::TryLock, ask),
+        )
+    }
+
+    /// Takes a share of the lock if there is no waiter and one is left; never waits for an owner.
+    ///
+    /// `Poisoned`: the lock is poisoned. `WouldBlock`: one owner has it alone, or 62 share it, or there is a waiter. Both change nothing. Costs as
+    /// [`Self::try_lock`].
+    pub fn try_share<R: Wait>(&self, rt: &R, place: &mut Place) -> Result<(), TryLockError>
+        requires { IsDealtBy self.now place.old }
+        ensures { (answer : Answer) × (result ≡ tried answer) × IsMade TryShare place.old answer place.new }
+    {
+        let ask = Ask {
+            request: SHARED,
+            joins: false,
+        };
+        tried(
+            self.form
+                .ask(rt, &Unwatched, &mut place.inner, WordCall::TryShare, ask),
+        )
+    }
+
+    /// Takes the lock for one owner alone, and waits for it where it must.
+    ///
+    /// `false`: the lock is poisoned, as the place asked or while it waited; or the place is registered already, which changes nothing. Costs
+    /// two steps on the word where it is granted at once, and else some more, and the wait.
+    pub fn lock<R: Wait>(&self, rt: &R, place: &mut Place) -> bool
+        requires { IsDealtBy self.now place.old }
+        ensures { IsWaited Exclusive place.old result place.new }
+    {
+        if !self.register(rt, place, Mode::Exclusive) {
+            return false;
+        }
+        self.form.await_grant(rt, &Unwatched, &mut place.inner)
+    }
+
+    /// Takes a share of the lock, and waits for it where it must.
+    ///
+    /// `false`: the lock is poisoned, as the place asked or while it waited; or the place is registered already, which changes nothing. Costs as
+    /// [`Self::lock`].
+    pub fn share<R: Wait>(&self, rt: &R, place: &mut Place) -> bool
+        requires { IsDealtBy self.now place.old }
+        ensures { IsWaited Shared place.old result place.new }
+    {
+        if !self.register(rt, place, Mode::Shared) {
+            return false;
+        }
+        self.form.await_grant(rt, &Unwatched, &mut place.inner)
+    }
+
+    /// Gives the lock of one owner back, and grants the oldest waiters while they fit.
+    ///
+    /// `false`, and nothing changes, where the lock isn't one owner's alone. Any place may give back what another one took. Costs two steps
+    /// where there is no waiter, and else O(waiters).
+    pub fn release_lock<R: Wait>(&self, rt: &R, place: &mut Place) -> bool
+        requires { IsDealtBy self.now place.old }
+        ensures { (answer : Answer) × (result ≡ is_yes answer) × IsMade ReleaseLock place.old answer place.new }
+    {
+        let call = WordCall::ReleaseLock;
+        self.form
+            .give(rt, &Unwatched, &mut place.inner, call, EXCLUSIVE)
+    }
+
+    /// Gives one share back, and grants the oldest waiters while they fit.
+    ///
+    /// `false`, and nothing changes, where the lock isn't shared. Any place may give back what another one took. Costs as
+    /// [`Self::release_lock`].
+    pub fn release_share<R: Wait>(&self, rt: &R, place: &mut Place) -> bool
+        requires { IsDealtBy self.now place.old }
+        ensures { (answer : Answer) × (result ≡ is_yes answer) × IsMade ReleaseShare place.old answer place.new }
+    {
+        let call = WordCall::ReleaseShare;
+        self.form
+            .give(rt, &Unwatched, &mut place.inner, call, SHARED)
+    }
+
+    /// Makes the one owner a sharer, and grants the oldest waiters while they fit beside it.
+    ///
+    /// Nobody has the lock alone in between. `false`, and nothing changes, where the lock isn't one owner's alone. Costs as
+    /// [`Self::release_lock`].
+    pub fn downgrade<R: Wait>(&self, rt: &R, place: &mut Place) -> bool
+        requires { IsDealtBy self.now place.old }
+        ensures { (answer : Answer) × (result ≡ is_yes answer) × IsMade Downgrade place.old answer place.new }
+    {
+        yes(
+            self.form
+                .call(rt, &Unwatched, &mut place.inner, WordCall::Downgrade),
+        )
+    }
+
+    /// Poisons the lock that one owner has, and answers all waiters that it is poisoned.
+    ///
+    /// `false`, and nothing changes, where the lock isn't one owner's alone. It yields while another place works on the line. Costs O(waiters).
+    pub fn poison_lock<R: Wait>(&self, rt: &R, place: &mut Place) -> bool
+        requires { IsDealtBy self.now place.old }
+        ensures { (answer : Answer) × (result ≡ is_yes answer) × IsMade PoisonLock place.old answer place.new }
+    {
+        yes(
+            self.form
+                .call(rt, &Unwatched, &mut place.inner, WordCall::PoisonLock),
+        )
+    }
+
+    /// Makes a poisoned lock free. `false`, and nothing changes, where it isn't poisoned. Costs one step.
+    pub fn clear_poison<R: Wait>(&self, rt: &R, place: &mut Place) -> bool
+        requires { IsDealtBy self.now place.old }
+        ensures { (answer : Answer) × (result ≡ is_yes answer) × IsMade ClearPoison place.old answer place.new }
+    {
+        yes(
+            self.form
+                .call(rt, &Unwatched, &mut place.inner, WordCall::ClearPoison),
+        )
+    }
+
+    /// Asks for the lock in a mode: it is granted at once, or the place joins the waiters.
+    ///
+    /// `false`, and nothing changes, at a place that is registered. A poisoned lock answers the registration at once that it is poisoned. The
+    /// answer is taken by [`Self::poll`] or [`Self::try_poll`]; the wait modes only hear when the lock could be had, and take nothing. Costs as
+    /// [`Self::try_lock`], and one step more to join.
+    #[inline(always)]
+    pub fn register<R: Wait>(&self, rt: &R, place: &mut Place, mode: Mode) -> bool
+        requires { IsDealtBy self.now place.old }
+        ensures { (answer : Answer) × (result ≡ is_yes answer) × IsMade (RegisterMode mode) place.old answer place.new }
+    {
+        let call = WordCall::RegisterMode(mode);
+        if !place.inner.is_idle() {
+            return yes(self.form.call(rt, &Unwatched, &mut place.inner, call));
+        }
+        let ask = Ask {
+            request: number(mode),
+            joins: true,
+        };
+        yes(self.form.ask(rt, &Unwatched, &mut place.inner, call, ask))
+    }
+
+    /// Takes the answer of a registration where it is there; never blocks.
+    ///
+    /// `true`: what it asked is granted; `false`: the lock was poisoned. `NotReady` while the place waits, `NotRegistered` where it is registered
+    /// as nothing. Costs one step at most.
+    pub fn try_poll(&self, place: &mut Place) -> Result<bool, Error>
+        requires { IsDealtBy self.now place.old }
+        ensures { (answer : Answer) × (result ≡ polled_lock answer) × IsMade TryPoll place.old answer place.new }
+    {
+        polled(self.form.call_at_once(&mut place.inner, WordCall::TryPoll))
+    }
+
+    /// Takes the answer of a registration, and waits for it where it must.
+    ///
+    /// `true`: what it asked is granted; `false`: the lock was poisoned. `NotRegistered` where the place is registered as nothing; no other error
+    /// comes. Costs no step where it was answered at once, and else one for each look, and the wait.
+    pub fn poll<R: Wait>(&self, rt: &R, place: &mut Place) -> Result<bool, Error>
+        requires { IsDealtBy self.now place.old }
+        ensures { (answer : Answer) × (result ≡ polled_lock answer) × IsMade Poll place.old answer place.new }
+    {
+        polled(
+            self.form
+                .call(rt, &Unwatched, &mut place.inner, WordCall::Poll),
+        )
+    }
+
+    /// Cancels a registration: the place leaves the waiters, or gives back what it was granted. Nothing, where it is registered as nothing.
+    ///
+    /// It yields while another place works on the line. Costs O(waiters).
+    pub fn cancel<R: Wait>(&self, rt: &R, place: &mut Place)
+        requires { IsDealtBy self.now place.old }
+        ensures { (answer : Answer) × IsMade Cancel place.old answer place.new }
+    {
+        self.form
+            .call(rt, &Unwatched, &mut place.inner, WordCall::Cancel);
+    }
+
+    /// Whether nobody has the lock and it isn't poisoned; never blocks. Costs one step.
+    pub fn is_free(&self, place: &mut Place) -> bool
+        requires { IsDealtBy self.now place.old }
+        ensures { (answer : Answer) × (result ≡ is_yes answer) × IsMade IsFree place.old answer place.new }
+    {
+        yes(self.form.call_at_once(&mut place.inner, WordCall::IsFree))
+    }
+
+    /// Whether one owner has the lock alone; never blocks. Costs one step.
+    pub fn is_locked(&self, place: &mut Place) -> bool
+        requires { IsDealtBy self.now place.old }
+        ensures { (answer : Answer) × (result ≡ is_yes answer) × IsMade IsLocked place.old answer place.new }
+    {
+        yes(self.form.call_at_once(&mut place.inner, WordCall::IsLocked))
+    }
+
+    /// Whether the lock is shared; never blocks. Costs one step.
+    pub fn is_shared(&self, place: &mut Place) -> bool
+        requires { IsDealtBy self.now place.old }
+        ensures { (answer : Answer) × (result ≡ is_yes answer) × IsMade IsShared place.old answer place.new }
+    {
+        yes(self.form.call_at_once(&mut place.inner, WordCall::IsShared))
+    }
+
+    /// Whether the lock is poisoned; never blocks. Costs one step.
+    pub fn is_poisoned(&self, place: &mut Place) -> bool
+        requires { IsDealtBy self.now place.old }
+        ensures { (answer : Answer) × (result ≡ is_yes answer) × IsMade IsPoisoned place.old answer place.new }
+    {
+        yes(
+            self.form
+                .call_at_once(&mut place.inner, WordCall::IsPoisoned),
+        )
+    }
+
+    /// The place leaves; it cancels first, and costs as that.
+    pub fn leave<R: Wait>(&self, rt: &R, place: Place) -> Left
+        requires { IsDealtBy self.now place }
+        ensures { HasLeft place result }
+    {
+        let Place { inner } = place;
+        Left {
+            inner: self.form.leave(rt, &Unwatched, inner),
+        }
+    }
+
+    /// The words at the end, with the place of `left` as the witness of what led there; never blocks. Costs O(1).
+    pub fn close(self, left: Left) -> Words
+        requires { IsLeftOf self left }
+        ensures places { result.places ≡ (about_of self).places }
+        ensures led { IsLedTo (about_of self) (numbers result) (view_left left) }
+    {
+        let Lock { form } = self;
+        let Left { inner } = left;
+        form.close(inner)
+    }
+}
+
+// The number of a mode.
+fn number(mode: Mode) -> u16
+    ensures { result ≡ mode_number mode }
+{
+    match mode {
+        Mode::Exclusive => EXCLUSIVE,
+        Mode::Shared => SHARED,
+        Mode::WaitExclusive => 2,
+        Mode::WaitShared => 3,
+    }
+}
+
+// What a try answers.
+fn tried(answer: Answer) -> Result<(), TryLockError>
+    ensures { result ≡ tried answer }
+{
+    match answer {
+        Answer::Tried(tried) => tried,
+        _ => Err(TryLockError::WouldBlock),
+    }
+}
+
+// What a poll answers.
+fn polled(answer: Answer) -> Result<bool, Error>
+    ensures { result ≡ polled_lock answer }
+{
+    match answer {
+        Answer::Taken(taken) => taken,
+        _ => Ok(false),
+    }
+}
