@@ -55,8 +55,11 @@ pub use Rattle.saa_word.specs.Trace
 pub use Rattle.saa_word.specs.Simulation
 pub use Rattle.saa_word.specs.Alone
 pub use Rattle.saa_word_threads.specs.Semaphores as WordSemaphores
+pub use Rattle.saa_word_threads.specs.Locks as WordLocks
 pub use Rattle.saa_word_threads.specs.Public as WordCalls
 pub use Rattle.saa_word_threads.specs.Called as WordEvents
 pub use Rattle.saa_word_threads.specs.Told as WordViews
 pub use Rattle.saa_word_threads.specs.Dealt as WordPlaces
 pub use Rattle.saa_word_threads.specs.Kept as WordHistory
+pub use Rattle.saa_word_guards.specs.Turns as WordTurns
+pub use Rattle.saa_word_guards.specs.Workers as WordWorkers

@@ -21,4 +21,4 @@ pub use saa_sync::lock_api::{
     Guard, Lends, Mutex, MutexGuard, PassesOn, RwLock, RwLockReadGuard, RwLockWriteGuard, Shows,
     Writing, lock_async, read_async, write_async,
 };
-pub use saa_sync::{lock_api, pager, timed};
+pub use saa_sync::{lock_api, pager, patience, timed};

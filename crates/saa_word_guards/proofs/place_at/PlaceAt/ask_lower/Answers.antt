@@ -1,0 +1,6 @@
+use Rattle.std.proofs.Common.{sym, ◌∙◌, inr}
+use Rattle.saa_word_guards.proofs.place_at.PlaceAt.ask_lower.Goals as goal
+
+pub returns : goal.returns
+returns g c = λ yes.
+    ∣ (c.args.self.now.place, inr (inr (c.requires, (c.downgrade.ensures.0, sym c.downgrade.ensures.1 ∙ yes, c.downgrade.ensures.2)))) ∣₁

@@ -1,0 +1,193 @@
+//! A place beside the lock that dealt it, and the calls of the lock that guards make there.
+//!
+//! What keeps the place at its lock is the type, so that nobody above has to carry that fact. A turn ends by `end_lock` or `end_share` alone:
+//! each asks for a `PutDown`, which only giving up a guard of the value makes, and which nothing else takes.
+
+ghost use Rattle.std.specs.Prelude.{◌≡◌, true};
+ghost use Rattle.saa_word_steps.specs.declared.call.Answer.{Answer};
+ghost use Rattle.saa_word_steps.specs.declared.call.WordCall.TheVariants.{ReleaseLock, ReleaseShare};
+ghost use Rattle.saa_word_threads.specs.Locks.{IsDealtBy, IsMade};
+ghost use Rattle.saa_word_guards.specs.Turns.{HasLock, HasShare};
+
+use saa_word_threads::lock::{Left, Lock, Place};
+use std::marker::PhantomData;
+use std::sync::{RwLock, RwLockReadGuard, RwLockWriteGuard, Wait};
+
+/// Says that a guard of the value was given up; only that makes one.
+pub struct PutDown {
+    by: PhantomData<()>,
+}
+
+impl PutDown {
+    // Drops a reader's guard of the value.
+    pub(crate) fn by_reader<T>(value: RwLockReadGuard<'_, T>) -> Self {
+        drop(value);
+        PutDown { by: PhantomData }
+    }
+
+    // Drops a writer's guard of the value.
+    pub(crate) fn by_writer<T>(value: RwLockWriteGuard<'_, T>) -> Self {
+        drop(value);
+        PutDown { by: PhantomData }
+    }
+}
+
+/// A guard of the value that was changed from a writer's to a reader's; only that makes one, and only a downgrade opens it.
+pub(crate) struct Lowered<'l, T> {
+    reader: RwLockReadGuard<'l, T>,
+}
+
+impl<'l, T> Lowered<'l, T> {
+    // Drops a writer's guard of the value, and takes a reader's.
+    pub(crate) fn from_writer<R: Wait>(
+        writer: RwLockWriteGuard<'_, T>,
+        value: &'l RwLock<T>,
+        rt: &R,
+    ) -> Self {
+        drop(writer);
+        Lowered {
+            reader: value.read(rt),
+        }
+    }
+}
+
+/// A place at the lock that dealt it.
+#[derive(Drop)]
+pub(crate) struct PlaceAt<'l> {
+    lock: &'l Lock,
+    place: Place,
+    ghost dealt: { IsDealtBy lock.now place },
+}
+
+impl<'l> PlaceAt<'l> {
+    ghost use Rattle.saa_word_threads.specs.Locks.{HasLeft};
+
+    // The place, at the lock that dealt it.
+    pub(crate) fn new(lock: &'l Lock, place: Place) -> Self
+        requires { IsDealtBy lock.now place }
+        ensures lock { result.lock ≡ lock.entry }
+        ensures place { result.place ≡ place }
+    {
+        PlaceAt { lock, place }
+    }
+
+    // Takes the lock for one owner alone, if that needs no wait.
+    pub(crate) fn try_lock<R: Wait>(&mut self, rt: &R) -> bool
+        ensures { result ≡ true → HasLock self.new.place }
+    {
+        match self.lock.try_lock(rt, &mut self.place) {
+            Ok(()) => true,
+            Err(_refused) => false,
+        }
+    }
+
+    // Waits for the lock for one owner alone. A lock that says it is poisoned, as none here ever is, is cleared and asked again.
+    pub(crate) fn lock<R: Wait>(&mut self, rt: &R)
+        ensures { HasLock self.new.place }
+    {
+        for _ in rt.forever() {
+            if self.ask_lock(rt) {
+                return;
+            }
+            self.mend(rt);
+        }
+        unreachable!()
+    }
+
+    // Waits for the lock once. `false`: it is poisoned, or the place is registered.
+    fn ask_lock<R: Wait>(&mut self, rt: &R) -> bool
+        ensures { result ≡ true → HasLock self.new.place }
+    {
+        self.lock.lock(rt, &mut self.place)
+    }
+
+    // Takes a share, if that needs no wait.
+    pub(crate) fn try_share<R: Wait>(&mut self, rt: &R) -> bool
+        ensures { result ≡ true → HasShare self.new.place }
+    {
+        match self.lock.try_share(rt, &mut self.place) {
+            Ok(()) => true,
+            Err(_refused) => false,
+        }
+    }
+
+    // Waits for a share, as `lock` does for all of it.
+    pub(crate) fn share<R: Wait>(&mut self, rt: &R)
+        ensures { HasShare self.new.place }
+    {
+        for _ in rt.forever() {
+            if self.ask_share(rt) {
+                return;
+            }
+            self.mend(rt);
+        }
+        unreachable!()
+    }
+
+    // Waits for a share once. `false`: the lock is poisoned, or the place is registered.
+    fn ask_share<R: Wait>(&mut self, rt: &R) -> bool
+        ensures { result ≡ true → HasShare self.new.place }
+    {
+        self.lock.share(rt, &mut self.place)
+    }
+
+    // Makes the lock of its one owner a share, and gives the value to read with it. Where the lock is no one owner's, as it never is in a turn, a
+    // share is waited for.
+    //
+    // The value comes first: while the turn is still one owner's alone no other task asks for the value, so taking it never blocks, and none
+    // writes in between. Were the turn lowered first, the readers that are let in beside it would have to wait for the writer's guard.
+    pub(crate) fn lower<R: Wait, T>(
+        &mut self,
+        rt: &R,
+        value: Lowered<'l, T>,
+    ) -> RwLockReadGuard<'l, T>
+        requires { HasLock self.old.place }
+        ensures { HasShare self.new.place }
+    {
+        let Lowered { reader } = value;
+        if !self.ask_lower(rt) {
+            self.share(rt);
+        }
+        reader
+    }
+
+    // Makes the lock of its one owner a share. `false`: it is no one owner's.
+    fn ask_lower<R: Wait>(&mut self, rt: &R) -> bool
+        requires { HasLock self.old.place }
+        ensures { result ≡ true → HasShare self.new.place }
+    {
+        self.lock.downgrade(rt, &mut self.place)
+    }
+
+    // Makes a lock that is poisoned free, and a place that is registered idle: neither is ever so where the lock's calls aren't handed out.
+    fn mend<R: Wait>(&mut self, rt: &R) {
+        self.lock.clear_poison(rt, &mut self.place);
+        self.lock.cancel(rt, &mut self.place);
+    }
+
+    // Ends the turn of one owner alone, behind the guard of the value.
+    pub(crate) fn end_lock<R: Wait>(&mut self, rt: &R, value: PutDown)
+        requires { HasLock self.old.place }
+        ensures { (answer : Answer) × IsMade ReleaseLock self.old.place answer self.new.place }
+    {
+        let PutDown { by: _by } = value;
+        self.lock.release_lock(rt, &mut self.place);
+    }
+
+    // Ends a share, behind the guard of the value.
+    pub(crate) fn end_share<R: Wait>(&mut self, rt: &R, value: PutDown)
+        requires { HasShare self.old.place }
+        ensures { (answer : Answer) × IsMade ReleaseShare self.old.place answer self.new.place }
+    {
+        let PutDown { by: _by } = value;
+        self.lock.release_share(rt, &mut self.place);
+    }
+
+    // The place leaves.
+    pub(crate) fn leave<R: Wait>(self, rt: &R) -> Left
+        ensures { HasLeft self.entry.place result }
+    {
+        let PlaceAt { lock, place } = self;
+        lock.leave(rt, place)
+    }
+}
