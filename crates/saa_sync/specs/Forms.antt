@@ -11,6 +11,7 @@ use Rattle.saa_core_spec.specs.declared.lock.LockCall.{LockCall}
 use Rattle.saa_core_spec.specs.declared.lock.Mode.{Mode}
 use Rattle.saa_core_spec.specs.declared.polling.Error.{Error}
 use Rattle.saa_core.specs.Tickets.{Core}
+use Rattle.saa_sync.specs.declared.patience.Patience.{Patience}
 use Rattle.saa_sync.specs.declared.shell.Shell.{Shell}
 use Rattle.saa_sync.specs.Futures.{FutureState}
 
@@ -28,6 +29,10 @@ BarrierShell R = Shell R Core BarrierCall (Unit {0}) BarrierAnswer (Result Bool 
 -- what tasks that poll at a shell wait for
 abbrev pub source_of : {R P Call Ask Answer Value : Type 0} → Shell R P Call Ask Answer Value → ℕ
 source_of shell = shell.source.id
+
+-- how long a call at a shell looks before it registers
+abbrev pub patience_of : {R P Call Ask Answer Value : Type 0} → Shell R P Call Ask Answer Value → Patience
+patience_of shell = shell.unregistered
 
 -- a lock round a value is the lock whose turns the value is used in
 abbrev pub TurnLock : Type 0 → Type 0

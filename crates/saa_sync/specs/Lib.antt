@@ -1,5 +1,6 @@
 pub mod Forms
 pub mod Waits
+pub mod Trying
 pub mod Futures
 pub mod BarrierAnswers
 pub mod GateAnswers

@@ -31,8 +31,8 @@ const LEADER: u8 = 1;
 /// A barrier that threads share, at which at most 63 tasks wait for one another and pass together, round after round.
 ///
 /// The last arrival of a round is its leader, never waits, and wakes all others of the round. At a barrier of size 0 every
-/// arrival waits, and none is ever answered. `R` is the leave to wait, as a reference to the runtime. Every call may wait
-/// for the lock round the core, which is held for one short step at a time; all but making take no memory.
+/// arrival waits, and none is ever answered. `R` is the permission to block, as a reference to the runtime. Every call may wait
+/// for the mutex around the core, which is held for one short step at a time; all but making take no memory.
 ///
 /// Each ticket and pager is used with the barrier that it was registered in.
 #[derive(Drop)]
@@ -102,7 +102,7 @@ impl<R: Wait + Drop> Barrier<R> {
 
     /// Arrives as [`Self::wait_sync`] does, and calls `begin_wait` where it joins the line.
     ///
-    /// The callback runs once, after the join and before the wait, with the lock round the core free; it may use this
+    /// The callback runs once, after the join and before the wait, with the mutex free; it may use this
     /// barrier. It doesn't run for the last arrival of a round, nor where the room is full.
     pub fn wait_sync_with<F: FnOnce() + Drop>(&self, begin_wait: F) -> Result<bool, Full>
         requires { F.pre begin_wait }
@@ -124,7 +124,7 @@ impl<R: Wait + Drop> Barrier<R> {
 
     /// The future of [`Self::wait_async`], which calls `begin_wait` where it joins the line.
     ///
-    /// The callback runs once, in the poll that joined, after the join and with the lock round the core free; it may use
+    /// The callback runs once, in the poll that joined, after the join and with the mutex free; it may use
     /// this barrier. It doesn't run where the answer is there at once, nor where the room is full.
     pub fn wait_async_with<F: FnOnce() + Drop>(&self, begin_wait: F) -> ArriveFutureWith<'_, R, F>
         ensures request { result.asked.asking.request ≡ AskArrive }
@@ -206,7 +206,7 @@ impl<R: Wait + Drop> SyncResult for Barrier<R> {
         }
     }
 
-    /// A waiter's arrival is taken back, so the round waits for one more, and nobody is answered. An answer that wasn't
+    /// A waiter's arrival is taken back, so the round waits for one more, and no waiter is answered. An answer that wasn't
     /// consumed is only consumed. Costs O(how many wait) for a waiter.
     fn cancel(&self, ticket: &mut Ticket) {
         self.shell.cancel(ticket);

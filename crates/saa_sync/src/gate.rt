@@ -1,7 +1,7 @@
 //! The gate that threads share: a `GateCore` in a shell.
 //!
-//! Each call is one lock round the core, one step of it, and the wakes that it owes. The steps stand at the end of this
-//! file as functions that are lent the core, and are held to `specs/Gate.antt` of `saa_core_spec` through its calls.
+//! Each call locks the mutex around the core once, makes one step of it, and wakes what is pending. The steps are functions of
+//! the core at the end of this file, held to `specs/Gate.antt` of `saa_core_spec` through its calls.
 
 ghost use Rattle.std.specs.Prelude.{◌≡◌, ◌↔◌, ◌||◌, true, false, length, None, Ok, Some, IfErr, IfOk, IfSome, IsNone, IsOk};
 ghost use Rattle.saa_core_spec.specs.declared.gate.GateAnswer.{GateAnswer};
@@ -34,9 +34,9 @@ use std::sync::atomic::Ordering;
 
 /// A gate that threads share, at which tasks wait until it is decided for all of them together whether they pass.
 ///
-/// At a controlled gate those who enter wait in a line until somebody permits or rejects them all; a sealed gate refuses
-/// everybody at once, and an open one lets everybody pass. `R` is the leave to wait, as a reference to the runtime. Every
-/// call may wait for the lock round the core, which is held for one short step at a time; all but making take no memory.
+/// At a controlled gate tasks wait in a line until one call permits or rejects them all. A sealed gate refuses every task
+/// at once, and an open one lets every task pass. `R` is the permission to block, as a reference to the runtime. Every call
+/// may wait for the mutex around the core, which is held for one short step at a time; all but making take no memory.
 ///
 /// Each ticket and pager is used with the gate that it was registered in.
 #[derive(Drop)]
@@ -85,7 +85,7 @@ impl<R: Wait + Drop> Gate<R> {
         tell_state(&self.shell.lock().core)
     }
 
-    /// Makes a sealed or open gate controlled, and answers the state that it was in. Nobody waits at one; wakes nobody.
+    /// Makes a sealed or open gate controlled, and answers the state that it was in. Nobody waits at one; wakes no waiter.
     ///
     /// `None` comes exactly where it was controlled, and changes nothing.
     pub fn reset(&self) -> Option<State>
@@ -131,7 +131,7 @@ impl<R: Wait + Drop> Gate<R> {
     ///
     /// `Ok(Ok(state))`: it passed, permitted at a controlled gate or at an open one. `Ok(Err(Rejected))`: all waiters
     /// were rejected. `Ok(Err(Sealed))`: the gate is sealed, or was while this waited. `Ok(Err(SpuriousFailure))`:
-    /// somebody who waited too gave up, so all others may enter again. No other error comes. `Full`: it would have to
+    /// another waiter cancelled, so all others may enter again. No other error comes. `Full`: it would have to
     /// wait, and as many slots are held as there is room; nothing is changed. Nothing stays registered in any case.
     pub fn enter_sync(&self) -> Result<Result<State, Error>, Full>
         ensures { IfOk result (λ answer. gate_fault answer ≡ None) }
@@ -142,7 +142,7 @@ impl<R: Wait + Drop> Gate<R> {
 
     /// Passes the gate as [`Self::enter_sync`] does, and calls `begin_wait` where it joins the line.
     ///
-    /// The callback runs once, after the join and before the wait, with the lock round the core free; it may use this
+    /// The callback runs once, after the join and before the wait, with the mutex free; it may use this
     /// gate. It doesn't run where the answer is there at once, nor where the room is full.
     pub fn enter_sync_with<F: FnOnce() + Drop>(
         &self,
@@ -168,7 +168,7 @@ impl<R: Wait + Drop> Gate<R> {
 
     /// The future of [`Self::enter_async`], which calls `begin_wait` where it joins the line.
     ///
-    /// The callback runs once, in the poll that joined, after the join and with the lock round the core free; it may use
+    /// The callback runs once, in the poll that joined, after the join and with the mutex free; it may use
     /// this gate. It doesn't run where the answer is there at once, nor where the room is full.
     pub fn enter_async_with<F: FnOnce() + Drop>(&self, begin_wait: F) -> EnterWith<'_, R, F>
         ensures request { result.asked.asking.request ≡ AskEnter }
@@ -251,9 +251,9 @@ impl<R: Wait + Drop> SyncResult for Gate<R> {
         }
     }
 
-    /// A waiter leaves the line, and all other waiters are answered that somebody gave up (`SpuriousFailure`), and
-    /// woken. An answer that wasn't consumed is only consumed. Costs O(how many wait) for a waiter, and a wake for each
-    /// who is answered.
+    /// A waiter leaves the line, and all other waiters are answered that one cancelled (`SpuriousFailure`), and
+    /// woken. An answer that wasn't consumed is only consumed. Costs O(waiters) for a waiter, and a wake for each
+    /// that is answered.
     fn cancel(&self, ticket: &mut Ticket) {
         self.shell.cancel(ticket);
     }

@@ -1,11 +1,13 @@
 //! A value and the lock whose turns it is used in: what mutexes and reader-writer locks share.
 //!
-//! The value stands in a lock of std, which keeps it from whoever has no guard. It is asked only by who has the turn, and
-//! given up before the turn is passed on, so nobody ever waits for it.
+//! The value is in a lock of std, which gives it only to a guard. Only the holder of the turn asks for it, and gives it
+//! back before the turn is passed on, so that lock never blocks.
 
 ghost use Rattle.std.specs.Prelude.{◌≡◌, IfOk, IfSome, IsOk};
+ghost use Rattle.saa_sync.specs.Forms.{patience_of};
 
 use crate::lock::Lock;
+use crate::patience::Patience;
 use crate::timed::Deadline;
 use crate::turn::{Alone, Lowered, Shared};
 use saa_core::ticket::Full;
@@ -23,13 +25,20 @@ pub(crate) struct Guarded<R: Wait + Drop, T> {
 
 impl<R: Wait + Drop, T> Guarded<R, T> {
     // A value that nobody uses yet, and room for so many waiters.
-    pub(crate) fn new(rt: R, alloc: Global, value: T, room: u16) -> Result<Self, AllocError>
+    pub(crate) fn new(
+        rt: R,
+        alloc: Global,
+        value: T,
+        room: u16,
+        patience: Patience,
+    ) -> Result<Self, AllocError>
     where
         T: Drop,
         ensures no_room { room ≡ 0 → IsOk result }
+        ensures patience { IfOk result (λ guarded. patience_of guarded.turn ≡ patience) }
     {
         Ok(Guarded {
-            turn: Lock::new(rt, alloc, room)?,
+            turn: Lock::with_patience(rt, alloc, room, patience)?,
             value: RwLock::new(value),
         })
     }

@@ -1,7 +1,7 @@
 //! The lock that threads share: a `LockCore` in a shell.
 //!
-//! Each call is one lock round the core, one step of it, and the wakes that it owes. The steps stand at the end of this
-//! file as functions that are lent the core, and are held to `specs/Lock.antt` of `saa_core_spec` through its calls.
+//! Each call locks the mutex around the core once, makes one step of it, and wakes what is pending. The steps are functions of
+//! the core at the end of this file, held to `specs/Lock.antt` of `saa_core_spec` through its calls.
 
 ghost use Rattle.std.specs.Prelude.{◌≡◌, ◌⊎◌, ◌||◌, ◌==◌, true, false, IfOk, IsOk, Ok, Some};
 ghost use Rattle.std.specs.Bool.{OnFalse};
@@ -13,11 +13,13 @@ ghost use Rattle.saa_core.specs.declared.ticket.Registration.TheVariants.{Unregi
 ghost use Rattle.saa_core.specs.Tickets.{Calls, is_busy, is_yes};
 ghost use Rattle.saa_core.specs.LockCalls.{lock_tried};
 ghost use Rattle.saa_core.specs.Beginning.{mode_of};
+ghost use Rattle.saa_sync.specs.Forms.{patience_of};
 
 use crate::future::lock::{
     Asked, AskedWith, LockFuture, LockFutureWith, ShareFuture, ShareFutureWith,
 };
 use crate::pager::{Pager, SyncResult};
+use crate::patience::{Patience, UNREGISTERED};
 use crate::seat::PATIENCE;
 use crate::shell::Shell;
 use futures::task::{Context, Poll};
@@ -32,10 +34,10 @@ use std::sync::atomic::Ordering;
 
 /// A lock that threads share, of one owner alone or of up to 62 that share it, taken in the order of asking.
 ///
-/// A task that must wait joins a line, and the line is served strictly in order: while somebody waits, nobody who asks
-/// later is granted first, readers beside readers included. The lock doesn't know who its owners are: whoever calls a
-/// release releases, so keep the call with the owner. `R` is the leave to wait, as a reference to the runtime. Every call
-/// may wait for the lock round the core, which is held for one short step at a time; all but making take no memory.
+/// Waiters are FIFO: no later request passes a waiter, a reader beside readers included. A call that may block first looks for a
+/// while, and then joins the line ([`Patience`]). The lock doesn't know its owners: any caller may release, so keep the call
+/// with the owner. `R` is the permission to block, as a reference to the runtime. Every call may wait for the mutex around the
+/// core, which is held for one short step at a time; all but making take no memory.
 ///
 /// Each ticket and pager is used with the lock that it was registered in.
 #[derive(Drop)]
@@ -62,8 +64,23 @@ impl<R: Wait + Drop> Lock<R> {
     pub fn new(rt: R, alloc: Global, room: u16) -> Result<Self, AllocError>
         ensures no_room { room ≡ 0 → IsOk result }
     {
+        Self::with_patience(rt, alloc, room, UNREGISTERED)
+    }
+
+    /// As [`Self::new`], with a patience of its own for calls that aren't registered yet; [`NONE`](crate::patience::NONE) has each
+    /// call register at once, so that the order of grants is that of the calls.
+    pub fn with_patience(
+        rt: R,
+        alloc: Global,
+        room: u16,
+        patience: Patience,
+    ) -> Result<Self, AllocError>
+        ensures no_room { room ≡ 0 → IsOk result }
+        ensures patience { IfOk result (λ lock. patience_of lock ≡ patience) }
+    {
         let core = LockCore::new(alloc, room)?;
-        Ok(Self::on_shell(Shell::new(rt, alloc, core, room, PATIENCE)?))
+        let shell = Shell::new(rt, alloc, core, room, PATIENCE)?;
+        Ok(Self::on_shell(shell.with_patience(patience)))
     }
 
     /// The lock on a shell that is handed in, for who wants another patience of its waiters, or has a core in use.
@@ -108,16 +125,16 @@ impl<R: Wait + Drop> Lock<R> {
         tell_poisoned(&self.shell.lock().core)
     }
 
-    /// Takes the lock for one owner alone if nobody waits and it is free; never waits for it. Wakes nobody.
+    /// Takes the lock for one owner alone if there is no waiter and it is free; never waits for it. Wakes no waiter.
     ///
-    /// `Poisoned`: the lock is poisoned. `WouldBlock`: somebody has it, or somebody waits. Both change nothing.
+    /// `Poisoned`: the lock is poisoned. `WouldBlock`: somebody has it, or there is a waiter. Both change nothing.
     pub fn try_lock(&self) -> Result<(), TryLockError> {
         lock_now(&mut self.shell.lock().core)
     }
 
-    /// Takes a share of the lock if nobody waits and one is left; never waits for it. Wakes nobody.
+    /// Takes a share of the lock if there is no waiter and one is left; never waits for it. Wakes no waiter.
     ///
-    /// `Poisoned`: the lock is poisoned. `WouldBlock`: one owner has it alone, or 62 share it, or somebody waits. Both
+    /// `Poisoned`: the lock is poisoned. `WouldBlock`: one owner has it alone, or 62 share it, or there is a waiter. Both
     /// change nothing.
     pub fn try_share(&self) -> Result<(), TryLockError> {
         share_now(&mut self.shell.lock().core)
@@ -125,8 +142,8 @@ impl<R: Wait + Drop> Lock<R> {
 
     /// Gives the lock of one owner back, grants the oldest waiters while they fit, and wakes exactly those.
     ///
-    /// `false` comes exactly where the lock isn't one owner's alone, and changes nothing. Nobody is asked whose lock it
-    /// ends. Each who is granted costs a ring at its seat, and each second one of them a short lock more.
+    /// `false` comes exactly where the lock has no exclusive owner, and changes nothing. The caller needn't be that owner.
+    /// Each waiter that is granted costs an unpark of its seat, and each second one of them the mutex once more.
     #[inline(always)]
     pub fn release_lock(&self) -> bool {
         self.shell.step(end_lock)
@@ -134,7 +151,7 @@ impl<R: Wait + Drop> Lock<R> {
 
     /// Gives one share back, grants the oldest waiters while they fit, and wakes exactly those.
     ///
-    /// `false` comes exactly where the lock isn't shared, and changes nothing. Nobody is asked whose share it ends.
+    /// `false` comes exactly where the lock isn't shared, and changes nothing. The caller needn't be a sharer.
     #[inline(always)]
     pub fn release_share(&self) -> bool {
         self.shell.step(end_share)
@@ -142,8 +159,8 @@ impl<R: Wait + Drop> Lock<R> {
 
     /// Makes the one owner a sharer, grants the oldest waiters while they fit beside it, and wakes exactly those.
     ///
-    /// Nobody has the lock alone in between. `false` comes exactly where the lock isn't one owner's alone, and changes
-    /// nothing. Nobody is asked whose lock it lowers.
+    /// The lock has no other owner in between. `false` comes exactly where it has no exclusive owner, and changes
+    /// nothing. The caller needn't be that owner.
     pub fn downgrade(&self) -> bool {
         self.shell.step(lower)
     }
@@ -156,11 +173,11 @@ impl<R: Wait + Drop> Lock<R> {
         self.shell.step(poison)
     }
 
-    /// Makes a poisoned lock free; nobody waits at one. Wakes nobody.
+    /// Makes a poisoned lock free; it has no waiters. Wakes no waiter.
     ///
     /// `false` comes exactly where the lock isn't poisoned, and changes nothing.
     pub fn clear_poison(&self) -> bool {
-        clear(&mut self.shell.lock().core)
+        self.shell.step(clear)
     }
 
     /// Takes the lock for one owner alone, and waits for it in the line where it must.
@@ -182,7 +199,7 @@ impl<R: Wait + Drop> Lock<R> {
 
     /// Takes the lock as [`Self::lock_sync`] does, and calls `begin_wait` where it joins the line.
     ///
-    /// The callback runs once, after the join and before the wait, with the lock round the core free; it may use this
+    /// The callback runs once, after the join and before the wait, with the mutex free; it may use this
     /// lock. It doesn't run where the answer is there at once, nor where the room is full.
     pub fn lock_sync_with<F: FnOnce() + Drop>(&self, begin_wait: F) -> Result<bool, Full>
         requires { F.pre begin_wait }
@@ -213,7 +230,7 @@ impl<R: Wait + Drop> Lock<R> {
 
     /// The future of [`Self::lock_async`], which calls `begin_wait` where it joins the line.
     ///
-    /// The callback runs once, in the poll that joined, after the join and with the lock round the core free; it may use
+    /// The callback runs once, in the poll that joined, after the join and with the mutex free; it may use
     /// this lock. It doesn't run where the answer is there at once, nor where the room is full.
     pub fn lock_async_with<F: FnOnce() + Drop>(&self, begin_wait: F) -> LockFutureWith<'_, R, F>
         ensures request { result.asked.asking.request ≡ AskExclusive }
@@ -237,7 +254,7 @@ impl<R: Wait + Drop> Lock<R> {
 
     /// The future of [`Self::share_async`], which calls `begin_wait` where it joins the line.
     ///
-    /// The callback runs once, in the poll that joined, after the join and with the lock round the core free; it may use
+    /// The callback runs once, in the poll that joined, after the join and with the mutex free; it may use
     /// this lock. It doesn't run where the answer is there at once, nor where the room is full.
     pub fn share_async_with<F: FnOnce() + Drop>(&self, begin_wait: F) -> ShareFutureWith<'_, R, F>
         ensures request { result.asked.asking.request ≡ AskShared }
@@ -323,7 +340,7 @@ impl<R: Wait + Drop> SyncResult for Lock<R> {
 
     /// A waiter leaves the line, and those behind it are granted while they fit; what was granted and not consumed is
     /// given back as by the release of its mode, and nothing where the lock is poisoned by then. A granted wait mode and
-    /// a Poisoned answer give nothing back. Costs O(1), wherever a waiter stands, and a wake for each who is granted.
+    /// a Poisoned answer give nothing back. Costs O(1) at any position, and a wake for each who is granted.
     fn cancel(&self, ticket: &mut Ticket) {
         self.shell.cancel(ticket);
     }

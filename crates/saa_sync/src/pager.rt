@@ -112,7 +112,7 @@ impl<'s, S: SyncResult> Model for Pager<'s, S> {
 }
 
 impl<'s, S: SyncResult> Pager<'s, S> {
-    /// A pager that isn't registered. Takes no lock and no memory, and waits for nobody.
+    /// A pager that isn't registered. Takes no lock and no memory, and never blocks.
     pub fn new() -> Pager<'s, S>
         ensures { result ≡ Unregistered }
     {

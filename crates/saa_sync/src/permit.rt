@@ -37,9 +37,9 @@ impl<'s, S: TakesBack> Model for PermitFrom<'s, S> {
 }
 
 impl<S: TakesBack> PermitFrom<'_, S> {
-    /// Keeps the permit out when this goes; nothing is given back, and nobody is woken.
+    /// Keeps the permit out; nothing is given back, and no waiter is woken.
     ///
-    /// The semaphore's `release` gives it back later. So a permit can be handed to who gives back many at once, or for good.
+    /// The semaphore's `release` gives it back later, by any task. So another task can give many back at once, or it stays out for good.
     pub fn forget(self) {
         let PermitFrom {
             semaphore: _semaphore,
@@ -74,7 +74,7 @@ impl<R: Wait + Drop, const MAX: usize> SemaphoreOn<R, SemaphoreCoreOf<MAX>> {
 
     /// Takes one permit as [`Self::try_acquire`] does, and gives it back when what is returned goes; never waits for it.
     ///
-    /// `None`: no permit is available, or somebody waits; nothing is changed.
+    /// `None`: no permit is available, or there is a waiter; nothing is changed.
     pub fn try_acquire_permit(&self) -> Option<PermitOf<'_, R, MAX>>
         ensures { IfSome result (λ permit. permit.now ≡ self.now) }
     {

@@ -1,8 +1,9 @@
-//! A seat: where the holder of a slot waits, first awake and then asleep.
+//! A seat: where the holder of a slot waits. It spins, yields, and then parks.
 //!
-//! A wait is over for whoever polls and finds an answer; a seat only says when it is worth polling again. How long a
-//! task stays awake is a value, `Patience`, so that tests can send every wait to sleep.
+//! A wait ends with a poll that finds an answer; a seat only says when it is worth polling again. How long a task spins and
+//! yields is a value, `Patience`, so that tests can make every wait park.
 
+pub use crate::patience::Patience;
 use crate::timed::Deadline;
 use std::hint::spin_loop;
 use std::sync::atomic::{AtomicU64, Ordering};
@@ -10,16 +11,7 @@ use std::sync::{Condvar, CondvarTimeouts, MutexGuard, Wait};
 use std::thread::yield_now;
 use std::time::{Clock, Duration};
 
-/// How long a task that waits stays awake.
-#[derive(Clone, Copy)]
-pub struct Patience {
-    /// How often it looks at its seat, before it begins to yield.
-    pub looks: u32,
-    /// How often it yields after that, before it sleeps.
-    pub yields: u32,
-}
-
-/// What every threaded form is made with. Measured with 2, 4 and 8 threads on 4 processors: a sleep costs some five
+/// How long a task that waits at its seat stays awake, in every threaded form. Measured with 2, 4 and 8 threads on 4 processors: a sleep costs some five
 /// microseconds and a wake that comes sooner is the common one, but with more threads than processors looks alone are
 /// ruinous.
 pub const PATIENCE: Patience = Patience {
@@ -55,7 +47,7 @@ impl Seat {
         self.state.store(AWAKE, Ordering::SeqCst);
     }
 
-    /// Wakes whoever waits here; rings the bell only where somebody may sleep.
+    /// Wakes the waiter of this seat; rings the bell only where it may be parked.
     ///
     /// A seat that is rung already may have a sleeper too: one that went to sleep as a late ring for the slot's last
     /// holder came, and so missed its bell.
@@ -84,7 +76,7 @@ impl Seat {
     /// Sleeps until the seat is rung, with the lock free meanwhile; now and then it wakes for no reason.
     ///
     /// A slot is answered under the lock that is handed in, and its seat is rung after that. So a holder that found no
-    /// answer under this lock is seen to sleep by whoever rings for it.
+    /// answer under this lock is seen to be parked by the task that rings for it.
     pub fn sleep<'g, T>(&self, rt: &impl Wait, inside: MutexGuard<'g, T>) -> MutexGuard<'g, T> {
         self.state.store(ASLEEP, Ordering::SeqCst);
         self.bell.wait(rt, inside)

@@ -1,7 +1,7 @@
 //! The semaphore that threads share: a `SemaphoreCore` in a shell.
 //!
-//! Each call is one lock, one step of the core, and the wakes that the core owes. The steps stand at the end of this
-//! file as functions that are lent the core, and are held to `specs/Semaphore.antt` of `saa_core_spec` through its calls.
+//! Each call locks the mutex around the core once, makes one step of it, and wakes what is pending. The steps are functions of
+//! the core at the end of this file, held to `specs/Semaphore.antt` of `saa_core_spec` through its calls.
 
 ghost use Rattle.std.specs.Prelude.{◌≡◌, ◌↔◌, ◌≤◌, ◌<◌, ◌||◌, ◌==◌, true, false, [], nat_lt, IfOk, IsOk, IsTrue, Ok, Some};
 ghost use Rattle.std.specs.Bool.{OnFalse};
@@ -13,11 +13,13 @@ ghost use Rattle.saa_core.specs.Slots.{OwesAnswered};
 ghost use Rattle.saa_core.specs.declared.ticket.Registration.TheVariants.{Unregistered};
 ghost use Rattle.saa_core.specs.Tickets.{Calls, is_busy, is_yes};
 ghost use Rattle.saa_core.specs.Beginning.{mode_of};
+ghost use Rattle.saa_sync.specs.Forms.{patience_of};
 
 use crate::future::semaphore::{
     AcquireManyOf, AcquireManyWithOf, AcquireOf, AcquireWithOf, Asked, AskedWith,
 };
 use crate::pager::{Pager, SyncResult};
+use crate::patience::{Patience, UNREGISTERED};
 use crate::seat::PATIENCE;
 use crate::shell::Shell;
 use futures::task::{Context, Poll};
@@ -37,9 +39,9 @@ pub struct SemaphoreOn<R: Wait + Drop, C: Primitive> {
 
 /// Up to `MAX` permits that threads share, 1 to 65,535, taken in the order of asking.
 ///
-/// A task that must wait joins a line, and the line is served strictly in order: while somebody waits, nobody who asks
-/// later is granted first, 0 permits included. `R` is the leave to wait, as a reference to the runtime. Every call may
-/// wait for the lock, which is held for one short step of the core at a time; all but making take no memory.
+/// Waiters are FIFO: no later request passes a waiter, a request for 0 permits included. A call that may block first looks for
+/// a while, and then joins the line ([`Patience`]). `R` is the permission to block, as a reference to the runtime. Every call
+/// may wait for the mutex, which is held for one short step of the core at a time; all but making take no memory.
 ///
 /// Each ticket and pager is used with the semaphore that it was registered in.
 pub type SemaphoreOf<R, const MAX: usize> = SemaphoreOn<R, SemaphoreCoreOf<MAX>>;
@@ -93,8 +95,26 @@ impl<R: Wait + Drop, const MAX: usize> SemaphoreOn<R, SemaphoreCoreOf<MAX>> {
         requires narrow { MAX < 65536 }
         ensures no_room { room ≡ 0 → IsOk result }
     {
+        Self::with_patience(rt, alloc, permits, room, UNREGISTERED)
+    }
+
+    /// As [`Self::with_permits`], with a patience of its own for calls that aren't registered yet; [`NONE`](crate::patience::NONE) has each
+    /// call register at once, so that the order of grants is that of the calls.
+    pub fn with_patience(
+        rt: R,
+        alloc: Global,
+        permits: usize,
+        room: u16,
+        patience: Patience,
+    ) -> Result<Self, AllocError>
+        requires bound { 0 < MAX }
+        requires narrow { MAX < 65536 }
+        ensures no_room { room ≡ 0 → IsOk result }
+        ensures patience { IfOk result (λ semaphore. patience_of semaphore ≡ patience) }
+    {
         let core = SemaphoreCoreOf::with_permits(alloc, permits, room)?;
-        Ok(Self::on_shell(Shell::new(rt, alloc, core, room, PATIENCE)?))
+        let shell = Shell::new(rt, alloc, core, room, PATIENCE)?;
+        Ok(Self::on_shell(shell.with_patience(patience)))
     }
 
     /// The semaphore on a shell that is handed in, for who wants another patience of its waiters, or has a core in use.
@@ -130,14 +150,14 @@ impl<R: Wait + Drop, const MAX: usize> SemaphoreOn<R, SemaphoreCoreOf<MAX>> {
         count_available(&self.shell.lock().core)
     }
 
-    /// Takes one permit if nobody waits and one is available; see [`Self::try_acquire_many`].
+    /// Takes one permit if there is no waiter and one is available; see [`Self::try_acquire_many`].
     pub fn try_acquire(&self) -> bool {
         self.try_acquire_many(1)
     }
 
-    /// Takes `count` permits if nobody waits and they are available; never waits for them. Wakes nobody.
+    /// Takes `count` permits if there is no waiter and they are available; never waits for them. Wakes no waiter.
     ///
-    /// A count above [`Self::MAX_PERMITS`] is never granted. 0 permits are refused too while somebody waits.
+    /// A count above [`Self::MAX_PERMITS`] is never granted. 0 permits are refused too while there is a waiter.
     /// A `false` changes nothing.
     pub fn try_acquire_many(&self, count: usize) -> bool
         ensures too_many { MAX < count → result ≡ false }
@@ -153,8 +173,8 @@ impl<R: Wait + Drop, const MAX: usize> SemaphoreOn<R, SemaphoreCoreOf<MAX>> {
     /// Gives `count` permits back, grants the oldest waiters while they fit, and wakes exactly those.
     ///
     /// `false` comes exactly where fewer permits are out, and changes nothing. 0 permits are given back always, and
-    /// change nothing. Each who is granted costs a ring at its seat, which is a system call only where it sleeps, and
-    /// each second one of them a short lock more; where nobody is granted nothing is added.
+    /// change nothing. Each waiter that is granted costs an unpark of its seat, which is a system call only where it is
+    /// parked, and each second one of them the mutex once more; without a grant nothing is added.
     #[inline(always)]
     pub fn release_many(&self, count: usize) -> bool
         ensures none { count ≡ 0 → result ≡ true }
@@ -239,7 +259,7 @@ impl<R: Wait + Drop, const MAX: usize> SemaphoreOn<R, SemaphoreCoreOf<MAX>> {
 
     /// The future of [`Self::acquire_async`], which calls `begin_wait` where it joins the line.
     ///
-    /// The callback runs once, in the poll that joined, after the join and with the lock round the core free; it may use
+    /// The callback runs once, in the poll that joined, after the join and with the mutex free; it may use
     /// this semaphore. It doesn't run where the answer is there at once, nor where the room is full.
     pub fn acquire_async_with<F: FnOnce() + Drop>(
         &self,
@@ -266,7 +286,7 @@ impl<R: Wait + Drop, const MAX: usize> SemaphoreOn<R, SemaphoreCoreOf<MAX>> {
 
     /// The future of [`Self::acquire_many_async`], which calls `begin_wait` where it joins the line.
     ///
-    /// The callback runs once, in the poll that joined, after the join and with the lock round the core free; it may use
+    /// The callback runs once, in the poll that joined, after the join and with the mutex free; it may use
     /// this semaphore. It doesn't run where the answer is there at once, nor where the room is full.
     pub fn acquire_many_async_with<F: FnOnce() + Drop>(
         &self,
@@ -354,7 +374,7 @@ impl<R: Wait + Drop, const MAX: usize> SyncResult for SemaphoreOn<R, SemaphoreCo
     }
 
     /// A waiter leaves the line, and those behind it are granted while they fit; what was granted and not consumed is
-    /// given back, as by `release_many`. Costs O(1), wherever a waiter stands, and a wake for each
+    /// given back, as by `release_many`. Costs O(1) at any position, and a wake for each
     /// who is granted.
     fn cancel(&self, ticket: &mut Ticket) {
         self.shell.cancel(ticket);

@@ -1,28 +1,32 @@
-//! One lock round any core, and a seat for each slot of its room: what every threaded form stands on.
+//! One mutex around any core, and a seat for each slot of its room: what every threaded form is built on.
 //!
-//! A wait is a registration followed by polls: a task that waits looks at its seat, then yields, and only then sleeps
-//! there. A call that answered somebody wakes exactly those, with the lock free. The methods of `Inside` are lent the
-//! core, and say what they do to it; those of `Shell` only take the lock round one of them, and wake.
+//! A wait is a registration followed by polls: a waiter spins at its seat, then yields, and only then parks there. A call
+//! that answers waiters wakes exactly these, with the mutex free. The methods of `Inside` take the core, and say what they
+//! do to it; those of `Shell` only lock the mutex around one of them, and wake.
 //!
 //! What nobody waits in is inlined, and the waiting and waking isn't: each register that a call saves in memory before it
 //! takes the lock is waited for there, which cost a lock some 10 ns. Waits that end in time stand in `timed`.
 
-ghost use Rattle.std.specs.Prelude.{◌≡◌, ◌⊎◌, ◌||◌, ◌&&◌, not, true, false, Some, IfErr, IfOk, IsOk, slice_get};
+ghost use Rattle.std.specs.Prelude.{◌≡◌, ◌⊎◌, ◌||◌, ◌&&◌, not, true, false, Some, IfErr, IfOk, IsNone, IsOk, slice_get};
 ghost use Rattle.saa_core_spec.specs.declared.polling.Error.TheVariants.{NotReady, NotRegistered};
 ghost use Rattle.saa_core_spec.specs.declared.polling.How.TheVariants.{Sync, Async};
 ghost use Rattle.saa_core.specs.declared.ticket.Registration.TheVariants.{Unregistered};
 ghost use Rattle.saa_core_spec.specs.Asking.{registered};
 ghost use Rattle.saa_core_spec.specs.Polling.{polled};
-ghost use Rattle.saa_core.specs.Tickets.{Acts, HasAnswer, Polled, dropping, fault_of, is_busy, is_not_ready, is_yes, IsNeverTooMuch};
+ghost use Rattle.saa_core.specs.Tickets.{Acts, Calls, HasAnswer, Polled, dropping, fault_of, is_busy, is_not_ready, is_yes, IsNeverTooMuch};
 ghost use Rattle.saa_core.specs.Slots.{OwesAnswered, wake_told};
 ghost use Rattle.saa_core.specs.Beginning.{BeginOwes, alone, mode_of};
+ghost use Rattle.saa_sync.specs.Forms.{patience_of};
 ghost use Rattle.saa_sync.specs.Waits.{begun, concluded, has_joined, registration_of, slot_woken};
 ghost use Rattle.futures.specs.Task.{Hears, IsArmed, Keeps};
 ghost use Rattle.futures.specs.Poll.{IfReady, OnPending};
 
 mod timed;
 
-use crate::seat::{Patience, Seat};
+use crate::hint::Hint;
+use crate::patience::{self, Patience};
+use crate::seat::Seat;
+use crate::tries::Tries;
 use crate::wakers::Wakers;
 use crossbeam_utils::CachePadded;
 use futures::task::{Context, Poll, Source, Waker};
@@ -33,7 +37,7 @@ use std::alloc::{AllocError, Global};
 use std::sync::{Mutex, MutexGuard, Wait};
 use std::thread::yield_now;
 
-/// A wake that was taken out of the core: who waits at this slot has an answer.
+/// A wake that was taken out of the core: the waiter of this slot has an answer.
 #[derive(Drop)]
 pub(crate) struct Wake {
     /// The slot, whose seat is to be rung for a thread.
@@ -60,10 +64,10 @@ pub(crate) struct Inside<P: Primitive> {
     wakers: Wakers,
 }
 
-impl<P: Primitive> Inside<P> {
-    /// The slot of the oldest wake that the core owes, told and so taken out of its list; mostly there is none.
+impl<P: Tries> Inside<P> {
+    /// The slot of the oldest pending wake, taken out of the core's list; mostly there is none.
     ///
-    /// Its waker is taken by [`Self::wakes_from`], in a call of its own: what a call that wakes nobody costs is this look.
+    /// Its waker is taken by [`Self::wakes_from`], in a call of its own: what a call that wakes no waiter costs is this look.
     #[inline(always)]
     pub(crate) fn next_answered(&mut self) -> Option<u16>
         ensures oldest { slice_get (P.core self.old.core).slots.owed 0 ≡ result }
@@ -72,7 +76,7 @@ impl<P: Primitive> Inside<P> {
         self.core.next_answered()
     }
 
-    /// The wake of a slot that was told, and the next that the core owes, told too; both with the waker of the task that
+    /// The wake of a slot that was taken out, and the next pending one, taken out too; both with the waker of the task that
     /// waits there, if one does.
     #[inline(never)]
     pub(crate) fn wakes_from(&mut self, slot: u16) -> Wakes
@@ -95,6 +99,15 @@ impl<P: Primitive> Inside<P> {
     {
         let waker = self.wakers.take(slot);
         Wake { slot, waker }
+    }
+
+    // Tries for what is asked, without a ticket.
+    #[inline(always)]
+    fn try_now(&mut self, ask: P::Ask) -> Option<u8>
+        ensures calls { Calls (P.core self.old.core) (P.core self.new.core) (P.tried ask) result }
+        ensures refused { IsNone result → P.core self.new.core ≡ P.core self.old.core }
+    {
+        self.core.try_now(ask)
     }
 
     // Registers a ticket.
@@ -206,11 +219,14 @@ pub struct Shell<R: Wait + Drop, P: Primitive> {
     // of its neighbours, which cost two threads that take turns a third of the time.
     seats: Vec<CachePadded<Seat>>,
     patience: Patience,
+    // What is seen without the mutex, on cache lines of its own, and how long a call looks at it before it registers.
+    hint: CachePadded<Hint>,
+    unregistered: Patience,
     /// What tasks wait for.
     pub(crate) source: Source,
 }
 
-impl<R: Wait + Drop, P: Primitive> Shell<R, P> {
+impl<R: Wait + Drop, P: Tries> Shell<R, P> {
     /// The core that is handed in, whose slots are those of so large a room. Costs O(`room`).
     ///
     /// Only this takes memory; the error comes only where that was refused, and so never for room 0, which takes none. Where
@@ -234,8 +250,19 @@ impl<R: Wait + Drop, P: Primitive> Shell<R, P> {
             lock: Mutex::new(Inside { core, wakers }),
             seats,
             patience,
+            hint: CachePadded::new(Hint::new()),
+            unregistered: patience::NONE,
             source: Source::new(),
         })
+    }
+
+    /// The shell, whose calls look so long before they register.
+    pub fn with_patience(self, unregistered: Patience) -> Self
+        ensures { patience_of result ≡ unregistered }
+    {
+        let mut shell = self;
+        shell.unregistered = unregistered;
+        shell
     }
 
     /// The permission to block, for waits beside the shell.
@@ -243,13 +270,13 @@ impl<R: Wait + Drop, P: Primitive> Shell<R, P> {
         &self.rt
     }
 
-    /// Takes the lock; waits for whoever has it.
+    /// Locks the mutex; may wait for its holder.
     #[inline(always)]
     pub(crate) fn lock(&self) -> MutexGuard<'_, Inside<P>> {
         self.lock.lock(&self.rt)
     }
 
-    /// Makes one step of the core under the lock, and wakes whom the core owes a wake by then, with the lock free.
+    /// Makes one step of the core under the mutex, and then makes the core's pending wakes, with the mutex free.
     ///
     /// The answer is one that the step gives at some core.
     #[inline(always)]
@@ -263,9 +290,12 @@ impl<R: Wait + Drop, P: Primitive> Shell<R, P> {
         answer
     }
 
-    /// Lets the lock go, and wakes whom the core owes a wake, with the lock free.
+    /// Unlocks the mutex, and makes the core's pending wakes, with the mutex free.
     #[inline(always)]
     pub(crate) fn leave<'s>(&'s self, mut inside: MutexGuard<'s, Inside<P>>) {
+        if self.hint.is_watched() {
+            self.hint.show(inside.core.word());
+        }
         match inside.next_answered() {
             Some(slot) => self.wake(inside, slot),
             None => drop(inside),
@@ -303,6 +333,63 @@ impl<R: Wait + Drop, P: Primitive> Shell<R, P> {
     /// full.
     #[inline(always)]
     pub(crate) fn acquire(&self, ask: P::Ask) -> Result<u8, Full> {
+        if let Some(value) = self.look(ask) {
+            return Ok(value);
+        }
+        self.enqueue(ask)
+    }
+
+    // Looks before it asks: tries where what is asked may be there, until its patience is over. `None`: it has no patience left.
+    //
+    // A call that finds it at once makes one turn at the mutex, without a ticket.
+    #[inline(always)]
+    fn look(&self, ask: P::Ask) -> Option<u8> {
+        if self.unregistered == patience::NONE {
+            return None;
+        }
+        if !self.hint.is_watched() || P::may_fit(ask, self.hint.word()) {
+            let mut inside = self.lock();
+            let answer = inside.try_now(ask);
+            self.leave(inside);
+            if answer.is_some() {
+                return answer;
+            }
+        }
+        self.look_on(ask)
+    }
+
+    // Looks at the hint, which is kept up meanwhile.
+    #[inline(never)]
+    fn look_on(&self, ask: P::Ask) -> Option<u8> {
+        let is_first = self.hint.arrive();
+        let answer = self.look_while(ask, is_first);
+        self.hint.depart();
+        answer
+    }
+
+    // Looks so often, and tries where the hint says that it may have what it asks, or is none yet.
+    fn look_while(&self, ask: P::Ask, is_due: bool) -> Option<u8> {
+        let mut is_due = is_due;
+        for turn in 0..self.unregistered.turns() {
+            if is_due || P::may_fit(ask, self.hint.word()) {
+                // Waits for nobody at the mutex: all who look come at once when the hint changes, and would queue there.
+                if let Some(mut inside) = self.lock.try_lock() {
+                    is_due = false;
+                    let answer = inside.try_now(ask);
+                    self.leave(inside);
+                    if answer.is_some() {
+                        return answer;
+                    }
+                }
+            }
+            self.unregistered.rest(turn);
+        }
+        None
+    }
+
+    // Registers, waits for the answer if it isn't there at once, and consumes it, as [`Self::acquire`] says.
+    #[inline(never)]
+    fn enqueue(&self, ask: P::Ask) -> Result<u8, Full> {
         for _ in self.rt.forever() {
             let mut ticket = Ticket::new();
             match self.begin(&mut ticket, ask)? {
@@ -326,6 +413,9 @@ impl<R: Wait + Drop, P: Primitive> Shell<R, P> {
     ) -> Result<u8, Full>
         requires { F.pre begin_wait }
     {
+        if let Some(value) = self.look(ask) {
+            return Ok(value);
+        }
         let mut ticket = Ticket::new();
         match self.begin(&mut ticket, ask)? {
             Begun::Refused => self.acquire(ask),
@@ -575,6 +665,11 @@ impl<R: Wait + Drop, P: Primitive> Shell<R, P> {
     pub fn asleep(&self) -> usize {
         let _inside = self.lock();
         self.seats.iter().filter(|seat| seat.is_asleep()).count()
+    }
+
+    /// How many calls look, of those that haven't registered. For the tests of the forms above.
+    pub fn lookers(&self) -> u64 {
+        self.hint.lookers()
     }
 
     /// How many seats are rung; for the tests of the forms above.

@@ -11,7 +11,7 @@ ghost use Rattle.saa_sync.specs.Waits.{IsTold};
 use crate::pager::{How, Pager, SyncResult, Ticket};
 pub use crate::seat::{PATIENCE, Patience, Seat};
 pub use crate::shell::Shell;
-use saa_core::bench::Primitive;
+use crate::tries::Tries;
 use saa_core::ticket::Full;
 use std::sync::Wait;
 
@@ -32,7 +32,7 @@ pub fn poll_as<S: SyncResult>(pager: &mut Pager<'_, S>, how: How) -> S::Result
 }
 
 /// Registers a ticket at a shell, as the `register_pager` of its form does.
-pub fn register<R: Wait + Drop, P: Primitive>(
+pub fn register<R: Wait + Drop, P: Tries>(
     shell: &Shell<R, P>,
     ticket: &mut Ticket,
     ask: P::Ask,
@@ -52,7 +52,7 @@ pub fn hold<'s, S: SyncResult>(pager: &mut Pager<'s, S>, ticket: Ticket, primiti
 }
 
 /// Makes one step of the core under the mutex, and leaves whoever it answers unwoken: their wakes stay pending until the next call.
-pub fn call_untold<R: Wait + Drop, P: Primitive, A, F: FnOnce(&mut P) -> A + Drop>(
+pub fn call_untold<R: Wait + Drop, P: Tries, A, F: FnOnce(&mut P) -> A + Drop>(
     shell: &Shell<R, P>,
     step: F,
 ) -> A

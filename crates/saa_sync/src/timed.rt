@@ -2,7 +2,7 @@
 //!
 //! They ask for a clock, `R: Wait + Clock + Drop`, as `&HostRuntime` is one. Each registers, waits, and where the time is up looks
 //! once more: an answer that is there then is returned, and else what is registered is dropped, under the same lock, with what
-//! the drop does. So no grant is lost and none is told twice, and `None` says that nothing is registered any more. A duration of 0
+//! the drop does. So no grant is lost and none is answered twice, and `None` says that nothing is registered any more. A duration of 0
 //! is a registration with one poll. A clock that can't be read ends a wait at once, as if the time were up.
 
 mod barrier;

@@ -1,13 +1,13 @@
 //! Sleepers of whom some are out of time: those behind them are granted at once, and no permit is lost.
 
 use crate::clock::OnClock;
-use saa_core::bench::Primitive;
 use saa_core::gate::GateCore;
 use saa_core::semaphore::SemaphoreCore;
 use saa_sync::barrier::Barrier;
 use saa_sync::gate::{Error, Gate};
 use saa_sync::semaphore::Semaphore;
 use saa_sync::testing::{Patience, Shell, call_untold};
+use saa_sync::tries::Tries;
 use std::sync::Wait;
 use std::sync::atomic::{AtomicU64, Ordering};
 use std::test::Fail;
@@ -39,7 +39,7 @@ struct Told {
 }
 
 /// Waits until so many sleep.
-pub fn await_asleep<R: Wait + Drop, P: Primitive>(
+pub fn await_asleep<R: Wait + Drop, P: Tries>(
     rt: &impl Wait,
     shell: &Shell<R, P>,
     count: usize,

@@ -15,6 +15,7 @@ ghost use Rattle.futures.specs.Task.{Hears, IsArmed, Keeps};
 ghost use Rattle.futures.specs.Poll.{IfReady, OnPending};
 
 use crate::shell::Shell;
+use crate::tries::Tries;
 use futures::Future;
 use futures::task::{Context, Poll};
 use saa_core::bench::Primitive;
@@ -27,7 +28,7 @@ use std::sync::Wait;
 /// What a named future asks of a core, and how its answers read.
 pub trait Question {
     /// The core that is asked.
-    type Core: Primitive;
+    type Core: Tries;
 
     /// What an answer reads as.
     type Output;

@@ -1,9 +1,11 @@
 //! A mutex that is taken in the order of asking, and its guard.
 
 ghost use Rattle.std.specs.Prelude.{◌≡◌, IfOk, IfSome, IsOk};
+ghost use Rattle.saa_sync.specs.Forms.{patience_of};
 
 use crate::guarded::Guarded;
 use crate::lock_api::guard::Guard;
+use crate::patience::{Patience, UNREGISTERED};
 use crate::turn::Alone;
 use saa_core::ticket::Full;
 use std::alloc::{AllocError, Global};
@@ -12,9 +14,9 @@ use std::sync::{RwLockWriteGuard as Writer, Wait};
 
 /// A value that one owner at a time uses, in the order of asking.
 ///
-/// `R` is the leave to wait, as a reference to the runtime. What holds of the value whenever nobody uses it is said by its
-/// type: a guard is given up only where every invariant of the type holds, and its holder may use them. Contracts see
-/// a mutex as the lock whose turns the value is used in.
+/// `R` is the permission to block, as a reference to the runtime. The value's type says what holds of it while it has no
+/// guard: a guard ends only where every invariant of the type holds, and its holder may use them. Contracts see a mutex as
+/// the lock whose turns the value is used in.
 #[derive(Drop)]
 pub struct Mutex<R: Wait + Drop, T> {
     pub(crate) guarded: Guarded<R, T>,
@@ -38,8 +40,25 @@ impl<R: Wait + Drop, T> Mutex<R, T> {
         T: Drop,
         ensures no_room { room ≡ 0 → IsOk result }
     {
+        Self::with_patience(rt, alloc, value, room, UNREGISTERED)
+    }
+
+    /// As [`Self::new`], with a patience of its own for calls that aren't registered yet; [`NONE`](crate::patience::NONE) has each
+    /// call register at once, so that the order of grants is that of the calls.
+    pub fn with_patience(
+        rt: R,
+        alloc: Global,
+        value: T,
+        room: u16,
+        patience: Patience,
+    ) -> Result<Self, AllocError>
+    where
+        T: Drop,
+        ensures no_room { room ≡ 0 → IsOk result }
+        ensures patience { IfOk result (λ made. patience_of made ≡ patience) }
+    {
         Ok(Mutex {
-            guarded: Guarded::new(rt, alloc, value, room)?,
+            guarded: Guarded::new(rt, alloc, value, room, patience)?,
         })
     }
 

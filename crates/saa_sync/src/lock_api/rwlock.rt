@@ -1,9 +1,11 @@
 //! A reader-writer lock that is taken in the order of asking, and its two guards.
 
 ghost use Rattle.std.specs.Prelude.{◌≡◌, IfOk, IfSome, IsOk};
+ghost use Rattle.saa_sync.specs.Forms.{patience_of};
 
 use crate::guarded::Guarded;
 use crate::lock_api::guard::{Guard, PassesOn};
+use crate::patience::{Patience, UNREGISTERED};
 use crate::turn::{Alone, PutDown, Shared};
 use saa_core::ticket::Full;
 use std::alloc::{AllocError, Global};
@@ -12,10 +14,10 @@ use std::sync::{RwLockReadGuard as Reader, RwLockWriteGuard as Writer, Wait};
 
 /// A value that up to 62 readers share, or one writer uses alone, in the order of asking.
 ///
-/// While somebody waits, nobody who asks later is served first, readers beside readers included. `R` is the leave to wait,
-/// as a reference to the runtime. What holds of the value whenever nobody writes it is said by its type: a guard is given
-/// up only where every invariant of the type holds, and its holder may use them. Contracts see a lock round a value as
-/// the lock whose turns the value is used in.
+/// Waiters are FIFO: no later request passes a waiter, a reader beside readers included. `R` is the permission to block, as a
+/// reference to the runtime. The value's type says what holds of it while there is no writer: a guard ends only where every
+/// invariant of the type holds, and its holder may use them. Contracts see a lock around a value as the lock whose turns
+/// the value is used in.
 #[derive(Drop)]
 pub struct RwLock<R: Wait + Drop, T> {
     pub(crate) guarded: Guarded<R, T>,
@@ -39,8 +41,25 @@ impl<R: Wait + Drop, T> RwLock<R, T> {
         T: Drop,
         ensures no_room { room ≡ 0 → IsOk result }
     {
+        Self::with_patience(rt, alloc, value, room, UNREGISTERED)
+    }
+
+    /// As [`Self::new`], with a patience of its own for calls that aren't registered yet; [`NONE`](crate::patience::NONE) has each
+    /// call register at once, so that the order of grants is that of the calls.
+    pub fn with_patience(
+        rt: R,
+        alloc: Global,
+        value: T,
+        room: u16,
+        patience: Patience,
+    ) -> Result<Self, AllocError>
+    where
+        T: Drop,
+        ensures no_room { room ≡ 0 → IsOk result }
+        ensures patience { IfOk result (λ made. patience_of made ≡ patience) }
+    {
         Ok(RwLock {
-            guarded: Guarded::new(rt, alloc, value, room)?,
+            guarded: Guarded::new(rt, alloc, value, room, patience)?,
         })
     }
 
@@ -147,11 +166,11 @@ impl<R: Wait + Drop, T> PassesOn for Writing<'_, R, T> {
 }
 
 impl<'a, R: Wait + Drop, T> Guard<Writer<'a, T>, Writing<'a, R, T>> {
-    /// Becomes a reader's guard, and lets in those who asked to read first, as far as they may share; nobody writes in
-    /// between.
+    /// Becomes a reader's guard, and lets in the oldest readers while they may share, up to the first writer; no other task
+    /// writes in between.
     ///
-    /// Never waits. Who reads through the new guard sees what was written through this one. Readers behind a writer that
-    /// waits go on waiting. Costs a short lock, and a wake for each who is let in.
+    /// Never waits. The new guard reads what was written through this one. Readers behind a writer in the queue go on
+    /// waiting. Costs the mutex once, and a wake for each reader that is let in.
     pub fn downgrade(guard: Self) -> RwLockReadGuard<'a, R, T>
         ensures { result.turn ≡ guard.entry.turn }
     {

@@ -11,12 +11,12 @@ ghost use Rattle.saa_core.specs.Beginning.{mode_of};
 
 use super::{Begun, Inside, Shell};
 use crate::timed::Deadline;
-use saa_core::bench::Primitive;
+use crate::tries::Tries;
 use saa_core::ticket::{Error, Full, How, Ticket};
 use std::sync::{MutexGuard, Wait};
 use std::time::Clock;
 
-impl<R: Wait + Clock + Drop, P: Primitive> Shell<R, P> {
+impl<R: Wait + Clock + Drop, P: Tries> Shell<R, P> {
     /// Asks, and waits for the answer as [`Shell::acquire`] does, until the deadline. `Ok(None)`: time is up, and nothing is
     /// registered.
     pub(crate) fn acquire_until(

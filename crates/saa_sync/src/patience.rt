@@ -1,0 +1,55 @@
+//! How long a call stays awake that can't have what it asks for.
+
+use std::hint::spin_loop;
+use std::thread::yield_now;
+
+/// How often a call looks, and then yields, before it does what costs more.
+///
+/// A lock and a semaphore have one for calls that aren't registered yet (`with_patience`): such a call looks, tries where what it
+/// asks for may be there, and registers once its patience is over. With 0 of both it registers at once, so that the order of grants
+/// is that of the calls.
+#[derive(Clone, Copy, Debug, Eq, PartialEq)]
+pub struct Patience {
+    /// How often it looks, before it begins to yield.
+    pub looks: u32,
+    /// How often it yields after that.
+    pub yields: u32,
+}
+
+/// The patience of a call that isn't registered yet, where the form is made with no other.
+///
+/// Measured with 2, 4 and 8 threads on 4 processors: where turns are of some microseconds or less, no queue forms.
+pub const UNREGISTERED: Patience = Patience {
+    looks: 60,
+    yields: 100,
+};
+
+/// Registers at once: the order of grants is that of the calls.
+pub const NONE: Patience = Patience {
+    looks: 0,
+    yields: 0,
+};
+
+// How often the rest between two looks of an unregistered call is doubled: from one turn to 256.
+const DOUBLINGS: u32 = 8;
+
+impl Patience {
+    // How often a call looks in all.
+    pub(crate) fn turns(self) -> u32 {
+        self.looks.saturating_add(self.yields)
+    }
+
+    // Rests after a look, by its number from 0, and yields after the last ones.
+    //
+    // Each rest is longer than the one before, since each look takes the hint's cache line from the tasks that leave the mutex: with looks
+    // that follow one another at once, four threads took twice as long for their turns.
+    pub(crate) fn rest(self, turn: u32) {
+        if turn >= self.looks {
+            yield_now();
+            return;
+        }
+        for _spin in 0..2u32.saturating_pow(turn.min(DOUBLINGS)) {
+            spin_loop();
+        }
+    }
+}
