@@ -23,6 +23,12 @@ struct Tried<R: Wait + Drop> {
     lock: Lock<R>,
 }
 
+// A call that finds the room full looks before that, and there are many of these in all lists of moves.
+const LITTLE: Patience = Patience {
+    looks: 2,
+    yields: 0,
+};
+
 // A free lock whose waiters have this patience.
 fn with_patience<R: Wait + Drop + Copy>(
     rt: R,
@@ -44,7 +50,7 @@ impl<R: Wait + Drop + Copy> Form for Tried<R> {
     type Lent = R;
 
     fn make(rt: R, alloc: Global, size: usize, room: u16) -> Result<Self, AllocError> {
-        let lock = Lock::new(rt, alloc, room)?;
+        let lock = Lock::with_patience(rt, alloc, room, LITTLE)?;
         if size == 0 {
             let _locked = lock.try_lock();
         }

@@ -24,6 +24,12 @@ struct Tried<R: Wait + Drop> {
     semaphore: Semaphore<R>,
 }
 
+// A call that finds the room full looks before that, and there are many of these in all lists of moves.
+const LITTLE: Patience = Patience {
+    looks: 2,
+    yields: 0,
+};
+
 // A semaphore whose waiters have this patience.
 fn with_patience<R: Wait + Drop + Copy>(
     rt: R,
@@ -45,7 +51,7 @@ impl<R: Wait + Drop + Copy> Form for Tried<R> {
     type Lent = R;
 
     fn make(rt: R, alloc: Global, size: usize, room: u16) -> Result<Self, AllocError> {
-        let semaphore = Semaphore::with_permits(rt, alloc, size, room)?;
+        let semaphore = Semaphore::with_patience(rt, alloc, size, room, LITTLE)?;
         Ok(Tried { semaphore })
     }
 

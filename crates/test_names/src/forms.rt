@@ -11,7 +11,7 @@ use saa::ticket::Full;
 use saa::timed::{Deadline, Timed};
 use saa::{
     Guard, Lends, Mutex, MutexGuard, PassesOn, RwLock, RwLockReadGuard, RwLockWriteGuard, Shows,
-    Writing, lock_api, lock_async, read_async, write_async,
+    Writing, lock_api, lock_async, patience, read_async, write_async,
 };
 use std::io;
 use std::sync::Wait;
@@ -55,7 +55,7 @@ fn a_semaphore_of_any_bound_gives_permits(rt: HostRuntime) -> io::Result<()> {
 
 #[test]
 fn a_lock_is_taken_and_lowered(rt: HostRuntime) -> io::Result<()> {
-    let lock = Lock::new(&rt, rt.alloc(), 0)?;
+    let lock = Lock::with_patience(&rt, rt.alloc(), 0, patience::NONE)?;
     same!(rt; lock.try_lock(), Ok(()));
     holds!(rt; lock.downgrade());
     holds!(rt; lock.is_shared(Ordering::SeqCst));

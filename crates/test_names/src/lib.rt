@@ -10,4 +10,6 @@ mod futures_by_name;
 #[cfg(test)]
 mod laws;
 #[cfg(test)]
+mod word_guards;
+#[cfg(test)]
 mod words;

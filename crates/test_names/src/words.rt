@@ -1,10 +1,10 @@
-//! Words, the line that is held by them, the semaphore that threads share in them, and the machine of its single steps.
+//! Words, the line that is held by them, the semaphore and the lock that threads share in them, and the machine of its single steps.
 
 use saa::line::order::{Order, Queue};
 use saa::line::{Line, LineOf, LinkedLine, laws};
 use saa::request::Request;
 use saa::word::machine::{Answer, Error, Kind, Machine, Mode, Move, Step, TryLockError, WordCall};
-use saa::word::{Left, Place, Semaphore, SemaphoreOf, Words};
+use saa::word::{Left, Lock, LockLeft, LockPlace, Place, Semaphore, SemaphoreOf, Words};
 use saa::words::answer_word::{self, AnswerWord};
 use saa::words::line_word::LineWord;
 use saa::words::links::Links;
@@ -82,6 +82,34 @@ fn a_place_makes_each_call(rt: HostRuntime) -> Result<(), Fail> {
     same!(rt; words.main(), 0);
     same!(rt; (words.line(0).is_some(), words.line(1)), (true, None));
     same!(rt; (words.answer(0), words.answer(1)), (Some(0), None));
+    Ok(())
+}
+
+#[test]
+fn a_place_of_a_lock_makes_each_call(rt: HostRuntime) -> Result<(), Fail> {
+    let (lock, mut places): (Lock, Vec<LockPlace>) = Lock::new(rt.alloc(), 1)?;
+    let Some(mut place) = places.pop() else {
+        unreachable!()
+    };
+    same!(rt; Lock::MAX_SHARED_OWNERS, 62);
+    same!(rt; lock.try_lock(&rt, &mut place), Ok(()));
+    let refused: Result<(), saa::word::TryLockError> = Err(TryLockError::WouldBlock);
+    same!(rt; lock.try_share(&rt, &mut place), refused);
+    same!(rt; (lock.is_free(&mut place), lock.is_locked(&mut place)), (false, true));
+    same!(rt; (lock.downgrade(&rt, &mut place), lock.is_shared(&mut place)), (true, true));
+    same!(rt; (lock.share(&rt, &mut place), lock.release_share(&rt, &mut place)), (true, true));
+    same!(rt; lock.release_share(&rt, &mut place), true);
+    let mode: saa::word::Mode = Mode::Exclusive;
+    same!(rt; lock.register(&rt, &mut place, mode), true);
+    same!(rt; (lock.try_poll(&mut place), lock.poll(&rt, &mut place)), (Ok(true), Err(Error::NotRegistered)));
+    same!(rt; (lock.poison_lock(&rt, &mut place), lock.is_poisoned(&mut place)), (true, true));
+    same!(rt; lock.clear_poison(&rt, &mut place), true);
+    lock.cancel(&rt, &mut place);
+    same!(rt; (lock.lock(&rt, &mut place), lock.release_lock(&rt, &mut place)), (true, true));
+    let left: LockLeft = lock.leave(&rt, place);
+    same!(rt; left.place(), 0);
+    let words: Words = lock.close(left);
+    same!(rt; words.main(), 0);
     Ok(())
 }
 

@@ -81,9 +81,14 @@ fn two_threads_lose_no_permit(rt: HostRuntime) -> Result<(), Fail> {
 }
 
 #[test]
+fn four_threads_lose_no_permit(rt: HostRuntime) -> Result<(), Fail> {
+    same!(rt; crowd(&rt, 4, 100_000)?, (400_000, Some(7)));
+    Ok(())
+}
+
+#[test]
 fn more_threads_lose_no_permit(rt: HostRuntime) -> Result<(), Fail> {
-    same!(rt; crowd(&rt, 4, 20_000)?, (80_000, Some(7)));
-    same!(rt; crowd(&rt, 8, 5_000)?, (40_000, Some(7)));
-    same!(rt; crowd(&rt, 32, 500)?, (16_000, Some(7)));
+    same!(rt; crowd(&rt, 8, 20_000)?, (160_000, Some(7)));
+    same!(rt; crowd(&rt, 32, 2_000)?, (64_000, Some(7)));
     Ok(())
 }

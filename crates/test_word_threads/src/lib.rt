@@ -1,12 +1,18 @@
-//! Tests of the word's semaphore on threads: that its calls do on shared words what their contracts say, wait, and are woken.
+//! Tests of the word's semaphore and lock on threads: that their calls do on shared words what their contracts say, wait, and are woken.
 //!
 //! Every test joins its threads, ends by itself, and rests nothing on timing.
 #![tactic(auto)]
 
 #[cfg(test)]
+mod abstract_state;
+#[cfg(test)]
 mod compared;
 #[cfg(test)]
 mod crowd;
+#[cfg(test)]
+mod linearized;
+#[cfg(test)]
+mod locks;
 #[cfg(test)]
 mod queue;
 #[cfg(test)]

@@ -17,7 +17,7 @@ pub struct Worker<'s, const MAX: usize> {
 }
 
 /// A call of a place.
-#[derive(Clone, Copy, Debug)]
+#[derive(Clone, Copy, Debug, Eq, PartialEq)]
 pub enum Call {
     Try(usize),
     Register(usize),

@@ -1,0 +1,127 @@
+//! Whatever lets a call have what it asks for is seen by one that looks, and never registers.
+
+use futures::test::MockTask;
+use saa_sync::lock::{Lock, Mode};
+use saa_sync::pager::Pager;
+use saa_sync::patience::Patience;
+use std::alloc::AllocGlobal;
+use std::random::RandomSource;
+use std::sync::Wait;
+use std::sync::atomic::{AtomicBool, Ordering};
+use std::thread::{Threads, yield_now};
+use std::{io, thread};
+use test_asserts::same;
+
+// Looks on, and registers in no test's time.
+const ENDLESS: Patience = Patience {
+    looks: 0,
+    yields: u32::MAX,
+};
+
+// How often one who lets a call in gives way before, so that the call mostly has looked by then.
+const TURNS: u32 = 200;
+
+// What keeps a call for a share from it until it ends.
+#[derive(Clone, Copy)]
+enum Obstacle {
+    // The owner, who releases, lowers or poisons the lock.
+    Released,
+    Lowered,
+    Poisoned,
+    // A pager that waits for the lock behind a share, and is cancelled; and a future that is dropped.
+    Cancelled,
+    Dropped,
+}
+
+// Tells that the call may come, waits until it looks, and a while more.
+fn let_come<R: Wait + Drop>(rt: &impl Wait, lock: &Lock<R>, may_come: &AtomicBool) {
+    may_come.store(true, Ordering::SeqCst);
+    for _ in rt.forever() {
+        if lock.shell().lookers() != 0 {
+            break;
+        }
+        yield_now();
+    }
+    for _turn in 0..TURNS {
+        yield_now();
+    }
+}
+
+// Keeps the call from its share, lets it come, and ends that.
+fn obstruct<H: Wait + RandomSource + AllocGlobal, R: Wait + Drop>(
+    rt: &H,
+    lock: &Lock<R>,
+    obstacle: Obstacle,
+    may_come: &AtomicBool,
+) -> io::Result<bool> {
+    match obstacle {
+        Obstacle::Released | Obstacle::Lowered | Obstacle::Poisoned => {
+            let is_owned = lock.try_lock().is_ok();
+            let_come(rt, lock, may_come);
+            Ok(is_owned && end_turn(lock, obstacle))
+        }
+        Obstacle::Cancelled => {
+            let is_shared = lock.try_share().is_ok();
+            let mut pager = Pager::new();
+            let has_joined = lock.register_pager(&mut pager, Mode::Exclusive, true) == Ok(true);
+            let_come(rt, lock, may_come);
+            pager.cancel();
+            Ok(is_shared && has_joined)
+        }
+        Obstacle::Dropped => {
+            let is_shared = lock.try_share().is_ok();
+            let task = MockTask::new(rt)?;
+            let mut asked = lock.lock_async();
+            let has_joined = task.poll(&mut asked).is_pending();
+            let_come(rt, lock, may_come);
+            drop(asked);
+            Ok(is_shared && has_joined)
+        }
+    }
+}
+
+// Ends the turn of the owner in this way.
+fn end_turn<R: Wait + Drop>(lock: &Lock<R>, obstacle: Obstacle) -> bool {
+    match obstacle {
+        Obstacle::Lowered => lock.downgrade(),
+        Obstacle::Poisoned => lock.poison_lock(),
+        _ => lock.release_lock(),
+    }
+}
+
+// Asks for a share once it may come; whether it has one.
+fn share_once_let<R: Wait + Drop>(rt: &impl Wait, lock: &Lock<R>, may_come: &AtomicBool) -> bool {
+    for _ in rt.forever() {
+        if may_come.load(Ordering::SeqCst) {
+            break;
+        }
+        yield_now();
+    }
+    lock.share_sync() == Ok(true)
+}
+
+// Whether the obstacle was there and ended, and whether the call had its share then.
+fn seen_by_who_looks<H>(rt: &H, obstacle: Obstacle) -> io::Result<(bool, bool)>
+where
+    H: Wait + RandomSource + AllocGlobal + Threads + Sync,
+{
+    let lock = Lock::with_patience(rt, rt.alloc(), 1, ENDLESS)?;
+    let may_come = AtomicBool::new(false);
+    let (has_share, has_ended) = thread::join(
+        rt,
+        || share_once_let(rt, &lock, &may_come),
+        || obstruct(rt, &lock, obstacle, &may_come),
+    );
+    Ok((has_ended?, has_share))
+}
+
+// A hint that lags behind one of these has the call look for ever.
+#[test]
+fn who_looks_sees_what_lets_it_in(rt: HostRuntime) -> io::Result<()> {
+    same!(rt; seen_by_who_looks(&rt, Obstacle::Released)?, (true, true));
+    same!(rt; seen_by_who_looks(&rt, Obstacle::Lowered)?, (true, true));
+    same!(rt; seen_by_who_looks(&rt, Obstacle::Poisoned)?, (true, false));
+    same!(rt; seen_by_who_looks(&rt, Obstacle::Cancelled)?, (true, true));
+    same!(rt; seen_by_who_looks(&rt, Obstacle::Dropped)?, (true, true));
+    Ok(())
+}

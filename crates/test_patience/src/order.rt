@@ -1,0 +1,154 @@
+//! Who registered first is granted first, whoever looks meanwhile; and who has no patience registers at once.
+
+use saa_sync::lock::{Lock, Mode};
+use saa_sync::pager::{Error, Pager};
+use saa_sync::patience::{NONE, Patience, UNREGISTERED};
+use std::alloc::{AllocError, Global};
+use std::sync::Wait;
+use std::sync::atomic::{AtomicBool, Ordering};
+use std::test::Fail;
+use std::thread;
+use std::thread::{Threads, yield_now};
+use test_asserts::same;
+
+// Looks on, and registers in no test's time.
+const ENDLESS: Patience = Patience {
+    looks: 0,
+    yields: u32::MAX,
+};
+
+// How often a pager is registered while others look.
+const ROUNDS: u64 = 200;
+
+// Waits until a call at this lock looks, or sleeps because it has registered.
+fn wait_for_a_call<R: Wait + Drop>(rt: &impl Wait, lock: &Lock<R>, looks: bool) {
+    for _ in rt.forever() {
+        let seen = if looks {
+            lock.shell().lookers() != 0
+        } else {
+            lock.shell().asleep() != 0
+        };
+        if seen {
+            return;
+        }
+        yield_now();
+    }
+    unreachable!()
+}
+
+// A pager registers once the call has come, and then the lock is released: what the pager is told at once, and whether it has its turn
+// in the end.
+fn register_behind<R: Wait + Drop>(
+    rt: &impl Wait,
+    lock: &Lock<R>,
+    looks: bool,
+    is_told: &AtomicBool,
+) -> (Result<bool, Error>, bool) {
+    wait_for_a_call(rt, lock, looks);
+    let mut pager = Pager::new();
+    let has_joined = lock.register_pager(&mut pager, Mode::Exclusive, true) == Ok(true);
+    let is_released = lock.release_lock();
+    let told = pager.try_poll();
+    is_told.store(true, Ordering::SeqCst);
+    let has_turn = told == Ok(true) || pager.poll_sync() == Ok(true);
+    (
+        told,
+        has_joined && is_released && has_turn && lock.release_lock(),
+    )
+}
+
+// Takes the lock, and releases it once the pager was told.
+fn take_until_told<R: Wait + Drop>(rt: &impl Wait, lock: &Lock<R>, is_told: &AtomicBool) -> bool {
+    let has_turn = lock.lock_sync() == Ok(true);
+    for _ in rt.forever() {
+        if is_told.load(Ordering::SeqCst) {
+            break;
+        }
+        yield_now();
+    }
+    has_turn && lock.release_lock()
+}
+
+// Takes the lock and releases it.
+fn take_turn<R: Wait + Drop>(lock: &Lock<R>) -> bool {
+    lock.lock_sync() == Ok(true) && lock.release_lock()
+}
+
+// What a pager is told that registered after a call of this patience had come.
+fn told_behind<R: Wait + Threads + Sync>(
+    rt: &R,
+    alloc: Global,
+    patience: Patience,
+    looks: bool,
+) -> Result<(Result<bool, Error>, bool, bool), AllocError> {
+    let lock = Lock::with_patience(rt, alloc, 2, patience)?;
+    let is_owned = lock.try_lock().is_ok();
+    let is_told = AtomicBool::new(false);
+    let (has_turn, (told, is_done)) = thread::join(
+        rt,
+        || take_until_told(rt, &lock, &is_told),
+        || register_behind(rt, &lock, looks, &is_told),
+    );
+    Ok((told, is_owned && is_done, has_turn))
+}
+
+// With no patience a call that came first is granted first, and so is one whose patience is over, which registers beside a lock
+// that is never free for it. One that still looks has asked nobody.
+#[test]
+fn the_order_is_that_of_registrations(rt: HostRuntime) -> Result<(), Fail> {
+    let not_yet = (Err(Error::NotReady), true, true);
+    same!(rt; told_behind(&rt, rt.alloc(), NONE, false)?, not_yet);
+    same!(rt; told_behind(&rt, rt.alloc(), UNREGISTERED, false)?, not_yet);
+    same!(rt; told_behind(&rt, rt.alloc(), ENDLESS, true)?, (Ok(true), true, true));
+    Ok(())
+}
+
+// Takes turns until it is over.
+fn take_turns<R: Wait + Drop>(rt: &impl Wait, lock: &Lock<R>, is_over: &AtomicBool) -> bool {
+    let mut all = true;
+    for _ in rt.forever() {
+        if is_over.load(Ordering::SeqCst) {
+            break;
+        }
+        all = take_turn(lock) && all;
+    }
+    all
+}
+
+// Waits for the lock by a pager, registers another while it has it, and releases: how often that other was granted by this.
+fn granted_by_the_release<R: Wait + Drop>(lock: &Lock<R>, is_over: &AtomicBool) -> u64 {
+    let mut granted = 0u64;
+    for _round in 0..ROUNDS {
+        let (mut one, mut two) = (Pager::new(), Pager::new());
+        let has_one = lock.register_pager(&mut one, Mode::Exclusive, true) == Ok(true)
+            && one.poll_sync() == Ok(true);
+        let has_two = lock.register_pager(&mut two, Mode::Exclusive, true) == Ok(true);
+        let is_released = lock.release_lock();
+        if has_one && has_two && is_released && two.try_poll() == Ok(true) {
+            granted = granted.saturating_add(1);
+        }
+        lock.release_lock();
+    }
+    is_over.store(true, Ordering::SeqCst);
+    granted
+}
+
+// Two who look in numbers beside a waiter that has registered never pass it.
+#[test]
+fn who_registered_is_never_passed(rt: HostRuntime) -> Result<(), Fail> {
+    let lock = Lock::with_patience(&rt, rt.alloc(), 4, ENDLESS)?;
+    let is_over = AtomicBool::new(false);
+    let ((one, two), granted) = thread::join(
+        &rt,
+        || {
+            thread::join(
+                &rt,
+                || take_turns(&rt, &lock, &is_over),
+                || take_turns(&rt, &lock, &is_over),
+            )
+        },
+        || granted_by_the_release(&lock, &is_over),
+    );
+    same!(rt; (one, two, granted), (true, true, ROUNDS));
+    Ok(())
+}

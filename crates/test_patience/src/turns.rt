@@ -1,0 +1,103 @@
+//! No wake is lost where a call gives up looking and registers as the release comes.
+
+use saa_core::lock::LockCore;
+use saa_sync::lock::{Lock, Mode};
+use saa_sync::pager::Pager;
+use saa_sync::patience::{NONE, Patience};
+use saa_sync::testing::Shell;
+use std::hint::spin_loop;
+use std::sync::Wait;
+use std::test::Fail;
+use std::thread;
+use std::thread::yield_now;
+use test_asserts::{holds, same};
+
+// How often each thread takes a turn, and how many lengths of rest it has in between.
+const ROUNDS: u64 = 4_000;
+
+const RESTS: u64 = 256;
+
+// Takes turns, and rests after each, now for long and now for short; how often it had the lock.
+fn take_turns<R: Wait + Drop>(lock: &Lock<R>) -> u64 {
+    let mut taken = 0u64;
+    for round in 0..ROUNDS {
+        if lock.lock_sync() == Ok(true) {
+            for _turn in 0..round.saturating_mul(7) % RESTS {
+                spin_loop();
+            }
+            if lock.release_lock() {
+                taken = taken.saturating_add(1);
+            }
+        }
+        for _turn in 0..round.saturating_mul(13) % RESTS {
+            spin_loop();
+        }
+    }
+    taken
+}
+
+// Few looks, and no patience of those who wait: the end of the patience falls anywhere beside a release, and each who registers
+// sleeps at once.
+#[test]
+fn each_who_gives_up_looking_is_woken(rt: HostRuntime) -> Result<(), Fail> {
+    let core = LockCore::new(rt.alloc(), 4)?;
+    let shell = Shell::new(&rt, rt.alloc(), core, 4, NONE)?;
+    let few = Patience {
+        looks: 20,
+        yields: 1,
+    };
+    let lock = Lock::on_shell(shell.with_patience(few));
+    let (one, (two, three)) = thread::join(
+        &rt,
+        || take_turns(&lock),
+        || thread::join(&rt, || take_turns(&lock), || take_turns(&lock)),
+    );
+    same!(rt; [one, two, three], [ROUNDS, ROUNDS, ROUNDS]);
+    same!(rt; (lock.shell().lookers(), lock.shell().asleep()), (0, 0));
+    Ok(())
+}
+
+// Looks on, and registers in no test's time.
+const ENDLESS: Patience = Patience {
+    looks: 0,
+    yields: u32::MAX,
+};
+
+// Waits for the lock by a pager, and releases it.
+fn take_by_pager<R: Wait + Drop>(lock: &Lock<R>) -> bool {
+    let mut pager = Pager::new();
+    lock.register_pager(&mut pager, Mode::Exclusive, true) == Ok(true)
+        && pager.poll_sync() == Ok(true)
+        && lock.release_lock()
+}
+
+// Releases the lock once one sleeps and another looks.
+fn release_once_both_are_there<R: Wait + Drop>(rt: &impl Wait, lock: &Lock<R>) -> bool {
+    for _ in rt.forever() {
+        if lock.shell().asleep() == 1 && lock.shell().lookers() == 1 {
+            break;
+        }
+        yield_now();
+    }
+    lock.release_lock()
+}
+
+// Whoever leaves the mutex while somebody looks wakes those that it answers all the same.
+#[test]
+fn a_sleeper_is_woken_while_others_look(rt: HostRuntime) -> Result<(), Fail> {
+    let lock = Lock::with_patience(&rt, rt.alloc(), 1, ENDLESS)?;
+    same!(rt; lock.try_lock(), Ok(()));
+    let (is_woken, (is_let_in, is_released)) = thread::join(
+        &rt,
+        || take_by_pager(&lock),
+        || {
+            thread::join(
+                &rt,
+                || lock.lock_sync() == Ok(true),
+                || release_once_both_are_there(&rt, &lock),
+            )
+        },
+    );
+    holds!(rt; is_woken && is_let_in && is_released);
+    Ok(())
+}

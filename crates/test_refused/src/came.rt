@@ -1,0 +1,60 @@
+//! What came of something that takes memory.
+
+use std::fmt::{self, Display, Formatter, Write};
+
+/// What came of it.
+#[derive(Clone, Copy, Debug, Eq, PartialEq)]
+pub enum Came {
+    /// It was done at once.
+    AtOnce,
+    /// Memory was refused, nothing was changed, and it was done when it was asked for anew.
+    Anew,
+    /// Something else.
+    Wrong,
+}
+
+impl Came {
+    /// What came of both: wrong where one is, and anew where one had to be.
+    pub fn and(self, other: Came) -> Came {
+        match (self, other) {
+            (Came::Wrong, _) | (_, Came::Wrong) => Came::Wrong,
+            (Came::Anew, _) | (_, Came::Anew) => Came::Anew,
+            _ => Came::AtOnce,
+        }
+    }
+}
+
+impl Display for Came {
+    fn fmt<W: Write>(&self, f: &mut Formatter<W>) -> fmt::Result {
+        f.write_str(match self {
+            Came::AtOnce => "at once",
+            Came::Anew => "refused, then done",
+            Came::Wrong => "WRONG",
+        })
+    }
+}
+
+/// Makes something, twice where it was refused.
+#[macro_export]
+macro_rules! made {
+    ($make:expr) => {
+        match $make {
+            Ok(_made) => Came::AtOnce,
+            Err(_) => match $make {
+                Ok(_made) => Came::Anew,
+                Err(_) => Came::Wrong,
+            },
+        }
+    };
+}
+
+/// Makes something that the rows need, anew where it was refused.
+#[macro_export]
+macro_rules! anew {
+    ($make:expr) => {
+        match $make {
+            Ok(made) => made,
+            Err(_) => $make?,
+        }
+    };
+}
