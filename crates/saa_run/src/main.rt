@@ -18,11 +18,15 @@ mod counts;
 mod kind_rows;
 #[cfg(test)]
 mod lock_rows;
+#[cfg(test)]
+mod mutants;
 mod run;
 mod schedule;
 #[cfg(test)]
 mod schedule_tests;
 mod script;
+#[cfg(test)]
+mod spelling;
 #[cfg(test)]
 mod tests;
 mod wants;

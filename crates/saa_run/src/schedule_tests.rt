@@ -5,9 +5,10 @@ use crate::cancel_rows::CANCEL_ROWS;
 use crate::lock_rows::LOCK_ROWS;
 use crate::run::machine;
 use crate::schedule::end;
-use crate::tests::{Row, with_room};
+use crate::tests::{BreakingReader, Row, with_room};
 use saa_word::machine::{Machine, Move, Step, WordCall};
 use std::alloc::{AllocError, Global};
+use std::io::ErrorKind;
 use std::test::Fail;
 
 /// Good lines of each kind, each reply, and numbers at their limits.
@@ -31,7 +32,7 @@ const SCHEDULES: [Row; 20] = [
         output: "going\ndone true\ngoing\ndone true\ngoing\ndone true\ngoing\nat show\n63 0 0 2\ngoing\nwaits\ndone true\ndone\n58 0 0 0\ngoing\ndone ok\n",
         status: 0,
     },
-    // Poison while somebody waits and somebody gives up: examples/poison_and_cancel.schedule.
+    // Poison while there is a waiter, and a cancel: examples/poison_and_cancel.schedule.
     Row {
         input: "lock 4\nstart 0 try_lock\nend 0\nstart 1 reg shared\nend 1\nstart 2 reg exclusive\nend 2\nword\nstart 1 cancel\nuntil 1 unlink\nword\nstart 0 poison_lock\nend 0\nend 1\nword\nuntil 0 show\nword\nstart 2 cancel\nend 2\nstart 3 try_share\nend 3\nend 0\nend 2\nstart 0 clear_poison\nend 0\nword\n",
         output: "going\ndone ok\ngoing\ndone true\ngoing\ndone true\n63 0 0 3\ngoing\nat unlink\n63 1 0 3\ngoing\nwaits\ndone\n63 0 0 3\nat show\n0 0 1 0\ngoing\nwaits\ngoing\ndone poisoned\ndone true\ndone\ngoing\ndone true\n0 0 0 0\n",
@@ -49,7 +50,7 @@ const SCHEDULES: [Row; 20] = [
         output: "going\ndone ok\ngoing\ndone true\ngoing\nat tail\n63 1 0 2\ngoing\nwaits\ndone\n63 0 0 0\ndone true\n0 0 1 0\n",
         status: 0,
     },
-    // An owner becomes a sharer while somebody waits: the flag is taken with the first exchange, and the share in front is granted.
+    // An owner becomes a sharer while there is a waiter: the flag is taken with the first exchange, and the share in front is granted.
     Row {
         input: "lock 3\nstart 0 try_lock\nend 0\nstart 1 reg shared\nend 1\nstart 2 reg exclusive\nend 2\nstart 0 downgrade\nuntil 0 publish\nword\nend 0\nword\nstart 1 try_poll\nend 1\nstart 2 try_poll\nend 2\n",
         output: "going\ndone ok\ngoing\ndone true\ngoing\ndone true\ngoing\nat publish\n1 1 0 3\ndone true\n2 0 0 3\ngoing\ndone true\ngoing\ndone not_ready\n",
@@ -401,6 +402,22 @@ fn a_long_line_is_bad(rt: HostRuntime) -> Result<(), Fail> {
     assert_eq!(rt; machine(rt.alloc(), &mut reader, &mut writer), 2);
     assert_eq!(rt; writer.as_slice(), b"0 0 0 0\nbad line 3\n".as_slice());
     Ok(())
+}
+
+/// A read that fails, here one that a signal interrupted, ends the run with status 4, and what went out is a beginning of the text.
+#[test]
+fn a_read_fails(rt: HostRuntime) {
+    let row = &SCHEDULES[0];
+    for count in 0..row.input.len() + 1 {
+        let mut reader = BreakingReader {
+            left: &row.input.as_bytes()[..count],
+            kind: ErrorKind::Interrupted,
+        };
+        let mut writer = Vec::new(rt.alloc());
+        assert_eq!(rt; machine(rt.alloc(), &mut reader, &mut writer), 4);
+        assert!(rt; row.output.as_bytes().starts_with(writer.as_slice()));
+        assert!(rt; writer.len() == row.output.len() || count < row.input.len());
+    }
 }
 
 /// A write that fails ends the run with status 4, and what went out is a beginning of the text.

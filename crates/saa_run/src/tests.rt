@@ -280,8 +280,9 @@ fn rows_and_bad_lines(rt: HostRuntime) {
 
 /// A reader that gives one byte a read, and fails behind the last.
 #[derive(Drop)]
-struct BreakingReader<'a> {
-    left: &'a [u8],
+pub(crate) struct BreakingReader<'a> {
+    pub(crate) left: &'a [u8],
+    pub(crate) kind: io::ErrorKind,
 }
 
 impl Read for BreakingReader<'_> {
@@ -290,7 +291,7 @@ impl Read for BreakingReader<'_> {
             return Ok(0);
         }
         match self.left {
-            [] => Err(io::Error::from(io::ErrorKind::Other)),
+            [] => Err(io::Error::from(self.kind)),
             [first, rest @ ..] => {
                 buf[0] = *first;
                 self.left = rest;
@@ -428,6 +429,7 @@ fn all_is_flushed(rt: HostRuntime) {
     }
     let mut reader = BreakingReader {
         left: INPUT.as_bytes(),
+        kind: io::ErrorKind::Other,
     };
     let mut writer = HoldingWriter {
         held: Vec::new(rt.alloc()),
@@ -533,6 +535,7 @@ fn a_read_fails(rt: HostRuntime) {
     for count in 0..INPUT.len() + 1 {
         let mut reader = BreakingReader {
             left: &INPUT.as_bytes()[..count],
+            kind: io::ErrorKind::Other,
         };
         let mut writer = Vec::new(rt.alloc());
         assert_eq!(rt;
