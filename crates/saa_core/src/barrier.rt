@@ -196,8 +196,8 @@ impl BarrierCore {
         }
     }
 
-    /// The oldest wake that is owed, which is told by this: the slot that was answered first out of those that weren't told
-    /// yet; `None` exactly where none is owed. A slot comes once however often it was answered in between. Costs O(1).
+    /// Reports the oldest pending wake and takes it out: of the slots that weren't reported yet, the one that was answered
+    /// first. `None` exactly where none is pending. A slot comes once however often it was answered in between. Costs O(1).
     pub fn next_answered(&mut self) -> Option<u16>
         ensures oldest { result ≡ slice_get self.old.slots.owed 0 }
         ensures told { self.new ≡ record self.old { slots = wake_told self.old.slots } }

@@ -47,12 +47,12 @@ pub trait Primitive: Drop {
     fn stands(&self)
         ensures { (tickets : List Registration) → stands (object_of (core self.now) tickets) };
 
-    /// Makes a call that needs no ticket; each whom it answers is owed a wake.
+    /// Makes a call that needs no ticket; a wake is pending for each waiter that it answers.
     fn call(&mut self, call: Self::Call) -> Self::Answer
         ensures calls { Calls (core self.old) (core self.new) (step call) result }
         ensures wakes { OwesAnswered (core self.old).slots (core self.new).slots };
 
-    /// Registers an idle ticket, as sync or as async; see the primitive's own call. Each whom that answers is owed a wake.
+    /// Registers an idle ticket, as sync or as async; see the primitive's own call. A wake is pending for each that it answers.
     fn register(&mut self, ticket: &mut Ticket, ask: Self::Ask, is_sync: bool) -> Result<bool, Full>
         ensures acts { Acts (core self.old) (core self.new) ticket.old ticket.new (λ s name. registered s name (request ask) is_sync) result }
         ensures ticket { is_busy ticket.new ≡ (is_busy ticket.old || is_yes result) }
@@ -69,7 +69,7 @@ pub trait Primitive: Drop {
     fn value_of(answer: Result<u8, Error>) -> Self::Value
         ensures { result ≡ value answer };
 
-    /// Drops what a ticket is registered for; it is idle afterwards, and each whom that answers is owed a wake.
+    /// Drops what a ticket is registered for; it is idle afterwards, and a wake is pending for each waiter that this answers.
     fn cancel(&mut self, ticket: &mut Ticket)
         ensures acts { Acts (core self.old) (core self.new) ticket.old ticket.new dropping result }
         ensures idle { ticket.new ≡ Unregistered }
@@ -140,7 +140,7 @@ impl<P: Primitive> Bench<P> {
 
     /// Does nothing: its contract says what holds of every bench at every moment, over a new core or one in use.
     ///
-    /// A semaphore and a lock stand settled; at a gate nobody waits unless it is controlled; a barrier's round is
+    /// A semaphore and a lock are settled; a gate has waiters only while it is controlled; a barrier's round is
     /// incomplete.
     pub fn stands(&self)
         ensures { P.stands self.now }

@@ -53,7 +53,7 @@ impl<T> Progress<T> {
 /// A registration that a task makes at its first poll and polls from then on, as async.
 ///
 /// Nothing is registered before the first poll. It belongs to the core of its first poll: each further poll, and its
-/// cancel, are to be lent that core. Dropping it while it is registered leaves its slot held, so cancel it first. After
+/// cancel, take that core. Dropping it while it is registered leaves its slot held, so cancel it first. After
 /// its end it isn't polled. Contracts see what it asks, its ticket, and whether it has ended.
 #[derive(Drop)]
 pub struct Asking<P: Primitive> {
@@ -114,7 +114,7 @@ impl<P: Primitive> Asking<P> {
     /// `Waits` too, and the future stays as it was; where a slot of that number is held there too, it is polled as if it
     /// were from there.
     ///
-    /// Each whom a first poll answers is owed a wake; a further poll owes nobody one. Costs what registering and polling
+    /// A wake is pending for each waiter that a first poll answers; a further poll answers none. Costs what registering and polling
     /// a ticket costs in the core, and takes no memory.
     pub fn poll_on(&mut self, core: &mut P) -> Progress<Option<u8>>
         requires { self.old.has_ended ≡ false }

@@ -1,8 +1,8 @@
 //! The gate: tasks that wait until it is decided for all of them together whether they pass.
 //!
 //! The core is held to `specs/Gate.antt` of `saa_core_spec` by every call, with any tickets that are registered in it.
-//! Those who enter a controlled gate stand in a line until somebody answers them all; at a sealed or an open gate nobody
-//! waits, which is `specs/GateStanding.antt`.
+//! Tasks that enter a controlled gate wait in a line until one call answers them all. A sealed or an open gate has no
+//! waiters, which is `specs/GateStanding.antt`.
 
 ghost use Rattle.std.specs.Prelude.{true, false, ◌≡◌, ℕ, ◌<◌, ◌↔◌, ◌||◌, length, replicate, slice_get, IfOk, IfErr, IfSome, IsOk, IsErr, IsNone, OnErr};
 ghost use Rattle.saa_core_spec.specs.declared.request.Request.TheVariants.{Enter};
@@ -219,7 +219,7 @@ impl GateCore {
     ///
     /// `NotRegistered`: the ticket is idle, or its slot isn't held in this core. `WrongMode`: it was registered as
     /// async and is polled as sync, or the other way round. `NotReady`: it waits. None of these changes anything.
-    /// `Rejected`, `Sealed` and `SpuriousFailure`, that another waiter gave up, are answers as `Ok` is: the slot is free
+    /// `Rejected`, `Sealed` and `SpuriousFailure`, that another waiter cancelled, are answers as `Ok` is: the slot is free
     /// again, and the ticket is idle.
     pub fn poll(&mut self, ticket: &mut Ticket, how: How) -> Result<State, Error>
         ensures acts { Acts self.old self.new ticket.old ticket.new (λ s name. read_as gate_value (polled s name how)) result }
@@ -239,7 +239,7 @@ impl GateCore {
     }
 
     /// Polls a ticket for the number of its answer, as [`Self::poll`] does: 0 permitted, 2 passed an open gate,
-    /// 4 rejected, 9 sealed, 12 another waiter gave up.
+    /// 4 rejected, 9 sealed, 12 another waiter cancelled.
     pub fn poll_number(&mut self, ticket: &mut Ticket, how: How) -> Result<u8, polling::Error>
         ensures acts { Acts self.old self.new ticket.old ticket.new (λ s name. polled s name how) result }
         ensures ticket { Polled ticket.old ticket.new how (fault_of result) }
@@ -257,7 +257,7 @@ impl GateCore {
 
     /// Drops what a ticket is registered for: it is idle afterwards in every case.
     ///
-    /// A waiter leaves the line, and all other waiters are answered that somebody gave up (`SpuriousFailure`). An answer
+    /// A waiter leaves the line, and all other waiters are answered that one cancelled (`SpuriousFailure`). An answer
     /// that wasn't consumed is only consumed. A ticket whose slot isn't held in this core changes nothing here.
     /// Costs O(how many wait) for a waiter, and else O(1).
     pub fn cancel(&mut self, ticket: &mut Ticket)
@@ -283,8 +283,8 @@ impl GateCore {
         }
     }
 
-    /// The oldest wake that is owed, which is told by this: the slot that was answered first out of those that weren't told
-    /// yet; `None` exactly where none is owed. A slot comes once however often it was answered in between. Costs O(1).
+    /// Reports the oldest pending wake and takes it out: of the slots that weren't reported yet, the one that was answered
+    /// first. `None` exactly where none is pending. A slot comes once however often it was answered in between. Costs O(1).
     pub fn next_answered(&mut self) -> Option<u16>
         ensures oldest { result ≡ slice_get self.old.slots.owed 0 }
         ensures told { self.new ≡ record self.old { slots = wake_told self.old.slots } }

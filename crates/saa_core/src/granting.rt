@@ -21,7 +21,7 @@ use crate::ticket::{Error, Full, How, Registration, Ticket};
 use saa_core_spec::request::Request;
 use std::marker::Model;
 
-/// What is held by those who were granted: which request fits, what it takes, and what giving back leaves.
+/// What is held by grants: which request fits, what it takes, and what giving back leaves.
 pub trait Needs: Drop {
     /// How the line keeps the order of the waiters.
     type Order: Order;
@@ -50,7 +50,7 @@ pub trait Needs: Drop {
     ghost grants: { (needs : Self) → IsGranting (held needs) };
 }
 
-/// A line, and what is held by those who were granted out of it.
+/// A line, and what is held by grants out of it.
 #[derive(Drop)]
 pub struct Granting<N: Needs> {
     needs: N,
@@ -112,7 +112,7 @@ impl<N: Needs> Granting<N> {
         self.line.waiters()
     }
 
-    /// Takes what a request takes if nobody waits and it fits; else `false`, and nothing changes. Costs O(1).
+    /// Takes what a request takes if there is no waiter and it fits; else `false`, and nothing changes. Costs O(1).
     pub fn try_take(&mut self, request: Request) -> bool
         ensures calls { Calls self.old self.new (λ s. tried s request) result }
         ensures answer { result ≡ takes_now self.old request }
@@ -152,7 +152,7 @@ impl<N: Needs> Granting<N> {
 
     /// Registers an idle ticket. What it asks isn't more than there ever is, and the line can keep it. Costs O(1).
     ///
-    /// `Ok(true)`: it is answered at once, as everybody is, or granted where nobody waits and it fits; or it waits, last
+    /// `Ok(true)`: it is answered at once, as everybody is, or granted where there is no waiter and it fits; or it waits, last
     /// in the line. `Ok(false)`: the ticket isn't idle. `Err(Full)`: it would have to wait, and as many slots are held as
     /// there is room. The last two change nothing.
     pub fn register(

@@ -1,7 +1,7 @@
-//! The line of a primitive: who waits, oldest first, the answers that aren't taken yet, and the wakes that are owed.
+//! The line of a primitive: its waiters, oldest first, the answers that aren't taken yet, and the pending wakes.
 //!
-//! A slot is held from `join` until its answer is taken (`take`) or it gives up (`leave`). Whoever is answered is owed a
-//! wake until it is told (`next_answered`). All memory is reserved when a line is made, and no later call takes any or
+//! A slot is held from `join` until its answer is taken (`take`) or it cancels (`leave`). An answered slot has a pending
+//! wake until that is reported (`next_answered`). All memory is reserved when a line is made, and no later call takes any or
 //! can fail. What is seen of a line is `specs/Slots.antt`; how its parts agree is `specs/LineParts.antt`. How it keeps the
 //! order of the waiters is left to an `Order`, which requests fit to the cores, and the waking to the threaded forms.
 
@@ -23,10 +23,10 @@ use saa_core_words::links::Links;
 use std::alloc::{AllocError, Global};
 use std::marker::Model;
 
-/// A line that keeps who waits in a list.
+/// A line that keeps its waiters in a list.
 pub type Line = LineOf<Queue>;
 
-/// A line that keeps who waits by links, so that a slot leaves at one cost wherever it stands; its requests are those of
+/// A line that keeps its waiters by links, so that a slot leaves in O(1) at any position; its requests are those of
 /// one form.
 pub type LinkedLine<K> = LineOf<Links<K>>;
 
@@ -110,7 +110,7 @@ impl<O: Order> LineOf<O> {
         Some(slot)
     }
 
-    /// The oldest slot that waits, with what it asks; `None` where nobody waits. Costs O(1).
+    /// The oldest slot that waits, with what it asks; `None` where there is no waiter. Costs O(1).
     pub fn oldest(&self) -> Option<(u16, Request)>
         ensures { result ≡ slice_get self.now.line 0 }
     {
@@ -216,8 +216,8 @@ impl<O: Order> LineOf<O> {
         place < self.waiting.len() && self.waiting[place]
     }
 
-    /// The oldest wake that is owed, which is told by this: the slot that was answered first out of those that weren't
-    /// told yet; `None` exactly where none is owed. Costs O(1).
+    /// Reports the oldest pending wake and takes it out: of the slots that weren't reported yet, the one that was answered
+    /// first. `None` exactly where none is pending. Costs O(1).
     ///
     /// A slot that was answered more than once in between comes once, and one whose answer is taken already still
     /// comes.

@@ -39,9 +39,9 @@ const POISONED: u8 = 2;
 
 /// The core of a lock.
 ///
-/// It is used by one task at a time; a threaded form puts a lock round it. Each ticket is used with the core that
+/// It is used by one task at a time; a threaded form keeps it under a mutex. Each ticket is used with the core that
 /// it was registered in. Only making takes memory, and nothing is refused for want of it afterwards. The core doesn't
-/// know who its owners are: whoever releases, releases.
+/// know its owners: any caller may release.
 #[derive(Drop)]
 pub struct LockCore {
     core: Granting<Owners>,
@@ -105,9 +105,9 @@ impl LockCore {
         matches!(self.core.needs().owner(), Owner::Poisoned)
     }
 
-    /// The lock in one number, laid out as `docs/WORDS.md` draws it: from bit 0 how many share it, in 16 bits, or 63 for one
+    /// The lock in one number, laid out as `docs/LAYOUT.md` draws it: from bit 0 how many share it, in 16 bits, or 63 for one
     /// owner alone; bit 16 clear; bit 17 set exactly where it is poisoned; from bit 18 the newest waiter, by its slot
-    /// plus 1, and 0 where nobody waits. Costs O(1).
+    /// plus 1, and 0 where there is no waiter. Costs O(1).
     pub fn word(&self) -> u64
         ensures number { result ≡ word_number count_bits (core_word self.now) }
         ensures read { word_of count_bits result ≡ core_word self.now }
@@ -124,9 +124,9 @@ impl LockCore {
         word.pack()
     }
 
-    /// Takes the lock for one owner alone if nobody waits and it is free; never waits itself. Costs O(1).
+    /// Takes the lock for one owner alone if there is no waiter and it is free; never waits itself. Costs O(1).
     ///
-    /// `Poisoned`: the lock is poisoned. `WouldBlock`: somebody has it, or somebody waits. Both change nothing.
+    /// `Poisoned`: the lock is poisoned. `WouldBlock`: somebody has it, or there is a waiter. Both change nothing.
     /// Rule: docs/DEFINITIONS.md, "Asking".
     pub fn try_lock(&mut self) -> Result<(), TryLockError>
         ensures calls { Calls self.old self.new (λ s. lock_tried s AskExclusive) result }
@@ -139,9 +139,9 @@ impl LockCore {
         self.try_take(Request::Exclusive)
     }
 
-    /// Takes a share of the lock if nobody waits and one is left; never waits itself. Costs O(1).
+    /// Takes a share of the lock if there is no waiter and one is left; never waits itself. Costs O(1).
     ///
-    /// `Poisoned`: the lock is poisoned. `WouldBlock`: one owner has it alone, or 62 share it, or somebody waits. Both
+    /// `Poisoned`: the lock is poisoned. `WouldBlock`: one owner has it alone, or 62 share it, or there is a waiter. Both
     /// change nothing. Rule: docs/DEFINITIONS.md, "Asking".
     pub fn try_share(&mut self) -> Result<(), TryLockError>
         ensures calls { Calls self.old self.new (λ s. lock_tried s AskShared) result }
@@ -156,8 +156,8 @@ impl LockCore {
 
     /// Gives the lock of one owner back, and grants the oldest waiters while they fit.
     ///
-    /// `false` comes exactly where the lock isn't one owner's alone, and changes nothing. Nobody is asked whose lock it
-    /// ends. Costs O(how many are granted). Rule: docs/DEFINITIONS.md, "Settling".
+    /// `false` comes exactly where the lock has no exclusive owner, and changes nothing. The caller needn't be that
+    /// owner. Costs O(how many are granted). Rule: docs/DEFINITIONS.md, "Settling".
     pub fn release_lock(&mut self) -> bool
         ensures calls { Calls self.old self.new (λ s. given_back s AskExclusive) result }
         ensures answer { result ≡ is_locked self.old.held }
@@ -171,7 +171,7 @@ impl LockCore {
 
     /// Gives one share back, and grants the oldest waiters while they fit.
     ///
-    /// `false` comes exactly where the lock isn't shared, and changes nothing. Nobody is asked whose share it ends.
+    /// `false` comes exactly where the lock isn't shared, and changes nothing. The caller needn't be a sharer.
     /// Costs O(how many are granted). Rule: docs/DEFINITIONS.md, "Settling".
     pub fn release_share(&mut self) -> bool
         ensures calls { Calls self.old self.new (λ s. given_back s AskShared) result }
@@ -186,8 +186,8 @@ impl LockCore {
 
     /// Makes the one owner a sharer, and grants the oldest waiters while they fit beside it.
     ///
-    /// Nobody has the lock alone in between. `false` comes exactly where the lock isn't one owner's alone, and changes
-    /// nothing. Nobody is asked whose lock it lowers. Costs O(how many are granted). Rule: docs/DEFINITIONS.md, "Settling".
+    /// The lock has no other owner in between. `false` comes exactly where it has no exclusive owner, and changes
+    /// nothing. The caller needn't be that owner. Costs O(how many are granted). Rule: docs/DEFINITIONS.md, "Settling".
     pub fn downgrade(&mut self) -> bool
         ensures calls { Calls self.old self.new (λ s. downgraded_of s (is_locked s.held)) result }
         ensures answer { result ≡ is_locked self.old.held }
@@ -226,7 +226,7 @@ impl LockCore {
         true
     }
 
-    /// Makes a poisoned lock free; nobody waits at one.
+    /// Makes a poisoned lock free; it has no waiters.
     ///
     /// `false` comes exactly where the lock isn't poisoned, and changes nothing. Costs O(1).
     pub fn clear_poison(&mut self) -> bool
@@ -248,7 +248,7 @@ impl LockCore {
 
     /// Registers an idle ticket in a mode, as sync or as async.
     ///
-    /// `Ok(true)`: it is answered at once, Poisoned at a poisoned lock, or granted where nobody waits and it fits; or it
+    /// `Ok(true)`: it is answered at once, Poisoned at a poisoned lock, or granted where there is no waiter and it fits; or it
     /// waits, last in the line, in a slot. `Ok(false)`: the ticket isn't idle; nothing changes. `Err(Full)`: it would have
     /// to wait, and as many slots are held as there is room; nothing changes. Costs O(1).
     /// Rule: docs/DEFINITIONS.md, "Asking".
@@ -305,7 +305,7 @@ impl LockCore {
     /// A waiter leaves the line, and those behind it are granted while they fit. A grant that wasn't consumed is given
     /// back as by the release of its mode, which changes nothing where the lock is poisoned by then; a granted wait mode
     /// and a Poisoned answer give nothing back. A ticket whose slot isn't held in this core changes nothing here.
-    /// Costs O(how many are granted), wherever a waiter stands.
+    /// Costs O(how many are granted) at any position.
     pub fn cancel(&mut self, ticket: &mut Ticket)
         ensures acts { Acts self.old self.new ticket.old ticket.new dropping result }
         ensures idle { ticket.new ≡ Unregistered }
@@ -317,8 +317,8 @@ impl LockCore {
         self.core.cancel(ticket);
     }
 
-    /// The oldest wake that is owed, which is told by this: the slot that was answered first out of those that weren't told
-    /// yet; `None` exactly where none is owed. A slot comes once however often it was answered in between. Costs O(1).
+    /// Reports the oldest pending wake and takes it out: of the slots that weren't reported yet, the one that was answered
+    /// first. `None` exactly where none is pending. A slot comes once however often it was answered in between. Costs O(1).
     pub fn next_answered(&mut self) -> Option<u16>
         ensures oldest { result ≡ slice_get self.old.slots.owed 0 }
         ensures told { self.new ≡ record self.old { slots = wake_told self.old.slots } }

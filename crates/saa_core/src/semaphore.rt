@@ -95,8 +95,8 @@ impl<const MAX: usize> SemaphoreCoreOf<MAX> {
         })
     }
 
-    /// The semaphore in one number, laid out as `docs/WORDS.md` draws it: from bit 0 the permits that are out, in 16
-    /// bits; bits 16 and 17 clear; from bit 18 the newest waiter, by its slot plus 1, and 0 where nobody waits. Costs O(1).
+    /// The semaphore in one number, laid out as `docs/LAYOUT.md` draws it: from bit 0 the permits that are out, in 16
+    /// bits; bits 16 and 17 clear; from bit 18 the newest waiter, by its slot plus 1, and 0 where there is no waiter. Costs O(1).
     pub fn word(&self) -> u64
         ensures number { result ≡ word_number count_bits (core_word self.now) }
         ensures read { word_of count_bits result ≡ core_word self.now }
@@ -134,7 +134,7 @@ impl<const MAX: usize> SemaphoreCoreOf<MAX> {
         self.core.needs().out == MAX
     }
 
-    /// Takes one permit if nobody waits and one is available; see [`Self::try_acquire_many`].
+    /// Takes one permit if there is no waiter and one is available; see [`Self::try_acquire_many`].
     pub fn try_acquire(&mut self) -> bool
         ensures calls { Calls self.old self.new (λ s. tried s (Permits 1)) result }
         ensures answer { IsTrue result ↔ ((self.old.slots.line ≡ []) × (1 ≤ available self.old.held)) }
@@ -145,9 +145,9 @@ impl<const MAX: usize> SemaphoreCoreOf<MAX> {
         self.try_acquire_many(1)
     }
 
-    /// Takes `count` permits if nobody waits and they are available; never waits itself. Costs O(1).
+    /// Takes `count` permits if there is no waiter and they are available; never waits itself. Costs O(1).
     ///
-    /// A count above the bound is never granted. 0 permits are refused too while somebody waits.
+    /// A count above the bound is never granted. 0 permits are refused too while there is a waiter.
     /// A `false` changes nothing. Rule: docs/DEFINITIONS.md, "Asking".
     pub fn try_acquire_many(&mut self, count: usize) -> bool
         ensures calls { Calls self.old self.new (λ s. tried s (Permits count)) result }
@@ -195,7 +195,7 @@ impl<const MAX: usize> SemaphoreCoreOf<MAX> {
 
     /// Registers an idle ticket for `count` permits, as sync or as async.
     ///
-    /// `Ok(true)`: it is answered at once, where nobody waits and the permits are available; or it waits, last in the
+    /// `Ok(true)`: it is answered at once, where there is no waiter and the permits are available; or it waits, last in the
     /// line, in a slot. `Ok(false)`: the ticket isn't idle, or the count is above the bound; nothing changes.
     /// `Err(Full)`: it would have to wait, and as many slots are held as there is room; nothing changes.
     /// Costs O(1). Rule: docs/DEFINITIONS.md, "Asking".
@@ -260,7 +260,7 @@ impl<const MAX: usize> SemaphoreCoreOf<MAX> {
     ///
     /// A waiter leaves the line, and those behind it are granted while they fit. A grant that wasn't consumed is given
     /// back as [`Self::release_many`] would. A ticket whose slot isn't held in this core changes nothing here.
-    /// Costs O(how many are granted), wherever a waiter stands.
+    /// Costs O(how many are granted) at any position.
     pub fn cancel(&mut self, ticket: &mut Ticket)
         ensures acts { Acts self.old self.new ticket.old ticket.new dropping result }
         ensures idle { ticket.new ≡ Unregistered }
@@ -272,8 +272,8 @@ impl<const MAX: usize> SemaphoreCoreOf<MAX> {
         self.core.cancel(ticket);
     }
 
-    /// The oldest wake that is owed, which is told by this: the slot that was answered first out of those that weren't told
-    /// yet; `None` exactly where none is owed. A slot comes once however often it was answered in between. Costs O(1).
+    /// Reports the oldest pending wake and takes it out: of the slots that weren't reported yet, the one that was answered
+    /// first. `None` exactly where none is pending. A slot comes once however often it was answered in between. Costs O(1).
     pub fn next_answered(&mut self) -> Option<u16>
         ensures oldest { result ≡ slice_get self.old.slots.owed 0 }
         ensures told { self.new ≡ record self.old { slots = wake_told self.old.slots } }

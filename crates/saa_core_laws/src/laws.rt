@@ -102,7 +102,7 @@ pub fn semaphore_stays_settled()
 
 /// A settled lock stays settled, as [`semaphore_stays_settled`] says it of a semaphore, and nobody waits while it is poisoned.
 ///
-/// The two are kept together: a lock that is poisoned while somebody waits stands settled until the poison is cleared.
+/// The two are kept together: a lock that is poisoned while there is a waiter is settled until the poison is cleared.
 pub fn lock_stays_settled()
     ensures command { (s : Object) (command : CommandOf LockCall Mode)
         → IsSettledLock s

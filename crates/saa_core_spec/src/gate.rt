@@ -5,7 +5,7 @@
 ghost use Rattle.std.specs.Prelude.{◌≡◌};
 ghost use Rattle.saa_core_spec.specs.Values.{state_number, number_state, error_number, number_error};
 
-/// How a gate treats those who enter.
+/// How a gate treats tasks that enter.
 #[derive(Clone, Copy, Debug, Eq, Ord, PartialEq, PartialOrd)]
 pub enum State {
     /// Those who enter wait until they are permitted or rejected. Its number is 0.
@@ -23,7 +23,7 @@ pub enum Error {
     Rejected,
     /// The gate is or was sealed. Its number is 8.
     Sealed,
-    /// Another waiter gave up, and all others were woken to ask again. Its number is 12.
+    /// Another waiter cancelled, and all others were woken to ask again. Its number is 12.
     SpuriousFailure,
     /// The ticket isn't registered in this gate. Its number is 16.
     NotRegistered,

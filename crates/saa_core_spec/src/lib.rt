@@ -1,6 +1,6 @@
 //! The sequential object that every form of `saa` is proved against, and the words that callers share with it.
 //!
-//! `specs/` holds the object: what is held, who waits, what each call answers and leaves. `docs/DEFINITIONS.md` reads it
+//! `specs/` has the sequential specification: what is held, the waiters, what each call answers and leaves. `docs/DEFINITIONS.md` reads it
 //! aloud. The modules here hold only the enums that it speaks of: what is asked, what is answered, and their numbers.
 #![tactic(auto)]
 

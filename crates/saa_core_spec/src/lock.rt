@@ -25,9 +25,9 @@ pub enum TryLockError {
 /// A call of a lock that needs no ticket.
 #[derive(Clone, Copy, Debug, Eq, PartialEq)]
 pub enum LockCall {
-    /// Takes the lock for one owner alone if nobody waits and it is free.
+    /// Takes the lock for one owner alone if there is no waiter and it is free.
     TryLock,
-    /// Takes a share if nobody waits and one is left.
+    /// Takes a share if there is no waiter and one is left.
     TryShare,
     /// Gives the lock of one owner back.
     ReleaseLock,

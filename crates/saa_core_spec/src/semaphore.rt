@@ -3,7 +3,7 @@
 /// A call of a semaphore that needs no ticket.
 #[derive(Clone, Copy, Debug, Eq, PartialEq)]
 pub enum SemaphoreCall {
-    /// Takes so many permits if nobody waits and they fit.
+    /// Takes so many permits if there is no waiter and they fit.
     TryAcquireMany(usize),
     /// Gives so many permits back.
     ReleaseMany(usize),

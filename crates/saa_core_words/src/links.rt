@@ -85,7 +85,7 @@ impl<K: Requests> Links<K> {
         self.waiting += 1;
     }
 
-    /// A place that waits leaves, wherever it stands. Costs O(1).
+    /// A place that waits leaves, at any position. Costs O(1).
     pub fn remove(&mut self, place: u16)
         requires { times place self.old.line ≡ 1 }
         ensures { self.new ≡ record self.old { line = without place self.old.line } }
@@ -98,7 +98,7 @@ impl<K: Requests> Links<K> {
         self.waiting -= 1;
     }
 
-    /// The oldest who waits leaves; `None` where nobody waits. Costs O(1).
+    /// The oldest waiter leaves; `None` where there is no waiter. Costs O(1).
     pub fn pop(&mut self) -> Option<(u16, Request)>
         ensures oldest { result ≡ slice_get self.old.line 0 }
         ensures left { self.new ≡ record self.old { line = drop 1 self.old.line } }
@@ -108,7 +108,7 @@ impl<K: Requests> Links<K> {
         Some((place, request))
     }
 
-    /// The oldest who waits, with what it asks; `None` where nobody waits. Costs O(1).
+    /// The oldest waiter, with what it asks; `None` where there is no waiter. Costs O(1).
     pub fn oldest(&self) -> Option<(u16, Request)>
         ensures oldest { result ≡ slice_get self.now.line 0 }
         ensures once { IfSome result (λ waiter. times waiter.0 self.now.line ≡ 1) }
@@ -120,7 +120,7 @@ impl<K: Requests> Links<K> {
         Some((place, K::read(load(&self.words, place).request)))
     }
 
-    /// The newest waiter, by its place plus 1; 0 where nobody waits. Costs O(1).
+    /// The newest waiter, by its place plus 1; 0 where there is no waiter. Costs O(1).
     pub fn tail(&self) -> u16
         ensures newest { result ≡ last_link 0 self.now.line }
         ensures nobody { (result ≡ 0) ↔ (self.now.line ≡ []) }

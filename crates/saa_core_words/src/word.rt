@@ -18,7 +18,7 @@ const COUNTS: u64 = 65_536;
 /// | n | set | clear | t | A place works on the line: something was given back or left since it was settled. |
 /// | 0 | clear | set | 0 | A poisoned lock: nothing is held, and nobody waits. |
 ///
-/// No other combination occurs: the flag is set only while somebody waits, and a poisoned lock's word is one number.
+/// No other combination occurs: the flag is set only while there is a waiter, and a poisoned lock's word is one number.
 #[derive(Clone, Copy, Debug, Eq, PartialEq)]
 pub struct Word {
     /// What is held: the permits that are out; of a lock 63 for one owner alone, and else how many share it.
@@ -27,7 +27,7 @@ pub struct Word {
     pub is_flagged: bool,
     /// Whether a lock is poisoned.
     pub is_poisoned: bool,
-    /// The newest waiter, by its place plus 1; 0 where nobody waits.
+    /// The newest waiter, by its place plus 1; 0 where there is no waiter.
     pub tail: u16,
 }
 

@@ -6,7 +6,7 @@ pub use saa_core_spec::polling::Error;
 /// A call at a place.
 #[derive(Clone, Copy, Debug, Eq, PartialEq)]
 pub enum WordCall {
-    /// Of a semaphore: takes so many permits if nobody waits and they are available.
+    /// Of a semaphore: takes so many permits if there is no waiter and they are available.
     Try(usize),
     /// Of a semaphore: asks for so many permits, and waits in line where it must.
     Register(usize),
@@ -14,9 +14,9 @@ pub enum WordCall {
     Release(usize),
     /// Of a semaphore: how many permits are available.
     Available,
-    /// Of a lock: takes it for one owner alone if nobody waits and it is free.
+    /// Of a lock: takes it for one owner alone if there is no waiter and it is free.
     TryLock,
-    /// Of a lock: takes a share if nobody waits and one is left.
+    /// Of a lock: takes a share if there is no waiter and one is left.
     TryShare,
     /// Of a lock: asks for it in a mode, and waits in line where it must.
     RegisterMode(Mode),

@@ -1,7 +1,7 @@
 //! How a line keeps the order of the waiters: what it needs of that, and the two ways that there are.
 //!
 //! [`Queue`] keeps them in a list, in which a slot is searched for that leaves. `Links` of `saa_core_words` keeps each with
-//! its two neighbours, so that a slot leaves at one cost wherever it stands; it keeps the requests of one form.
+//! its two neighbours, so that a slot leaves at one cost at any position; it keeps the requests of one form.
 
 ghost use Rattle.std.specs.Prelude.{◌≡◌, ◌+◌, ◌<◌, ◌≤◌, [], ◌∷◌, ◌++◌, length, drop, IsOk, IfOk, slice_get};
 ghost use Rattle.std.specs.VecDeque.{deque_capacity};
@@ -40,17 +40,17 @@ pub trait Order: Drop {
         requires kept { keeps request }
         ensures { waiters self.new ≡ record (waiters self.old) { line = (waiters self.old).line ++ (slot, request) ∷ [] } };
 
-    /// The oldest who waits leaves; `None` where nobody waits. Costs O(1).
+    /// The oldest waiter leaves; `None` where there is none. Costs O(1).
     fn pop(&mut self) -> Option<(u16, Request)>
         ensures oldest { result ≡ slice_get (waiters self.old).line 0 }
         ensures left { waiters self.new ≡ record (waiters self.old) { line = drop 1 (waiters self.old).line } };
 
-    /// A slot that waits leaves, wherever it stands. What that costs is what tells the ways apart.
+    /// A slot that waits leaves, from any position. Its cost is the difference between the two orders.
     fn remove(&mut self, slot: u16)
         requires { times slot (waiters self.old).line ≡ 1 }
         ensures { waiters self.new ≡ record (waiters self.old) { line = without slot (waiters self.old).line } };
 
-    /// The oldest who waits, with what it asks; `None` where nobody waits. Costs O(1).
+    /// The oldest waiter, with what it asks; `None` where there is none. Costs O(1).
     fn oldest(&self) -> Option<(u16, Request)>
         ensures { result ≡ slice_get (waiters self.now).line 0 };
 

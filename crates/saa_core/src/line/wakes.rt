@@ -1,7 +1,7 @@
-//! The wakes that a line owes: the slots that were answered since somebody last asked, oldest first.
+//! The pending wakes of a line: the answered slots that weren't reported yet, oldest first.
 //!
-//! A slot stands in the list at most once, so the list never outgrows the room that is reserved when it is made,
-//! whether or not anybody ever reads it. `specs/LineParts.antt` says what the two parts have to do with each other.
+//! A slot is in the list at most once, so the list never outgrows the room that is reserved when it is made,
+//! read or not. `specs/LineParts.antt` says what the two parts have to do with each other.
 //! Whom to wake is left to the callers of `Line`.
 
 ghost use Rattle.std.specs.Prelude.{◌≡◌, ◌<◌, [], IsOk, IfOk, IfSome, drop, slice_get};
