@@ -1,8 +1,7 @@
 //! Lines in which many wait: what it costs to drop one from the middle, to drop the newest, and to grant the oldest, with its
-//! release and its poll, at the core and at the form that threads share; and what a core costs whose line is held by links
-//! beside one whose line is a list, where nobody waits and where one does.
+//! release and its poll, at the core and at the form that threads share.
 
-use crate::measure::{Case, PASSES, print_row};
+use crate::measure::{Case, beside, nanos_since, print_row};
 use futures::Future;
 use futures::task::Context;
 use futures::test::MockTask;
@@ -16,14 +15,9 @@ use std::random::RandomSource;
 use std::rt::Runtime;
 use std::sync::Wait;
 use std::time::Instant;
-use test_support::listed::ListedSemaphore;
 
-// How often it happens in one measurement; of what takes a nanosecond, more often.
+// How often it happens in one measurement.
 const TIMES: u64 = 50_000;
-
-const TRIES: u64 = 5_000_000;
-
-const WAITS: u64 = 1_000_000;
 
 // How many wait in the shortest line, and in all of them.
 const SHORTEST: u16 = 64;
@@ -74,58 +68,59 @@ enum Form {
     Shared,
 }
 
-/// Prints what each action costs in each line, at both forms, beside the shortest line; and a core of links beside a list.
-pub fn rows<R: Runtime + RandomSource + AllocGlobal + Wait>(
+/// Prints what each action costs in each line, at both forms, beside the shortest line.
+pub fn print<R: Runtime + RandomSource + AllocGlobal + Wait>(
     rt: &R,
     alloc: Global,
 ) -> io::Result<()> {
     println!(rt; "in the line of a core   waiting          ns    of 64 ns  ratio")?;
-    for action in ACTIONS {
-        for waiting in LENGTHS {
-            row(rt, alloc, Form::Core, action, waiting)?;
-        }
-    }
+    print_form(rt, alloc, Form::Core)?;
     println!(rt; "in one that is shared   waiting          ns    of 64 ns  ratio")?;
-    for action in ACTIONS {
-        for waiting in LENGTHS {
-            row(rt, alloc, Form::Shared, action, waiting)?;
-        }
-    }
-    println!(rt; "at a core               threads    links ns     list ns  ratio")?;
-    uncontended(rt, alloc)?;
-    one_waits(rt, alloc)
+    print_form(rt, alloc, Form::Shared)
 }
 
-// An action in a line of so many, beside the shortest; how many wait stands where the threads do.
-fn row<R: Runtime + RandomSource + AllocGlobal + Wait>(
+// What each action costs at a form.
+fn print_form<R: Runtime + RandomSource + AllocGlobal + Wait>(
+    rt: &R,
+    alloc: Global,
+    form: Form,
+) -> io::Result<()> {
+    for action in ACTIONS {
+        print_action(rt, alloc, form, action)?;
+    }
+    Ok(())
+}
+
+// What an action costs in each line, beside the shortest; how many wait stands where the threads do.
+fn print_action<R: Runtime + RandomSource + AllocGlobal + Wait>(
     rt: &R,
     alloc: Global,
     form: Form,
     action: Action,
-    waiting: u16,
 ) -> io::Result<()> {
-    let case = Case {
-        what: action.name(),
-        threads: u64::from(waiting),
-        times: TIMES,
-    };
-    let mut times = Vec::with_capacity(alloc, PASSES)?;
-    let mut shortest = Vec::with_capacity(alloc, PASSES)?;
-    for _ in 0..PASSES {
-        times.push(nanos(rt, alloc, form, action, waiting)?)?;
-        shortest.push(nanos(rt, alloc, form, action, SHORTEST)?)?;
+    for waiting in LENGTHS {
+        let case = Case {
+            what: action.name(),
+            threads: u64::from(waiting),
+            times: TIMES,
+        };
+        let times = beside(
+            || nanos(rt, alloc, form, action, waiting),
+            || nanos(rt, alloc, form, action, SHORTEST),
+        );
+        print_row(rt, case, times)?;
     }
-    print_row(rt, case, &mut times, &mut shortest)
+    Ok(())
 }
 
-// How long an action takes so often, in nanoseconds.
+// How long an action takes so often, in nanoseconds; `None` where memory or the clock was refused.
 fn nanos<R: Runtime + RandomSource + AllocGlobal + Wait>(
     rt: &R,
     alloc: Global,
     form: Form,
     action: Action,
     waiting: u16,
-) -> io::Result<u64> {
+) -> Option<u64> {
     match form {
         Form::Core => core_nanos(rt, alloc, action, waiting),
         Form::Shared => shared_nanos(rt, alloc, action, waiting),
@@ -133,21 +128,31 @@ fn nanos<R: Runtime + RandomSource + AllocGlobal + Wait>(
 }
 
 // How long it takes so often at a core, in nanoseconds.
-fn core_nanos<R: Runtime>(rt: &R, alloc: Global, action: Action, waiting: u16) -> io::Result<u64> {
-    let mut core = SemaphoreCore::with_permits(alloc, 0, waiting)?;
-    let mut line = Vec::with_capacity(alloc, usize::from(waiting))?;
-    for _place in 0..waiting {
-        let mut ticket = Ticket::new();
-        let _joined = core.register(&mut ticket, 1, true);
-        line.push(ticket)?;
-    }
-    let start = Instant::now(rt)?;
+fn core_nanos<R: Runtime>(rt: &R, alloc: Global, action: Action, waiting: u16) -> Option<u64> {
+    let mut core = SemaphoreCore::with_permits(alloc, 0, waiting).ok()?;
+    let mut line = tickets(alloc, &mut core, waiting).ok()?;
+    let start = Instant::now(rt).ok()?;
     for turn in 0..TIMES {
         if let Some(ticket) = line.get_mut(action.place(turn, waiting)) {
             act(&mut core, ticket, action);
         }
     }
     nanos_since(rt, start)
+}
+
+// So many tickets that wait for a permit.
+fn tickets(
+    alloc: Global,
+    core: &mut SemaphoreCore,
+    waiting: u16,
+) -> Result<Vec<Ticket>, AllocError> {
+    let mut line = Vec::with_capacity(alloc, usize::from(waiting))?;
+    for _place in 0..waiting {
+        let mut ticket = Ticket::new();
+        let _joined = core.register(&mut ticket, 1, true);
+        line.push(ticket)?;
+    }
+    Ok(line)
 }
 
 // One turn of an action at a core.
@@ -169,12 +174,13 @@ fn shared_nanos<R: Runtime + RandomSource + AllocGlobal + Wait>(
     alloc: Global,
     action: Action,
     waiting: u16,
-) -> io::Result<u64> {
-    let task = MockTask::new(rt)?;
-    let semaphore = Semaphore::with_permits(rt, alloc, 0, waiting)?;
-    let mut line = Vec::with_capacity(alloc, usize::from(waiting))?;
-    task.enter(|cx| join(cx, &semaphore, &mut line, waiting))?;
-    let start = Instant::now(rt)?;
+) -> Option<u64> {
+    let task = MockTask::new(rt).ok()?;
+    let semaphore = Semaphore::with_permits(rt, alloc, 0, waiting).ok()?;
+    let mut line = Vec::with_capacity(alloc, usize::from(waiting)).ok()?;
+    task.enter(|cx| join(cx, &semaphore, &mut line, waiting))
+        .ok()?;
+    let start = Instant::now(rt).ok()?;
     task.enter(|cx| act_often(cx, &semaphore, &mut line, action));
     nanos_since(rt, start)
 }
@@ -212,154 +218,4 @@ fn act_often<'s, R: Wait + Drop>(
             let _joined = one.poll(cx);
         }
     }
-}
-
-// What is timed at a core of either kind. Both go through the loops below, so that neither is compiled into what stands round it.
-trait Timed {
-    fn try_many(&mut self, count: usize) -> bool;
-
-    fn give_many(&mut self, count: usize);
-
-    // Takes note of whom the release answered, as a form does before it wakes them.
-    fn tell(&mut self);
-
-    fn take_answer(&mut self, ticket: &mut Ticket);
-
-    fn join_line(&mut self, ticket: &mut Ticket, count: usize);
-}
-
-impl Timed for SemaphoreCore {
-    fn try_many(&mut self, count: usize) -> bool {
-        self.try_acquire_many(count)
-    }
-
-    fn give_many(&mut self, count: usize) {
-        let _given = self.release_many(count);
-    }
-
-    fn tell(&mut self) {
-        let _told = self.next_answered();
-    }
-
-    fn take_answer(&mut self, ticket: &mut Ticket) {
-        let _granted = self.poll(ticket, How::Sync);
-    }
-
-    fn join_line(&mut self, ticket: &mut Ticket, count: usize) {
-        let _joined = self.register(ticket, count, true);
-    }
-}
-
-impl Timed for ListedSemaphore {
-    fn try_many(&mut self, count: usize) -> bool {
-        self.try_acquire_many(count)
-    }
-
-    fn give_many(&mut self, count: usize) {
-        let _given = self.release_many(count);
-    }
-
-    fn tell(&mut self) {
-        let _told = self.next_answered();
-    }
-
-    fn take_answer(&mut self, ticket: &mut Ticket) {
-        let _granted = self.poll(ticket, How::Sync);
-    }
-
-    fn join_line(&mut self, ticket: &mut Ticket, count: usize) {
-        let _joined = self.register(ticket, count, true);
-    }
-}
-
-// A try, and the release of what the turn before took, at a core whose line is held by links beside one whose line is a list.
-fn uncontended<R: Runtime>(rt: &R, alloc: Global) -> io::Result<()> {
-    let mut linked = SemaphoreCore::new(alloc, SHORTEST)?;
-    let mut listed = ListedSemaphore::new(alloc, SHORTEST)?;
-    let (mut linked_out, mut listed_out) = (0, 0);
-    let mut linked_times = Vec::with_capacity(alloc, PASSES)?;
-    let mut listed_times = Vec::with_capacity(alloc, PASSES)?;
-    for _ in 0..PASSES {
-        let start = Instant::now(rt)?;
-        linked_out = take_tries(&mut linked, linked_out);
-        linked_times.push(nanos_since(rt, start)?)?;
-        let start = Instant::now(rt)?;
-        listed_out = take_tries(&mut listed, listed_out);
-        listed_times.push(nanos_since(rt, start)?)?;
-    }
-    let case = Case {
-        what: "try and release",
-        threads: 1,
-        times: TRIES,
-    };
-    print_row(rt, case, &mut linked_times, &mut listed_times)?;
-    // What is said of the last turn keeps the turns from being worked out before they are made, or left out.
-    println!(rt; "of which the last turn took {linked_out} and {listed_out}")
-}
-
-// Takes permits in turns, each of which gives back what the one before took, and returns how many the last one took. It stands by
-// itself, since two such loops in one function are laid out by what else stands there: the same steps then took up to twice as long.
-#[inline(never)]
-fn take_tries<T: Timed>(core: &mut T, taken_before: usize) -> usize {
-    let mut taken = taken_before;
-    for turn in 0..TRIES {
-        let count = count_of(turn);
-        let is_taken = core.try_many(count);
-        core.give_many(taken);
-        taken = if is_taken { count } else { 0 };
-    }
-    taken
-}
-
-// A task that waits alone, is granted and takes its answer, at the same two cores.
-fn one_waits<R: Runtime>(rt: &R, alloc: Global) -> io::Result<()> {
-    let mut linked = SemaphoreCore::with_permits(alloc, 0, SHORTEST)?;
-    let mut listed = ListedSemaphore::new(alloc, SHORTEST)?;
-    let _all = listed.try_acquire_many(63);
-    let (mut one, mut other) = (Ticket::new(), Ticket::new());
-    linked.join_line(&mut one, 1);
-    listed.join_line(&mut other, 1);
-    let (mut linked_asked, mut listed_asked) = (1, 1);
-    let mut linked_times = Vec::with_capacity(alloc, PASSES)?;
-    let mut listed_times = Vec::with_capacity(alloc, PASSES)?;
-    for _ in 0..PASSES {
-        let start = Instant::now(rt)?;
-        linked_asked = wait_turns(&mut linked, &mut one, linked_asked);
-        linked_times.push(nanos_since(rt, start)?)?;
-        let start = Instant::now(rt)?;
-        listed_asked = wait_turns(&mut listed, &mut other, listed_asked);
-        listed_times.push(nanos_since(rt, start)?)?;
-    }
-    let case = Case {
-        what: "wait and be granted",
-        threads: 1,
-        times: WAITS,
-    };
-    print_row(rt, case, &mut linked_times, &mut listed_times)?;
-    println!(rt; "of which the last turn asked for {linked_asked} and {listed_asked}")
-}
-
-// Grants who waits alone what it asked for, has it take its answer, and has it join anew; returns what it asked for at last.
-// It isn't always as many, so that to join isn't compiled for one number.
-#[inline(never)]
-fn wait_turns<T: Timed>(core: &mut T, ticket: &mut Ticket, asked_before: usize) -> usize {
-    let mut asked = asked_before;
-    for turn in 0..WAITS {
-        core.give_many(asked);
-        core.tell();
-        core.take_answer(ticket);
-        asked = count_of(turn).max(1);
-        core.join_line(ticket, asked);
-    }
-    asked
-}
-
-// How many permits a turn asks for: not always as many, so that a call isn't worked out before it is made, and few enough for two turns.
-fn count_of(turn: u64) -> usize {
-    (turn % 32) as usize
-}
-
-// How long it is since then, in nanoseconds.
-fn nanos_since<R: Runtime>(rt: &R, start: Instant) -> io::Result<u64> {
-    Ok(u64::try_from(start.elapsed(rt)?.as_nanos()).unwrap_or(u64::MAX))
 }

@@ -1,6 +1,6 @@
 //! Locks that are measured: ours, and std's `RwLock`, each in turns that are all exclusive or mostly shared.
 
-use crate::measure::Turn;
+use crate::rows::Turn;
 use saa_sync::lock::Lock;
 use std::sync::{RwLock, Wait};
 

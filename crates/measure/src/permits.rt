@@ -1,6 +1,6 @@
 //! Permits that are measured: a semaphore's, and a plain counter's; and what two turns at a lock cost alone.
 
-use crate::measure::Turn;
+use crate::rows::Turn;
 use saa_sync::semaphore::SemaphoreOf;
 use std::sync::{Condvar, Mutex, Wait};
 

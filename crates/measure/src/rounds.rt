@@ -1,10 +1,14 @@
 //! Rounds that are measured: a barrier's, and a gate that lets all who wait pass; and each by a counter under std's
 //! `Mutex` and `Condvar`.
 
-use crate::measure::Turn;
+use crate::measure::{Case, nanos_since};
+use crate::rows::Turn;
 use saa_sync::barrier::Barrier;
 use saa_sync::gate::Gate;
+use std::rt::Runtime;
 use std::sync::{Condvar, Mutex, Wait};
+use std::thread::{self, Threads, yield_now};
+use std::time::Instant;
 
 impl<R: Wait + Drop + Sync> Turn for Barrier<R> {
     fn take_turn(&self, _number: u64) {
@@ -126,5 +130,47 @@ impl<R: Wait + Drop + Sync> Passage for PlainGate<R> {
         };
         self.passed.notify_all();
         answered
+    }
+}
+
+/// How long it takes until all have entered as often as they are let pass, in nanoseconds; `None` where the clock was refused.
+pub fn passings_nanos<R: Runtime + Threads + Wait + Sync, G: Passage>(
+    rt: &R,
+    gate: &G,
+    case: Case<'_>,
+) -> Option<u64> {
+    let times = case.times;
+    let start = Instant::now(rt).ok()?;
+    thread::scope(thread::scope_env(), rt, |scope| {
+        let mut awaited = 0u64;
+        for _ in 0..case.threads {
+            if scope.spawn(move || enter_often(gate, times)).is_ok() {
+                awaited = awaited.saturating_add(times);
+            }
+        }
+        let_all_through(rt, gate, awaited);
+    });
+    nanos_since(rt, start)
+}
+
+// Lets through who waits, until so many have passed.
+fn let_all_through<R: Wait, G: Passage>(rt: &R, gate: &G, all: u64) {
+    let mut awaited = all;
+    for _ in rt.forever() {
+        if awaited == 0 {
+            break;
+        }
+        let passed = gate.let_through() as u64;
+        awaited = awaited.saturating_sub(passed);
+        if passed == 0 {
+            yield_now();
+        }
+    }
+}
+
+// Enters so often.
+fn enter_often<G: Passage>(gate: &G, times: u64) {
+    for _ in 0..times {
+        gate.enter();
     }
 }

@@ -1,6 +1,7 @@
 //! Futures that are measured: one that is granted at once, polled by hand; and how often tasks that contend are polled for
 //! nothing.
 
+use crate::measure::nanos_since;
 use crate::permits::{PERMITS, TAKEN};
 use futures::Future;
 use futures::executor::block_on;
@@ -19,17 +20,21 @@ use std::{io, thread};
 // The room of the semaphore at which tasks contend.
 const ROOM: u16 = 32;
 
-/// How long so many turns of a future take that is granted at once, and its release, in nanoseconds.
-pub fn alone_nanos<R: Runtime + RandomSource + AllocGlobal + Wait>(
+// How often a future is granted, takes its answer and joins anew in one measurement.
+const GRANTS: u64 = 50_000;
+
+/// How long so many turns of a future take that is granted at once, and its release, in nanoseconds; `None` where memory or the clock
+/// was refused.
+pub fn task_nanos<R: Runtime + RandomSource + AllocGlobal + Wait>(
     rt: &R,
     alloc: Global,
     times: u64,
-) -> io::Result<u64> {
-    let task = MockTask::new(rt)?;
-    let semaphore = Semaphore::with_permits(rt, alloc, PERMITS, 1)?;
-    let start = Instant::now(rt)?;
+) -> Option<u64> {
+    let task = MockTask::new(rt).ok()?;
+    let semaphore = Semaphore::with_permits(rt, alloc, PERMITS, 1).ok()?;
+    let start = Instant::now(rt).ok()?;
     task.enter(|cx| take_turns(cx, &semaphore, times));
-    Ok(u64::try_from(start.elapsed(rt)?.as_nanos()).unwrap_or(u64::MAX))
+    nanos_since(rt, start)
 }
 
 // Polls so many futures in turn, each of which is granted at once, and gives back what each took.
@@ -62,28 +67,37 @@ impl<F: Future> Future for Counted<'_, F> {
     }
 }
 
-/// How often tasks in so many threads, which take so many turns together, are polled though they neither join the line
-/// nor are answered.
-pub fn idle_polls<R: Runtime + RandomSource + AllocGlobal + Threads + Wait + Sync>(
+/// Prints for some numbers of threads how often tasks that contend are polled for nothing.
+pub fn print_idle_polls<R: Runtime + RandomSource + AllocGlobal + Threads + Wait + Sync>(
     rt: &R,
     alloc: Global,
-    threads: u64,
-    times: u64,
-) -> io::Result<u64> {
-    let semaphore = Semaphore::with_permits(rt, alloc, PERMITS, ROOM)?;
+) -> io::Result<()> {
+    for threads in [2, 4, 8] {
+        let semaphore = Semaphore::with_permits(rt, alloc, PERMITS, ROOM)?;
+        let idle = idle_polls(rt, &semaphore, threads);
+        println!(rt; "tasks in {threads} threads, {GRANTS} turns: {idle} polls for nothing")?;
+    }
+    Ok(())
+}
+
+// How often tasks in so many threads are polled though they neither join the line nor are answered.
+fn idle_polls<
+    R: Runtime + RandomSource + AllocGlobal + Threads + Wait + Sync,
+    S: Wait + Drop + Sync,
+>(rt: &R, semaphore: &Semaphore<S>, threads: u64) -> u64 {
     let (polls, events) = (AtomicU64::new(0), AtomicU64::new(0));
-    let (shared, polled, happened) = (&semaphore, &polls, &events);
-    let turns = times.checked_div(threads).unwrap_or(0);
+    let (polled, happened) = (&polls, &events);
+    let turns = GRANTS.checked_div(threads).unwrap_or(0);
     thread::scope(thread::scope_env(), rt, |scope| {
         for _ in 0..threads {
-            let work = move || contend(rt, shared, turns, polled, happened);
+            let work = move || contend(rt, semaphore, turns, polled, happened);
             if scope.spawn(work).is_err() {
-                contend(rt, shared, turns, polled, happened);
+                contend(rt, semaphore, turns, polled, happened);
             }
         }
     });
     let needed = events.load(Ordering::SeqCst);
-    Ok(polls.load(Ordering::SeqCst).saturating_sub(needed))
+    polls.load(Ordering::SeqCst).saturating_sub(needed)
 }
 
 // Takes so many turns as a task, and counts its polls, and how often it joins the line or is answered.
