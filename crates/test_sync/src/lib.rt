@@ -24,6 +24,8 @@ mod seats;
 #[cfg(test)]
 mod semaphores;
 #[cfg(test)]
+mod stories;
+#[cfg(test)]
 mod threads;
 #[cfg(test)]
 mod waits;

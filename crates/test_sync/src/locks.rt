@@ -1,7 +1,17 @@
 //! The threaded lock: its stories, waits that are held back, and readers that never meet a writer.
 
+use crate::locks::LockCall::{
+    Cancel, ClearPoison, Downgrade, IsFree, IsLocked, IsPoisoned, IsShared, LockSync, LockSyncWith,
+    PoisonLock, PollSync, Register, ReleaseLock, ReleaseShare, Runs, ShareSync, ShareSyncWith,
+    TryLock, TryPoll, TryShare,
+};
+use crate::stories::Told::{Asked, Count, Is, Nothing, Polled, Tried};
+use crate::stories::Who::{One, Two};
+use crate::stories::{Desk, Form, Told, Who, first_other};
+use saa_core::ticket::Full;
 use saa_sync::lock::{Lock, Mode, TryLockError};
-use saa_sync::pager::{Pager, SyncResult};
+use saa_sync::pager::{Error, SyncResult};
+use std::alloc::{AllocError, Global};
 use std::sync::Wait;
 use std::sync::atomic::{AtomicBool, AtomicU64, Ordering};
 use std::test::Fail;
@@ -12,86 +22,167 @@ use test_asserts::{holds, same};
 // How often the main thread looks whether a call that must wait has returned.
 const TURNS: u32 = 10_000;
 
+// A call at a lock, or at a pager of it.
+#[derive(Clone, Copy)]
+pub(crate) enum LockCall {
+    IsFree,
+    IsLocked,
+    IsShared,
+    IsPoisoned,
+    TryLock,
+    TryShare,
+    LockSync,
+    ShareSync,
+    // With a callback that counts its runs.
+    LockSyncWith,
+    ShareSyncWith,
+    // How often a callback ran.
+    Runs,
+    ReleaseLock,
+    ReleaseShare,
+    Downgrade,
+    PoisonLock,
+    ClearPoison,
+    Register(Who, Mode, bool),
+    PollSync(Who),
+    TryPoll(Who),
+    Cancel(Who),
+}
+
+impl<R: Wait + Drop> Form for Lock<R> {
+    type Call = LockCall;
+
+    fn answer(desk: &mut Desk<'_, Self>, call: LockCall) -> Told {
+        let mo = Ordering::SeqCst;
+        let lock = desk.form;
+        match call {
+            IsFree => Is(lock.is_free(mo)),
+            IsLocked => Is(lock.is_locked(mo)),
+            IsShared => Is(lock.is_shared(mo)),
+            IsPoisoned => Is(lock.is_poisoned(mo)),
+            TryLock => Tried(lock.try_lock()),
+            TryShare => Tried(lock.try_share()),
+            LockSync => Asked(lock.lock_sync()),
+            ShareSync => Asked(lock.share_sync()),
+            LockSyncWith => Asked(lock.lock_sync_with(|| desk.count_run())),
+            ShareSyncWith => Asked(lock.share_sync_with(|| desk.count_run())),
+            Runs => desk.counted(),
+            ReleaseLock => Is(lock.release_lock()),
+            ReleaseShare => Is(lock.release_share()),
+            Downgrade => Is(lock.downgrade()),
+            PoisonLock => Is(lock.poison_lock()),
+            ClearPoison => Is(lock.clear_poison()),
+            Register(who, mode, is_sync) => {
+                Asked(lock.register_pager(desk.pager(who), mode, is_sync))
+            }
+            PollSync(who) => Polled(desk.pager(who).poll_sync()),
+            TryPoll(who) => Polled(desk.pager(who).try_poll()),
+            Cancel(who) => desk.cancelled(who),
+        }
+    }
+}
+
+// Plays a story at a fresh lock with room for so many waiters; the first row that was told otherwise.
+pub(crate) fn played<R: Wait + Drop>(
+    rt: R,
+    alloc: Global,
+    room: u16,
+    story: &[(LockCall, Told)],
+) -> Result<Option<(usize, Told)>, AllocError> {
+    Ok(first_other(&Lock::new(rt, alloc, room)?, story))
+}
+
+const TAKEN_REFUSED_AND_POISONED: [(LockCall, Told); 22] = [
+    (IsFree, Is(true)),
+    (IsShared, Is(false)),
+    (TryLock, Tried(Ok(()))),
+    (IsLocked, Is(true)),
+    (TryLock, Tried(Err(TryLockError::WouldBlock))),
+    (TryShare, Tried(Err(TryLockError::WouldBlock))),
+    (ReleaseShare, Is(false)),
+    (ReleaseLock, Is(true)),
+    (LockSync, Asked(Ok(true))),
+    (PoisonLock, Is(true)),
+    (IsPoisoned, Is(true)),
+    (LockSync, Asked(Ok(false))),
+    (ShareSync, Asked(Ok(false))),
+    (TryLock, Tried(Err(TryLockError::Poisoned))),
+    (ClearPoison, Is(true)),
+    (ClearPoison, Is(false)),
+    (ShareSync, Asked(Ok(true))),
+    (TryShare, Tried(Ok(()))),
+    (IsShared, Is(true)),
+    (ReleaseShare, Is(true)),
+    (ReleaseShare, Is(true)),
+    (ReleaseShare, Is(false)),
+];
+
 #[test]
 fn a_lock_is_taken_refused_and_poisoned(rt: HostRuntime) -> Result<(), Fail> {
-    let mo = Ordering::SeqCst;
-    let lock = Lock::new(&rt, rt.alloc(), 4)?;
-    holds!(rt; lock.is_free(mo) && !lock.is_shared(mo));
-    same!(rt; lock.try_lock(), Ok(()));
-    holds!(rt; lock.is_locked(mo));
-    same!(rt; lock.try_lock(), Err(TryLockError::WouldBlock));
-    same!(rt; lock.try_share(), Err(TryLockError::WouldBlock));
-    holds!(rt; !lock.release_share());
-    holds!(rt; lock.release_lock());
-    same!(rt; lock.lock_sync(), Ok(true));
-    holds!(rt; lock.poison_lock());
-    holds!(rt; lock.is_poisoned(mo));
-    same!(rt; lock.lock_sync(), Ok(false));
-    same!(rt; lock.share_sync(), Ok(false));
-    same!(rt; lock.try_lock(), Err(TryLockError::Poisoned));
-    holds!(rt; lock.clear_poison());
-    holds!(rt; !lock.clear_poison());
-    same!(rt; lock.share_sync(), Ok(true));
-    same!(rt; lock.try_share(), Ok(()));
-    holds!(rt; lock.is_shared(mo));
-    holds!(rt; lock.release_share() && lock.release_share() && !lock.release_share());
+    same!(rt; played(&rt, rt.alloc(), 4, &TAKEN_REFUSED_AND_POISONED)?, None);
     Ok(())
 }
+
+// The first pager is a reader's, the second a writer's.
+const AN_OWNER_BECOMES_A_SHARER: [(LockCall, Told); 16] = [
+    (Downgrade, Is(false)),
+    (IsFree, Is(true)),
+    (TryLock, Tried(Ok(()))),
+    (Register(One, Mode::Shared, true), Asked(Ok(true))),
+    (Register(Two, Mode::Exclusive, true), Asked(Ok(true))),
+    (Downgrade, Is(true)),
+    (IsShared, Is(true)),
+    (Downgrade, Is(false)),
+    (PollSync(One), Polled(Ok(true))),
+    (TryPoll(Two), Polled(Err(Error::NotReady))),
+    (ReleaseShare, Is(true)),
+    (ReleaseShare, Is(true)),
+    (PollSync(Two), Polled(Ok(true))),
+    (PoisonLock, Is(true)),
+    (Downgrade, Is(false)),
+    (IsPoisoned, Is(true)),
+];
 
 #[test]
 fn an_owner_becomes_a_sharer(rt: HostRuntime) -> Result<(), Fail> {
-    let mo = Ordering::SeqCst;
-    let lock = Lock::new(&rt, rt.alloc(), 4)?;
-    holds!(rt; !lock.downgrade() && lock.is_free(mo));
-    same!(rt; lock.try_lock(), Ok(()));
-    let mut reader = Pager::new();
-    let mut writer = Pager::new();
-    same!(rt; lock.register_pager(&mut reader, Mode::Shared, true), Ok(true));
-    same!(rt; lock.register_pager(&mut writer, Mode::Exclusive, true), Ok(true));
-    holds!(rt; lock.downgrade());
-    holds!(rt; lock.is_shared(mo) && !lock.downgrade());
-    same!(rt; reader.poll_sync(), Ok(true));
-    same!(rt; writer.try_poll(), Err(saa_sync::pager::Error::NotReady));
-    holds!(rt; lock.release_share() && lock.release_share());
-    same!(rt; writer.poll_sync(), Ok(true));
-    holds!(rt; lock.poison_lock());
-    holds!(rt; !lock.downgrade() && lock.is_poisoned(mo));
+    same!(rt; played(&rt, rt.alloc(), 4, &AN_OWNER_BECOMES_A_SHARER)?, None);
     Ok(())
 }
+
+const A_FULL_ROOM: [(LockCall, Told); 6] = [
+    (LockSyncWith, Asked(Ok(true))),
+    (LockSync, Asked(Err(Full))),
+    (ShareSyncWith, Asked(Err(Full))),
+    (ReleaseLock, Is(true)),
+    (ShareSyncWith, Asked(Ok(true))),
+    (Runs, Count(0)),
+];
 
 #[test]
 fn a_full_room_refuses_and_runs_no_callback(rt: HostRuntime) -> Result<(), Fail> {
-    let lock = Lock::new(&rt, rt.alloc(), 0)?;
-    let runs = AtomicU64::new(0);
-    let count_run = || {
-        runs.fetch_add(1, Ordering::SeqCst);
-    };
-    same!(rt; lock.lock_sync_with(count_run), Ok(true));
-    holds!(rt; lock.lock_sync().is_err());
-    holds!(rt; lock.share_sync_with(count_run).is_err());
-    holds!(rt; lock.release_lock());
-    same!(rt; lock.share_sync_with(count_run), Ok(true));
-    same!(rt; runs.load(Ordering::SeqCst), 0);
+    same!(rt; played(&rt, rt.alloc(), 0, &A_FULL_ROOM)?, None);
     Ok(())
 }
 
+const A_PAGER_OF_A_LOCK: [(LockCall, Told); 13] = [
+    (Register(One, Mode::Exclusive, true), Asked(Ok(true))),
+    (Register(One, Mode::Exclusive, true), Asked(Ok(false))),
+    (Cancel(One), Nothing),
+    (IsFree, Is(true)),
+    (Register(One, Mode::Shared, false), Asked(Ok(true))),
+    (PollSync(One), Polled(Err(Error::WrongMode))),
+    (TryPoll(One), Polled(Ok(true))),
+    (IsShared, Is(true)),
+    (ReleaseShare, Is(true)),
+    (TryLock, Tried(Ok(()))),
+    (Register(One, Mode::WaitShared, true), Asked(Ok(true))),
+    (PoisonLock, Is(true)),
+    (PollSync(One), Polled(Ok(false))),
+];
+
 #[test]
 fn a_pager_of_a_lock_is_granted_poisoned_and_dropped(rt: HostRuntime) -> Result<(), Fail> {
-    let mo = Ordering::SeqCst;
-    let lock = Lock::new(&rt, rt.alloc(), 4)?;
-    let mut one = Pager::new();
-    same!(rt; lock.register_pager(&mut one, Mode::Exclusive, true), Ok(true));
-    same!(rt; lock.register_pager(&mut one, Mode::Exclusive, true), Ok(false));
-    one.cancel();
-    holds!(rt; lock.is_free(mo));
-    same!(rt; lock.register_pager(&mut one, Mode::Shared, false), Ok(true));
-    same!(rt; one.poll_sync(), Err(saa_sync::pager::Error::WrongMode));
-    same!(rt; one.try_poll(), Ok(true));
-    holds!(rt; lock.is_shared(mo) && lock.release_share());
-    same!(rt; lock.try_lock(), Ok(()));
-    same!(rt; lock.register_pager(&mut one, Mode::WaitShared, true), Ok(true));
-    holds!(rt; lock.poison_lock());
-    same!(rt; one.poll_sync(), Ok(false));
+    same!(rt; played(&rt, rt.alloc(), 4, &A_PAGER_OF_A_LOCK)?, None);
     Ok(())
 }
 
@@ -118,7 +209,7 @@ fn sixty_two_share_and_no_more(rt: HostRuntime) -> Result<(), Fail> {
 fn values_read_as_their_table(rt: HostRuntime) {
     same!(rt; <Lock<&HostRuntime> as SyncResult>::to_result(0, None), Ok(true));
     same!(rt; <Lock<&HostRuntime> as SyncResult>::to_result(2, None), Ok(false));
-    same!(rt; <Lock<&HostRuntime> as SyncResult>::to_result(0, Some(saa_sync::pager::Error::NotReady)), Err(saa_sync::pager::Error::NotReady));
+    same!(rt; <Lock<&HostRuntime> as SyncResult>::to_result(0, Some(Error::NotReady)), Err(Error::NotReady));
 }
 
 // Waits until a call joined, and looks so often whether it has returned; how often it had.

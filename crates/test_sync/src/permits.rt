@@ -1,7 +1,14 @@
 //! What a caller is told who can't have what it asks: no permit though the room is full, no share that is the lock.
 
+use crate::locks;
+use crate::locks::LockCall;
+use crate::locks::LockCall::{
+    IsShared, LockSync, LockSyncWith, ReleaseShare, ShareSync, ShareSyncWith, TryLock,
+};
+use crate::stories::Told;
+use crate::stories::Told::{Asked, Is, Tried};
 use saa_core::ticket::Full;
-use saa_sync::lock::{Lock, TryLockError};
+use saa_sync::lock::TryLockError;
 use saa_sync::semaphore::Semaphore;
 use std::sync::atomic::Ordering;
 use std::test::Fail;
@@ -37,21 +44,26 @@ fn a_permit_is_kept_or_given_back(rt: HostRuntime) -> Result<(), Fail> {
     Ok(())
 }
 
+const CALLS_THAT_SHARE: [(LockCall, Told); 15] = [
+    (ShareSync, Asked(Ok(true))),
+    (ShareSyncWith, Asked(Ok(true))),
+    (ShareSync, Asked(Ok(true))),
+    (IsShared, Is(true)),
+    (LockSync, Asked(Err(Full))),
+    (LockSyncWith, Asked(Err(Full))),
+    (TryLock, Tried(Err(TryLockError::WouldBlock))),
+    (ReleaseShare, Is(true)),
+    (TryLock, Tried(Err(TryLockError::WouldBlock))),
+    (ReleaseShare, Is(true)),
+    (TryLock, Tried(Err(TryLockError::WouldBlock))),
+    (ReleaseShare, Is(true)),
+    (LockSync, Asked(Ok(true))),
+    (ShareSync, Asked(Err(Full))),
+    (ShareSyncWith, Asked(Err(Full))),
+];
+
 #[test]
 fn calls_that_share_take_shares(rt: HostRuntime) -> Result<(), Fail> {
-    let lock = Lock::new(&rt, rt.alloc(), 0)?;
-    same!(rt; lock.share_sync(), Ok(true));
-    same!(rt; lock.share_sync_with(|| {}), Ok(true));
-    same!(rt; lock.share_sync(), Ok(true));
-    holds!(rt; lock.is_shared(Ordering::SeqCst));
-    same!(rt; lock.lock_sync(), Err(Full));
-    same!(rt; lock.lock_sync_with(|| {}), Err(Full));
-    for _share in 0..3 {
-        same!(rt; lock.try_lock(), Err(TryLockError::WouldBlock));
-        holds!(rt; lock.release_share());
-    }
-    same!(rt; lock.lock_sync(), Ok(true));
-    same!(rt; lock.share_sync(), Err(Full));
-    same!(rt; lock.share_sync_with(|| {}), Err(Full));
+    same!(rt; locks::played(&rt, rt.alloc(), 0, &CALLS_THAT_SHARE)?, None);
     Ok(())
 }
