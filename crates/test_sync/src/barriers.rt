@@ -1,7 +1,15 @@
 //! The threaded barrier: its stories, a wait that is held back, rounds of eight threads, and an arrival that is taken back.
 
+use crate::barriers::BarrierCall::{
+    Cancel, Missing, PollSync, Register, Runs, TryPoll, WaitSync, WaitSyncWith,
+};
+use crate::stories::Told::{Asked, Count, Nothing, Polled};
+use crate::stories::Who::{Four, One, Three, Two};
+use crate::stories::{Desk, Form, Told, Who, first_other};
+use saa_core::ticket::Full;
 use saa_sync::barrier::Barrier;
 use saa_sync::pager::{Error, Pager, SyncResult};
+use std::alloc::{AllocError, Global};
 use std::sync::Wait;
 use std::sync::atomic::{AtomicBool, AtomicU64, Ordering};
 use std::test::Fail;
@@ -17,121 +25,169 @@ const THREADS: u64 = 8;
 
 const ROUNDS: u64 = 4;
 
+// A call at a barrier, or at a pager of it.
+#[derive(Clone, Copy)]
+pub(crate) enum BarrierCall {
+    // How many arrivals are missing.
+    Missing,
+    WaitSync,
+    // With a callback that counts its runs.
+    WaitSyncWith,
+    // How often a callback ran.
+    Runs,
+    Register(Who, bool),
+    PollSync(Who),
+    TryPoll(Who),
+    Cancel(Who),
+}
+
+impl<R: Wait + Drop> Form for Barrier<R> {
+    type Call = BarrierCall;
+
+    fn answer(desk: &mut Desk<'_, Self>, call: BarrierCall) -> Told {
+        let barrier = desk.form;
+        match call {
+            Missing => Count(barrier.count(Ordering::SeqCst)),
+            WaitSync => Asked(barrier.wait_sync()),
+            WaitSyncWith => Asked(barrier.wait_sync_with(|| desk.count_run())),
+            Runs => desk.counted(),
+            Register(who, is_sync) => Asked(barrier.register_pager(desk.pager(who), is_sync)),
+            PollSync(who) => Polled(desk.pager(who).poll_sync()),
+            TryPoll(who) => Polled(desk.pager(who).try_poll()),
+            Cancel(who) => desk.cancelled(who),
+        }
+    }
+}
+
+// Plays a story at a barrier of this size with room for so many waiters; the first row that was told otherwise.
+fn played<R: Wait + Drop>(
+    rt: R,
+    alloc: Global,
+    size: usize,
+    room: u16,
+    story: &[(BarrierCall, Told)],
+) -> Result<Option<(usize, Told)>, AllocError> {
+    Ok(first_other(&Barrier::with_count(rt, alloc, size, room)?, story))
+}
+
+const A_DROPPED_ARRIVAL: [(BarrierCall, Told); 14] = [
+    (Register(One, true), Asked(Ok(true))),
+    (Register(Two, true), Asked(Ok(true))),
+    (Register(Two, true), Asked(Ok(false))),
+    (Missing, Count(1)),
+    (Cancel(One), Nothing),
+    (Missing, Count(2)),
+    (Register(Three, true), Asked(Ok(true))),
+    (TryPoll(Three), Polled(Err(Error::NotReady))),
+    (Register(Four, true), Asked(Ok(true))),
+    (PollSync(Four), Polled(Ok(true))),
+    (PollSync(Two), Polled(Ok(false))),
+    (PollSync(Three), Polled(Ok(false))),
+    (PollSync(Three), Polled(Err(Error::NotRegistered))),
+    (Missing, Count(3)),
+];
+
 #[test]
 fn a_dropped_arrival_is_taken_back(rt: HostRuntime) -> Result<(), Fail> {
-    let mo = Ordering::SeqCst;
-    let barrier = Barrier::with_count(&rt, rt.alloc(), 3, 4)?;
-    let mut a = Pager::new();
-    let mut b = Pager::new();
-    let mut c = Pager::new();
-    let mut d = Pager::new();
-    same!(rt; barrier.register_pager(&mut a, true), Ok(true));
-    same!(rt; barrier.register_pager(&mut b, true), Ok(true));
-    same!(rt; barrier.register_pager(&mut b, true), Ok(false));
-    same!(rt; barrier.count(mo), 1);
-    a.cancel();
-    same!(rt; barrier.count(mo), 2);
-    same!(rt; barrier.register_pager(&mut c, true), Ok(true));
-    same!(rt; c.try_poll(), Err(Error::NotReady));
-    same!(rt; barrier.register_pager(&mut d, true), Ok(true));
-    same!(rt; d.poll_sync(), Ok(true));
-    same!(rt; b.poll_sync(), Ok(false));
-    same!(rt; c.poll_sync(), Ok(false));
-    same!(rt; c.poll_sync(), Err(Error::NotRegistered));
-    same!(rt; barrier.count(mo), 3);
+    same!(rt; played(&rt, rt.alloc(), 3, 4, &A_DROPPED_ARRIVAL)?, None);
     Ok(())
 }
+
+const A_DROPPED_ANSWER: [(BarrierCall, Told); 5] = [
+    (Register(One, true), Asked(Ok(true))),
+    (Register(Two, true), Asked(Ok(true))),
+    (Cancel(Two), Nothing),
+    (Missing, Count(2)),
+    (PollSync(One), Polled(Ok(false))),
+];
 
 #[test]
 fn a_dropped_answer_is_only_consumed(rt: HostRuntime) -> Result<(), Fail> {
-    let mo = Ordering::SeqCst;
-    let barrier = Barrier::with_count(&rt, rt.alloc(), 2, 4)?;
-    let mut one = Pager::new();
-    let mut two = Pager::new();
-    same!(rt; barrier.register_pager(&mut one, true), Ok(true));
-    same!(rt; barrier.register_pager(&mut two, true), Ok(true));
-    two.cancel();
-    same!(rt; barrier.count(mo), 2);
-    same!(rt; one.poll_sync(), Ok(false));
+    same!(rt; played(&rt, rt.alloc(), 2, 4, &A_DROPPED_ANSWER)?, None);
     Ok(())
 }
+
+const THE_LAST_ARRIVAL: [(BarrierCall, Told); 7] = [
+    (Register(One, true), Asked(Ok(true))),
+    (Register(Two, true), Asked(Ok(true))),
+    (Register(Three, true), Asked(Err(Full))),
+    (PollSync(One), Polled(Ok(false))),
+    (PollSync(Two), Polled(Ok(true))),
+    (Register(Three, true), Asked(Ok(true))),
+    (Missing, Count(1)),
+];
 
 #[test]
 fn the_last_arrival_needs_no_slot(rt: HostRuntime) -> Result<(), Fail> {
-    let barrier = Barrier::with_count(&rt, rt.alloc(), 2, 1)?;
-    let mut one = Pager::new();
-    let mut two = Pager::new();
-    let mut three = Pager::new();
-    same!(rt; barrier.register_pager(&mut one, true), Ok(true));
-    same!(rt; barrier.register_pager(&mut two, true), Ok(true));
-    holds!(rt; barrier.register_pager(&mut three, true).is_err());
-    same!(rt; one.poll_sync(), Ok(false));
-    same!(rt; two.poll_sync(), Ok(true));
-    same!(rt; barrier.register_pager(&mut three, true), Ok(true));
-    same!(rt; barrier.count(Ordering::SeqCst), 1);
+    same!(rt; played(&rt, rt.alloc(), 2, 1, &THE_LAST_ARRIVAL)?, None);
     Ok(())
 }
+
+const ROUNDS_OF_TWO: [(BarrierCall, Told); 9] = [
+    (Register(One, true), Asked(Ok(true))),
+    (TryPoll(One), Polled(Err(Error::NotReady))),
+    (WaitSync, Asked(Ok(true))),
+    (PollSync(One), Polled(Ok(false))),
+    (Register(Two, false), Asked(Ok(true))),
+    (PollSync(Two), Polled(Err(Error::WrongMode))),
+    (WaitSync, Asked(Ok(true))),
+    (TryPoll(Two), Polled(Ok(false))),
+    (Missing, Count(2)),
+];
 
 #[test]
 fn rounds_follow_one_another(rt: HostRuntime) -> Result<(), Fail> {
-    let mo = Ordering::SeqCst;
-    let barrier = Barrier::with_count(&rt, rt.alloc(), 2, 4)?;
-    let mut a = Pager::new();
-    let mut c = Pager::new();
-    same!(rt; barrier.register_pager(&mut a, true), Ok(true));
-    same!(rt; a.try_poll(), Err(Error::NotReady));
-    same!(rt; barrier.wait_sync(), Ok(true));
-    same!(rt; a.poll_sync(), Ok(false));
-    same!(rt; barrier.register_pager(&mut c, false), Ok(true));
-    same!(rt; c.poll_sync(), Err(Error::WrongMode));
-    same!(rt; barrier.wait_sync(), Ok(true));
-    same!(rt; c.try_poll(), Ok(false));
-    same!(rt; barrier.count(mo), 2);
+    same!(rt; played(&rt, rt.alloc(), 2, 4, &ROUNDS_OF_TWO)?, None);
     Ok(())
 }
+
+const CUT: [(BarrierCall, Told); 1] = [(Missing, Count(63))];
+
+// Nobody passes a barrier of size 0.
+const NOBODY_PASSES: [(BarrierCall, Told); 6] = [
+    (Register(One, true), Asked(Ok(true))),
+    (Register(Two, true), Asked(Ok(true))),
+    (TryPoll(One), Polled(Err(Error::NotReady))),
+    (TryPoll(Two), Polled(Err(Error::NotReady))),
+    (Missing, Count(0)),
+    (WaitSync, Asked(Err(Full))),
+];
+
+// Everybody passes one of size 1, and leads.
+const EVERYBODY_LEADS: [(BarrierCall, Told); 4] = [
+    (Register(One, true), Asked(Ok(true))),
+    (PollSync(One), Polled(Ok(true))),
+    (WaitSync, Asked(Ok(true))),
+    (Missing, Count(1)),
+];
 
 #[test]
 fn sizes_are_cut_and_none_or_one_is_a_size(rt: HostRuntime) -> Result<(), Fail> {
-    let mo = Ordering::SeqCst;
     same!(rt; Barrier::<&HostRuntime>::MAX_TASKS, 63);
-    same!(rt; Barrier::with_count(&rt, rt.alloc(), 64, 0)?.count(mo), 63);
-    same!(rt; Barrier::with_count(&rt, rt.alloc(), 63, 0)?.count(mo), 63);
-    same!(rt; Barrier::with_count(&rt, rt.alloc(), usize::MAX, 0)?.count(mo), 63);
-
-    // Nobody passes a barrier of size 0.
-    let none = Barrier::with_count(&rt, rt.alloc(), 0, 2)?;
-    let mut one = Pager::new();
-    let mut two = Pager::new();
-    same!(rt; none.register_pager(&mut one, true), Ok(true));
-    same!(rt; none.register_pager(&mut two, true), Ok(true));
-    same!(rt; one.try_poll(), Err(Error::NotReady));
-    same!(rt; two.try_poll(), Err(Error::NotReady));
-    same!(rt; none.count(mo), 0);
-    holds!(rt; none.wait_sync().is_err());
-
-    // Everybody passes one of size 1, and leads.
-    let alone = Barrier::with_count(&rt, rt.alloc(), 1, 0)?;
-    let mut pager = Pager::new();
-    same!(rt; alone.register_pager(&mut pager, true), Ok(true));
-    same!(rt; pager.poll_sync(), Ok(true));
-    same!(rt; alone.wait_sync(), Ok(true));
-    same!(rt; alone.count(mo), 1);
+    for size in [64, 63, usize::MAX] {
+        same!(rt; played(&rt, rt.alloc(), size, 0, &CUT)?, None);
+    }
+    same!(rt; played(&rt, rt.alloc(), 0, 2, &NOBODY_PASSES)?, None);
+    same!(rt; played(&rt, rt.alloc(), 1, 0, &EVERYBODY_LEADS)?, None);
     Ok(())
 }
 
+const NO_ROOM_FOR_TWO: [(BarrierCall, Told); 4] = [
+    (WaitSyncWith, Asked(Err(Full))),
+    (WaitSync, Asked(Err(Full))),
+    (Missing, Count(2)),
+    (Runs, Count(0)),
+];
+
+const ALONE_WITH_NO_ROOM: [(BarrierCall, Told); 2] = [
+    (WaitSyncWith, Asked(Ok(true))),
+    (Runs, Count(0)),
+];
+
 #[test]
 fn a_full_room_refuses_and_runs_no_callback(rt: HostRuntime) -> Result<(), Fail> {
-    let runs = AtomicU64::new(0);
-    let count_run = || {
-        runs.fetch_add(1, Ordering::SeqCst);
-    };
-    let two = Barrier::with_count(&rt, rt.alloc(), 2, 0)?;
-    holds!(rt; two.wait_sync_with(count_run).is_err());
-    holds!(rt; two.wait_sync().is_err());
-    same!(rt; two.count(Ordering::SeqCst), 2);
-    let alone = Barrier::with_count(&rt, rt.alloc(), 1, 0)?;
-    same!(rt; alone.wait_sync_with(count_run), Ok(true));
-    same!(rt; runs.load(Ordering::SeqCst), 0);
+    same!(rt; played(&rt, rt.alloc(), 2, 0, &NO_ROOM_FOR_TWO)?, None);
+    same!(rt; played(&rt, rt.alloc(), 1, 0, &ALONE_WITH_NO_ROOM)?, None);
     Ok(())
 }
 

@@ -1,5 +1,9 @@
 //! When the callback of a waiting call runs. It may release what its own call waits for, so one thread is enough.
 
+use crate::semaphores::SemaphoreCall::{AcquireManySyncWith, AcquireSyncWith, Permits, Runs};
+use crate::semaphores::{SemaphoreCall, played_with};
+use crate::stories::Told;
+use crate::stories::Told::{Acquired, Asked, Count};
 use saa_core::ticket::Full;
 use saa_sync::lock::{Lock, TryLockError};
 use saa_sync::semaphore::Semaphore;
@@ -39,28 +43,20 @@ fn a_callback_runs_once_where_the_task_joins(rt: HostRuntime) -> io::Result<()> 
     Ok(())
 }
 
+const NOBODY_WAITS: [(SemaphoreCall, Told); 7] = [
+    (AcquireSyncWith, Acquired(Ok(()))),
+    (AcquireManySyncWith(2), Asked(Ok(true))),
+    // Too many.
+    (AcquireManySyncWith(64), Asked(Ok(false))),
+    (AcquireSyncWith, Acquired(Err(Full))),
+    (AcquireManySyncWith(1), Asked(Err(Full))),
+    (Runs, Count(0)),
+    (Permits, Count(0)),
+];
+
 #[test]
 fn a_callback_does_not_run_where_nobody_waits(rt: HostRuntime) -> io::Result<()> {
-    let semaphore = Semaphore::with_permits(&rt, rt.alloc(), 3, 0)?;
-    let runs = AtomicU64::new(0);
-    let count = || {
-        runs.fetch_add(1, Ordering::SeqCst);
-    };
-    assert_eq!(rt; semaphore.acquire_sync_with(count), Ok(()), "at once");
-    assert_eq!(rt;
-        semaphore.acquire_many_sync_with(2, count),
-        Ok(true),
-        "at once"
-    );
-    assert_eq!(rt;
-        semaphore.acquire_many_sync_with(64, count),
-        Ok(false),
-        "too many"
-    );
-    same!(rt; semaphore.acquire_sync_with(count), Err(Full));
-    same!(rt; semaphore.acquire_many_sync_with(1, count), Err(Full));
-    same!(rt; runs.load(Ordering::SeqCst), 0);
-    same!(rt; semaphore.available_permits(Ordering::SeqCst), 0);
+    same!(rt; played_with(&rt, rt.alloc(), 3, 0, &NOBODY_WAITS)?, None);
     Ok(())
 }
 

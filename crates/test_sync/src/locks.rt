@@ -186,22 +186,42 @@ fn a_pager_of_a_lock_is_granted_poisoned_and_dropped(rt: HostRuntime) -> Result<
     Ok(())
 }
 
+// Asks for so many shares; how many were granted before one was not.
+fn shares_granted<R: Wait + Drop>(lock: &Lock<R>, shares: u32) -> u32 {
+    for granted in 0..shares {
+        if lock.share_sync() != Ok(true) {
+            return granted;
+        }
+    }
+    shares
+}
+
+// Gives so many shares back; how many were there before one was not.
+fn shares_released<R: Wait + Drop>(lock: &Lock<R>, shares: u32) -> u32 {
+    for released in 0..shares {
+        if !lock.release_share() {
+            return released;
+        }
+    }
+    shares
+}
+
+// Asks for one share more than there are, and gives one back where it joins the line.
+fn share_in_turn<R: Wait + Drop>(lock: &Lock<R>) -> Result<bool, Full> {
+    lock.share_sync_with(|| {
+        lock.release_share();
+    })
+}
+
 #[test]
 fn sixty_two_share_and_no_more(rt: HostRuntime) -> Result<(), Fail> {
     same!(rt; Lock::<&HostRuntime>::MAX_SHARED_OWNERS, 62);
     let lock = Lock::new(&rt, rt.alloc(), 1)?;
-    for owner in 1..=62 {
-        assert_eq!(rt; lock.share_sync(), Ok(true), "{owner}");
-    }
+    same!(rt; shares_granted(&lock, 62), 62);
     same!(rt; lock.try_share(), Err(TryLockError::WouldBlock));
-    let answer = lock.share_sync_with(|| {
-        lock.release_share();
-    });
-    same!(rt; answer, Ok(true));
-    for owner in 1..=62 {
-        assert!(rt; lock.release_share(), "{owner}");
-    }
-    holds!(rt; lock.is_free(Ordering::SeqCst) && !lock.release_share());
+    same!(rt; share_in_turn(&lock), Ok(true));
+    same!(rt; shares_released(&lock, 62), 62);
+    same!(rt; (lock.is_free(Ordering::SeqCst), lock.release_share()), (true, false));
     Ok(())
 }
 
@@ -229,27 +249,53 @@ fn watch(rt: &impl Wait, waits: &AtomicBool, ended: &AtomicU64) -> u32 {
     early
 }
 
-#[test]
-fn a_writer_is_held_back(rt: HostRuntime) -> Result<(), Fail> {
-    let lock = Lock::new(&rt, rt.alloc(), 4)?;
-    same!(rt; lock.try_share(), Ok(()));
+// One thread waits, for a share or for the lock alone, while this one watches, and then gives back what it has. What the
+// wait was answered, at which look it had ended before that, or 0, and how often it ended.
+fn held_back<R: Wait + Threads + Sync>(
+    rt: &R,
+    lock: &Lock<&R>,
+    is_reader: bool,
+) -> (Result<bool, Full>, u32, u64) {
     let waits = AtomicBool::new(false);
     let ended = AtomicU64::new(0);
     let (answer, early) = thread::join(
-        &rt,
+        rt,
         || {
-            let answer = lock.lock_sync_with(|| waits.store(true, Ordering::SeqCst));
+            let answer = wait_for(lock, is_reader, &waits);
             ended.fetch_add(1, Ordering::SeqCst);
             answer
         },
         || {
-            let early = watch(&rt, &waits, &ended);
-            let _is_released = lock.release_share();
+            let early = watch(rt, &waits, &ended);
+            if is_reader {
+                lock.release_lock();
+            } else {
+                lock.release_share();
+            }
             early
         },
     );
-    same!(rt; answer, Ok(true));
-    same!(rt; (early, ended.load(Ordering::SeqCst)), (0, 1));
+    (answer, early, ended.load(Ordering::SeqCst))
+}
+
+// Waits for a share or for the lock alone, and says where it joined the line.
+fn wait_for<R: Wait + Drop>(
+    lock: &Lock<R>,
+    is_reader: bool,
+    waits: &AtomicBool,
+) -> Result<bool, Full> {
+    if is_reader {
+        lock.share_sync_with(|| waits.store(true, Ordering::SeqCst))
+    } else {
+        lock.lock_sync_with(|| waits.store(true, Ordering::SeqCst))
+    }
+}
+
+#[test]
+fn a_writer_is_held_back(rt: HostRuntime) -> Result<(), Fail> {
+    let lock = Lock::new(&rt, rt.alloc(), 4)?;
+    same!(rt; lock.try_share(), Ok(()));
+    same!(rt; held_back(&rt, &lock, false), (Ok(true), 0, 1));
     holds!(rt; lock.is_locked(Ordering::SeqCst));
     Ok(())
 }
@@ -258,23 +304,7 @@ fn a_writer_is_held_back(rt: HostRuntime) -> Result<(), Fail> {
 fn a_reader_is_held_back(rt: HostRuntime) -> Result<(), Fail> {
     let lock = Lock::new(&rt, rt.alloc(), 4)?;
     same!(rt; lock.try_lock(), Ok(()));
-    let waits = AtomicBool::new(false);
-    let ended = AtomicU64::new(0);
-    let (answer, early) = thread::join(
-        &rt,
-        || {
-            let answer = lock.share_sync_with(|| waits.store(true, Ordering::SeqCst));
-            ended.fetch_add(1, Ordering::SeqCst);
-            answer
-        },
-        || {
-            let early = watch(&rt, &waits, &ended);
-            let _is_released = lock.release_lock();
-            early
-        },
-    );
-    same!(rt; answer, Ok(true));
-    same!(rt; (early, ended.load(Ordering::SeqCst)), (0, 1));
+    same!(rt; held_back(&rt, &lock, true), (Ok(true), 0, 1));
     holds!(rt; lock.is_shared(Ordering::SeqCst));
     Ok(())
 }
@@ -323,26 +353,28 @@ fn take_turns<R: Wait + Drop>(lock: &Lock<R>, is_reader: bool, seen: &Seen) {
     }
 }
 
-// Lets so many threads take turns, of which every so manyth writes; the counter, the meetings, and the writers.
+// Lets so many threads take turns at a fresh lock, of which every so manyth writes; the counter, the meetings, the writers, and
+// whether the lock is free again.
 fn after_turns<R: Wait + Threads + Sync>(
     rt: &R,
-    lock: &Lock<&R>,
+    alloc: Global,
     threads: u64,
     writes_every: u64,
-) -> (u64, u64, u64) {
+) -> Result<(u64, u64, u64, bool), AllocError> {
+    let lock = Lock::new(rt, alloc, 8)?;
     let seen = Seen {
         counter: AtomicU64::new(0),
         readers: AtomicU64::new(0),
         writers: AtomicU64::new(0),
         meetings: AtomicU64::new(0),
     };
-    let seen_by = &seen;
+    let (shared, seen_by) = (&lock, &seen);
     let mut started: u64 = 0;
     thread::scope(thread::scope_env(), rt, |scope| {
         for thread in 0..threads {
             let is_reader = thread % writes_every.max(1) != 0;
             if scope
-                .spawn(move || take_turns(lock, is_reader, seen_by))
+                .spawn(move || take_turns(shared, is_reader, seen_by))
                 .is_ok()
                 && !is_reader
             {
@@ -351,17 +383,24 @@ fn after_turns<R: Wait + Threads + Sync>(
         }
     });
     let mo = Ordering::SeqCst;
-    (seen.counter.load(mo), seen.meetings.load(mo), started)
+    Ok((
+        seen.counter.load(mo),
+        seen.meetings.load(mo),
+        started,
+        lock.is_free(mo),
+    ))
 }
 
 #[test]
 fn writers_are_alone_and_the_counter_is_exact(rt: HostRuntime) -> Result<(), Fail> {
     for (threads, writes_every) in [(4, 1), (8, 4), (8, 2)] {
-        let lock = Lock::new(&rt, rt.alloc(), 8)?;
-        let (counter, meetings, writers) = after_turns(&rt, &lock, threads, writes_every);
-        same!(rt; counter, writers.saturating_mul(ROUNDS));
-        same!(rt; meetings, 0);
-        holds!(rt; lock.is_free(Ordering::SeqCst));
+        let (counter, meetings, writers, is_free) = after_turns(
+            &rt,
+            rt.alloc(),
+            threads,
+            writes_every,
+        )?;
+        same!(rt; (counter, meetings, is_free), (writers.saturating_mul(ROUNDS), 0, true));
     }
     Ok(())
 }

@@ -33,11 +33,8 @@ fn one_permit_is_waited_for(rt: HostRuntime) -> Result<(), Fail> {
 #[test]
 fn many_permits_are_waited_for(rt: HostRuntime) -> Result<(), Fail> {
     for count in [1, 2, 62, 63] {
-        assert_eq!(rt;
-            left_after(&rt, rt.alloc(), Waiting::Many(count), count)?,
-            (true, true, 0),
-            "{count}"
-        );
+        let left = left_after(&rt, rt.alloc(), Waiting::Many(count), count)?;
+        same!(rt; (count, left), (count, (true, true, 0)));
     }
     Ok(())
 }
@@ -45,11 +42,8 @@ fn many_permits_are_waited_for(rt: HostRuntime) -> Result<(), Fail> {
 #[test]
 fn a_pager_is_waited_for(rt: HostRuntime) -> Result<(), Fail> {
     for count in [1, 2, 62, 63] {
-        assert_eq!(rt;
-            left_after(&rt, rt.alloc(), Waiting::Poll(count), count)?,
-            (true, true, 0),
-            "{count}"
-        );
+        let left = left_after(&rt, rt.alloc(), Waiting::Poll(count), count)?;
+        same!(rt; (count, left), (count, (true, true, 0)));
     }
     Ok(())
 }
