@@ -146,7 +146,12 @@ fn lock_in_turn<H: RandomSource + AllocGlobal, R: Wait + Drop>(
 #[test]
 fn a_mutex_is_had_in_the_order_of_asking(rt: HostRuntime) -> io::Result<()> {
     let mutex = Mutex::new(&rt, rt.alloc(), 0u64, 2)?;
-    let turns = ([true; 6], [true, false, false, true], Some(0), (true, Some(1)));
+    let turns = (
+        [true; 6],
+        [true, false, false, true],
+        Some(0),
+        (true, Some(1)),
+    );
     same!(rt; lock_in_turn(&rt, &mutex)?, turns);
     Ok(())
 }
@@ -169,7 +174,10 @@ fn ask_while_read<R: Wait + Drop>(
 }
 
 // Writes 1 through the guard that is told now, while the reader asks: whether there is a guard, and the reader waits.
-fn write_before<R: Wait + Drop>(writer: &mut Writer<'_, R>, reader: &mut Reader<'_, R>) -> [bool; 2] {
+fn write_before<R: Wait + Drop>(
+    writer: &mut Writer<'_, R>,
+    reader: &mut Reader<'_, R>,
+) -> [bool; 2] {
     let Some(Ok(mut guard)) = writer.told() else {
         return [false; 2];
     };
@@ -185,7 +193,11 @@ fn read_beside<R: Wait + Drop>(
     let Some(Ok(guard)) = reader.told() else {
         return None;
     };
-    Some((*guard, rwlock.try_write().is_none(), rwlock.try_read().is_some()))
+    Some((
+        *guard,
+        rwlock.try_write().is_none(),
+        rwlock.try_read().is_some(),
+    ))
 }
 
 // What a writer and a reader tell that ask for a lock while it is read, and then write and read.
