@@ -36,14 +36,16 @@ fn each_core_replies_to_a_call(rt: HostRuntime) -> Result<(), Fail> {
 #[test]
 fn a_ticket_is_polled(rt: HostRuntime) -> Result<(), Fail> {
     let mut lock = LockCore::new(rt.alloc(), 1)?;
-    same!(rt; lock.try_lock(), Ok(()));
-    same!(rt; lock.try_share(), Err(TryLockError::WouldBlock));
-    same!(rt; lock.try_lock(), Err(lock::TryLockError::WouldBlock));
+    let (shut, held) = (TryLockError::WouldBlock, lock::TryLockError::WouldBlock);
+    let tried = [lock.try_lock(), lock.try_share(), lock.try_lock()];
+    same!(rt; tried, [Ok(()), Err(shut), Err(held)]);
     let mut one = Ticket::new();
-    same!(rt; lock.register(&mut one, Mode::Shared, true), Ok(true));
-    same!(rt; lock.register(&mut Ticket::new(), Mode::Shared, true), Err(Full));
-    same!(rt; lock.poll(&mut one, How::Sync), Err(Error::NotReady));
-    holds!(rt; lock.downgrade());
+    let joined = lock.register(&mut one, Mode::Shared, true);
+    let refused = lock.register(&mut Ticket::new(), Mode::Shared, true);
+    same!(rt; (joined, refused), (Ok(true), Err(Full)));
+    let early = lock.poll(&mut one, How::Sync);
+    let is_lowered = lock.downgrade();
+    same!(rt; (early, is_lowered), (Err(Error::NotReady), true));
     same!(rt; lock.poll(&mut one, How::Try), Ok(true));
     let none = Registration::Unregistered;
     holds!(rt; matches!(none, Registration::Unregistered));

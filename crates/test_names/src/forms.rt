@@ -137,19 +137,37 @@ fn written<R: Wait + Drop>(guard: RwLockWriteGuard<'_, R, u32>) -> u32 {
     *RwLockWriteGuard::downgrade(guard)
 }
 
+// The values of both locks, whose guards are there at the same time.
+fn values_of_both<R: Wait + Drop>(
+    mutex: &Mutex<R, u32>,
+    lock: &RwLock<R, u32>,
+) -> Result<(u32, u32), Full> {
+    let alone = mutex.lock()?;
+    let shared = lock.read()?;
+    Ok(values(alone, shared))
+}
+
+// Puts a value, shows it, and gives up the turn.
+fn put_and_end<R: Wait + Drop>(lock: &RwLock<R, u32>, number: u32) -> Result<u32, Full> {
+    let mut guard = lock.write()?;
+    put(&mut guard, number);
+    let shown = value(&guard);
+    end(guard);
+    Ok(shown)
+}
+
+// What a writer leaves who takes the lock for that.
+fn written_behind<R: Wait + Drop>(lock: &RwLock<R, u32>) -> Result<u32, Full> {
+    Ok(written(lock.write()?))
+}
+
 #[test]
 fn guards_give_their_values(rt: HostRuntime) -> io::Result<()> {
     let mutex = Mutex::new(&rt, rt.alloc(), 5, 0)?;
     let lock = RwLock::new(&rt, rt.alloc(), 7, 0)?;
-    if let (Ok(alone), Ok(shared)) = (mutex.lock(), lock.read()) {
-        same!(rt; values(alone, shared), (5, 7));
-    }
-    if let Ok(mut guard) = lock.write() {
-        put(&mut guard, 6);
-        same!(rt; value(&guard), 6);
-        end(guard);
-    }
-    same!(rt; lock.write().map(written), Ok(8));
+    same!(rt; values_of_both(&mutex, &lock), Ok((5, 7)));
+    same!(rt; put_and_end(&lock, 6), Ok(6));
+    same!(rt; written_behind(&lock), Ok(8));
     let other: lock_api::Mutex<&HostRuntime, u32> = lock_api::Mutex::new(&rt, rt.alloc(), 3, 0)?;
     same!(rt; other.into_inner(), 3);
     Ok(())

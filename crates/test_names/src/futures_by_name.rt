@@ -1,5 +1,6 @@
 //! The future of each call, by its name.
 
+use futures::Future;
 use futures::task::Poll;
 use futures::test::MockTask;
 use saa::barrier::Barrier;
@@ -14,6 +15,7 @@ use saa::gate::{Error as GateError, Gate};
 use saa::lock::Lock;
 use saa::pager::Pager;
 use saa::semaphore::{Semaphore, SemaphoreOf};
+use saa::ticket::Full;
 use saa::{Mutex, RwLock, lock_async, read_async, write_async};
 use std::io;
 use std::sync::Wait;
@@ -27,6 +29,17 @@ type Callback = fn();
 fn nothing() {}
 
 // What a future tells that is ready at its first poll.
+fn polled<F: Future>(task: &MockTask, mut future: F) -> Option<F::Output>
+where
+    requires { F.can_poll future }
+{
+    match task.poll(&mut future) {
+        Poll::Ready(answer) => Some(answer),
+        Poll::Pending => None,
+    }
+}
+
+// What a future of the question tells that is ready at its first poll.
 fn told<'s, R: Wait + Drop, Q: Question>(
     task: &MockTask,
     mut future: Asked<'s, R, Q>,
@@ -40,6 +53,14 @@ where
     }
 }
 
+// Whether a future tells a guard at its first poll.
+fn is_had<G: Drop, F: Future<Output = Result<G, Full>>>(task: &MockTask, future: F) -> bool
+where
+    requires { F.can_poll future }
+{
+    matches!(polled(task, future), Some(Ok(_)))
+}
+
 #[test]
 fn permits_are_told(rt: HostRuntime) -> io::Result<()> {
     let task = MockTask::new(&rt)?;
@@ -51,12 +72,12 @@ fn permits_are_told(rt: HostRuntime) -> io::Result<()> {
             told::<_, ManyPermits>(&task, many),
         ), (Some(()), Some(true)));
     let one: AcquireWith<'_, Runtime, Callback> = semaphore.acquire_async_with(nothing);
-    let mut one: AskedWith<'_, Runtime, OnePermit, Callback> = one;
-    holds!(rt; matches!(task.poll(&mut one), Poll::Ready(Ok(()))));
-    let mut many: AcquireManyWith<'_, Runtime, Callback> = semaphore.acquire_many_async_with(
+    let one: AskedWith<'_, Runtime, OnePermit, Callback> = one;
+    same!(rt; polled(&task, one), Some(Ok(())));
+    let many: AcquireManyWith<'_, Runtime, Callback> = semaphore.acquire_many_async_with(
         2, nothing,
     );
-    holds!(rt; matches!(task.poll(&mut many), Poll::Ready(Ok(true))));
+    same!(rt; polled(&task, many), Some(Ok(true)));
     Ok(())
 }
 
@@ -70,13 +91,12 @@ fn permits_of_any_bound_are_told(rt: HostRuntime) -> io::Result<()> {
             told::<_, OnePermitOf<1_000>>(&task, one),
             told::<_, ManyPermitsOf<1_000>>(&task, many),
         ), (Some(()), Some(true)));
-    let mut one: AcquireWithOf<'_, Runtime, Callback, 1_000> = semaphore.acquire_async_with(
-        nothing,
+    let one: AcquireWithOf<'_, Runtime, Callback, 1_000> = semaphore.acquire_async_with(nothing);
+    same!(rt; polled(&task, one), Some(Ok(())));
+    let many: AcquireManyWithOf<'_, Runtime, Callback, 1_000> = semaphore.acquire_many_async_with(
+        2, nothing,
     );
-    holds!(rt; matches!(task.poll(&mut one), Poll::Ready(Ok(()))));
-    let mut many: AcquireManyWithOf<'_, Runtime, Callback, 1_000> =
-        semaphore.acquire_many_async_with(2, nothing);
-    holds!(rt; matches!(task.poll(&mut many), Poll::Ready(Ok(true))));
+    same!(rt; polled(&task, many), Some(Ok(true)));
     Ok(())
 }
 
@@ -89,11 +109,11 @@ fn turns_are_told(rt: HostRuntime) -> io::Result<()> {
     holds!(rt; lock.release_lock());
     let share: ShareFuture<'_, Runtime> = lock.share_async();
     same!(rt; told(&task, share), Some(true));
-    let mut share: ShareFutureWith<'_, Runtime, Callback> = lock.share_async_with(nothing);
-    holds!(rt; matches!(task.poll(&mut share), Poll::Ready(Ok(true))));
+    let share: ShareFutureWith<'_, Runtime, Callback> = lock.share_async_with(nothing);
+    same!(rt; polled(&task, share), Some(Ok(true)));
     let other = Lock::new(&rt, rt.alloc(), 0)?;
-    let mut alone: LockFutureWith<'_, Runtime, Callback> = other.lock_async_with(nothing);
-    holds!(rt; matches!(task.poll(&mut alone), Poll::Ready(Ok(true))));
+    let alone: LockFutureWith<'_, Runtime, Callback> = other.lock_async_with(nothing);
+    same!(rt; polled(&task, alone), Some(Ok(true)));
     Ok(())
 }
 
@@ -104,13 +124,13 @@ fn passings_and_arrivals_are_told(rt: HostRuntime) -> io::Result<()> {
     let _sealed = gate.seal();
     let enter: Enter<'_, Runtime> = gate.enter_async();
     same!(rt; told::<_, Passing>(&task, enter), Some(Err(GateError::Sealed)));
-    let mut enter: EnterWith<'_, Runtime, Callback> = gate.enter_async_with(nothing);
-    holds!(rt; matches!(task.poll(&mut enter), Poll::Ready(Ok(Err(GateError::Sealed)))));
+    let enter: EnterWith<'_, Runtime, Callback> = gate.enter_async_with(nothing);
+    same!(rt; polled(&task, enter), Some(Ok(Err(GateError::Sealed))));
     let barrier = Barrier::with_count(&rt, rt.alloc(), 1, 0)?;
     let arrive: ArriveFuture<'_, Runtime> = barrier.wait_async();
     same!(rt; told::<_, Arrival>(&task, arrive), Some(true));
-    let mut arrive: ArriveFutureWith<'_, Runtime, Callback> = barrier.wait_async_with(nothing);
-    holds!(rt; matches!(task.poll(&mut arrive), Poll::Ready(Ok(true))));
+    let arrive: ArriveFutureWith<'_, Runtime, Callback> = barrier.wait_async_with(nothing);
+    same!(rt; polled(&task, arrive), Some(Ok(true)));
     Ok(())
 }
 
@@ -120,8 +140,8 @@ fn a_pager_is_polled_by_a_future(rt: HostRuntime) -> io::Result<()> {
     let semaphore = Semaphore::new(&rt, rt.alloc(), 0)?;
     let mut pager = Pager::new();
     same!(rt; semaphore.register_pager(&mut pager, 1, false), Ok(true));
-    let mut polled: PollPager<'_, '_, Semaphore<Runtime>> = pager.poll_async();
-    holds!(rt; matches!(task.poll(&mut polled), Poll::Ready(Ok(()))));
+    let future: PollPager<'_, '_, Semaphore<Runtime>> = pager.poll_async();
+    same!(rt; polled(&task, future), Some(Ok(())));
     Ok(())
 }
 
@@ -130,11 +150,11 @@ fn guards_are_told(rt: HostRuntime) -> io::Result<()> {
     let task = MockTask::new(&rt)?;
     let mutex = Mutex::new(&rt, rt.alloc(), 5, 0)?;
     let lock = RwLock::new(&rt, rt.alloc(), 7, 0)?;
-    let mut alone: MutexFuture<'_, Runtime, u32> = lock_async(&mutex);
-    holds!(rt; matches!(task.poll(&mut alone), Poll::Ready(Ok(_))));
-    let mut read: ReadFuture<'_, Runtime, u32> = read_async(&lock);
-    holds!(rt; matches!(task.poll(&mut read), Poll::Ready(Ok(_))));
-    let mut write: WriteFuture<'_, Runtime, u32> = write_async(&lock);
-    holds!(rt; matches!(task.poll(&mut write), Poll::Ready(Ok(_))));
+    let alone: MutexFuture<'_, Runtime, u32> = lock_async(&mutex);
+    holds!(rt; is_had(&task, alone));
+    let read: ReadFuture<'_, Runtime, u32> = read_async(&lock);
+    holds!(rt; is_had(&task, read));
+    let write: WriteFuture<'_, Runtime, u32> = write_async(&lock);
+    holds!(rt; is_had(&task, write));
     Ok(())
 }

@@ -22,12 +22,12 @@ fn oldest<O: Order>(line: &LineOf<O>) -> Option<(u16, Request)> {
 fn each_line_is_joined(rt: HostRuntime) -> Result<(), Fail> {
     laws::wakes();
     let mut list: LineOf<Queue> = LineOf::with_room(rt.alloc(), 1)?;
-    same!(rt; list.join(Request::Enter), Some(0));
-    same!(rt; list.join(Request::Enter), None);
+    let joined = [list.join(Request::Enter), list.join(Request::Enter)];
+    same!(rt; joined, [Some(0), None]);
     same!(rt; oldest(&list), Some((0, Request::Enter)));
     let mut links: LineOf<Links<ForModes>> = LineOf::with_room(rt.alloc(), 1)?;
-    same!(rt; links.join(Request::Shared), Some(0));
-    same!(rt; links.join(Request::Shared), None);
+    let joined = [links.join(Request::Shared), links.join(Request::Shared)];
+    same!(rt; joined, [Some(0), None]);
     same!(rt; oldest(&links), Some((0, Request::Shared)));
     let list: Line = Line::with_room(rt.alloc(), 0)?;
     let links: LinkedLine<ForPermits> = LinkedLine::with_room(rt.alloc(), 0)?;
@@ -59,6 +59,15 @@ fn a_machine_goes(rt: HostRuntime) -> Result<(), Fail> {
     Ok(())
 }
 
+// The main word, whether each of two places has a line word, and the answer words of both.
+fn shown(words: &Words) -> (u64, [bool; 2], [Option<u64>; 2]) {
+    (
+        words.main(),
+        [words.line(0).is_some(), words.line(1).is_some()],
+        [words.answer(0), words.answer(1)],
+    )
+}
+
 #[test]
 fn a_place_makes_each_call(rt: HostRuntime) -> Result<(), Fail> {
     let (semaphore, mut places): (SemaphoreOf<2>, Vec<Place>) = SemaphoreOf::new(rt.alloc(), 1, 1)?;
@@ -66,22 +75,27 @@ fn a_place_makes_each_call(rt: HostRuntime) -> Result<(), Fail> {
         unreachable!()
     };
     same!(rt; SemaphoreOf::<2>::MAX_PERMITS, 2);
-    same!(rt; semaphore.try_acquire_many(&rt, &mut place, 2), false);
-    same!(rt; semaphore.acquire_many(&rt, &mut place, 1), true);
-    same!(rt; semaphore.register(&rt, &mut place, 1), true);
     let fault: Result<(), saa::word::Error> = Err(Error::NotReady);
-    same!(rt; semaphore.try_poll(&mut place), fault);
+    let asked = [
+        semaphore.try_acquire_many(&rt, &mut place, 2),
+        semaphore.acquire_many(&rt, &mut place, 1),
+        semaphore.register(&rt, &mut place, 1),
+    ];
+    let early = semaphore.try_poll(&mut place);
     semaphore.cancel(&rt, &mut place);
-    same!(rt; semaphore.try_poll(&mut place), Err(Error::NotRegistered));
-    same!(rt; semaphore.poll(&rt, &mut place), Err(Error::NotRegistered));
-    same!(rt; semaphore.release_many(&rt, &mut place, 2), true);
-    same!(rt; semaphore.available_permits(&mut place), 2);
+    let late = [
+        semaphore.try_poll(&mut place),
+        semaphore.poll(&rt, &mut place),
+    ];
+    let is_released = semaphore.release_many(&rt, &mut place, 2);
+    let available = semaphore.available_permits(&mut place);
+    let none = Err(Error::NotRegistered);
+    same!(rt; (asked, early, late), ([false, true, true], fault, [none, none]));
+    same!(rt; (is_released, available), (true, 2));
     let left: Left = semaphore.leave(&rt, place);
-    same!(rt; left.place(), 0);
+    let place = left.place();
     let words: Words = semaphore.close(left);
-    same!(rt; words.main(), 0);
-    same!(rt; (words.line(0).is_some(), words.line(1)), (true, None));
-    same!(rt; (words.answer(0), words.answer(1)), (Some(0), None));
+    same!(rt; (place, shown(&words)), (0, (0, [true, false], [Some(0), None])));
     Ok(())
 }
 
@@ -92,24 +106,38 @@ fn a_place_of_a_lock_makes_each_call(rt: HostRuntime) -> Result<(), Fail> {
         unreachable!()
     };
     same!(rt; Lock::MAX_SHARED_OWNERS, 62);
-    same!(rt; lock.try_lock(&rt, &mut place), Ok(()));
     let refused: Result<(), saa::word::TryLockError> = Err(TryLockError::WouldBlock);
-    same!(rt; lock.try_share(&rt, &mut place), refused);
-    same!(rt; (lock.is_free(&mut place), lock.is_locked(&mut place)), (false, true));
-    same!(rt; (lock.downgrade(&rt, &mut place), lock.is_shared(&mut place)), (true, true));
-    same!(rt; (lock.share(&rt, &mut place), lock.release_share(&rt, &mut place)), (true, true));
-    same!(rt; lock.release_share(&rt, &mut place), true);
+    let tried = [
+        lock.try_lock(&rt, &mut place),
+        lock.try_share(&rt, &mut place),
+    ];
+    let alone = [lock.is_free(&mut place), lock.is_locked(&mut place)];
+    let lowered = [lock.downgrade(&rt, &mut place), lock.is_shared(&mut place)];
+    let shared = [
+        lock.share(&rt, &mut place),
+        lock.release_share(&rt, &mut place),
+        lock.release_share(&rt, &mut place),
+    ];
+    same!(rt; (tried, alone, lowered, shared), ([Ok(()), refused], [false, true], [true; 2], [true; 3]));
     let mode: saa::word::Mode = Mode::Exclusive;
-    same!(rt; lock.register(&rt, &mut place, mode), true);
-    same!(rt; (lock.try_poll(&mut place), lock.poll(&rt, &mut place)), (Ok(true), Err(Error::NotRegistered)));
-    same!(rt; (lock.poison_lock(&rt, &mut place), lock.is_poisoned(&mut place)), (true, true));
-    same!(rt; lock.clear_poison(&rt, &mut place), true);
+    let is_registered = lock.register(&rt, &mut place, mode);
+    let polled = [lock.try_poll(&mut place), lock.poll(&rt, &mut place)];
+    same!(rt; (is_registered, polled), (true, [Ok(true), Err(Error::NotRegistered)]));
+    let poisoned = [
+        lock.poison_lock(&rt, &mut place),
+        lock.is_poisoned(&mut place),
+        lock.clear_poison(&rt, &mut place),
+    ];
     lock.cancel(&rt, &mut place);
-    same!(rt; (lock.lock(&rt, &mut place), lock.release_lock(&rt, &mut place)), (true, true));
+    let again = [
+        lock.lock(&rt, &mut place),
+        lock.release_lock(&rt, &mut place),
+    ];
+    same!(rt; (poisoned, again), ([true; 3], [true; 2]));
     let left: LockLeft = lock.leave(&rt, place);
-    same!(rt; left.place(), 0);
+    let place = left.place();
     let words: Words = lock.close(left);
-    same!(rt; words.main(), 0);
+    same!(rt; (place, words.main()), (0, 0));
     Ok(())
 }
 
