@@ -15,7 +15,7 @@ use std::sync::atomic::{AtomicBool, AtomicU64, Ordering};
 use std::test::Fail;
 use std::thread;
 use std::thread::yield_now;
-use test_asserts::{holds, same};
+use test_asserts::same;
 
 // How often the main thread looks whether a call that must wait has returned.
 const TURNS: u32 = 10_000;
