@@ -1,14 +1,22 @@
 //! Futures that are dropped, at every point of their life, and what comes back.
 
-use crate::ready;
-use futures::test::MockTask;
-use saa_sync::barrier::Barrier;
-use saa_sync::gate::{Error, Gate};
-use saa_sync::lock::Lock;
+use crate::barrier_stories::BarrierCall;
+use crate::gate_stories::GateCall;
+use crate::lock_stories::LockCall;
+use crate::semaphore_stories::SemaphoreCall::{
+    AskMany, AskOne, Enter, IsWoken, LetGoMany, LetGoOne, Permits, PollMany, PollOne, Release,
+    ReleaseMany,
+};
+use crate::semaphore_stories::{SemaphoreCall, played_with};
+use crate::stories::Told;
+use crate::stories::Told::{Answer, Count, Is, Moved, Nothing, Passage, Permit, Tried};
+use crate::stories::Who::{First, Second, Third};
+use crate::{barrier_stories, gate_stories, lock_stories};
+use saa_sync::gate::Error;
 use saa_sync::semaphore::Semaphore;
 use std::io;
 use std::sync::atomic::Ordering;
-use test_asserts::{holds, same};
+use test_asserts::same;
 
 #[test]
 fn one_that_was_never_polled_changes_nothing(rt: HostRuntime) -> io::Result<()> {
@@ -19,125 +27,140 @@ fn one_that_was_never_polled_changes_nothing(rt: HostRuntime) -> io::Result<()> 
     Ok(())
 }
 
+// The first task asks for two permits, the second for one.
+const ONE_WAITS: [(SemaphoreCall, Told); 8] = [
+    (AskOne(Second), Nothing),
+    (AskMany(First, 2), Nothing),
+    (PollMany(First, First), Answer(None)),
+    (PollOne(Second, Second), Permit(None)),
+    (LetGoMany(First), Nothing),
+    (IsWoken(Second), Is(true)),
+    (PollOne(Second, Second), Permit(Some(Ok(())))),
+    (Permits, Count(0)),
+];
+
 #[test]
 fn one_that_waits_leaves_the_line(rt: HostRuntime) -> io::Result<()> {
-    let semaphore = Semaphore::with_permits(&rt, rt.alloc(), 1, 2)?;
-    let (one, two) = (MockTask::new(&rt)?, MockTask::new(&rt)?);
-    let mut next = semaphore.acquire_async();
-    {
-        let mut many = semaphore.acquire_many_async(2);
-        same!(rt; ready(one.poll(&mut many)), None);
-        same!(rt; ready(two.poll(&mut next)), None);
-    }
-    holds!(rt; two.is_woken());
-    same!(rt; ready(two.poll(&mut next)), Some(Ok(())));
-    same!(rt; semaphore.available_permits(Ordering::SeqCst), 0);
+    same!(rt; played_with(&rt, rt.alloc(), 1, 2, &ONE_WAITS)?, None);
     Ok(())
 }
+
+// The first task asks for four permits, the second for three.
+const ONE_WAS_GRANTED: [(SemaphoreCall, Told); 11] = [
+    (AskMany(Second, 3), Nothing),
+    (AskMany(First, 4), Nothing),
+    (PollMany(First, First), Answer(None)),
+    (PollMany(Second, Second), Answer(None)),
+    (ReleaseMany(4), Is(true)),
+    (IsWoken(First), Is(true)),
+    (IsWoken(Second), Is(false)),
+    (LetGoMany(First), Nothing),
+    (IsWoken(Second), Is(true)),
+    (PollMany(Second, Second), Answer(Some(Ok(true)))),
+    (Permits, Count(1)),
+];
 
 #[test]
 fn one_that_was_granted_gives_back(rt: HostRuntime) -> io::Result<()> {
-    let semaphore = Semaphore::with_permits(&rt, rt.alloc(), 0, 2)?;
-    let (one, two) = (MockTask::new(&rt)?, MockTask::new(&rt)?);
-    let mut next = semaphore.acquire_many_async(3);
-    {
-        let mut many = semaphore.acquire_many_async(4);
-        same!(rt; ready(one.poll(&mut many)), None);
-        same!(rt; ready(two.poll(&mut next)), None);
-        holds!(rt; semaphore.release_many(4));
-        holds!(rt; one.is_woken() && !two.is_woken());
-    }
-    holds!(rt; two.is_woken());
-    same!(rt; ready(two.poll(&mut next)), Some(Ok(true)));
-    same!(rt; semaphore.available_permits(Ordering::SeqCst), 1);
+    same!(rt; played_with(&rt, rt.alloc(), 0, 2, &ONE_WAS_GRANTED)?, None);
     Ok(())
 }
+
+const ONE_HAS_ENDED: [(SemaphoreCall, Told); 8] = [
+    (AskMany(First, 2), Nothing),
+    (PollMany(First, First), Answer(None)),
+    (ReleaseMany(2), Is(true)),
+    (PollMany(First, First), Answer(Some(Ok(true)))),
+    (LetGoMany(First), Nothing),
+    (Permits, Count(0)),
+    (AskOne(First), Nothing),
+    (PollOne(First, First), Permit(None)),
+];
 
 #[test]
 fn one_that_has_ended_keeps_what_it_got(rt: HostRuntime) -> io::Result<()> {
-    let semaphore = Semaphore::with_permits(&rt, rt.alloc(), 0, 1)?;
-    let task = MockTask::new(&rt)?;
-    {
-        let mut two = semaphore.acquire_many_async(2);
-        same!(rt; ready(task.poll(&mut two)), None);
-        holds!(rt; semaphore.release_many(2));
-        same!(rt; ready(task.poll(&mut two)), Some(Ok(true)));
-    }
-    same!(rt; semaphore.available_permits(Ordering::SeqCst), 0);
-    let mut other = semaphore.acquire_async();
-    same!(rt; ready(task.poll(&mut other)), None);
+    same!(rt; played_with(&rt, rt.alloc(), 0, 1, &ONE_HAS_ENDED)?, None);
     Ok(())
 }
+
+// The first task is a writer, the others are readers.
+const A_WRITER_IS_DROPPED: [(LockCall, Told); 12] = [
+    (LockCall::TryShare, Tried(Ok(()))),
+    (LockCall::AskShare(Second), Nothing),
+    (LockCall::AskShare(Third), Nothing),
+    (LockCall::Ask(First), Nothing),
+    (LockCall::Poll(First, First), Answer(None)),
+    (LockCall::Poll(Second, Second), Answer(None)),
+    (LockCall::Poll(Third, Third), Answer(None)),
+    (LockCall::LetGo(First), Nothing),
+    (LockCall::IsWoken(Second), Is(true)),
+    (LockCall::IsWoken(Third), Is(true)),
+    (LockCall::Poll(Second, Second), Answer(Some(Ok(true)))),
+    (LockCall::Poll(Third, Third), Answer(Some(Ok(true)))),
+];
 
 #[test]
 fn a_dropped_writer_lets_the_readers_in(rt: HostRuntime) -> io::Result<()> {
-    let lock = Lock::new(&rt, rt.alloc(), 4)?;
-    let (one, two, three) = (
-        MockTask::new(&rt)?,
-        MockTask::new(&rt)?,
-        MockTask::new(&rt)?,
-    );
-    same!(rt; lock.try_share(), Ok(()));
-    let mut reader = lock.share_async();
-    let mut other = lock.share_async();
-    {
-        let mut writer = lock.lock_async();
-        same!(rt; ready(one.poll(&mut writer)), None);
-        same!(rt; ready(two.poll(&mut reader)), None);
-        same!(rt; ready(three.poll(&mut other)), None);
-    }
-    holds!(rt; two.is_woken() && three.is_woken());
-    same!(rt; ready(two.poll(&mut reader)), Some(Ok(true)));
-    same!(rt; ready(three.poll(&mut other)), Some(Ok(true)));
+    same!(rt; lock_stories::played(&rt, rt.alloc(), 4, &A_WRITER_IS_DROPPED)?, None);
     Ok(())
 }
+
+// The first task leaves, the second stays.
+const ONE_GIVES_UP: [(GateCall, Told); 8] = [
+    (GateCall::Ask(Second), Nothing),
+    (GateCall::Ask(First), Nothing),
+    (GateCall::Poll(First, First), Passage(None)),
+    (GateCall::Poll(Second, Second), Passage(None)),
+    (GateCall::LetGo(First), Nothing),
+    (GateCall::IsWoken(Second), Is(true)),
+    (
+        GateCall::Poll(Second, Second),
+        Passage(Some(Ok(Err(Error::SpuriousFailure)))),
+    ),
+    (GateCall::Permit, Moved(Ok(0))),
+];
 
 #[test]
 fn who_gives_up_at_a_gate_wakes_the_others(rt: HostRuntime) -> io::Result<()> {
-    let gate = Gate::new(&rt, rt.alloc(), 4)?;
-    let (one, two) = (MockTask::new(&rt)?, MockTask::new(&rt)?);
-    let mut stays = gate.enter_async();
-    {
-        let mut leaves = gate.enter_async();
-        same!(rt; ready(one.poll(&mut leaves)), None);
-        same!(rt; ready(two.poll(&mut stays)), None);
-    }
-    holds!(rt; two.is_woken());
-    same!(rt; ready(two.poll(&mut stays)), Some(Ok(Err(Error::SpuriousFailure))));
-    same!(rt; gate.permit(), Ok(0));
+    same!(rt; gate_stories::played(&rt, rt.alloc(), 4, &ONE_GIVES_UP)?, None);
     Ok(())
 }
+
+// The first task leaves, the second stays.
+const AN_ARRIVAL_IS_DROPPED: [(BarrierCall, Told); 8] = [
+    (BarrierCall::Ask(First), Nothing),
+    (BarrierCall::Poll(First, First), Answer(None)),
+    (BarrierCall::Missing, Count(1)),
+    (BarrierCall::LetGo(First), Nothing),
+    (BarrierCall::Missing, Count(2)),
+    (BarrierCall::Ask(Second), Nothing),
+    (BarrierCall::Poll(Second, Second), Answer(None)),
+    (BarrierCall::IsWoken(Second), Is(false)),
+];
 
 #[test]
 fn a_dropped_arrival_is_taken_back(rt: HostRuntime) -> io::Result<()> {
-    let barrier = Barrier::with_count(&rt, rt.alloc(), 2, 2)?;
-    let (one, two) = (MockTask::new(&rt)?, MockTask::new(&rt)?);
-    {
-        let mut leaves = barrier.wait_async();
-        same!(rt; ready(one.poll(&mut leaves)), None);
-        same!(rt; barrier.count(Ordering::SeqCst), 1);
-    }
-    same!(rt; barrier.count(Ordering::SeqCst), 2);
-    let mut stays = barrier.wait_async();
-    same!(rt; ready(two.poll(&mut stays)), None);
-    holds!(rt; !two.is_woken());
+    same!(rt; barrier_stories::played(&rt, rt.alloc(), 2, 2, &AN_ARRIVAL_IS_DROPPED)?, None);
     Ok(())
 }
 
+// The first task is the old one.
+const A_SLOT_IS_USED_AGAIN: [(SemaphoreCall, Told); 11] = [
+    (AskOne(First), Nothing),
+    (PollOne(First, First), Permit(None)),
+    (LetGoOne(First), Nothing),
+    (Enter(First), Nothing),
+    (AskOne(Second), Nothing),
+    (PollOne(Second, Second), Permit(None)),
+    (IsWoken(First), Is(false)),
+    (Release, Is(true)),
+    (IsWoken(First), Is(false)),
+    (IsWoken(Second), Is(true)),
+    (PollOne(Second, Second), Permit(Some(Ok(())))),
+];
+
 #[test]
 fn a_slot_of_a_dropped_future_wakes_its_new_task_alone(rt: HostRuntime) -> io::Result<()> {
-    let semaphore = Semaphore::with_permits(&rt, rt.alloc(), 0, 1)?;
-    let (old, new) = (MockTask::new(&rt)?, MockTask::new(&rt)?);
-    {
-        let mut gone = semaphore.acquire_async();
-        same!(rt; ready(old.poll(&mut gone)), None);
-    }
-    old.enter(|_cx| {});
-    let mut one = semaphore.acquire_async();
-    same!(rt; ready(new.poll(&mut one)), None);
-    holds!(rt; !old.is_woken());
-    holds!(rt; semaphore.release());
-    holds!(rt; !old.is_woken() && new.is_woken());
-    same!(rt; ready(new.poll(&mut one)), Some(Ok(())));
+    same!(rt; played_with(&rt, rt.alloc(), 0, 1, &A_SLOT_IS_USED_AGAIN)?, None);
     Ok(())
 }

@@ -5,17 +5,27 @@
 #![tactic(auto)]
 
 #[cfg(test)]
+mod barrier_stories;
+#[cfg(test)]
 mod callbacks;
 #[cfg(test)]
 mod drops;
 #[cfg(test)]
 mod faults;
 #[cfg(test)]
+mod gate_stories;
+#[cfg(test)]
 mod lent;
 #[cfg(test)]
 mod lines;
 #[cfg(test)]
+mod lock_stories;
+#[cfg(test)]
 mod pagers;
+#[cfg(test)]
+mod semaphore_stories;
+#[cfg(test)]
+mod stories;
 #[cfg(test)]
 mod values;
 #[cfg(test)]

@@ -11,6 +11,7 @@ use saa_sync::lock::{Lock, Mode};
 use saa_sync::pager::{Pager, SyncResult};
 use saa_sync::semaphore::Semaphore;
 use saa_sync::testing::poll_as;
+use std::alloc::{AllocError, Global};
 use std::io;
 use std::sync::Wait;
 use test_asserts::same;
@@ -118,35 +119,84 @@ impl<R: Wait + Drop> Tells for Gate<R> {
     }
 }
 
+// What four pagers are told at a fresh gate.
+fn told_at_a_gate<R: Wait + Drop>(
+    rt: R,
+    alloc: Global,
+    task: &MockTask,
+    by: GateMove,
+) -> Result<FourTold<Gate<R>>, AllocError> {
+    Ok(told(task, &Gate::new(rt, alloc, 6)?, by))
+}
+
 #[test]
 fn every_value_of_a_gate_is_told_by_each_poll(rt: HostRuntime) -> io::Result<()> {
     let task = MockTask::new(&rt)?;
     for (by, answer) in GATE_MOVES {
-        let gate = Gate::new(&rt, rt.alloc(), 6)?;
-        same!(rt; told(&task, &gate, by), all_told::<Gate<&HostRuntime>>(answer));
+        let told = told_at_a_gate(&rt, rt.alloc(), &task, by)?;
+        same!(rt; told, all_told::<Gate<&HostRuntime>>(answer));
     }
     Ok(())
+}
+
+// What a future is told at a fresh gate.
+fn told_by_entering<R: Wait + Drop>(
+    rt: R,
+    alloc: Global,
+    task: &MockTask,
+    by: GateMove,
+) -> Result<Option<Result<Result<State, GateError>, Full>>, AllocError> {
+    let gate = Gate::new(rt, alloc, 6)?;
+    let mut enter = gate.enter_async();
+    Ok(ready(told_by_future(task, &gate, by, &mut enter)))
 }
 
 #[test]
 fn every_value_of_a_gate_is_told_by_a_future(rt: HostRuntime) -> io::Result<()> {
     let task = MockTask::new(&rt)?;
     for (by, answer) in GATE_MOVES {
-        let gate = Gate::new(&rt, rt.alloc(), 6)?;
-        let mut enter = gate.enter_async();
-        same!(rt; ready(told_by_future(&task, &gate, by, &mut enter)), Some(Ok(answer)));
+        same!(rt; told_by_entering(&rt, rt.alloc(), &task, by)?, Some(Ok(answer)));
     }
     Ok(())
 }
 
-// The callback of a call answers all who wait, its own task among them.
+// The callback of a call at a fresh gate answers all who wait, its own task among them.
+fn told_by_a_call<R: Wait + Drop>(
+    rt: R,
+    alloc: Global,
+    by: GateMove,
+) -> Result<Result<Result<State, GateError>, Full>, AllocError> {
+    let gate = Gate::new(rt, alloc, 6)?;
+    Ok(gate.enter_sync_with(|| gate.answer(by)))
+}
+
 #[test]
 fn every_value_of_a_gate_is_told_by_a_call(rt: HostRuntime) -> io::Result<()> {
     for (by, answer) in GATE_MOVES {
-        let gate = Gate::new(&rt, rt.alloc(), 6)?;
-        same!(rt; gate.enter_sync_with(|| gate.answer(by)), Ok(answer));
+        same!(rt; told_by_a_call(&rt, rt.alloc(), by)?, Ok(answer));
     }
     Ok(())
+}
+
+// What all are told at a gate that is decided, and has no room: four pagers, a future, and two calls.
+fn told_at_once<R: Wait + Drop>(
+    rt: R,
+    alloc: Global,
+    task: &MockTask,
+    by: GateMove,
+) -> Result<
+    (
+        FourTold<Gate<R>>,
+        [Option<Result<Result<State, GateError>, Full>>; 3],
+    ),
+    AllocError,
+> {
+    let gate = Gate::new(rt, alloc, 0)?;
+    gate.answer(by);
+    let four = told(task, &gate, by);
+    let future = ready(task.poll(&mut gate.enter_async()));
+    let call = Some(gate.enter_sync());
+    Ok((four, [future, call, Some(gate.enter_sync_with(|| {}))]))
 }
 
 // The answer is there at once, at a gate that is sealed or open.
@@ -157,12 +207,9 @@ fn a_gate_that_is_decided_tells_all_at_once(rt: HostRuntime) -> io::Result<()> {
         (GateMove::Seal, Err(GateError::Sealed)),
         (GateMove::Open, Ok(State::Open)),
     ] {
-        let gate = Gate::new(&rt, rt.alloc(), 0)?;
-        gate.answer(by);
-        same!(rt; told(&task, &gate, by), all_told::<Gate<&HostRuntime>>(answer));
-        same!(rt; ready(task.poll(&mut gate.enter_async())), Some(Ok(answer)));
-        same!(rt; gate.enter_sync(), Ok(answer));
-        same!(rt; gate.enter_sync_with(|| {}), Ok(answer));
+        let (four, others) = told_at_once(&rt, rt.alloc(), &task, by)?;
+        same!(rt; four, all_told::<Gate<&HostRuntime>>(answer));
+        same!(rt; others, [Some(Ok(answer)); 3]);
     }
     Ok(())
 }
@@ -184,45 +231,90 @@ impl<R: Wait + Drop> Tells for Lock<R> {
     }
 }
 
+// What four pagers are told at a lock that is taken, and whether it was.
+fn told_at_a_lock<R: Wait + Drop>(
+    rt: R,
+    alloc: Global,
+    task: &MockTask,
+    is_granted: bool,
+) -> Result<(bool, FourTold<Lock<R>>), AllocError> {
+    let lock = Lock::new(rt, alloc, 6)?;
+    let is_taken = lock.try_lock() == Ok(());
+    Ok((is_taken, told(task, &lock, is_granted)))
+}
+
 #[test]
 fn every_value_of_a_lock_is_told_by_each_poll(rt: HostRuntime) -> io::Result<()> {
     let task = MockTask::new(&rt)?;
     for is_granted in [true, false] {
-        let lock = Lock::new(&rt, rt.alloc(), 6)?;
-        same!(rt; lock.try_lock(), Ok(()));
-        same!(rt; told(&task, &lock, is_granted), all_told::<Lock<&HostRuntime>>(Ok(is_granted)));
+        let told = told_at_a_lock(&rt, rt.alloc(), &task, is_granted)?;
+        same!(rt; told, (true, all_told::<Lock<&HostRuntime>>(Ok(is_granted))));
     }
     Ok(())
+}
+
+// What a future is told that wants a share, or the lock alone, at a lock that is taken, and whether it was.
+fn told_by_waiting<R: Wait + Drop>(
+    rt: R,
+    alloc: Global,
+    task: &MockTask,
+    is_granted: bool,
+    is_shared: bool,
+) -> Result<(bool, Option<Result<bool, Full>>), AllocError> {
+    let lock = Lock::new(rt, alloc, 1)?;
+    let is_taken = lock.try_lock() == Ok(());
+    let mut future = if is_shared {
+        lock.share_async()
+    } else {
+        lock.lock_async()
+    };
+    let told = ready(told_by_future(task, &lock, is_granted, &mut future));
+    Ok((is_taken, told))
 }
 
 #[test]
 fn every_value_of_a_lock_is_told_by_a_future(rt: HostRuntime) -> io::Result<()> {
     let task = MockTask::new(&rt)?;
-    for is_granted in [true, false] {
-        let lock = Lock::new(&rt, rt.alloc(), 1)?;
-        same!(rt; lock.try_lock(), Ok(()));
-        let mut alone = lock.lock_async();
-        same!(rt; ready(told_by_future(&task, &lock, is_granted, &mut alone)), Some(Ok(is_granted)));
-        let other = Lock::new(&rt, rt.alloc(), 1)?;
-        same!(rt; other.try_lock(), Ok(()));
-        let mut share = other.share_async();
-        same!(rt; ready(told_by_future(&task, &other, is_granted, &mut share)), Some(Ok(is_granted)));
+    for (is_granted, is_shared) in [(true, false), (true, true), (false, false), (false, true)] {
+        let told = told_by_waiting(&rt, rt.alloc(), &task, is_granted, is_shared)?;
+        same!(rt; told, (true, Some(Ok(is_granted))));
     }
     Ok(())
 }
 
+// What a call is told that wants a share, or the lock alone, at a lock that is taken, and whether it was; and what two
+// calls are told after that, where the lock is poisoned then.
+fn told_by_a_wait<R: Wait + Drop>(
+    rt: R,
+    alloc: Global,
+    is_granted: bool,
+    is_shared: bool,
+) -> Result<(bool, Result<bool, Full>, Option<[Result<bool, Full>; 2]>), AllocError> {
+    let lock = Lock::new(rt, alloc, 1)?;
+    let is_taken = lock.try_lock() == Ok(());
+    let told = if is_shared {
+        lock.share_sync_with(|| lock.answer(is_granted))
+    } else {
+        lock.lock_sync_with(|| lock.answer(is_granted))
+    };
+    let after = if is_granted {
+        None
+    } else {
+        Some([lock.lock_sync(), lock.share_sync()])
+    };
+    Ok((is_taken, told, after))
+}
+
 #[test]
 fn every_value_of_a_lock_is_told_by_a_call(rt: HostRuntime) -> io::Result<()> {
-    for is_granted in [true, false] {
-        let lock = Lock::new(&rt, rt.alloc(), 1)?;
-        same!(rt; lock.try_lock(), Ok(()));
-        same!(rt; lock.lock_sync_with(|| lock.answer(is_granted)), Ok(is_granted));
-        let other = Lock::new(&rt, rt.alloc(), 1)?;
-        same!(rt; other.try_lock(), Ok(()));
-        same!(rt; other.share_sync_with(|| other.answer(is_granted)), Ok(is_granted));
-        if !is_granted {
-            same!(rt; (lock.lock_sync(), lock.share_sync()), (Ok(false), Ok(false)));
-        }
+    for (is_granted, is_shared) in [(true, false), (true, true), (false, false), (false, true)] {
+        let told = told_by_a_wait(&rt, rt.alloc(), is_granted, is_shared)?;
+        let after = if is_granted {
+            None
+        } else {
+            Some([Ok(false), Ok(false)])
+        };
+        same!(rt; told, (true, Ok(is_granted), after));
     }
     Ok(())
 }

@@ -1,49 +1,68 @@
 //! Futures in tasks that are polled by hand: an answer wakes exactly the tasks that it concerns.
 
-use crate::ready;
-use futures::executor::block_on;
+use crate::barrier_stories::BarrierCall;
+use crate::gate_stories::GateCall;
+use crate::lock_stories::LockCall;
+use crate::semaphore_stories::SemaphoreCall::{
+    AskMany, AskOne, AwaitMany, AwaitOne, Enter, HasEndedOne, IsWoken, Permits, PollMany, PollOne,
+    Release, TryAcquireMany,
+};
+use crate::semaphore_stories::{SemaphoreCall, played, played_with};
+use crate::stories::Told;
+use crate::stories::Told::{Answer, Count, Is, Moved, Nothing, Passage, Permit, Tried, Was};
+use crate::stories::Who::{First, Second, Third};
+use crate::{barrier_stories, gate_stories, lock_stories, ready};
 use futures::test::MockTask;
 use saa_core::ticket::Full;
-use saa_sync::barrier::Barrier;
-use saa_sync::gate::{Error, Gate, State};
-use saa_sync::lock::Lock;
+use saa_sync::gate::{Error, State};
 use saa_sync::semaphore::Semaphore;
 use std::io;
 use std::sync::atomic::Ordering;
 use test_asserts::{holds, same};
 
+const NO_WAKE: [(SemaphoreCall, Told); 6] = [
+    (AwaitMany(11), Answer(Some(Ok(true)))),
+    (Permits, Count(52)),
+    (AwaitOne, Permit(Some(Ok(())))),
+    (AwaitMany(64), Answer(Some(Ok(false)))),
+    (AwaitMany(52), Answer(Some(Err(Full)))),
+    (Permits, Count(51)),
+];
+
 #[test]
 fn an_answer_that_is_there_needs_no_wake(rt: HostRuntime) -> io::Result<()> {
-    let semaphore = Semaphore::new(&rt, rt.alloc(), 0)?;
-    same!(rt; block_on(&rt, semaphore.acquire_many_async(11))?, Ok(true));
-    same!(rt; semaphore.available_permits(Ordering::SeqCst), 52);
-    same!(rt; block_on(&rt, semaphore.acquire_async())?, Ok(()));
-    same!(rt; block_on(&rt, semaphore.acquire_many_async(64))?, Ok(false));
-    same!(rt; block_on(&rt, semaphore.acquire_many_async(52))?, Err(Full));
-    same!(rt; semaphore.available_permits(Ordering::SeqCst), 51);
+    same!(rt; played(&rt, rt.alloc(), 0, &NO_WAKE)?, None);
     Ok(())
 }
 
+// The first task asks for two permits, the second for one.
+const WHOM_IT_GRANTS: [(SemaphoreCall, Told); 21] = [
+    (AskMany(First, 2), Nothing),
+    (AskOne(Second), Nothing),
+    (PollMany(First, First), Answer(None)),
+    (PollOne(Second, Second), Permit(None)),
+    (IsWoken(First), Is(false)),
+    (IsWoken(Second), Is(false)),
+    (Release, Is(true)),
+    (IsWoken(First), Is(false)),
+    (IsWoken(Second), Is(false)),
+    (Release, Is(true)),
+    (IsWoken(First), Is(true)),
+    (IsWoken(Second), Is(false)),
+    (PollOne(Second, Second), Permit(None)),
+    (PollMany(First, First), Answer(Some(Ok(true)))),
+    (IsWoken(First), Is(false)),
+    (IsWoken(Second), Is(false)),
+    (Release, Is(true)),
+    (IsWoken(First), Is(false)),
+    (IsWoken(Second), Is(true)),
+    (PollOne(Second, Second), Permit(Some(Ok(())))),
+    (Permits, Count(0)),
+];
+
 #[test]
 fn a_release_wakes_whom_it_grants(rt: HostRuntime) -> io::Result<()> {
-    let semaphore = Semaphore::with_permits(&rt, rt.alloc(), 0, 4)?;
-    let (first, second) = (MockTask::new(&rt)?, MockTask::new(&rt)?);
-    let mut two = semaphore.acquire_many_async(2);
-    let mut one = semaphore.acquire_async();
-    same!(rt; ready(first.poll(&mut two)), None);
-    same!(rt; ready(second.poll(&mut one)), None);
-    holds!(rt; !first.is_woken() && !second.is_woken());
-    holds!(rt; semaphore.release());
-    holds!(rt; !first.is_woken() && !second.is_woken());
-    holds!(rt; semaphore.release());
-    holds!(rt; first.is_woken() && !second.is_woken());
-    same!(rt; ready(second.poll(&mut one)), None);
-    same!(rt; ready(first.poll(&mut two)), Some(Ok(true)));
-    holds!(rt; !first.is_woken() && !second.is_woken());
-    holds!(rt; semaphore.release());
-    holds!(rt; !first.is_woken() && second.is_woken());
-    same!(rt; ready(second.poll(&mut one)), Some(Ok(())));
-    same!(rt; semaphore.available_permits(Ordering::SeqCst), 0);
+    same!(rt; played_with(&rt, rt.alloc(), 0, 4, &WHOM_IT_GRANTS)?, None);
     Ok(())
 }
 
@@ -74,117 +93,140 @@ fn a_release_of_many_wakes_all_whom_it_grants(rt: HostRuntime) -> io::Result<()>
     Ok(())
 }
 
+// The first task is the old one.
+const THE_NEWEST_TASK: [(SemaphoreCall, Told); 11] = [
+    (AskOne(First), Nothing),
+    (PollOne(First, First), Permit(None)),
+    (PollOne(Second, First), Permit(None)),
+    (Enter(First), Nothing),
+    (PollOne(Second, First), Permit(None)),
+    (IsWoken(First), Is(false)),
+    (IsWoken(Second), Is(false)),
+    (Release, Is(true)),
+    (IsWoken(First), Is(false)),
+    (IsWoken(Second), Is(true)),
+    (PollOne(Second, First), Permit(Some(Ok(())))),
+];
+
 #[test]
 fn the_newest_task_is_woken(rt: HostRuntime) -> io::Result<()> {
-    let semaphore = Semaphore::with_permits(&rt, rt.alloc(), 0, 4)?;
-    let (old, new) = (MockTask::new(&rt)?, MockTask::new(&rt)?);
-    let mut one = semaphore.acquire_async();
-    same!(rt; ready(old.poll(&mut one)), None);
-    same!(rt; ready(new.poll(&mut one)), None);
-    old.enter(|_cx| {});
-    same!(rt; ready(new.poll(&mut one)), None);
-    holds!(rt; !old.is_woken() && !new.is_woken());
-    holds!(rt; semaphore.release());
-    holds!(rt; !old.is_woken() && new.is_woken());
-    same!(rt; ready(new.poll(&mut one)), Some(Ok(())));
+    same!(rt; played_with(&rt, rt.alloc(), 0, 4, &THE_NEWEST_TASK)?, None);
     Ok(())
 }
+
+const AFTER_THE_END: [(SemaphoreCall, Told); 15] = [
+    (AskOne(First), Nothing),
+    (PollOne(First, First), Permit(Some(Ok(())))),
+    (HasEndedOne(First), Is(true)),
+    (IsWoken(First), Is(false)),
+    (PollOne(First, First), Permit(None)),
+    (IsWoken(First), Is(true)),
+    (Permits, Count(62)),
+    (TryAcquireMany(62), Is(true)),
+    (AskMany(First, 2), Nothing),
+    (AskOne(Second), Nothing),
+    (PollMany(First, First), Answer(None)),
+    (PollOne(First, Second), Permit(Some(Err(Full)))),
+    (HasEndedOne(Second), Is(true)),
+    (PollOne(First, Second), Permit(None)),
+    (IsWoken(First), Is(true)),
+];
 
 #[test]
 fn a_poll_after_the_end_yields(rt: HostRuntime) -> io::Result<()> {
-    let semaphore = Semaphore::new(&rt, rt.alloc(), 1)?;
-    let task = MockTask::new(&rt)?;
-    let mut one = semaphore.acquire_async();
-    same!(rt; ready(task.poll(&mut one)), Some(Ok(())));
-    holds!(rt; one.has_ended());
-    holds!(rt; !task.is_woken());
-    same!(rt; ready(task.poll(&mut one)), None);
-    holds!(rt; task.is_woken());
-    same!(rt; semaphore.available_permits(Ordering::SeqCst), 62);
-    holds!(rt; semaphore.try_acquire_many(62));
-    let mut many = semaphore.acquire_many_async(2);
-    let mut full = semaphore.acquire_async();
-    same!(rt; ready(task.poll(&mut many)), None);
-    same!(rt; ready(task.poll(&mut full)), Some(Err(Full)));
-    holds!(rt; full.has_ended());
-    same!(rt; ready(task.poll(&mut full)), None);
-    holds!(rt; task.is_woken());
+    same!(rt; played(&rt, rt.alloc(), 1, &AFTER_THE_END)?, None);
     Ok(())
 }
+
+// The first two tasks are readers, the third a writer.
+const A_LOCK_WAKES: [(LockCall, Told); 24] = [
+    (LockCall::TryLock, Tried(Ok(()))),
+    (LockCall::AskShare(First), Nothing),
+    (LockCall::AskShare(Second), Nothing),
+    (LockCall::Ask(Third), Nothing),
+    (LockCall::Poll(First, First), Answer(None)),
+    (LockCall::Poll(Second, Second), Answer(None)),
+    (LockCall::Poll(Third, Third), Answer(None)),
+    (LockCall::ReleaseLock, Is(true)),
+    (LockCall::IsWoken(First), Is(true)),
+    (LockCall::IsWoken(Second), Is(true)),
+    (LockCall::IsWoken(Third), Is(false)),
+    (LockCall::Poll(First, First), Answer(Some(Ok(true)))),
+    (LockCall::Poll(Second, Second), Answer(Some(Ok(true)))),
+    (LockCall::ReleaseShare, Is(true)),
+    (LockCall::IsWoken(Third), Is(false)),
+    (LockCall::ReleaseShare, Is(true)),
+    (LockCall::IsWoken(Third), Is(true)),
+    (LockCall::Poll(Third, Third), Answer(Some(Ok(true)))),
+    // A reader that comes late.
+    (LockCall::AskShare(First), Nothing),
+    (LockCall::Poll(First, First), Answer(None)),
+    (LockCall::Poison, Is(true)),
+    (LockCall::IsWoken(First), Is(true)),
+    (LockCall::Poll(First, First), Answer(Some(Ok(false)))),
+    (LockCall::IsPoisoned, Is(true)),
+];
 
 #[test]
 fn a_lock_wakes_its_tasks(rt: HostRuntime) -> io::Result<()> {
-    let lock = Lock::new(&rt, rt.alloc(), 4)?;
-    let (one, two, three) = (
-        MockTask::new(&rt)?,
-        MockTask::new(&rt)?,
-        MockTask::new(&rt)?,
-    );
-    same!(rt; lock.try_lock(), Ok(()));
-    let mut reader = lock.share_async();
-    let mut other = lock.share_async();
-    let mut writer = lock.lock_async();
-    same!(rt; ready(one.poll(&mut reader)), None);
-    same!(rt; ready(two.poll(&mut other)), None);
-    same!(rt; ready(three.poll(&mut writer)), None);
-    holds!(rt; lock.release_lock());
-    holds!(rt; one.is_woken() && two.is_woken() && !three.is_woken());
-    same!(rt; ready(one.poll(&mut reader)), Some(Ok(true)));
-    same!(rt; ready(two.poll(&mut other)), Some(Ok(true)));
-    holds!(rt; lock.release_share());
-    holds!(rt; !three.is_woken());
-    holds!(rt; lock.release_share());
-    holds!(rt; three.is_woken());
-    same!(rt; ready(three.poll(&mut writer)), Some(Ok(true)));
-    let mut late = lock.share_async();
-    same!(rt; ready(one.poll(&mut late)), None);
-    holds!(rt; lock.poison_lock());
-    holds!(rt; one.is_woken());
-    same!(rt; ready(one.poll(&mut late)), Some(Ok(false)));
-    holds!(rt; lock.is_poisoned(Ordering::SeqCst));
+    same!(rt; lock_stories::played(&rt, rt.alloc(), 4, &A_LOCK_WAKES)?, None);
     Ok(())
 }
+
+const A_GATE_WAKES: [(GateCall, Told); 16] = [
+    (GateCall::Ask(First), Nothing),
+    (GateCall::Ask(Second), Nothing),
+    (GateCall::Poll(First, First), Passage(None)),
+    (GateCall::Poll(Second, Second), Passage(None)),
+    (GateCall::Permit, Moved(Ok(2))),
+    (GateCall::IsWoken(First), Is(true)),
+    (GateCall::IsWoken(Second), Is(true)),
+    (
+        GateCall::Poll(First, First),
+        Passage(Some(Ok(Ok(State::Controlled)))),
+    ),
+    (
+        GateCall::Poll(Second, Second),
+        Passage(Some(Ok(Ok(State::Controlled)))),
+    ),
+    (GateCall::Ask(Third), Nothing),
+    (GateCall::Poll(First, Third), Passage(None)),
+    (GateCall::Reject, Moved(Ok(1))),
+    (GateCall::IsWoken(First), Is(true)),
+    (
+        GateCall::Poll(First, Third),
+        Passage(Some(Ok(Err(Error::Rejected)))),
+    ),
+    (GateCall::Open, Was((State::Controlled, 0))),
+    (GateCall::Await, Passage(Some(Ok(Ok(State::Open))))),
+];
 
 #[test]
 fn a_gate_wakes_its_tasks(rt: HostRuntime) -> io::Result<()> {
-    let gate = Gate::new(&rt, rt.alloc(), 4)?;
-    let (one, two) = (MockTask::new(&rt)?, MockTask::new(&rt)?);
-    let mut first = gate.enter_async();
-    let mut second = gate.enter_async();
-    same!(rt; ready(one.poll(&mut first)), None);
-    same!(rt; ready(two.poll(&mut second)), None);
-    same!(rt; gate.permit(), Ok(2));
-    holds!(rt; one.is_woken() && two.is_woken());
-    same!(rt; ready(one.poll(&mut first)), Some(Ok(Ok(State::Controlled))));
-    same!(rt; ready(two.poll(&mut second)), Some(Ok(Ok(State::Controlled))));
-    let mut third = gate.enter_async();
-    same!(rt; ready(one.poll(&mut third)), None);
-    same!(rt; gate.reject(), Ok(1));
-    holds!(rt; one.is_woken());
-    same!(rt; ready(one.poll(&mut third)), Some(Ok(Err(Error::Rejected))));
-    same!(rt; gate.open(), (State::Controlled, 0));
-    same!(rt; block_on(&rt, gate.enter_async())?, Ok(Ok(State::Open)));
+    same!(rt; gate_stories::played(&rt, rt.alloc(), 4, &A_GATE_WAKES)?, None);
     Ok(())
 }
 
+// The third task arrives last.
+const THE_LAST_ARRIVAL: [(BarrierCall, Told); 14] = [
+    (BarrierCall::Ask(First), Nothing),
+    (BarrierCall::Ask(Second), Nothing),
+    (BarrierCall::Ask(Third), Nothing),
+    (BarrierCall::Poll(First, First), Answer(None)),
+    (BarrierCall::Poll(Second, Second), Answer(None)),
+    (BarrierCall::IsWoken(First), Is(false)),
+    (BarrierCall::IsWoken(Second), Is(false)),
+    (BarrierCall::Poll(Third, Third), Answer(Some(Ok(true)))),
+    (BarrierCall::IsWoken(First), Is(true)),
+    (BarrierCall::IsWoken(Second), Is(true)),
+    (BarrierCall::IsWoken(Third), Is(false)),
+    (BarrierCall::Poll(First, First), Answer(Some(Ok(false)))),
+    (BarrierCall::Poll(Second, Second), Answer(Some(Ok(false)))),
+    (BarrierCall::Missing, Count(3)),
+];
+
 #[test]
 fn the_last_arrival_wakes_the_round(rt: HostRuntime) -> io::Result<()> {
-    let barrier = Barrier::with_count(&rt, rt.alloc(), 3, 4)?;
-    let (one, two, three) = (
-        MockTask::new(&rt)?,
-        MockTask::new(&rt)?,
-        MockTask::new(&rt)?,
-    );
-    let mut first = barrier.wait_async();
-    let mut second = barrier.wait_async();
-    let mut last = barrier.wait_async();
-    same!(rt; ready(one.poll(&mut first)), None);
-    same!(rt; ready(two.poll(&mut second)), None);
-    holds!(rt; !one.is_woken() && !two.is_woken());
-    same!(rt; ready(three.poll(&mut last)), Some(Ok(true)));
-    holds!(rt; one.is_woken() && two.is_woken() && !three.is_woken());
-    same!(rt; ready(one.poll(&mut first)), Some(Ok(false)));
-    same!(rt; ready(two.poll(&mut second)), Some(Ok(false)));
-    same!(rt; barrier.count(Ordering::SeqCst), 3);
+    same!(rt; barrier_stories::played(&rt, rt.alloc(), 3, 4, &THE_LAST_ARRIVAL)?, None);
     Ok(())
 }
