@@ -39,11 +39,7 @@ struct Told {
 }
 
 /// Waits until so many sleep.
-pub fn await_asleep<R: Wait + Drop, P: Tries>(
-    rt: &impl Wait,
-    shell: &Shell<R, P>,
-    count: usize,
-) {
+pub fn await_asleep<R: Wait + Drop, P: Tries>(rt: &impl Wait, shell: &Shell<R, P>, count: usize) {
     for _ in rt.forever() {
         if shell.asleep() == count {
             return;
