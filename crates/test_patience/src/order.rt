@@ -1,4 +1,4 @@
-//! Who registered first is granted first, whoever looks meanwhile; and who has no patience registers at once.
+//! The oldest waiter is granted first, whatever call spins meanwhile; and a call without patience joins the queue at once.
 
 use saa_sync::lock::{Lock, Mode};
 use saa_sync::pager::{Error, Pager};

@@ -36,7 +36,7 @@ fn take_turns<R: Wait + Drop>(lock: &Lock<R>) -> u64 {
     taken
 }
 
-// Few looks, and no patience of those who wait: the end of the patience falls anywhere beside a release, and each who registers
+// Few looks, and no patience of waiters: the end of a call's patience falls anywhere beside a release, and each that joins the queue
 // sleeps at once.
 #[test]
 fn each_who_gives_up_looking_is_woken(rt: HostRuntime) -> Result<(), Fail> {
@@ -82,7 +82,7 @@ fn release_once_both_are_there<R: Wait + Drop>(rt: &impl Wait, lock: &Lock<R>) -
     lock.release_lock()
 }
 
-// Whoever leaves the mutex while somebody looks wakes those that it answers all the same.
+// A call that leaves the mutex while another one spins wakes the waiters that it answers all the same.
 #[test]
 fn a_sleeper_is_woken_while_others_look(rt: HostRuntime) -> Result<(), Fail> {
     let lock = Lock::with_patience(&rt, rt.alloc(), 1, ENDLESS)?;

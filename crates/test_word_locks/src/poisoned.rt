@@ -1,6 +1,6 @@
 //! Poison reaches each of 32 places that surely park, in all four modes: each wait ends, and answers that the lock is poisoned.
 //!
-//! A waiter that poison leaves in the line, or doesn't wake, never ends, and the test with it.
+//! A waiter that poison leaves in the queue, or doesn't wake, never ends, and the test with it.
 
 ghost use Rattle.saa_word_threads.specs.Locks.{IsDealtBy};
 
@@ -20,10 +20,10 @@ const SLEEPERS: u16 = 32;
 // The way to take the lock that never waits.
 const TRIES: u32 = 2;
 
-// How often whoever poisons yields first: much more often than a waiter does before it parks.
+// How often the owner yields before it poisons: much more often than a waiter does before it parks.
 const RESTS: u32 = 5_000;
 
-// What is told of those who wait: how many have asked, have joined the line, have ended, and have ended as poisoned.
+// Counts of the waiters: how many have asked, have joined the queue, have ended, and have ended as poisoned.
 #[derive(Drop)]
 struct Watched {
     asked: AtomicU64,
