@@ -20,7 +20,7 @@ pub struct Patience {
 ///
 /// Measured with 2, 4 and 8 threads on 4 processors: where turns are of some microseconds or less, no queue forms.
 pub const UNREGISTERED: Patience = Patience {
-    looks: 60,
+    looks: 40,
     yields: 100,
 };
 
@@ -30,8 +30,10 @@ pub const NONE: Patience = Patience {
     yields: 0,
 };
 
-// How often the rest between two looks of an unregistered call is doubled: from one turn to 256.
-const DOUBLINGS: u32 = 8;
+// The turns of the first rest, and how often a rest is doubled: to 1,024 turns.
+const FIRST_REST: u32 = 8;
+
+const DOUBLINGS: u32 = 7;
 
 impl Patience {
     // How often a call looks in all.
@@ -48,8 +50,13 @@ impl Patience {
             yield_now();
             return;
         }
-        for _spin in 0..2u32.saturating_pow(turn.min(DOUBLINGS)) {
-            spin_loop();
-        }
+        rest(turn);
+    }
+}
+
+/// Rests between two looks or tries, by the number of the first from 0: longer each time, up to a bound.
+pub(crate) fn rest(turn: u32) {
+    for _spin in 0..FIRST_REST.saturating_mul(2u32.saturating_pow(turn.min(DOUBLINGS))) {
+        spin_loop();
     }
 }

@@ -37,6 +37,9 @@ use std::alloc::{AllocError, Global};
 use std::sync::{Mutex, MutexGuard, Wait};
 use std::thread::yield_now;
 
+// How often a call tries to lock the mutex that another task has, before it may sleep there.
+const MUTEX_TRIES: u32 = 10;
+
 /// A wake that was taken out of the core: the waiter of this slot has an answer.
 #[derive(Drop)]
 pub(crate) struct Wake {
@@ -273,6 +276,22 @@ impl<R: Wait + Drop, P: Tries> Shell<R, P> {
     /// Locks the mutex; may wait for its holder.
     #[inline(always)]
     pub(crate) fn lock(&self) -> MutexGuard<'_, Inside<P>> {
+        match self.lock.try_lock() {
+            Some(inside) => inside,
+            None => self.lock_once_left(),
+        }
+    }
+
+    // Locks the mutex that another task has. It rests before each try, longer each time: a turn at the mutex takes some
+    // nanoseconds, and each try takes the mutex's cache line from the task that makes turns there. It sleeps where that doesn't help.
+    #[inline(never)]
+    fn lock_once_left(&self) -> MutexGuard<'_, Inside<P>> {
+        for turn in 0..MUTEX_TRIES {
+            patience::rest(turn);
+            if let Some(inside) = self.lock.try_lock() {
+                return inside;
+            }
+        }
         self.lock.lock(&self.rt)
     }
 

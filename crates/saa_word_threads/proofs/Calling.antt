@@ -32,7 +32,7 @@ use Rattle.saa_word_proofs.proofs.SoloLemmas.Registered.{started-as}
 use Rattle.saa_word_threads.specs.declared.table.View.{View}
 use Rattle.saa_word_threads.specs.Called.{HasEvents, IsCalled, IsCalledFrom, Midway, MidwayNext, is_single}
 use Rattle.saa_word_threads.specs.Public.{is_granted}
-use Rattle.saa_word_threads.specs.Told.{Extends, IsSince, Moves, resting_as, taken_once}
+use Rattle.saa_word_threads.specs.Told.{Extends, IsSince, IsSought, Moves, MovesOrStays, prepares, resting_as, taken_once, unless_joining}
 use Rattle.saa_word_threads.proofs.Growing.{extends-append, extends-none, named-append}
 
 -- a place that is done rests where it stands
@@ -287,6 +287,38 @@ module _ (needs : Needs) (places me : ℕ) (call : WordCall) (was : Registration
   midway-next (Going next) is moved = midway-going next is moved
   midway-next Waits is moved = midway-waits is moved
   midway-next (Done behind answer) is moved = (midway-done behind answer is moved, midway-since behind answer is moved)
+
+-- a place that stands where it stood goes on as it went on
+pub midway-stays : (needs : Needs) (places me : ℕ) (call : WordCall) (was : Registration) (began : View) (place : Place) (v w : View) (next : Next)
+    → Midway needs places me call was began place v → v.number ≡ me → MovesOrStays needs places me place next v w
+    → MidwayNext needs places me call was began place w next
+midway-stays needs places me call was began place v w next m number (inl moved) =
+    midway-next needs places me call was began place v w moved.0 m number next moved.1 moved.2
+midway-stays needs places me call was began place v w next m number (inr stays) =
+    subst (λ (n : Next). MidwayNext needs places me call was began place w n) (sym stays.0)
+    (subst (λ (u : View). Midway needs places me call was began place u) (sym stays.1) m)
+
+-- a look is a step, or nothing
+pub sought-stays : (needs : Needs) (places me : ℕ) (place : Place) (found : ℕ) (v w : View) → IsSought needs places me place found v w
+    → MovesOrStays needs places me place (unless_joining place (next_of needs me place place.stage found)) v w
+sought-stays needs places me place found v w looked =
+    elim (cases_Bool (prepares (next_of needs me place place.stage found))) [
+      | inl joins ↦ (let same : w ≡ v = rw joins at looked in rw joins (inr (refl, same)))
+      | inr goes ↦
+          let moved : Moves needs places place (next_of needs me place place.stage found) found v w = rw goes at looked in
+          rw goes (inl (found, refl, moved))
+    ]
+
+pub stays-same : (needs : Needs) (places me : ℕ) (place : Place) (next : Next) (v w : View) → MovesOrStays needs places me place next v w
+    → (w.deals ≡ v.deals) × (w.number ≡ v.number)
+stays-same needs places me place next v w (inl moved) = (moved.2.extends.deals, moved.2.extends.number)
+stays-same needs places me place next v w (inr stays) = (ap (λ (u : View). u.deals) stays.1, ap (λ (u : View). u.number) stays.1)
+
+pub sought-same : (needs : Needs) (places me : ℕ) (place : Place) (found : ℕ) (v w : View) → IsSought needs places me place found v w
+    → (w.deals ≡ v.deals) × (w.number ≡ v.number)
+sought-same needs places me place found v w looked =
+    stays-same needs places me place (unless_joining place (next_of needs me place place.stage found)) v w
+    (sought-stays needs places me place found v w looked)
 
 -- The calls of one step at most
 

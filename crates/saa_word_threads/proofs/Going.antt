@@ -21,8 +21,8 @@ use Rattle.saa_word_steps.specs.Steps.{decided, given, going, granted, is_taken,
 use Rattle.saa_word_threads.specs.declared.table.View.{View}
 use Rattle.saa_word_threads.specs.Called.{HasEvents, Midway, MidwayNext}
 use Rattle.saa_word_threads.specs.Straight.{grants_at, lowers_to}
-use Rattle.saa_word_threads.specs.Told.{IsNext, IsSince, Moves}
-use Rattle.saa_word_threads.proofs.Calling.{midway-first, midway-going, midway-next}
+use Rattle.saa_word_threads.specs.Told.{IsNext, IsSince, IsSought, Moves, prepares, unless_joining}
+use Rattle.saa_word_threads.proofs.Calling.{midway-first, midway-going, midway-next, midway-stays, sought-stays}
 
 both : (one other : Bool) → one && other ≡ true → (one ≡ true) × (other ≡ true)
 both true other is = (refl, is)
@@ -64,7 +64,7 @@ module _ (needs : Needs) (places me : ℕ) (call : WordCall) (rest looks : Place
   told : Moves needs places looks (next_of needs me looks looks.stage found) found v w
   told = named-so needs places me found one looks v w is_one looked
 
-  -- how it goes on behind the look
+  -- how it goes on behind the first step
   pub looked-next : MidwayNext needs places me call rest.registration v looks w (next_of needs me looks looks.stage found)
   looked-next =
       midway-next needs places me call rest.registration v looks v w found midway-looks number (next_of needs me looks looks.stage found) refl told
@@ -98,6 +98,28 @@ module _ (needs : Needs) (places me : ℕ) (call : WordCall) (rest looks : Place
         midway-next needs places me call rest.registration v changes w x other midway-changes still (next_of needs me changes changes.stage other) refl
         (named-so needs places me other two changes w x is_two changed)
 
+    -- and behind one that looks
+    pub changed-sought : (x : View) (other : ℕ) (two : Place) → two ≡ changes → IsSought needs places me two other w x
+        → MidwayNext needs places me call rest.registration v changes x (unless_joining changes (next_of needs me changes changes.stage other))
+    changed-sought x other two is_two changed =
+        midway-stays needs places me call rest.registration v changes w x (unless_joining changes (next_of needs me changes changes.stage other)) midway-changes still
+        (sought-stays needs places me changes other w x (subst (λ (p : Place). IsSought needs places me p other w x) is_two changed))
+
+-- The same of an ask, which looks
+named-look : (needs : Needs) (places me found : ℕ) (one other : Place) (v w : View) → one ≡ other → IsSought needs places me one found v w
+    → IsSought needs places me other found v w
+named-look needs places me found one other v w is looked = subst (λ (p : Place). IsSought needs places me p found v w) is looked
+
+-- how it goes on behind its first look
+pub sought-next : (needs : Needs) (places me : ℕ) (call : WordCall) (rest looks : Place) (v w : View) (found : ℕ) → me < places → v.number ≡ me
+    → IsSince v.position rest → is_taken needs.is_lock call ≡ true → started needs rest call ≡ Going looks
+    → (one : Place) → one ≡ looks → IsSought needs places me one found v w
+    → MidwayNext needs places me call rest.registration v looks w (unless_joining looks (next_of needs me looks looks.stage found))
+sought-next needs places me call rest looks v w found here number since taken starts one is_one looked =
+    midway-stays needs places me call rest.registration v looks v w (unless_joining looks (next_of needs me looks looks.stage found))
+    (midway-first needs places me call rest looks v here since taken starts) number
+    (sought-stays needs places me looks found v w (named-look needs places me found one looks v w is_one looked))
+
 -- Asks
 
 -- a look at a word that grants an ask goes on to the exchange
@@ -107,6 +129,51 @@ ask-goes needs me rest ask found seen sees grants =
     decided-straight needs (record rest { stage = AskLoad ask }) ask (word_of count_bits found)
     (subst (λ (s : Word). grants_at needs s ask ≡ true) sees grants)
     ∙ ap (λ (s : Word). Going (record rest { stage = AskExchange ask s })) (sym sees)
+
+-- a look at such a word is a step
+pub ask-looks : (needs : Needs) (places me : ℕ) (rest : Place) (ask : Ask) (found : ℕ) (seen : Word) (v w : View) (one : Place) → seen ≡ word_of count_bits found
+    → grants_at needs seen ask ≡ true → one ≡ record rest { stage = AskLoad ask } → IsSought needs places me one found v w
+    → Moves needs places one (next_of needs me one one.stage found) found v w
+ask-looks needs places me rest ask found seen v w one sees grants is looked =
+    let goes : prepares (next_of needs me one one.stage found) ≡ false =
+    ap (λ (p : Place). prepares (next_of needs me p p.stage found)) is ∙ ap prepares (ask-goes needs me rest ask found seen sees grants) in
+    rw goes at looked
+
+-- so is an exchange that is made
+granted-not-joining : (needs : Needs) (place : Place) (ask : Ask) → prepares (granted needs place ask) ≡ false
+granted-not-joining needs place ask =
+    elim (cases_Bool ask.joins) [
+      | inl joins ↦ rw joins refl
+      | inr tries ↦ rw tries refl
+    ]
+
+exchanged-not-joining : (needs : Needs) (me : ℕ) (place : Place) (ask : Ask) (seen : Word) (found : ℕ) → found == word_number count_bits seen ≡ true
+    → prepares (next_of needs me place (AskExchange ask seen) found) ≡ false
+exchanged-not-joining needs me place ask seen found hit = rw hit (granted-not-joining needs place ask)
+
+missed : (needs : Needs) (me : ℕ) (place : Place) (ask : Ask) (seen : Word) (found : ℕ)
+    → prepares (next_of needs me place (AskExchange ask seen) found) ≡ true → found == word_number count_bits seen ≡ false
+missed needs me place ask seen found joins =
+    elim (cases_Bool (found == word_number count_bits seen)) [
+      | inl hit ↦ (let wrong : true ≡ false = sym joins ∙ exchanged-not-joining needs me place ask seen found hit in absurd (cc))
+      | inr miss ↦ miss
+    ]
+
+pub ask-misses : (needs : Needs) (me : ℕ) (rest : Place) (ask : Ask) (seen : Word) (one : Place) (old : ℕ) → one ≡ record rest { stage = AskExchange ask seen }
+    → old ≡ word_number count_bits seen → (found : ℕ) → prepares (next_of needs me one one.stage found) ≡ true → found == old ≡ false
+ask-misses needs me rest ask seen one old is writes found joins =
+    ap (λ (n : ℕ). found == n) writes
+    ∙ missed needs me (record rest { stage = AskExchange ask seen }) ask seen found
+    (sym (ap (λ (p : Place). prepares (next_of needs me p p.stage found)) is) ∙ joins)
+
+pub ask-takes : (needs : Needs) (places me : ℕ) (rest : Place) (ask : Ask) (found : ℕ) (seen : Word) (v w : View) (one : Place)
+    → found ≡ word_number count_bits seen → one ≡ record rest { stage = AskExchange ask seen } → IsSought needs places me one found v w
+    → Moves needs places one (next_of needs me one one.stage found) found v w
+ask-takes needs places me rest ask found seen v w one hit is looked =
+    let goes : prepares (next_of needs me one one.stage found) ≡ false =
+    ap (λ (p : Place). prepares (next_of needs me p p.stage found)) is
+    ∙ exchanged-not-joining needs me (record rest { stage = AskExchange ask seen }) ask seen found (same-number found (word_number count_bits seen) hit) in
+    rw goes at looked
 
 module _ (needs : Needs) (places me : ℕ) (call : WordCall) (rest : Place) (ask : Ask) (seen : Word) (v x : View) (other : ℕ) (hit : other ≡ word_number count_bits seen)
     (next : MidwayNext needs places me call rest.registration v (record rest { stage = AskExchange ask seen }) x

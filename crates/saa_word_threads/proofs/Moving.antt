@@ -1,12 +1,12 @@
 -- Each step of a place keeps the table's rule, and tells the place what it does.
 use Rattle.std.proofs.Common.{◌≡◌, ◌≢◌, ℕ, zero, suc, ◌+◌, ◌^◌, ◌<◌, ◌≤◌, ◌⊎◌, ◌==◌, ◌||◌, Bool, true, false, List, [], ◌∷◌, ◌++◌, length, get_or, refl, sym, ap, subst, ◌∙◌, arith, inl, inr}
 use Rattle.std.proofs.Math.ListN.{set, length-set}
-use Rattle.std.proofs.lemmas.List.{get_or-set_same, get_or-set_other}
+use Rattle.std.proofs.lemmas.List.{get_or-set_same, get_or-set_other, set-get_or}
 use Rattle.std.proofs.lemmas.Bool.{cases_Bool}
 use mathlib.Core.Option.{some, some-ne-none}
 use lib.ListN.{get_elem?}
 use Rattle.atomic_table.specs.Table.{Allows, Me, State, keeps}
-use Rattle.atomic_table.proofs.Lists.{at_set, set_here, set_else}
+use Rattle.atomic_table.proofs.Lists.{at_set, set_again, set_here, set_else}
 use Rattle.saa_core_spec.proofs.Counts.{number_same, same_number}
 use Rattle.saa_core_words.specs.Words.{count_bits}
 use Rattle.saa_word_steps.specs.declared.event.Event.{Event}
@@ -27,7 +27,7 @@ use Rattle.saa_word_threads.specs.declared.table.About.{About}
 use Rattle.saa_word_threads.specs.declared.table.View.{View}
 use Rattle.saa_word_threads.specs.Kept.{Fits, FitsAs, Kept, position_in, positions, row_of}
 use Rattle.saa_word_steps.specs.declared.rules.Rules.{Rules}
-use Rattle.saa_word_threads.specs.Told.{Begins, Extends, IsNext, Moves}
+use Rattle.saa_word_threads.specs.Told.{Begins, Extends, IsNext, IsSought, Moves, prepares}
 use Rattle.saa_word_threads.proofs.Beginning.{begins-refines, updated-twice}
 use Rattle.saa_word_threads.proofs.Growing.{has-append, has-other, part-append, part-none, part-own, run-append, seen-apart, seen-on}
 
@@ -166,6 +166,14 @@ moved-extends history seats seat v events place deals fits =
       latest = on.latest;
     }
 
+-- what a word is written as that it was, and a view that stays, change nothing
+unchanged : (about : About) (s : State (Unit {0}) View) (kept : Kept about s) (at number seat : ℕ) (v : View) → number ≡ row_of s.words at
+    → get_elem? s.views seat ≡ some v → Kept about (record { words = set s.words at number; homes = s.homes; views = set s.views seat v })
+unchanged about s kept at number seat v same is =
+    subst (λ (words : List ℕ). Kept about (record { words = words; homes = s.homes; views = set s.views seat v }))
+    (sym (ap (λ (n : ℕ). set s.words at n) same ∙ set-get_or s.words at 0))
+    (subst (λ (views : List View). Kept about (record { words = s.words; homes = s.homes; views = views })) (sym (set_again s.views seat v is)) kept)
+
 -- The step
 
 module _ (about : About) (few : about.places < 65536) (wide : (needs_of about.rules).top < 2 ^ count_bits) where
@@ -271,6 +279,34 @@ module _ (about : About) (few : about.places < 65536) (wide : (needs_of about.ru
     told-after s kept id me.0 at place deals here begins,
   )
 
+  -- The same of a look: where the place would go on to join, nothing has happened, if then its operation writes what it found
+  pub seeks : (slots id : ℕ) (me : Me (Unit {0}) View) (place : Place) → me.0.deals ≡ false → me.0.number < about.places
+      → Begins (needs_of about.rules) me.0.position place
+      → ((found : ℕ) → prepares (next_of (needs_of about.rules) me.0.number place place.stage found) ≡ true
+      → written_by (operation_of (needs_of about.rules) about.places me.0.number place.stage) found ≡ found)
+      → Allows (Kept about) slots id me (word_at (operation_of (needs_of about.rules) about.places me.0.number place.stage))
+      (written_by (operation_of (needs_of about.rules) about.places me.0.number place.stage))
+      (λ number next. IsSought (needs_of about.rules) about.places me.0.number place number me.0 next.0)
+  seeks slots id me place deals here begins same = λ s kept sized at small.
+      let op : Operation = operation_of (needs_of about.rules) about.places me.0.number place.stage in
+      let number : ℕ = row_of s.words (word_at op) in
+      elim (cases_Bool (prepares (next_of (needs_of about.rules) me.0.number place place.stage number))) [
+        | inl joins ↦ (
+          me.0,
+          keeps,
+          tt,
+          unchanged about s kept (word_at op) (written_by op number) id me.0 (same number joins) at,
+          rw joins refl,
+        )
+        | inr goes ↦ (
+          view s kept id me.0 at place deals here begins,
+          keeps,
+          tt,
+          kept-after s kept id me.0 at place deals here begins,
+          rw goes (told-after s kept id me.0 at place deals here begins),
+        )
+      ]
+
 -- The same of an operation that a call names, with the table, the place and the stage that the call picked
 pub allowed : (about : About) (rules : Rules) (places : ℕ) (picked : About) (place : Place) (number slots id : ℕ) (me : Me (Unit {0}) View) (operation : Operation)
     → about.rules ≡ rules → about.places ≡ places → places < 65536 → (needs_of rules).top < 2 ^ count_bits → picked ≡ about
@@ -295,3 +331,43 @@ allowed about rules places picked place number slots id me operation rules_are p
     made_is =
         ap (λ (r : Rules). operation_of (needs_of r) about.places number place.stage) rules_are
         ∙ ap (λ (n : ℕ). operation_of (needs_of rules) n number place.stage) places_are ∙ sym is.makes
+
+-- The same of a look
+pub allowed-look : (about : About) (rules : Rules) (places : ℕ) (picked : About) (picked_place place : Place) (picked_number number slots id : ℕ)
+    (me : Me (Unit {0}) View) (made : Operation) → about.rules ≡ rules → about.places ≡ places → places < 65536 → (needs_of rules).top < 2 ^ count_bits
+    → (picked ≡ about) × (picked_place ≡ place) × (picked_number ≡ number) → IsNext (needs_of rules) places number place made me.0
+    → ((found : ℕ) → prepares (next_of (needs_of rules) number place place.stage found) ≡ true → written_by made found ≡ found)
+    → Allows (Kept about) slots id me (word_at made) (written_by made)
+    (λ found next. IsSought (needs_of picked.rules) picked.places picked_number picked_place found me.0 next.0)
+allowed-look about rules places picked picked_place place picked_number number slots id me made rules_are places_are few wide picks is same =
+    subst (λ (a : About). Allows (Kept about) slots id me (word_at made) (written_by made)
+    (λ found next. IsSought (needs_of a.rules) a.places picked_number picked_place found me.0 next.0)) (sym picks.0)
+    (subst (λ (p : Place). Allows (Kept about) slots id me (word_at made) (written_by made)
+    (λ found next. IsSought (needs_of about.rules) about.places picked_number p found me.0 next.0)) (sym picks.1)
+    (subst (λ (n : ℕ). Allows (Kept about) slots id me (word_at made) (written_by made)
+    (λ found next. IsSought (needs_of about.rules) about.places n place found me.0 next.0)) (sym picks.2)
+    (subst (λ (o : Operation). Allows (Kept about) slots id me (word_at o) (written_by o)
+    (λ found next. IsSought (needs_of about.rules) about.places number place found me.0 next.0)) made_is
+    (subst (λ (n : ℕ). Allows (Kept about) slots id me
+    (word_at (operation_of (needs_of about.rules) about.places n place.stage)) (written_by (operation_of (needs_of about.rules) about.places n place.stage))
+    (λ found next. IsSought (needs_of about.rules) about.places n place found me.0 next.0)) is.number
+    (seeks about (subst (λ n. n < 65536) (sym places_are) few) (subst (λ (r : Rules). (needs_of r).top < 2 ^ count_bits) (sym rules_are) wide) slots id me place
+    is.deals here (subst (λ (r : Rules). Begins (needs_of r) me.0.position place) (sym rules_are) is.begins) same_here)))))
+  where
+    here : me.0.number < about.places
+    here = let h = is.here in let n = is.number in omega (arith, places_are)
+
+    made_is : operation_of (needs_of about.rules) about.places number place.stage ≡ made
+    made_is =
+        ap (λ (r : Rules). operation_of (needs_of r) about.places number place.stage) rules_are
+        ∙ ap (λ (n : ℕ). operation_of (needs_of rules) n number place.stage) places_are ∙ sym is.makes
+
+    same_here : (found : ℕ) → prepares (next_of (needs_of about.rules) me.0.number place place.stage found) ≡ true
+        → written_by (operation_of (needs_of about.rules) about.places me.0.number place.stage) found ≡ found
+    same_here =
+        subst (λ (n : ℕ). (found : ℕ) → prepares (next_of (needs_of about.rules) n place place.stage found) ≡ true
+        → written_by (operation_of (needs_of about.rules) about.places n place.stage) found ≡ found) (sym is.number)
+        (subst (λ (o : Operation). (found : ℕ) → prepares (next_of (needs_of about.rules) number place place.stage found) ≡ true → written_by o found ≡ found)
+        (sym made_is)
+        (subst (λ (r : Rules). (found : ℕ) → prepares (next_of (needs_of r) number place place.stage found) ≡ true → written_by made found ≡ found)
+        (sym rules_are) same))

@@ -1,5 +1,5 @@
 -- What a step of a place tells it.
-use Rattle.std.specs.Prelude.{◌≡◌, ℕ, ◌⊎◌, ◌+◌, ◌<◌, Bool, true, false, List, ◌++◌}
+use Rattle.std.specs.Prelude.{◌≡◌, ℕ, ◌⊎◌, ◌+◌, ◌<◌, Bool, true, false, if◌then◌else◌, List, ◌++◌}
 use Rattle.atomic_table.specs.Table.{Me, Step}
 use Rattle.saa_word_steps.specs.declared.call.WordCall.{WordCall}
 use Rattle.saa_word_steps.specs.declared.event.Event.{Event}
@@ -8,7 +8,8 @@ use Rattle.saa_word_steps.specs.declared.place.Next.TheVariants.{Going}
 use Rattle.saa_word_steps.specs.declared.place.Place.{Place}
 use Rattle.saa_word_steps.specs.declared.place.Registration.{Registration}
 use Rattle.saa_word_steps.specs.declared.place.Registration.TheVariants.{Idle, Once}
-use Rattle.saa_word_steps.specs.declared.place.Stage.TheVariants.{Quiet}
+use Rattle.saa_word_steps.specs.declared.place.Stage.{Stage}
+use Rattle.saa_word_steps.specs.declared.place.Stage.TheVariants.{Quiet, Prepare}
 use Rattle.saa_word_steps.specs.Needs.{Needs}
 use Rattle.saa_word_steps.specs.declared.operation.Operation.{Operation}
 use Rattle.saa_word_steps.specs.Steps.{is_idle, is_taken, needs_of, next_of, operation_of, started, word_at}
@@ -41,6 +42,36 @@ pub record Moves (needs : Needs) (places : ℕ) (place : Place) (next : Next) (f
 abbrev pub told : About → Place → ℕ → Step (Unit {0}) → Me (Unit {0}) View → ℕ → Me (Unit {0}) View → Type 0
 told about place me st before found after =
     Moves (needs_of about.rules) about.places place (next_of (needs_of about.rules) me place place.stage found) found before.0 after.0
+
+-- whether a place goes on to join the waiters
+abbrev pub prepares_at : Stage → Bool
+prepares_at (Prepare request seen) = true
+prepares_at stage = false
+
+abbrev pub prepares : Next → Bool
+prepares (Going place) = prepares_at place.stage
+prepares next = false
+
+-- how a place goes on that looks again in place of joining: it stands where it stood
+abbrev pub unless_joining : Place → Next → Next
+unless_joining place next = if prepares next then Going place else next
+
+-- A place looks, and finds this number: it makes its step, unless it would go on to join; then nothing has happened
+abbrev pub IsSoughtAs : Bool → Needs → ℕ → Place → Next → ℕ → View → View → Type 0
+IsSoughtAs true needs places place next found v w = w ≡ v
+IsSoughtAs false needs places place next found v w = Moves needs places place next found v w
+
+abbrev pub IsSought : Needs → ℕ → ℕ → Place → ℕ → View → View → Type 0
+IsSought needs places me place found v w =
+    IsSoughtAs (prepares (next_of needs me place place.stage found)) needs places place (next_of needs me place place.stage found) found v w
+
+-- a place goes on so: it has made its step, or it stands where it stood and nothing has happened
+abbrev pub MovesOrStays : Needs → ℕ → ℕ → Place → Next → View → View → Type 0
+MovesOrStays needs places me place next v w =
+    ((found : ℕ) × (next ≡ next_of needs me place place.stage found) × Moves needs places place next found v w) ⊎ ((next ≡ Going place) × (w ≡ v))
+
+abbrev pub sought : About → Place → ℕ → Step (Unit {0}) → Me (Unit {0}) View → ℕ → Me (Unit {0}) View → Type 0
+sought about place me st before found after = IsSought (needs_of about.rules) about.places me place found before.0 after.0
 
 -- an answer that was given at once is taken
 abbrev pub taken_once : Registration → Registration

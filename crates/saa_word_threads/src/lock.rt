@@ -16,6 +16,7 @@ ghost use Rattle.saa_word_threads.specs.Public.{is_yes, polled_lock, tried};
 mod tests;
 
 use crate::form::Form;
+use crate::looking::{NONE, Patience, WAITING};
 use crate::place::{Left as FormLeft, Place as FormPlace};
 use crate::straight::yes;
 use crate::watch::Unwatched;
@@ -32,13 +33,14 @@ const EXCLUSIVE: u16 = 0;
 
 const SHARED: u16 = 1;
 
-/// A lock in one atomic word: one owner alone, or up to 62 that share it, taken in the order of asking; and poison.
+/// A lock in one atomic word: one owner alone, or up to 62 that share it; and poison.
 ///
-/// Each task has a [`Place`] of its own, which `new` deals; a place makes one call at a time. A waiter spins, yields and then parks. No call
-/// takes another lock, or memory but `new`. The lock doesn't know its owners: any caller may release.
+/// Waiters are FIFO: no later request passes a waiter. [`Self::lock`] and [`Self::share`] look for a bounded while before their place joins the
+/// waiters; [`Self::register`] joins at once. Each task has a [`Place`] of its own, which `new` deals; a place makes one call at a time. A
+/// waiter spins, yields and then parks. No call takes another lock, or memory but `new`. The lock doesn't know its owners: any caller may release.
 #[derive(Drop)]
 pub struct Lock {
-    form: Form,
+    pub(crate) form: Form,
     ghost modes: { form.rules ≡ Modes },
 }
 
@@ -114,8 +116,14 @@ impl Lock {
             joins: false,
         };
         tried(
-            self.form
-                .ask(rt, &Unwatched, &mut place.inner, WordCall::TryLock, ask),
+            self.form.ask(
+                rt,
+                &Unwatched,
+                &mut place.inner,
+                WordCall::TryLock,
+                ask,
+                NONE,
+            ),
         )
     }
 
@@ -132,20 +140,28 @@ impl Lock {
             joins: false,
         };
         tried(
-            self.form
-                .ask(rt, &Unwatched, &mut place.inner, WordCall::TryShare, ask),
+            self.form.ask(
+                rt,
+                &Unwatched,
+                &mut place.inner,
+                WordCall::TryShare,
+                ask,
+                NONE,
+            ),
         )
     }
 
     /// Takes the lock for one owner alone, and waits for it where it must.
     ///
-    /// `false`: the lock is poisoned, as the place asked or while it waited; or the place is registered already, which changes nothing. Costs
-    /// two steps on the word where it is granted at once, and else some more, and the wait.
+    /// It looks at the word for a bounded while first, some hundred microseconds, and takes the lock where it is free and there is no waiter; then
+    /// the place joins the waiters. To join at once, `register` and then `poll`. `false`: the lock is poisoned, as the place asked or while it
+    /// waited; or the place is registered already, which changes nothing. Costs two steps on the word where it is granted at once, and else some
+    /// more, and the wait.
     pub fn lock<R: Wait>(&self, rt: &R, place: &mut Place) -> bool
         requires { IsDealtBy self.now place.old }
         ensures { IsWaited Exclusive place.old result place.new }
     {
-        if !self.register(rt, place, Mode::Exclusive) {
+        if !self.register_patiently(rt, place, Mode::Exclusive, WAITING) {
             return false;
         }
         self.form.await_grant(rt, &Unwatched, &mut place.inner)
@@ -159,7 +175,7 @@ impl Lock {
         requires { IsDealtBy self.now place.old }
         ensures { IsWaited Shared place.old result place.new }
     {
-        if !self.register(rt, place, Mode::Shared) {
+        if !self.register_patiently(rt, place, Mode::Shared, WAITING) {
             return false;
         }
         self.form.await_grant(rt, &Unwatched, &mut place.inner)
@@ -239,6 +255,21 @@ impl Lock {
         requires { IsDealtBy self.now place.old }
         ensures { (answer : Answer) × (result ≡ is_yes answer) × IsMade (RegisterMode mode) place.old answer place.new }
     {
+        self.register_patiently(rt, place, mode, NONE)
+    }
+
+    // Registers as `register` does, and joins the waiters once its patience is over.
+    #[inline(always)]
+    pub(crate) fn register_patiently<R: Wait>(
+        &self,
+        rt: &R,
+        place: &mut Place,
+        mode: Mode,
+        patience: Patience,
+    ) -> bool
+        requires { IsDealtBy self.now place.old }
+        ensures { (answer : Answer) × (result ≡ is_yes answer) × IsMade (RegisterMode mode) place.old answer place.new }
+    {
         let call = WordCall::RegisterMode(mode);
         if !place.inner.is_idle() {
             return yes(self.form.call(rt, &Unwatched, &mut place.inner, call));
@@ -247,7 +278,10 @@ impl Lock {
             request: number(mode),
             joins: true,
         };
-        yes(self.form.ask(rt, &Unwatched, &mut place.inner, call, ask))
+        yes(
+            self.form
+                .ask(rt, &Unwatched, &mut place.inner, call, ask, patience),
+        )
     }
 
     /// Takes the answer of a registration where it is there; never blocks.

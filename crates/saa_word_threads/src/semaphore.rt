@@ -17,6 +17,7 @@ ghost use Rattle.saa_word_threads.specs.Public.{HasLeft, IsMade, IsWaited, is_ye
 mod tests;
 
 use crate::form::Form;
+use crate::looking::{NONE, Patience, WAITING};
 pub use crate::place::{Left, Place};
 use crate::straight::yes;
 use crate::watch::Unwatched;
@@ -28,9 +29,10 @@ use saa_word_steps::rules::Rules;
 use std::alloc::{AllocError, Global};
 use std::sync::Wait;
 
-/// Up to `MAX` permits, 1 to 65,535, in one atomic word, taken in the order of asking.
+/// Up to `MAX` permits, 1 to 65,535, in one atomic word.
 ///
-/// Each task has a [`Place`] of its own, which `new` deals; a place makes one call at a time. A waiter spins, yields and then parks. No call
+/// Waiters are FIFO: no later request passes a waiter. [`Self::acquire_many`] looks for a bounded while before its place joins the waiters;
+/// [`Self::register`] joins at once. Each task has a [`Place`] of its own, which `new` deals; a place makes one call at a time. A waiter spins, yields and then parks. No call
 /// takes a lock or memory but `new`: while one thread is stopped in the middle of a call, the others still take and give back permits.
 #[derive(Drop)]
 pub struct SemaphoreOf<const MAX: usize> {
@@ -83,17 +85,19 @@ impl<const MAX: usize> SemaphoreOf<MAX> {
             request: count as u16,
             joins: false,
         };
-        yes(self.form.ask(rt, &Unwatched, place, call, ask))
+        yes(self.form.ask(rt, &Unwatched, place, call, ask, NONE))
     }
 
     /// Takes `count` permits, and waits for them where it must.
     ///
-    /// `false`, without waiting, for a count above [`Self::MAX_PERMITS`] and at a place that is registered.
+    /// It looks at the word for a bounded while first, some hundred microseconds, and takes the permits where they are available and there is no
+    /// waiter; then the place joins the waiters. To join at once, `register` and then `poll`. `false`, without waiting, for a count above
+    /// [`Self::MAX_PERMITS`] and at a place that is registered.
     pub fn acquire_many<R: Wait>(&self, rt: &R, place: &mut Place, count: usize) -> bool
         requires { IsDealtBy self.now place.old }
         ensures { IsWaited (permit_needs MAX) (Register count) place.old result place.new }
     {
-        if !self.register(rt, place, count) {
+        if !self.register_patiently(rt, place, count, WAITING) {
             return false;
         }
         self.form.await_grant(rt, &Unwatched, place)
@@ -121,6 +125,21 @@ impl<const MAX: usize> SemaphoreOf<MAX> {
         requires { IsDealtBy self.now place.old }
         ensures { (answer : Answer) × (result ≡ is_yes answer) × IsMade (permit_needs MAX) (Register count) place.old answer place.new }
     {
+        self.register_patiently(rt, place, count, NONE)
+    }
+
+    // Registers as `register` does, and joins the waiters once its patience is over.
+    #[inline(always)]
+    fn register_patiently<R: Wait>(
+        &self,
+        rt: &R,
+        place: &mut Place,
+        count: usize,
+        patience: Patience,
+    ) -> bool
+        requires { IsDealtBy self.now place.old }
+        ensures { (answer : Answer) × (result ≡ is_yes answer) × IsMade (permit_needs MAX) (Register count) place.old answer place.new }
+    {
         let call = WordCall::Register(count);
         if count > MAX || !place.is_idle() {
             return yes(self.form.call(rt, &Unwatched, place, call));
@@ -129,7 +148,7 @@ impl<const MAX: usize> SemaphoreOf<MAX> {
             request: count as u16,
             joins: true,
         };
-        yes(self.form.ask(rt, &Unwatched, place, call, ask))
+        yes(self.form.ask(rt, &Unwatched, place, call, ask, patience))
     }
 
     /// Takes the answer of a registration where it is there; never blocks.

@@ -14,11 +14,12 @@ ghost use Rattle.saa_word_steps.specs.declared.place.Given.TheVariants.{Asked};
 ghost use Rattle.saa_word_steps.specs.Steps.{IsRanged, going, is_taken, needs_of, next_of, released_as, started, tried_answer};
 ghost use Rattle.saa_word_threads.specs.Public.{is_granted, is_yes};
 ghost use Rattle.saa_word_threads.specs.Straight.{grants_at, lowers_to};
-ghost use Rattle.saa_word_threads.specs.Told.{IsNext, IsSince, Moves};
-ghost use Rattle.saa_word_threads.specs.Called.{HasEvents, IsCalled, MidwayNext};
+ghost use Rattle.saa_word_threads.specs.Told.{IsNext, IsSince, Moves, unless_joining};
+ghost use Rattle.saa_word_threads.specs.Called.{HasEvents, IsCalled, Midway, MidwayNext};
 
 use crate::call::Begun;
 use crate::form::Form;
+use crate::looking::{Patience, unless_joining};
 use crate::place::Place;
 use crate::table::{Mover, View};
 use crate::watch::Watch;
@@ -44,6 +45,7 @@ impl Form {
         place: &mut Place,
         call: WordCall,
         ask: Ask,
+        patience: Patience,
     ) -> Answer
         requires dealt { place.old.seat.table_id ≡ self.now.table.shared.table_id }
         requires taken { is_taken (needs_of self.now.rules).is_lock call ≡ true }
@@ -57,11 +59,11 @@ impl Form {
             stage: Stage::AskLoad { ask },
             ..place.position
         });
-        let found = self.look::<Brand>(&mut place.seat, me, looking);
+        let found = self.seek_by_load::<Brand>(&mut place.seat, me, looking);
         let seen = Word::unpack(found);
         if !self.grants(seen, ask) {
             let (seat, position) = (&mut place.seat, &mut place.position);
-            return self.ask_on(rt, watch, seat, position, me, ask, found, begun);
+            return self.ask_on(rt, watch, seat, position, me, ask, found, patience, begun);
         }
         let changing = Snapshot::of(&Position {
             stage: Stage::AskExchange { ask, seen },
@@ -71,10 +73,12 @@ impl Form {
         let old = seen.pack();
         let raised = Word { count, ..seen };
         let new = raised.pack();
-        let other = self.change::<Brand>(&mut place.seat, me, changing, old, new);
+        let other = self.seek_by_exchange::<Brand>(&mut place.seat, me, changing, old, new);
         if other != old {
             let (seat, position) = (&mut place.seat, &mut place.position);
-            return self.ask_anew(rt, watch, seat, position, me, ask, found, other, begun);
+            return self.ask_anew(
+                rt, watch, seat, position, me, ask, found, other, patience, begun,
+            );
         }
         if ask.joins {
             place.position.registration = Registration::Once(GRANTED, ask.request);
@@ -153,7 +157,7 @@ impl Form {
     }
 
     // Whether a word grants an ask by an exchange: nobody waits, it isn't poisoned, and what is asked for takes something and fits.
-    fn grants(&self, seen: Word, ask: Ask) -> bool
+    pub(crate) fn grants(&self, seen: Word, ask: Ask) -> bool
         ensures { result ≡ grants_at (needs_of self.now.rules) seen ask }
     {
         !seen.is_poisoned
@@ -224,12 +228,13 @@ impl Form {
         me: u16,
         ask: Ask,
         found: u64,
+        patience: Patience,
         begun: Begun,
     ) -> Answer
         requires table { seat.old.table_id ≡ self.now.table.shared.table_id }
         requires number { (seat.old.me.0.deals ≡ false) × (seat.old.me.0.number ≡ me) × (me < self.now.places) }
         requires ranged { IsRanged (needs_of self.now.rules) (AskLoad ask) }
-        requires midway { MidwayNext (needs_of self.now.rules) self.now.places me begun.call.value begun.registered.value begun.seat.value.me.0 (record position.old { stage = AskLoad ask }) seat.old.me.0 (next_of (needs_of self.now.rules) me (record position.old { stage = AskLoad ask }) (AskLoad ask) found) }
+        requires midway { MidwayNext (needs_of self.now.rules) self.now.places me begun.call.value begun.registered.value begun.seat.value.me.0 (record position.old { stage = AskLoad ask }) seat.old.me.0 (unless_joining (record position.old { stage = AskLoad ask }) (next_of (needs_of self.now.rules) me (record position.old { stage = AskLoad ask }) (AskLoad ask) found)) }
         ensures table { (seat.new.table_id ≡ seat.old.table_id) × (seat.new.id ≡ seat.old.id) }
         ensures number { (seat.new.me.0.deals ≡ false) × (seat.new.me.0.number ≡ me) }
         ensures since { IsSince seat.new.me.0.position position.new }
@@ -239,7 +244,9 @@ impl Form {
             stage: Stage::AskLoad { ask },
             ..*position
         };
-        let (behind, answer) = self.follow(rt, watch, seat, me, place, found, begun);
+        let (behind, answer) = self.look_and_follow(
+            rt, watch, seat, me, place, found, patience, begun,
+        );
         *position = behind;
         answer
     }
@@ -256,12 +263,13 @@ impl Form {
         ask: Ask,
         first: u64,
         found: u64,
+        patience: Patience,
         begun: Begun,
     ) -> Answer
         requires table { seat.old.table_id ≡ self.now.table.shared.table_id }
         requires number { (seat.old.me.0.deals ≡ false) × (seat.old.me.0.number ≡ me) × (me < self.now.places) }
         requires ranged { IsRanged (needs_of self.now.rules) (AskExchange ask (word_of count_bits first)) }
-        requires midway { MidwayNext (needs_of self.now.rules) self.now.places me begun.call.value begun.registered.value begun.seat.value.me.0 (record position.old { stage = AskExchange ask (word_of count_bits first) }) seat.old.me.0 (next_of (needs_of self.now.rules) me (record position.old { stage = AskExchange ask (word_of count_bits first) }) (AskExchange ask (word_of count_bits first)) found) }
+        requires midway { MidwayNext (needs_of self.now.rules) self.now.places me begun.call.value begun.registered.value begun.seat.value.me.0 (record position.old { stage = AskExchange ask (word_of count_bits first) }) seat.old.me.0 (unless_joining (record position.old { stage = AskExchange ask (word_of count_bits first) }) (next_of (needs_of self.now.rules) me (record position.old { stage = AskExchange ask (word_of count_bits first) }) (AskExchange ask (word_of count_bits first)) found)) }
         ensures table { (seat.new.table_id ≡ seat.old.table_id) × (seat.new.id ≡ seat.old.id) }
         ensures number { (seat.new.me.0.deals ≡ false) × (seat.new.me.0.number ≡ me) }
         ensures since { IsSince seat.new.me.0.position position.new }
@@ -272,7 +280,9 @@ impl Form {
             stage: Stage::AskExchange { ask, seen },
             ..*position
         };
-        let (behind, answer) = self.follow(rt, watch, seat, me, place, found, begun);
+        let (behind, answer) = self.look_and_follow(
+            rt, watch, seat, me, place, found, patience, begun,
+        );
         *position = behind;
         answer
     }
@@ -346,6 +356,60 @@ impl Form {
         let (behind, answer) = self.follow(rt, watch, seat, me, place, found, begun);
         *position = behind;
         answer
+    }
+
+    // Goes on with an ask whose place has just found this number: it looks on while its patience lasts, and then goes step by step.
+    fn look_and_follow<R: Wait, W: Watch>(
+        &self,
+        rt: &R,
+        watch: &W,
+        seat: &mut Seat<(), View>,
+        me: u16,
+        place: Position,
+        found: u64,
+        patience: Patience,
+        begun: Begun,
+    ) -> (Position, Answer)
+        requires table { seat.old.table_id ≡ self.now.table.shared.table_id }
+        requires number { (seat.old.me.0.deals ≡ false) × (seat.old.me.0.number ≡ me) × (me < self.now.places) }
+        requires ranged { IsRanged (needs_of self.now.rules) place.stage }
+        requires midway { MidwayNext (needs_of self.now.rules) self.now.places me begun.call.value begun.registered.value begun.seat.value.me.0 place seat.old.me.0 (unless_joining place (next_of (needs_of self.now.rules) me place place.stage found)) }
+        ensures table { (seat.new.table_id ≡ seat.old.table_id) × (seat.new.id ≡ seat.old.id) }
+        ensures number { (seat.new.me.0.deals ≡ false) × (seat.new.me.0.number ≡ me) }
+        ensures since { IsSince seat.new.me.0.position result.0 }
+        ensures events { HasEvents (needs_of self.now.rules) begun.call.value begun.registered.value result.1 result.0.registration begun.seat.value.me.0 seat.new.me.0 }
+    {
+        match unless_joining(place, place.resume(self.rules, me, found)) {
+            Next::Going(next) => self.look_and_go_on(rt, watch, seat, me, next, patience, begun),
+            Next::Waits => self.go_on(rt, watch, seat, me, place, begun),
+            Next::Done(behind, answer) => (behind, answer),
+        }
+    }
+
+    // Goes on with an ask that stands so: it looks on while its patience lasts, and then goes step by step.
+    fn look_and_go_on<R: Wait, W: Watch>(
+        &self,
+        rt: &R,
+        watch: &W,
+        seat: &mut Seat<(), View>,
+        me: u16,
+        place: Position,
+        patience: Patience,
+        begun: Begun,
+    ) -> (Position, Answer)
+        requires table { seat.old.table_id ≡ self.now.table.shared.table_id }
+        requires number { (seat.old.me.0.deals ≡ false) × (seat.old.me.0.number ≡ me) × (me < self.now.places) }
+        requires midway { Midway (needs_of self.now.rules) self.now.places me begun.call.value begun.registered.value begun.seat.value.me.0 place seat.old.me.0 }
+        ensures table { (seat.new.table_id ≡ seat.old.table_id) × (seat.new.id ≡ seat.old.id) }
+        ensures number { (seat.new.me.0.deals ≡ false) × (seat.new.me.0.number ≡ me) }
+        ensures since { IsSince seat.new.me.0.position result.0 }
+        ensures events { HasEvents (needs_of self.now.rules) begun.call.value begun.registered.value result.1 result.0.registration begun.seat.value.me.0 seat.new.me.0 }
+    {
+        match self.look_on(seat, me, place, patience, &begun) {
+            Next::Going(next) => self.go_on(rt, watch, seat, me, next, begun),
+            Next::Waits => self.go_on(rt, watch, seat, me, place, begun),
+            Next::Done(behind, answer) => (behind, answer),
+        }
     }
 
     // Goes on with a call whose place has just found this number, step by step.

@@ -74,6 +74,17 @@ impl<M: Mover> Play<(), View> for Moved<M> {
     ghost then = { told M.about M.place M.me };
 }
 
+/// A step of a place that asks: no step at all, and the place stands as it stood, where it would have to join for what is found.
+pub struct Sought<M> {
+    of: PhantomData<M>,
+}
+
+impl<M: Mover> Play<(), View> for Sought<M> {
+    ghost use Rattle.saa_word_threads.specs.Told.{sought};
+
+    ghost then = { sought M.about M.place M.me };
+}
+
 /// The dealer deals one more place.
 pub struct Dealt;
 

@@ -14,7 +14,7 @@ use std::test::Fail;
 use std::thread::{self, Threads, yield_now};
 
 // How long a thread is held at most.
-const TURNS: u32 = 10_000;
+const TURNS: u32 = 3_000_000;
 
 // Holds the flag's holder right before it publishes, until the other release is answered.
 #[derive(Drop)]

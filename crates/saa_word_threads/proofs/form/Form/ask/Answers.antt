@@ -9,17 +9,19 @@ use Rattle.saa_word_steps.specs.declared.place.Stage.TheVariants.{AskLoad, AskEx
 use Rattle.saa_word_steps.specs.Steps.{needs_of, next_of, tried_answer}
 use Rattle.saa_word_threads.specs.Called.{MidwayNext}
 use Rattle.saa_word_threads.specs.Straight.{grants_at}
+use Rattle.saa_word_threads.specs.Told.{unless_joining}
 use Rattle.saa_word_threads.proofs.Calling.{going-called}
-use Rattle.saa_word_threads.proofs.Going.{ask-goes, change-next, changed-next, looked-next, registered-events, tried-events}
+use Rattle.saa_word_threads.proofs.Going.{ask-goes, ask-looks, ask-misses, ask-takes, change-next, changed-next, changed-sought, registered-events, sought-next, tried-events}
 use Rattle.saa_word_threads.proofs.form.Form.ask.Goals as goal
 
 pub ask_on-requires-clause-midway : goal.ask_on-requires-clause-midway
 ask_on-requires-clause-midway g c =
     let here : c.args.place.now.number < c.args.self.now.places = search rules in
     rw (c.of-begun.ensures.call, c.of-begun.ensures.registered, c.of-begun.ensures.seat)
-    (looked-next (needs_of c.args.self.now.rules) c.args.self.now.places c.args.place.now.number c.args.call c.args.place.now.position
-    (record c.args.place.now.position { stage = AskLoad c.args.ask }) c.args.place.now.seat.me.0 c.look-found.new.seat.me.0 c.look-found.result here c.args.place.now.numbered.1
-    c.args.place.now.since c.requires.taken c.requires.starts c.of-looking.result.value c.of-looking.ensures c.look-found.ensures.moved)
+    (sought-next (needs_of c.args.self.now.rules) c.args.self.now.places c.args.place.now.number c.args.call c.args.place.now.position
+    (record c.args.place.now.position { stage = AskLoad c.args.ask }) c.args.place.now.seat.me.0 c.seek_by_load-found.new.seat.me.0 c.seek_by_load-found.result here
+    c.args.place.now.numbered.1 c.args.place.now.since c.requires.taken c.requires.starts c.of-looking.result.value c.of-looking.ensures
+    c.seek_by_load-found.ensures.sought)
 
 pub returns-then-not-grants-clause-called : goal.returns-then-not-grants-clause-called
 returns-then-not-grants-clause-called g c =
@@ -35,15 +37,18 @@ ask_anew-requires-clause-midway g c =
     rw (c.of-begun.ensures.call, c.of-begun.ensures.registered, c.of-begun.ensures.seat)
     (subst (λ (s : Word). MidwayNext (needs_of c.args.self.now.rules) c.args.self.now.places c.args.place.now.number c.args.call
     c.args.place.now.position.registration c.args.place.now.seat.me.0 (record c.args.place.now.position { stage = AskExchange c.args.ask s })
-    c.change-other.new.seat.me.0 (next_of (needs_of c.args.self.now.rules) c.args.place.now.number
-    (record c.args.place.now.position { stage = AskExchange c.args.ask s }) (AskExchange c.args.ask s) c.change-other.result)) c.unpack-seen.ensures
-    (changed-next (needs_of c.args.self.now.rules) c.args.self.now.places c.args.place.now.number c.args.call c.args.place.now.position
-    (record c.args.place.now.position { stage = AskLoad c.args.ask }) c.args.place.now.seat.me.0 c.look-found.new.seat.me.0 c.look-found.result here c.args.place.now.numbered.1
-    c.args.place.now.since c.requires.taken c.requires.starts c.of-looking.result.value c.of-looking.ensures c.look-found.ensures.moved
+    c.seek_by_exchange-other.new.seat.me.0 (unless_joining (record c.args.place.now.position { stage = AskExchange c.args.ask s })
+    (next_of (needs_of c.args.self.now.rules) c.args.place.now.number
+    (record c.args.place.now.position { stage = AskExchange c.args.ask s }) (AskExchange c.args.ask s) c.seek_by_exchange-other.result))) c.unpack-seen.ensures
+    (changed-sought (needs_of c.args.self.now.rules) c.args.self.now.places c.args.place.now.number c.args.call c.args.place.now.position
+    (record c.args.place.now.position { stage = AskLoad c.args.ask }) c.args.place.now.seat.me.0 c.seek_by_load-found.new.seat.me.0 c.seek_by_load-found.result here c.args.place.now.numbered.1
+    c.args.place.now.since c.requires.taken c.requires.starts c.of-looking.result.value c.of-looking.ensures (ask-looks (needs_of c.args.self.now.rules) c.args.self.now.places c.args.place.now.number c.args.place.now.position
+    c.args.ask c.seek_by_load-found.result c.unpack-seen.result c.args.place.now.seat.me.0 c.seek_by_load-found.new.seat.me.0 c.of-looking.result.value
+    c.unpack-seen.ensures grants c.of-looking.ensures c.seek_by_load-found.ensures.sought)
     (record c.args.place.now.position { stage = AskExchange c.args.ask c.unpack-seen.result })
-    (ask-goes (needs_of c.args.self.now.rules) c.args.place.now.number c.args.place.now.position c.args.ask c.look-found.result c.unpack-seen.result
-    c.unpack-seen.ensures grants) c.change-other.new.seat.me.0 c.change-other.result c.of-changing.result.value
-    c.of-changing.ensures c.change-other.ensures.moved))
+    (ask-goes (needs_of c.args.self.now.rules) c.args.place.now.number c.args.place.now.position c.args.ask c.seek_by_load-found.result c.unpack-seen.result
+    c.unpack-seen.ensures grants) c.seek_by_exchange-other.new.seat.me.0 c.seek_by_exchange-other.result c.of-changing.result.value
+    c.of-changing.ensures c.seek_by_exchange-other.ensures.sought))
 
 pub returns-then-other-old-clause-called : goal.returns-then-other-old-clause-called
 returns-then-other-old-clause-called g c =
@@ -56,46 +61,61 @@ pub returns-then-ask-clause-called : goal.returns-then-ask-clause-called
 returns-then-ask-clause-called g c =
     let here : c.args.place.now.number < c.args.self.now.places = search rules in
     let grants : grants_at (needs_of c.args.self.now.rules) c.unpack-seen.result c.args.ask ≡ true = search rules in
-    let hit : c.change-other.result ≡ word_number count_bits c.unpack-seen.result = search rules in
+    let hit : c.seek_by_exchange-other.result ≡ word_number count_bits c.unpack-seen.result = search rules in
     going-called (needs_of c.args.self.now.rules) c.args.call c.args.place.now.position c.args.place.now.since.0
     (record c.args.place.now.position { stage = AskLoad c.args.ask }) (Says true) (Once granted_value c.args.ask.request)
-    c.args.place.now.seat.me.0 c.change-other.new.seat.me.0 c.requires.starts
+    c.args.place.now.seat.me.0 c.seek_by_exchange-other.new.seat.me.0 c.requires.starts
     ((registered-events (needs_of c.args.self.now.rules) c.args.self.now.places c.args.place.now.number c.args.call c.args.place.now.position c.args.ask
-    c.unpack-seen.result c.args.place.now.seat.me.0 c.change-other.new.seat.me.0 c.change-other.result hit
+    c.unpack-seen.result c.args.place.now.seat.me.0 c.seek_by_exchange-other.new.seat.me.0 c.seek_by_exchange-other.result hit
     (changed-next (needs_of c.args.self.now.rules) c.args.self.now.places c.args.place.now.number c.args.call c.args.place.now.position
-    (record c.args.place.now.position { stage = AskLoad c.args.ask }) c.args.place.now.seat.me.0 c.look-found.new.seat.me.0 c.look-found.result here c.args.place.now.numbered.1
-    c.args.place.now.since c.requires.taken c.requires.starts c.of-looking.result.value c.of-looking.ensures c.look-found.ensures.moved
+    (record c.args.place.now.position { stage = AskLoad c.args.ask }) c.args.place.now.seat.me.0 c.seek_by_load-found.new.seat.me.0 c.seek_by_load-found.result here c.args.place.now.numbered.1
+    c.args.place.now.since c.requires.taken c.requires.starts c.of-looking.result.value c.of-looking.ensures (ask-looks (needs_of c.args.self.now.rules) c.args.self.now.places c.args.place.now.number c.args.place.now.position
+    c.args.ask c.seek_by_load-found.result c.unpack-seen.result c.args.place.now.seat.me.0 c.seek_by_load-found.new.seat.me.0 c.of-looking.result.value
+    c.unpack-seen.ensures grants c.of-looking.ensures c.seek_by_load-found.ensures.sought)
     (record c.args.place.now.position { stage = AskExchange c.args.ask c.unpack-seen.result })
-    (ask-goes (needs_of c.args.self.now.rules) c.args.place.now.number c.args.place.now.position c.args.ask c.look-found.result c.unpack-seen.result c.unpack-seen.ensures grants)
-    c.change-other.new.seat.me.0 c.change-other.result c.of-changing.result.value c.of-changing.ensures c.change-other.ensures.moved) c.if-ask.true).0)
+    (ask-goes (needs_of c.args.self.now.rules) c.args.place.now.number c.args.place.now.position c.args.ask c.seek_by_load-found.result c.unpack-seen.result c.unpack-seen.ensures grants)
+    c.seek_by_exchange-other.new.seat.me.0 c.seek_by_exchange-other.result c.of-changing.result.value c.of-changing.ensures (ask-takes (needs_of c.args.self.now.rules) c.args.self.now.places c.args.place.now.number c.args.place.now.position
+    c.args.ask c.seek_by_exchange-other.result c.unpack-seen.result c.seek_by_load-found.new.seat.me.0 c.seek_by_exchange-other.new.seat.me.0
+    c.of-changing.result.value hit c.of-changing.ensures c.seek_by_exchange-other.ensures.sought)) c.if-ask.true).0)
 
 pub returns-clause-called : goal.returns-clause-called
 returns-clause-called g c =
     let here : c.args.place.now.number < c.args.self.now.places = search rules in
     let grants : grants_at (needs_of c.args.self.now.rules) c.unpack-seen.result c.args.ask ≡ true = search rules in
-    let hit : c.change-other.result ≡ word_number count_bits c.unpack-seen.result = search rules in
+    let hit : c.seek_by_exchange-other.result ≡ word_number count_bits c.unpack-seen.result = search rules in
     rw (c.granted_try.ensures) (
     going-called (needs_of c.args.self.now.rules) c.args.call c.args.place.now.position c.args.place.now.since.0
     (record c.args.place.now.position { stage = AskLoad c.args.ask }) (tried_answer (needs_of c.args.self.now.rules) true) c.args.place.now.position.registration
-    c.args.place.now.seat.me.0 c.change-other.new.seat.me.0 c.requires.starts
+    c.args.place.now.seat.me.0 c.seek_by_exchange-other.new.seat.me.0 c.requires.starts
     ((tried-events (needs_of c.args.self.now.rules) c.args.self.now.places c.args.place.now.number c.args.call c.args.place.now.position c.args.ask
-    c.unpack-seen.result c.args.place.now.seat.me.0 c.change-other.new.seat.me.0 c.change-other.result hit
+    c.unpack-seen.result c.args.place.now.seat.me.0 c.seek_by_exchange-other.new.seat.me.0 c.seek_by_exchange-other.result hit
     (changed-next (needs_of c.args.self.now.rules) c.args.self.now.places c.args.place.now.number c.args.call c.args.place.now.position
-    (record c.args.place.now.position { stage = AskLoad c.args.ask }) c.args.place.now.seat.me.0 c.look-found.new.seat.me.0 c.look-found.result here c.args.place.now.numbered.1
-    c.args.place.now.since c.requires.taken c.requires.starts c.of-looking.result.value c.of-looking.ensures c.look-found.ensures.moved
+    (record c.args.place.now.position { stage = AskLoad c.args.ask }) c.args.place.now.seat.me.0 c.seek_by_load-found.new.seat.me.0 c.seek_by_load-found.result here c.args.place.now.numbered.1
+    c.args.place.now.since c.requires.taken c.requires.starts c.of-looking.result.value c.of-looking.ensures (ask-looks (needs_of c.args.self.now.rules) c.args.self.now.places c.args.place.now.number c.args.place.now.position
+    c.args.ask c.seek_by_load-found.result c.unpack-seen.result c.args.place.now.seat.me.0 c.seek_by_load-found.new.seat.me.0 c.of-looking.result.value
+    c.unpack-seen.ensures grants c.of-looking.ensures c.seek_by_load-found.ensures.sought)
     (record c.args.place.now.position { stage = AskExchange c.args.ask c.unpack-seen.result })
-    (ask-goes (needs_of c.args.self.now.rules) c.args.place.now.number c.args.place.now.position c.args.ask c.look-found.result c.unpack-seen.result c.unpack-seen.ensures grants)
-    c.change-other.new.seat.me.0 c.change-other.result c.of-changing.result.value c.of-changing.ensures c.change-other.ensures.moved) c.if-ask.false).0))
+    (ask-goes (needs_of c.args.self.now.rules) c.args.place.now.number c.args.place.now.position c.args.ask c.seek_by_load-found.result c.unpack-seen.result c.unpack-seen.ensures grants)
+    c.seek_by_exchange-other.new.seat.me.0 c.seek_by_exchange-other.result c.of-changing.result.value c.of-changing.ensures (ask-takes (needs_of c.args.self.now.rules) c.args.self.now.places c.args.place.now.number c.args.place.now.position
+    c.args.ask c.seek_by_exchange-other.result c.unpack-seen.result c.seek_by_load-found.new.seat.me.0 c.seek_by_exchange-other.new.seat.me.0
+    c.of-changing.result.value hit c.of-changing.ensures c.seek_by_exchange-other.ensures.sought)) c.if-ask.false).0))
 
-pub change-other-requires-clause-next : goal.change-other-requires-clause-next
-change-other-requires-clause-next g c =
+pub seek_by_exchange-other-requires-clause-next : goal.seek_by_exchange-other-requires-clause-next
+seek_by_exchange-other-requires-clause-next g c =
     let here : c.args.place.now.number < c.args.self.now.places = search rules in
     let grants : grants_at (needs_of c.args.self.now.rules) c.unpack-seen.result c.args.ask ≡ true = search rules in
     change-next (needs_of c.args.self.now.rules) c.args.self.now.places c.args.place.now.number c.args.call c.args.place.now.position
-    (record c.args.place.now.position { stage = AskLoad c.args.ask }) c.args.place.now.seat.me.0 c.look-found.new.seat.me.0 c.look-found.result here c.args.place.now.numbered.1
-    c.args.place.now.since c.requires.taken c.requires.starts c.of-looking.result.value c.of-looking.ensures c.look-found.ensures.moved
+    (record c.args.place.now.position { stage = AskLoad c.args.ask }) c.args.place.now.seat.me.0 c.seek_by_load-found.new.seat.me.0 c.seek_by_load-found.result here c.args.place.now.numbered.1
+    c.args.place.now.since c.requires.taken c.requires.starts c.of-looking.result.value c.of-looking.ensures (ask-looks (needs_of c.args.self.now.rules) c.args.self.now.places c.args.place.now.number c.args.place.now.position
+    c.args.ask c.seek_by_load-found.result c.unpack-seen.result c.args.place.now.seat.me.0 c.seek_by_load-found.new.seat.me.0 c.of-looking.result.value
+    c.unpack-seen.ensures grants c.of-looking.ensures c.seek_by_load-found.ensures.sought)
     (record c.args.place.now.position { stage = AskExchange c.args.ask c.unpack-seen.result })
-    (ask-goes (needs_of c.args.self.now.rules) c.args.place.now.number c.args.place.now.position c.args.ask c.look-found.result c.unpack-seen.result c.unpack-seen.ensures grants) c.args.place.now.numbered.0
+    (ask-goes (needs_of c.args.self.now.rules) c.args.place.now.number c.args.place.now.position c.args.ask c.seek_by_load-found.result c.unpack-seen.result c.unpack-seen.ensures grants) c.args.place.now.numbered.0
     (Exchange 0 c.pack-old.result c.pack-new.result)
     (rw (c.pack-old.ensures.number, c.pack-new.ensures.number, c.plus-count.ensures.plus) refl)
     c.of-changing.result.value c.of-changing.ensures
+
+pub seek_by_exchange-other-requires-clause-made : goal.seek_by_exchange-other-requires-clause-made
+seek_by_exchange-other-requires-clause-made g c =
+    ask-misses (needs_of c.args.self.now.rules) c.args.place.now.number c.args.place.now.position c.args.ask c.unpack-seen.result c.of-changing.result.value
+    c.pack-old.result c.of-changing.ensures c.pack-old.ensures.number

@@ -9,21 +9,21 @@ use Rattle.saa_word_threads.proofs.lock.Lock.share.Goals as goal
 
 pub returns : goal.returns
 returns g c =
-    let made = c.register.ensures in
+    let made = c.register_patiently.ensures in
     let awaited = c.await_grant.ensures.called in
-    let yes : true ≡ is_yes made.0 = sym c.if-not-register.false ∙ made.1 in
-    let polled : IsCalled lock_needs Poll (registered c.register.new.place.inner) awaited.0 (registered c.await_grant.new.place)
-    (view_of c.register.new.place.inner) (view_of c.await_grant.new.place) =
-    subst (λ (r : Rules). IsCalled (needs_of r) Poll (registered c.register.new.place.inner) awaited.0 (registered c.await_grant.new.place)
-    (view_of c.register.new.place.inner) (view_of c.await_grant.new.place)) c.args.self.now.modes awaited.2 in (
+    let yes : true ≡ is_yes made.0 = sym c.if-not-register_patiently.false ∙ made.1 in
+    let polled : IsCalled lock_needs Poll (registered c.register_patiently.new.place.inner) awaited.0 (registered c.await_grant.new.place)
+    (view_of c.register_patiently.new.place.inner) (view_of c.await_grant.new.place) =
+    subst (λ (r : Rules). IsCalled (needs_of r) Poll (registered c.register_patiently.new.place.inner) awaited.0 (registered c.await_grant.new.place)
+    (view_of c.register_patiently.new.place.inner) (view_of c.await_grant.new.place)) c.args.self.now.modes awaited.2 in (
       (c.await_grant.ensures.same.1 ∙ made.2.0.0, c.await_grant.ensures.same.0 ∙ made.2.0.1),
       (
         made.0,
-        registered c.register.new.place.inner,
-        view_of c.register.new.place.inner,
+        registered c.register_patiently.new.place.inner,
+        view_of c.register_patiently.new.place.inner,
         made.2.1,
-        subst (λ (b : Bool). IsWaitedFrom b lock_needs (registered c.register.new.place.inner) (registered c.await_grant.new.place)
-            (view_of c.register.new.place.inner) (view_of c.await_grant.new.place) c.await_grant.result) yes
+        subst (λ (b : Bool). IsWaitedFrom b lock_needs (registered c.register_patiently.new.place.inner) (registered c.await_grant.new.place)
+            (view_of c.register_patiently.new.place.inner) (view_of c.await_grant.new.place) c.await_grant.result) yes
             (awaited.0, polled, awaited.1),
       ),
     )

@@ -1,0 +1,22 @@
+use Rattle.std.proofs.Common.{◌<◌, refl, subst, sym, ◌∙◌}
+use Rattle.saa_word_steps.specs.Steps.{needs_of}
+use Rattle.saa_word_steps.specs.declared.operation.Operation.TheVariants.{Load}
+use Rattle.saa_word_threads.proofs.Moving.{allowed-look}
+use Rattle.saa_word_threads.proofs.Calling.{sought-same}
+use Rattle.saa_word_threads.proofs.form.Form.seek_by_load.Goals as goal
+
+pub load-requires : goal.load-requires
+load-requires g c = (
+  c.requires.table,
+  subst (λ n. 0 < n) (sym c.args.self.now.words) c.requires.next.inside,
+  allowed-look c.args.self.now.table.shared.key c.args.self.now.rules c.args.self.now.places g.M.Mover.about g.M.Mover.place c.args.at.value g.M.Mover.me
+      c.args.me c.args.self.now.table.shared.table_id.slots c.args.seat.now.id c.args.seat.now.me (Load 0)
+      c.args.self.now.key.0 c.args.self.now.key.1 c.args.self.now.few c.args.self.now.wide c.requires.told c.requires.next
+      (λ found joins. refl),
+)
+
+pub returns-clause-number : goal.returns-clause-number
+returns-clause-number g c =
+    let same =
+    sought-same (needs_of g.M.Mover.about.rules) g.M.Mover.about.places g.M.Mover.me g.M.Mover.place c.load.result c.args.seat.now.me.0
+    c.load.new.seat.me.0 c.load.ensures.2 in (same.0 ∙ c.requires.next.deals, same.1 ∙ c.requires.next.number)
