@@ -1,6 +1,6 @@
 //! Times the threaded semaphore, barrier and gate beside plain ones under std's `Mutex` and `Condvar`, the threaded lock
 //! beside std's `RwLock`, values behind our `Mutex` and `RwLock` beside std's, the word's semaphore beside the one under a mutex, and
-//! futures beside calls, in one run; and locks at which threads meet.
+//! futures beside calls, in one run; and locks at which threads meet, with how long one of them waits there.
 //!
 //! With the argument `measure` it prints, for some numbers of threads, what one acquire with its release costs by each,
 //! and the ratio, and for one thread the ratios to two bare turns at a `Mutex`; with the name of a part it prints that part, and with
@@ -16,11 +16,13 @@ mod measure;
 mod meeting;
 mod parts;
 mod permits;
+mod places;
 mod rounds;
 mod rows;
 mod takers;
 mod tasks;
 mod values;
+mod waits;
 mod words;
 
 use std::io;

@@ -1,6 +1,6 @@
 //! The parts of what is printed: all of them, or the one that the argument names.
 
-use crate::{cores, crowds, lines, rows};
+use crate::{cores, crowds, lines, rows, waits};
 use std::alloc::{AllocGlobal, Global};
 use std::random::RandomSource;
 use std::rt::Runtime;
@@ -20,9 +20,17 @@ enum Part {
     Cores,
     // Locks at which threads meet.
     Crowds,
+    // How long one of them waits there.
+    Waits,
 }
 
-const PARTS: [Part; 4] = [Part::Threads, Part::Lines, Part::Cores, Part::Crowds];
+const PARTS: [Part; 5] = [
+    Part::Threads,
+    Part::Lines,
+    Part::Cores,
+    Part::Crowds,
+    Part::Waits,
+];
 
 impl Part {
     // What the argument calls it.
@@ -32,6 +40,7 @@ impl Part {
             Part::Lines => "lines",
             Part::Cores => "cores",
             Part::Crowds => "crowds",
+            Part::Waits => "waits",
         }
     }
 
@@ -46,6 +55,7 @@ impl Part {
             Part::Lines => lines::print(rt, alloc),
             Part::Cores => cores::print(rt, alloc),
             Part::Crowds => crowds::print(rt, alloc),
+            Part::Waits => waits::print(rt, alloc),
         }
     }
 }
@@ -80,7 +90,7 @@ pub fn print_chosen<R: Runtime + Clock + RandomSource + AllocGlobal + Threads + 
 ) -> io::Result<()> {
     match chosen(rt)? {
         Choice::Nothing => {
-            println!(rt; "run with: measure, or a part of it: threads, lines, cores, crowds")
+            println!(rt; "run with: measure, or a part of it: threads, lines, cores, crowds, waits")
         }
         Choice::One(part) => part.print(rt, alloc),
         Choice::All => print_all(rt, alloc),

@@ -153,7 +153,7 @@ impl Lock {
 
     /// Takes the lock for one owner alone, and waits for it where it must.
     ///
-    /// It looks at the word for a bounded while first, some hundred microseconds, and takes the lock where it is free and there is no waiter; then
+    /// It looks at the word for a bounded while first, some 50 microseconds, and takes the lock where it is free and there is no waiter; then
     /// the place joins the waiters. To join at once, `register` and then `poll`. `false`: the lock is poisoned, as the place asked or while it
     /// waited; or the place is registered already, which changes nothing. Costs two steps on the word where it is granted at once, and else some
     /// more, and the wait.

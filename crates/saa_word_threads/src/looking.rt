@@ -35,9 +35,9 @@ pub(crate) struct Patience {
     yields: u32,
 }
 
-/// The patience of a call that may wait. Where turns are of some microseconds or less, no line forms.
+/// The patience of a call that may wait. The looks last some 50 microseconds; where turns take a microsecond or less, mostly no place joins.
 pub(crate) const WAITING: Patience = Patience {
-    looks: 40,
+    looks: 16,
     yields: 100,
 };
 

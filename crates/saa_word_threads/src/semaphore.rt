@@ -90,7 +90,7 @@ impl<const MAX: usize> SemaphoreOf<MAX> {
 
     /// Takes `count` permits, and waits for them where it must.
     ///
-    /// It looks at the word for a bounded while first, some hundred microseconds, and takes the permits where they are available and there is no
+    /// It looks at the word for a bounded while first, some 50 microseconds, and takes the permits where they are available and there is no
     /// waiter; then the place joins the waiters. To join at once, `register` and then `poll`. `false`, without waiting, for a count above
     /// [`Self::MAX_PERMITS`] and at a place that is registered.
     pub fn acquire_many<R: Wait>(&self, rt: &R, place: &mut Place, count: usize) -> bool
