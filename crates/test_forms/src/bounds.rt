@@ -2,25 +2,24 @@
 
 ghost use Rattle.std.specs.Prelude.{◌<◌};
 
-use crate::permits::{left, somebody_sleeps};
+use crate::permits::{left, sleepy, somebody_sleeps};
 use futures::task::Poll;
 use futures::test::MockTask;
-use saa_core::semaphore::SemaphoreCoreOf;
 use saa_core::ticket::Full;
+use saa_sync::future::AcquireManyOf;
 use saa_sync::pager::{Error, Pager};
 use saa_sync::semaphore::{Semaphore, SemaphoreOf};
-use saa_sync::testing::{Patience, Shell};
-use std::alloc::AllocGlobal;
-use std::process::Abort;
+use std::alloc::{AllocError, AllocGlobal, Global};
 use std::random::RandomSource;
 use std::sync::Wait;
 use std::sync::atomic::{AtomicBool, Ordering};
 use std::test::Fail;
+use std::thread::Threads;
 use std::{io, thread};
-use test_asserts::{holds, same};
+use test_asserts::same;
 
 // A call of a row; who asks is 0 or 1.
-#[derive(Clone, Copy, Debug)]
+#[derive(Clone, Copy)]
 enum Call {
     Try(usize),
     Release(usize),
@@ -83,46 +82,71 @@ fn make<R: Wait + Drop, const MAX: usize>(semaphore: &SemaphoreOf<R, MAX>, call:
     }
 }
 
-// Makes the calls of a row in order by two pagers that ask for so many, and asserts what each answers.
-fn play_by_pagers<R: Wait + Drop, const MAX: usize>(
-    rt: &impl Abort,
-    semaphore: &SemaphoreOf<R, MAX>,
+// Makes a call of a row by two pagers, who ask for so many.
+fn make_by_pagers<'s, R: Wait + Drop, const MAX: usize>(
+    semaphore: &'s SemaphoreOf<R, MAX>,
+    zero: &mut Pager<'s, SemaphoreOf<R, MAX>>,
+    one: &mut Pager<'s, SemaphoreOf<R, MAX>>,
     count: usize,
-    rows: &[Row],
-) {
-    let (mut zero, mut one) = (Pager::new(), Pager::new());
-    for i in 0..rows.len() {
-        let (call, answer) = rows[i];
-        let told = match call {
-            Call::Ask(0) => registered(semaphore.register_pager(&mut zero, count, true)),
-            Call::Ask(_) => registered(semaphore.register_pager(&mut one, count, true)),
-            Call::Poll(0) => granted(zero.try_poll()),
-            Call::Poll(_) => granted(one.try_poll()),
-            _ => make(semaphore, call),
-        };
-        assert_eq!(rt; told, answer, "row {i}, {call:?}");
+    call: Call,
+) -> Answer {
+    match call {
+        Call::Ask(0) => registered(semaphore.register_pager(zero, count, true)),
+        Call::Ask(_) => registered(semaphore.register_pager(one, count, true)),
+        Call::Poll(0) => granted(zero.try_poll()),
+        Call::Poll(_) => granted(one.try_poll()),
+        _ => make(semaphore, call),
     }
 }
 
-// The same by two futures, which ask at their first poll.
-fn play_by_futures<R: Wait + Drop, const MAX: usize>(
-    rt: &impl Abort,
+// Makes the calls of rows in order by two pagers; the first row that was answered otherwise, counted from 0, and what it was
+// answered.
+fn first_other_by_pagers<R: Wait + Drop, const MAX: usize>(
+    semaphore: &SemaphoreOf<R, MAX>,
+    count: usize,
+    rows: &[Row],
+) -> Option<(usize, Answer)> {
+    let (mut zero, mut one) = (Pager::new(), Pager::new());
+    for (row, (call, wanted)) in rows.iter().enumerate() {
+        let told = make_by_pagers(semaphore, &mut zero, &mut one, count, *call);
+        if told != *wanted {
+            return Some((row, told));
+        }
+    }
+    None
+}
+
+// Makes a call of a row by two futures of a task, which ask at their first poll.
+fn make_by_futures<R: Wait + Drop, const MAX: usize>(
+    semaphore: &SemaphoreOf<R, MAX>,
+    task: &MockTask,
+    zero: &mut AcquireManyOf<'_, R, MAX>,
+    one: &mut AcquireManyOf<'_, R, MAX>,
+    call: Call,
+) -> Answer {
+    match call {
+        Call::Ask(0) | Call::Poll(0) => polled(task.poll(zero)),
+        Call::Ask(_) | Call::Poll(_) => polled(task.poll(one)),
+        _ => make(semaphore, call),
+    }
+}
+
+// The same by two futures, which ask for so many.
+fn first_other_by_futures<R: Wait + Drop, const MAX: usize>(
     semaphore: &SemaphoreOf<R, MAX>,
     task: &MockTask,
     count: usize,
     rows: &[Row],
-) {
+) -> Option<(usize, Answer)> {
     let mut zero = semaphore.acquire_many_async(count);
     let mut one = semaphore.acquire_many_async(count);
-    for i in 0..rows.len() {
-        let (call, answer) = rows[i];
-        let told = match call {
-            Call::Ask(0) | Call::Poll(0) => polled(task.poll(&mut zero)),
-            Call::Ask(_) | Call::Poll(_) => polled(task.poll(&mut one)),
-            _ => make(semaphore, call),
-        };
-        assert_eq!(rt; told, answer, "row {i}, {call:?}");
+    for (row, (call, wanted)) in rows.iter().enumerate() {
+        let told = make_by_futures(semaphore, task, &mut zero, &mut one, *call);
+        if told != *wanted {
+            return Some((row, told));
+        }
     }
+    None
 }
 
 // How many permits there are at first, for how many who wait there is room, and how many are asked for.
@@ -133,25 +157,48 @@ struct Opening {
     count: usize,
 }
 
-// Plays rows by two pagers, and again by two futures, at semaphores that begin so.
-fn play_both<R: Wait + Abort + RandomSource + AllocGlobal, const MAX: usize>(
-    rt: &R,
+// Plays rows by two pagers at a semaphore that begins so; the first row that was answered otherwise.
+fn play_by_pagers<R: Wait + Drop, const MAX: usize>(
+    rt: R,
+    alloc: Global,
     opening: Opening,
     rows: &[Row],
-) -> io::Result<()>
+) -> Result<Option<(usize, Answer)>, AllocError>
     requires bound { 0 < MAX }
     requires narrow { MAX < 65536 }
 {
-    let Opening {
-        permits,
-        room,
-        count,
-    } = opening;
-    let paged = SemaphoreOf::<&R, MAX>::with_permits(rt, rt.alloc(), permits, room)?;
-    play_by_pagers(rt, &paged, count, rows);
-    let polled = SemaphoreOf::<&R, MAX>::with_permits(rt, rt.alloc(), permits, room)?;
-    play_by_futures(rt, &polled, &MockTask::new(rt)?, count, rows);
-    Ok(())
+    let semaphore = SemaphoreOf::<R, MAX>::with_permits(rt, alloc, opening.permits, opening.room)?;
+    Ok(first_other_by_pagers(&semaphore, opening.count, rows))
+}
+
+// The same by two futures of a task.
+fn play_by_futures<R: Wait + Drop, const MAX: usize>(
+    rt: R,
+    alloc: Global,
+    task: &MockTask,
+    opening: Opening,
+    rows: &[Row],
+) -> Result<Option<(usize, Answer)>, AllocError>
+    requires bound { 0 < MAX }
+    requires narrow { MAX < 65536 }
+{
+    let semaphore = SemaphoreOf::<R, MAX>::with_permits(rt, alloc, opening.permits, opening.room)?;
+    Ok(first_other_by_futures(&semaphore, task, opening.count, rows))
+}
+
+// Plays rows by two pagers, and again by two futures; what each was answered otherwise first.
+fn play_both<R: Wait + RandomSource + AllocGlobal, const MAX: usize>(
+    rt: &R,
+    opening: Opening,
+    rows: &[Row],
+) -> io::Result<[Option<(usize, Answer)>; 2]>
+    requires bound { 0 < MAX }
+    requires narrow { MAX < 65536 }
+{
+    let task = MockTask::new(rt)?;
+    let by_pagers = play_by_pagers::<_, MAX>(rt, rt.alloc(), opening, rows)?;
+    let by_futures = play_by_futures::<_, MAX>(rt, rt.alloc(), &task, opening, rows)?;
+    Ok([by_pagers, by_futures])
 }
 
 // The one who asks asks for 300.
@@ -211,40 +258,62 @@ const OPENINGS: [Opening; 3] = [
 
 #[test]
 fn rows_of_each_bound(rt: HostRuntime) -> io::Result<()> {
-    play_both::<_, 1_000>(&rt, OPENINGS[0], &OF_A_THOUSAND)?;
-    play_both::<_, 65_535>(&rt, OPENINGS[1], &OF_THE_MOST)?;
-    play_both::<_, 1>(&rt, OPENINGS[2], &OF_ONE)
+    same!(rt; play_both::<_, 1_000>(&rt, OPENINGS[0], &OF_A_THOUSAND)?, [None; 2]);
+    same!(rt; play_both::<_, 65_535>(&rt, OPENINGS[1], &OF_THE_MOST)?, [None; 2]);
+    same!(rt; play_both::<_, 1>(&rt, OPENINGS[2], &OF_ONE)?, [None; 2]);
+    Ok(())
 }
 
 #[test]
 fn each_form_says_its_bound(rt: HostRuntime) {
-    same!(rt; Semaphore::<&HostRuntime>::MAX_PERMITS, 63);
-    same!(rt; SemaphoreOf::<&HostRuntime, 1>::MAX_PERMITS, 1);
-    same!(rt; SemaphoreOf::<&HostRuntime, 1_000>::MAX_PERMITS, 1_000);
-    same!(rt; SemaphoreOf::<&HostRuntime, 65_535>::MAX_PERMITS, 65_535);
+    let bounds = [
+        Semaphore::<&HostRuntime>::MAX_PERMITS,
+        SemaphoreOf::<&HostRuntime, 1>::MAX_PERMITS,
+        SemaphoreOf::<&HostRuntime, 1_000>::MAX_PERMITS,
+        SemaphoreOf::<&HostRuntime, 65_535>::MAX_PERMITS,
+    ];
+    same!(rt; bounds, [63, 1, 1_000, 65_535]);
+}
+
+// What a call for so many permits is told at a semaphore that has all of its own, and how many are left.
+fn ask_for<R: Wait + Drop, const MAX: usize>(
+    rt: R,
+    alloc: Global,
+    count: usize,
+) -> Result<(Result<bool, Full>, usize), AllocError>
+    requires bound { 0 < MAX }
+    requires narrow { MAX < 65536 }
+{
+    let semaphore = SemaphoreOf::<R, MAX>::new(rt, alloc, 1)?;
+    let told = semaphore.acquire_many_sync(count);
+    Ok((told, left(&semaphore)))
 }
 
 #[test]
 fn one_more_than_there_are_is_refused_at_once(rt: HostRuntime) -> io::Result<()> {
-    let one = SemaphoreOf::<_, 1>::new(&rt, rt.alloc(), 1)?;
-    let thousand = SemaphoreOf::<_, 1_000>::new(&rt, rt.alloc(), 1)?;
-    let most = SemaphoreOf::<_, 65_535>::new(&rt, rt.alloc(), 1)?;
-    same!(rt; one.acquire_many_sync(2), Ok(false));
-    same!(rt; thousand.acquire_many_sync(1_001), Ok(false));
-    same!(rt; most.acquire_many_sync(65_536), Ok(false));
-    same!(rt; (left(&one), left(&thousand), left(&most)), (1, 1_000, 65_535));
+    let one = ask_for::<_, 1>(&rt, rt.alloc(), 2)?;
+    let thousand = ask_for::<_, 1_000>(&rt, rt.alloc(), 1_001)?;
+    let most = ask_for::<_, 65_535>(&rt, rt.alloc(), 65_536)?;
+    let wanted = [(Ok(false), 1), (Ok(false), 1_000), (Ok(false), 65_535)];
+    same!(rt; [one, thousand, most], wanted);
     Ok(())
+}
+
+// The only permit is taken where there is no room to wait, and given back: whether it was had, how many are left, whether another
+// call is told that the room is full, and how many are left once it went.
+fn take_the_only<R: Wait + Drop>(semaphore: &SemaphoreOf<R, 1>) -> (bool, usize, bool, usize) {
+    let permit = semaphore.acquire_permit();
+    let is_had = permit.is_ok();
+    let beside = left(semaphore);
+    let is_full = matches!(semaphore.acquire_permit(), Err(Full));
+    drop(permit);
+    (is_had, beside, is_full, left(semaphore))
 }
 
 #[test]
 fn the_only_permit_is_given_back(rt: HostRuntime) -> io::Result<()> {
     let semaphore = SemaphoreOf::<_, 1>::new(&rt, rt.alloc(), 0)?;
-    let permit = semaphore.acquire_permit();
-    holds!(rt; permit.is_ok());
-    same!(rt; left(&semaphore), 0);
-    holds!(rt; matches!(semaphore.acquire_permit(), Err(Full)));
-    drop(permit);
-    same!(rt; left(&semaphore), 1);
+    same!(rt; take_the_only(&semaphore), (true, 0, true, 1));
     Ok(())
 }
 
@@ -270,22 +339,23 @@ fn give_300<R: Wait + Drop>(
         && semaphore.release_many(1)
 }
 
+// Both at once; what each tells.
+fn give_beside<H: Wait + Threads + Sync, R: Wait + Drop + Sync>(
+    rt: &H,
+    semaphore: &SemaphoreOf<R, 1_000>,
+) -> (Result<bool, Full>, bool) {
+    let has_ended = AtomicBool::new(false);
+    thread::join(
+        rt,
+        || take_300(semaphore, &has_ended),
+        || give_300(rt, semaphore, &has_ended),
+    )
+}
+
 #[test]
 fn a_sleeper_is_granted_300_of_a_thousand(rt: HostRuntime) -> Result<(), Fail> {
-    let core = SemaphoreCoreOf::<1_000>::with_permits(rt.alloc(), 0, 1)?;
-    let no_patience = Patience {
-        looks: 0,
-        yields: 0,
-    };
-    let shell = Shell::new(&rt, rt.alloc(), core, 1, no_patience)?;
-    let semaphore = SemaphoreOf::on_shell(shell);
-    let has_ended = AtomicBool::new(false);
-    let (answer, is_given) = thread::join(
-        &rt,
-        || take_300(&semaphore, &has_ended),
-        || give_300(&rt, &semaphore, &has_ended),
-    );
-    holds!(rt; is_given);
-    same!(rt; (answer, left(&semaphore)), (Ok(true), 0));
+    let semaphore = sleepy::<_, 1_000>(&rt, rt.alloc(), 0)?;
+    same!(rt; give_beside(&rt, &semaphore), (Ok(true), true));
+    same!(rt; left(&semaphore), 0);
     Ok(())
 }

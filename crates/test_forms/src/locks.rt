@@ -161,8 +161,35 @@ const WAITS: [(Mode, Way); 4] = [
     (Mode::Shared, Way::With),
 ];
 
-// How many lists of so many moves agree, from both sizes and with room for 0, 1 and 2, up to the first that doesn't.
+// What a trial is made of: the calls that need no pager, the modes that pagers ask for, the calls that may wait, and the sizes of
+// the locks at first.
+#[derive(Clone, Copy)]
+struct Trial<'a> {
+    calls: &'a [LockCall],
+    modes: &'a [Mode],
+    waits: &'a [(Mode, Way)],
+    sizes: &'a [usize],
+}
+
+// How many moves there are, and how many lists of so many agree, from these sizes and with room for 0, 1 and 2, up to the first that
+// doesn't.
 fn agreeing<R: Wait>(
+    rt: &R,
+    alloc: Global,
+    trial: Trial<'_>,
+    length: u32,
+) -> Result<(usize, u64), AllocError> {
+    let Trial {
+        calls,
+        modes,
+        waits,
+        sizes,
+    } = trial;
+    let moves = moves::<LockCore>(alloc, calls, &[], modes, waits)?;
+    Ok((moves.len(), lists(rt, alloc, &moves, sizes, length)?))
+}
+
+fn lists<R: Wait>(
     rt: &R,
     alloc: Global,
     moves: &[Move<LockCore>],
@@ -183,28 +210,40 @@ fn agreeing<R: Wait>(
 
 #[test]
 fn short_lists_agree(rt: HostRuntime) -> Result<(), Fail> {
-    let moves = moves::<LockCore>(rt.alloc(), &CALLS, &[], &MODES, &WAITS)?;
-    same!(rt; moves.len(), 41);
-    same!(rt; agreeing(&rt, rt.alloc(), &moves, &[0, 1], 0)?, 6);
-    same!(rt; agreeing(&rt, rt.alloc(), &moves, &[0, 1], 1)?, 6 * 41);
-    same!(rt; agreeing(&rt, rt.alloc(), &moves, &[0, 1], 2)?, 6 * 41 * 41);
-    same!(rt; agreeing(&rt, rt.alloc(), &moves, &[0, 1], 3)?, 6 * 41 * 41 * 41);
+    let trial = Trial {
+        calls: &CALLS,
+        modes: &MODES,
+        waits: &WAITS,
+        sizes: &[0, 1],
+    };
+    let wanted = [(0, 6), (1, 6 * 41), (2, 6 * 41 * 41), (3, 6 * 41 * 41 * 41)];
+    for (length, lists) in wanted {
+        same!(rt; agreeing(&rt, rt.alloc(), trial, length)?, (41, lists));
+    }
     Ok(())
+}
+
+// The calls that change a lock, and what an owner asks, from these sizes.
+fn owners_trial(sizes: &[usize]) -> Trial<'_> {
+    Trial {
+        calls: &CALLS[..7],
+        modes: &MODES[..2],
+        waits: &[],
+        sizes,
+    }
 }
 
 #[test]
 fn lists_of_four_agree_from_a_free_lock(rt: HostRuntime) -> Result<(), Fail> {
-    let moves = moves::<LockCore>(rt.alloc(), &CALLS[..7], &[], &MODES[..2], &[])?;
-    same!(rt; moves.len(), 25);
-    same!(rt; agreeing(&rt, rt.alloc(), &moves, &[1], 4)?, 3 * 25 * 25 * 25 * 25);
+    let told = agreeing(&rt, rt.alloc(), owners_trial(&[1]), 4)?;
+    same!(rt; told, (25, 3 * 25 * 25 * 25 * 25));
     Ok(())
 }
 
 #[test]
 fn lists_of_four_agree_from_a_locked_lock(rt: HostRuntime) -> Result<(), Fail> {
-    let moves = moves::<LockCore>(rt.alloc(), &CALLS[..7], &[], &MODES[..2], &[])?;
-    same!(rt; moves.len(), 25);
-    same!(rt; agreeing(&rt, rt.alloc(), &moves, &[0], 4)?, 3 * 25 * 25 * 25 * 25);
+    let told = agreeing(&rt, rt.alloc(), owners_trial(&[0]), 4)?;
+    same!(rt; told, (25, 3 * 25 * 25 * 25 * 25));
     Ok(())
 }
 
@@ -310,6 +349,32 @@ const NO_PATIENCE: Patience = Patience {
     yields: 0,
 };
 
+// Whether one end wakes so many sleepers.
+fn is_right_at_once<R: Wait + Threads + Sync>(
+    rt: &R,
+    alloc: Global,
+    patience: Patience,
+    by: By,
+    (count, end): (u64, End),
+) -> Result<bool, AllocError> {
+    let form = shared_lock(rt, alloc, patience)?;
+    let is_patient = patience.looks != 0;
+    Ok(a_call_wakes_all_whom_it_answers(rt, &form, is_patient, count, by, end))
+}
+
+// Whether so many calls wake so many sleepers, one by one.
+fn is_right_in_turn<R: Wait + Threads + Sync>(
+    rt: &R,
+    alloc: Global,
+    patience: Patience,
+    by: By,
+    count: u64,
+) -> Result<bool, AllocError> {
+    let form = shared_lock(rt, alloc, patience)?;
+    let is_patient = patience.looks != 0;
+    Ok(each_call_wakes_one(rt, &form, is_patient, count, by))
+}
+
 // These numbers of sleepers, and each way to answer them; the number where one went wrong, or 0.
 fn wrong_wakes<R: Wait + Threads + Sync>(
     rt: &R,
@@ -318,18 +383,15 @@ fn wrong_wakes<R: Wait + Threads + Sync>(
     by: By,
     counts: &[u64],
 ) -> Result<u64, AllocError> {
-    let is_patient = patience.looks != 0;
     for count in counts {
         for end in [End::Cancel, End::Forget] {
-            let form = shared_lock(rt, alloc, patience)?;
-            if !a_call_wakes_all_whom_it_answers(rt, &form, is_patient, *count, by, end) {
+            if !is_right_at_once(rt, alloc, patience, by, (*count, end))? {
                 return Ok(*count);
             }
         }
     }
     for count in [1, 2, 3, 48] {
-        let form = shared_lock(rt, alloc, patience)?;
-        if !each_call_wakes_one(rt, &form, is_patient, count, by) {
+        if !is_right_in_turn(rt, alloc, patience, by, count)? {
             return Ok(count);
         }
     }
@@ -415,8 +477,22 @@ impl<R: Wait + Drop + Sync> Sleepers for Owned<R> {
     }
 }
 
-// These numbers of sleepers who want a share of a lock that one owner has, in each way; the number where its release, or
-// its downgrade, went wrong, or 0.
+// Whether so many sleepers who want a share of a lock that one owner has wake by its release, or its downgrade.
+fn is_shared_at_once<R: Wait + Threads + Sync>(
+    rt: &R,
+    alloc: Global,
+    is_release: bool,
+    count: u64,
+    by: By,
+) -> Result<bool, AllocError> {
+    let form = with_patience(rt, alloc, 104, NO_PATIENCE)?;
+    let _locked = form.lock.try_lock();
+    let owned = Owned { form };
+    let end = End::Call(is_release);
+    Ok(a_call_wakes_all_whom_it_answers(rt, &owned, false, count, by, end))
+}
+
+// These numbers of such sleepers, in each way; the number where one went wrong, or 0.
 fn wrong_shares<R: Wait + Threads + Sync>(
     rt: &R,
     alloc: Global,
@@ -425,11 +501,7 @@ fn wrong_shares<R: Wait + Threads + Sync>(
 ) -> Result<u64, AllocError> {
     for count in counts {
         for by in [By::Call, By::Plain, By::Poll] {
-            let form = with_patience(rt, alloc, 104, NO_PATIENCE)?;
-            let _locked = form.lock.try_lock();
-            let owned = Owned { form };
-            let end = End::Call(is_release);
-            if !a_call_wakes_all_whom_it_answers(rt, &owned, false, *count, by, end) {
+            if !is_shared_at_once(rt, alloc, is_release, *count, by)? {
                 return Ok(*count);
             }
         }

@@ -12,7 +12,7 @@ use std::sync::atomic::{AtomicU64, Ordering};
 use std::test::Fail;
 use std::thread;
 use std::thread::Threads;
-use test_asserts::{holds, same};
+use test_asserts::same;
 use test_support::sleepers::{
     By, End, Place, Sleepers, a_call_wakes_all_whom_it_answers, each_call_wakes_one,
 };
@@ -205,28 +205,43 @@ impl<R: Wait + Drop + Sync> Sleepers for Tried<R> {
     }
 }
 
-// Every move with these counts: a try, a release, a registration and a call that may wait for each, and the rest.
-fn semaphore_moves(
-    alloc: Global,
-    counts: &[usize],
-    waits: &[(usize, Way)],
-) -> Result<Vec<Move<SemaphoreCore>>, AllocError> {
-    let mut calls = Vec::new(alloc);
-    for count in counts {
-        calls.push(SemaphoreCall::TryAcquireMany(*count))?;
-        calls.push(SemaphoreCall::ReleaseMany(*count))?;
-    }
-    calls.push(SemaphoreCall::AvailablePermits)?;
-    calls.push(SemaphoreCall::IsOpen)?;
-    calls.push(SemaphoreCall::IsClosed)?;
-    let short = [
-        SemaphoreCall::TryAcquireMany(1),
-        SemaphoreCall::ReleaseMany(1),
-    ];
-    moves::<SemaphoreCore>(alloc, &calls, &short, counts, waits)
+// What a trial is made of: the calls that need no pager, the counts that pagers ask for, the calls that may wait, and the sizes of
+// the semaphores at first.
+#[derive(Clone, Copy)]
+struct Trial<'a> {
+    calls: &'a [SemaphoreCall],
+    counts: &'a [usize],
+    waits: &'a [(usize, Way)],
+    sizes: &'a [usize],
 }
 
+const SHORT: [SemaphoreCall; 2] = [
+    SemaphoreCall::TryAcquireMany(1),
+    SemaphoreCall::ReleaseMany(1),
+];
+
 const COUNTS: [usize; 7] = [0, 1, 2, 62, 63, 64, 300];
+
+// A try and a release of each of these counts, and the rest.
+const CALLS: [SemaphoreCall; 17] = [
+    SemaphoreCall::TryAcquireMany(0),
+    SemaphoreCall::ReleaseMany(0),
+    SemaphoreCall::TryAcquireMany(1),
+    SemaphoreCall::ReleaseMany(1),
+    SemaphoreCall::TryAcquireMany(2),
+    SemaphoreCall::ReleaseMany(2),
+    SemaphoreCall::TryAcquireMany(62),
+    SemaphoreCall::ReleaseMany(62),
+    SemaphoreCall::TryAcquireMany(63),
+    SemaphoreCall::ReleaseMany(63),
+    SemaphoreCall::TryAcquireMany(64),
+    SemaphoreCall::ReleaseMany(64),
+    SemaphoreCall::TryAcquireMany(300),
+    SemaphoreCall::ReleaseMany(300),
+    SemaphoreCall::AvailablePermits,
+    SemaphoreCall::IsOpen,
+    SemaphoreCall::IsClosed,
+];
 
 const WAITS: [(usize, Way); 10] = [
     (1, Way::Short),
@@ -241,9 +256,54 @@ const WAITS: [(usize, Way); 10] = [
     (300, Way::With),
 ];
 
-// How many lists of so many moves agree, from each of the sizes and with room for 0, 1 and 2, up to the first that
-// doesn't.
+// The same of few counts: many are available, or none.
+const MANY: [usize; 3] = [0, 1, 63];
+
+const MANY_CALLS: [SemaphoreCall; 9] = [
+    SemaphoreCall::TryAcquireMany(0),
+    SemaphoreCall::ReleaseMany(0),
+    SemaphoreCall::TryAcquireMany(1),
+    SemaphoreCall::ReleaseMany(1),
+    SemaphoreCall::TryAcquireMany(63),
+    SemaphoreCall::ReleaseMany(63),
+    SemaphoreCall::AvailablePermits,
+    SemaphoreCall::IsOpen,
+    SemaphoreCall::IsClosed,
+];
+
+const FEW: [usize; 3] = [0, 1, 2];
+
+const FEW_CALLS: [SemaphoreCall; 9] = [
+    SemaphoreCall::TryAcquireMany(0),
+    SemaphoreCall::ReleaseMany(0),
+    SemaphoreCall::TryAcquireMany(1),
+    SemaphoreCall::ReleaseMany(1),
+    SemaphoreCall::TryAcquireMany(2),
+    SemaphoreCall::ReleaseMany(2),
+    SemaphoreCall::AvailablePermits,
+    SemaphoreCall::IsOpen,
+    SemaphoreCall::IsClosed,
+];
+
+// How many moves there are, and how many lists of so many agree, from each of the sizes and with room for 0, 1 and 2, up to the
+// first that doesn't.
 fn agreeing<R: Wait>(
+    rt: &R,
+    alloc: Global,
+    trial: Trial<'_>,
+    length: u32,
+) -> Result<(usize, u64), AllocError> {
+    let Trial {
+        calls,
+        counts,
+        waits,
+        sizes,
+    } = trial;
+    let moves = moves::<SemaphoreCore>(alloc, calls, &SHORT, counts, waits)?;
+    Ok((moves.len(), lists(rt, alloc, &moves, sizes, length)?))
+}
+
+fn lists<R: Wait>(
     rt: &R,
     alloc: Global,
     moves: &[Move<SemaphoreCore>],
@@ -262,44 +322,60 @@ fn agreeing<R: Wait>(
     Ok(all)
 }
 
+// All calls, from these sizes.
+fn whole_trial(sizes: &[usize]) -> Trial<'_> {
+    Trial {
+        calls: &CALLS,
+        counts: &COUNTS,
+        waits: &WAITS,
+        sizes,
+    }
+}
+
 #[test]
 fn short_lists_agree_from_every_size(rt: HostRuntime) -> Result<(), Fail> {
-    let moves = semaphore_moves(rt.alloc(), &COUNTS, &WAITS)?;
-    let sizes = [0, 1, 63, 64, 300, usize::MAX];
-    same!(rt; moves.len(), 67);
-    same!(rt; agreeing(&rt, rt.alloc(), &moves, &sizes, 0)?, 18);
-    same!(rt; agreeing(&rt, rt.alloc(), &moves, &sizes, 1)?, 18 * 67);
-    same!(rt; agreeing(&rt, rt.alloc(), &moves, &sizes, 2)?, 18 * 67 * 67);
+    let trial = whole_trial(&[0, 1, 63, 64, 300, usize::MAX]);
+    for (length, lists) in [(0, 18), (1, 18 * 67), (2, 18 * 67 * 67)] {
+        same!(rt; agreeing(&rt, rt.alloc(), trial, length)?, (67, lists));
+    }
     Ok(())
 }
 
 #[test]
 fn every_list_of_three_agrees_with_all_permits(rt: HostRuntime) -> Result<(), Fail> {
-    let moves = semaphore_moves(rt.alloc(), &COUNTS, &WAITS)?;
-    same!(rt; agreeing(&rt, rt.alloc(), &moves, &[63], 3)?, 3 * 67 * 67 * 67);
+    let told = agreeing(&rt, rt.alloc(), whole_trial(&[63]), 3)?;
+    same!(rt; told, (67, 3 * 67 * 67 * 67));
     Ok(())
 }
 
 #[test]
 fn every_list_of_three_agrees_with_one_permit(rt: HostRuntime) -> Result<(), Fail> {
-    let moves = semaphore_moves(rt.alloc(), &COUNTS, &WAITS)?;
-    same!(rt; agreeing(&rt, rt.alloc(), &moves, &[1], 3)?, 3 * 67 * 67 * 67);
+    let told = agreeing(&rt, rt.alloc(), whole_trial(&[1]), 3)?;
+    same!(rt; told, (67, 3 * 67 * 67 * 67));
     Ok(())
 }
 
 #[test]
 fn lists_of_four_agree_with_all_permits(rt: HostRuntime) -> Result<(), Fail> {
-    let moves = semaphore_moves(rt.alloc(), &[0, 1, 63], &[(1, Way::Plain)])?;
-    same!(rt; moves.len(), 34);
-    same!(rt; agreeing(&rt, rt.alloc(), &moves, &[63], 4)?, 3 * 34 * 34 * 34 * 34);
+    let trial = Trial {
+        calls: &MANY_CALLS,
+        counts: &MANY,
+        waits: &[(1, Way::Plain)],
+        sizes: &[63],
+    };
+    same!(rt; agreeing(&rt, rt.alloc(), trial, 4)?, (34, 3 * 34 * 34 * 34 * 34));
     Ok(())
 }
 
 #[test]
 fn lists_of_four_agree_with_no_permit(rt: HostRuntime) -> Result<(), Fail> {
-    let moves = semaphore_moves(rt.alloc(), &[0, 1, 2], &[(1, Way::Plain)])?;
-    same!(rt; moves.len(), 34);
-    same!(rt; agreeing(&rt, rt.alloc(), &moves, &[0], 4)?, 3 * 34 * 34 * 34 * 34);
+    let trial = Trial {
+        calls: &FEW_CALLS,
+        counts: &FEW,
+        waits: &[(1, Way::Plain)],
+        sizes: &[0],
+    };
+    same!(rt; agreeing(&rt, rt.alloc(), trial, 4)?, (34, 3 * 34 * 34 * 34 * 34));
     Ok(())
 }
 
@@ -309,6 +385,32 @@ const NO_PATIENCE: Patience = Patience {
     yields: 0,
 };
 
+// Whether one end wakes so many sleepers.
+fn is_right_at_once<R: Wait + Threads + Sync>(
+    rt: &R,
+    alloc: Global,
+    patience: Patience,
+    by: By,
+    (count, end): (u64, End),
+) -> Result<bool, AllocError> {
+    let form = with_patience(rt, alloc, 0, 104, patience)?;
+    let is_patient = patience.looks != 0;
+    Ok(a_call_wakes_all_whom_it_answers(rt, &form, is_patient, count, by, end))
+}
+
+// Whether so many calls wake so many sleepers, one by one.
+fn is_right_in_turn<R: Wait + Threads + Sync>(
+    rt: &R,
+    alloc: Global,
+    patience: Patience,
+    by: By,
+    count: u64,
+) -> Result<bool, AllocError> {
+    let form = with_patience(rt, alloc, 0, 48, patience)?;
+    let is_patient = patience.looks != 0;
+    Ok(each_call_wakes_one(rt, &form, is_patient, count, by))
+}
+
 // Each number of sleepers, and each way to answer them; the number where one went wrong, or 0.
 fn wrong_wakes<R: Wait + Threads + Sync>(
     rt: &R,
@@ -316,19 +418,15 @@ fn wrong_wakes<R: Wait + Threads + Sync>(
     patience: Patience,
     by: By,
 ) -> Result<u64, AllocError> {
-    let is_patient = patience.looks != 0;
-    let ends = [End::Call(true), End::Call(false), End::Cancel, End::Forget];
     for count in [1, 2, 3, 48, 100] {
-        for end in ends {
-            let form = with_patience(rt, alloc, 0, 104, patience)?;
-            if !a_call_wakes_all_whom_it_answers(rt, &form, is_patient, count, by, end) {
+        for end in [End::Call(true), End::Call(false), End::Cancel, End::Forget] {
+            if !is_right_at_once(rt, alloc, patience, by, (count, end))? {
                 return Ok(count);
             }
         }
     }
     for count in [1, 2, 3, 48] {
-        let form = with_patience(rt, alloc, 0, 48, patience)?;
-        if !each_call_wakes_one(rt, &form, is_patient, count, by) {
+        if !is_right_in_turn(rt, alloc, patience, by, count)? {
             return Ok(count);
         }
     }
@@ -365,24 +463,44 @@ fn waiting_polls_wake(rt: HostRuntime) -> Result<(), Fail> {
     Ok(())
 }
 
+// A call that joins the line and releases what it asks for then; adds how many seats are rung before that, and a hundred times as
+// many as are rung behind it.
+fn release_within<R: Wait + Drop>(semaphore: &Semaphore<R>, rung: &AtomicU64) -> Result<(), Full> {
+    semaphore.acquire_sync_with(|| {
+        rung.fetch_add(semaphore.shell().rung() as u64, Ordering::SeqCst);
+        semaphore.release();
+        rung.fetch_add(
+            (semaphore.shell().rung() as u64).saturating_mul(100),
+            Ordering::SeqCst,
+        );
+    })
+}
+
 // The release of the first call rings the only seat, and the second call takes that seat over.
 #[test]
 fn a_seat_is_reset_for_its_next_holder(rt: HostRuntime) -> Result<(), Fail> {
     let semaphore = Semaphore::with_permits(&rt, rt.alloc(), 0, 1)?;
     let rung = AtomicU64::new(0);
-    for _turn in 0..2 {
-        let answer = semaphore.acquire_sync_with(|| {
-            rung.fetch_add(semaphore.shell().rung() as u64, Ordering::SeqCst);
-            semaphore.release();
-            rung.fetch_add(
-                (semaphore.shell().rung() as u64).saturating_mul(100),
-                Ordering::SeqCst,
-            );
-        });
-        same!(rt; answer, Ok(()));
-    }
-    same!(rt; rung.load(Ordering::SeqCst), 200);
+    let answers = [
+        release_within(&semaphore, &rung),
+        release_within(&semaphore, &rung),
+    ];
+    same!(rt; (answers, rung.load(Ordering::SeqCst)), ([Ok(()); 2], 200));
     Ok(())
+}
+
+// What a registration for the only permit tells, which is released then, and what the poll after it; and how many seats are rung
+// between the registration and the release, and between that and the poll.
+fn release_for_pager<R: Wait + Drop>(
+    semaphore: &Semaphore<R>,
+    is_sync: bool,
+) -> (Result<bool, Full>, usize, bool, usize, Result<(), Error>) {
+    let mut pager = Pager::new();
+    let registered = semaphore.register_pager(&mut pager, 1, is_sync);
+    let before = semaphore.shell().rung();
+    let is_released = semaphore.release();
+    let after = semaphore.shell().rung();
+    (registered, before, is_released, after, pager.try_poll())
 }
 
 // The release rings the only seat, and the second pager takes that seat over.
@@ -390,12 +508,7 @@ fn a_seat_is_reset_for_its_next_holder(rt: HostRuntime) -> Result<(), Fail> {
 fn a_seat_is_reset_for_the_next_pager(rt: HostRuntime) -> Result<(), Fail> {
     let semaphore = Semaphore::with_permits(&rt, rt.alloc(), 0, 1)?;
     for is_sync in [true, false] {
-        let mut pager = Pager::new();
-        same!(rt; semaphore.register_pager(&mut pager, 1, is_sync), Ok(true));
-        same!(rt; semaphore.shell().rung(), 0);
-        holds!(rt; semaphore.release());
-        same!(rt; semaphore.shell().rung(), 1);
-        same!(rt; pager.try_poll(), Ok(()));
+        same!(rt; release_for_pager(&semaphore, is_sync), (Ok(true), 0, true, 1, Ok(())));
     }
     Ok(())
 }
@@ -424,26 +537,35 @@ fn rest(turns: u64) {
     }
 }
 
-// Without patience a turn that waits is a sleep and a wake. The rests let the one fall anywhere beside the other, so a
-// wake that can be lost between a poll and the sleep after it is lost.
-#[test]
-fn sleepers_in_turn_all_wake(rt: HostRuntime) -> Result<(), Fail> {
-    let Tried { semaphore } = with_patience(&rt, rt.alloc(), 63, 4, NO_PATIENCE)?;
+// Has some threads take all permits in turn; how many threads there were, and how many turns.
+fn take_turns<H: Wait + Threads + Sync, R: Wait + Drop + Sync>(
+    rt: &H,
+    semaphore: &Semaphore<R>,
+) -> (u64, u64) {
     let taken = AtomicU64::new(0);
-    let (shared, taken_by) = (&semaphore, &taken);
+    let taken_by = &taken;
     let mut started: u64 = 0;
-    thread::scope(thread::scope_env(), &rt, |scope| {
+    thread::scope(thread::scope_env(), rt, |scope| {
         for _ in 0..THREADS {
             if scope
-                .spawn(move || take_all_in_turn(shared, taken_by))
+                .spawn(move || take_all_in_turn(semaphore, taken_by))
                 .is_ok()
             {
                 started = started.saturating_add(1);
             }
         }
     });
-    same!(rt; taken.load(Ordering::SeqCst), started.saturating_mul(ROUNDS));
-    same!(rt; semaphore.available_permits(Ordering::SeqCst), 63);
+    (started, taken.load(Ordering::SeqCst))
+}
+
+// Without patience a turn that waits is a sleep and a wake. The rests let the one fall anywhere beside the other, so a
+// wake that can be lost between a poll and the sleep after it is lost.
+#[test]
+fn sleepers_in_turn_all_wake(rt: HostRuntime) -> Result<(), Fail> {
+    let Tried { semaphore } = with_patience(&rt, rt.alloc(), 63, 4, NO_PATIENCE)?;
+    let (started, taken) = take_turns(&rt, &semaphore);
+    let left = semaphore.available_permits(Ordering::SeqCst);
+    same!(rt; (taken, left), (started.saturating_mul(ROUNDS), 63));
     Ok(())
 }
 
@@ -453,25 +575,39 @@ const MUCH_PATIENCE: Patience = Patience {
     yields: u32::MAX,
 };
 
+// Releases one permit once somebody joined the line.
+fn release_behind<R: Wait + Drop>(
+    rt: &impl Wait,
+    semaphore: &Semaphore<R>,
+    joined: &AtomicU64,
+) -> bool {
+    for _ in rt.forever() {
+        if joined.load(Ordering::SeqCst) != 0 {
+            break;
+        }
+        thread::yield_now();
+    }
+    semaphore.release()
+}
+
+// One waits for a permit, and another releases it; whether the one has it, and the other could release it.
+fn wait_and_release<H: Wait + Threads + Sync, R: Wait + Drop + Sync>(
+    rt: &H,
+    form: &Tried<R>,
+) -> (bool, bool) {
+    let joined = AtomicU64::new(0);
+    thread::join(
+        rt,
+        || form.wait_at(Place::Ahead, By::Call, &joined),
+        || release_behind(rt, &form.semaphore, &joined),
+    )
+}
+
 // A task that waits awake keeps nobody out, hears that its seat is rung, and waits no longer then.
 #[test]
 fn a_patient_task_hears_its_ring(rt: HostRuntime) -> Result<(), Fail> {
     let form = with_patience(&rt, rt.alloc(), 0, 1, MUCH_PATIENCE)?;
-    let joined = AtomicU64::new(0);
-    let (is_granted, is_released) = thread::join(
-        &rt,
-        || form.wait_at(Place::Ahead, By::Call, &joined),
-        || {
-            for _ in rt.forever() {
-                if joined.load(Ordering::SeqCst) != 0 {
-                    break;
-                }
-                thread::yield_now();
-            }
-            form.semaphore.release()
-        },
-    );
-    holds!(rt; is_granted && is_released);
+    same!(rt; wait_and_release(&rt, &form), (true, true));
     same!(rt; (form.rung(), form.asleep()), (1, 0));
     Ok(())
 }
