@@ -7,10 +7,18 @@ mod places;
 #[cfg(test)]
 mod rooms;
 #[cfg(test)]
+mod stories;
+#[cfg(test)]
 mod wakers;
 
 #[cfg(test)]
 use futures::task::Poll;
+#[cfg(test)]
+use saa_sync::semaphore::Semaphore;
+#[cfg(test)]
+use saa_sync::testing::call_untold;
+#[cfg(test)]
+use std::sync::Wait;
 
 // What a poll gave, if it was ready.
 #[cfg(test)]
@@ -19,4 +27,12 @@ fn ready<T>(polled: Poll<T>) -> Option<T> {
         Poll::Ready(value) => Some(value),
         Poll::Pending => None,
     }
+}
+
+// Answers who waits, and takes the wake that is owed for that, but wakes nobody: the waker stays where it is.
+#[cfg(test)]
+fn answer_untold<R: Wait + Drop>(semaphore: &Semaphore<R>) -> bool {
+    call_untold(semaphore.shell(), |core| {
+        core.release_many(1) && core.next_answered().is_some()
+    })
 }

@@ -1,96 +1,105 @@
 //! The places in which wakers are kept: a task that leaves the line wakes no other.
 
-use crate::ready;
-use futures::test::MockTask;
-use saa_sync::pager::Pager;
-use saa_sync::semaphore::Semaphore;
+use crate::stories::Call::{
+    Ask, AskMany, Cancel, IsWoken, LetGo, Poll, PollMany, PollPager, Register, Release,
+};
+use crate::stories::Told::{Answer, Asked, Granted, Is, Nothing, Permit};
+use crate::stories::Who::{First, Second};
+use crate::stories::{Call, Told, played};
 use std::io;
-use test_asserts::{holds, same};
+use test_asserts::same;
+
+const A_DROPPED_FUTURE: [(Call, Told); 9] = [
+    (Ask(First), Nothing),
+    (Poll(First, First), Permit(None)),
+    (Ask(Second), Nothing),
+    (Poll(Second, Second), Permit(None)),
+    (LetGo(Second), Nothing),
+    (IsWoken(First), Is(false)),
+    (Release, Is(true)),
+    (IsWoken(First), Is(true)),
+    (Poll(First, First), Permit(Some(Ok(())))),
+];
 
 #[test]
 fn a_dropped_future_wakes_no_other_task(rt: HostRuntime) -> io::Result<()> {
-    let semaphore = Semaphore::with_permits(&rt, rt.alloc(), 0, 2)?;
-    let (one, two) = (MockTask::new(&rt)?, MockTask::new(&rt)?);
-    let mut first = semaphore.acquire_async();
-    same!(rt; ready(one.poll(&mut first)), None);
-    {
-        let mut second = semaphore.acquire_async();
-        same!(rt; ready(two.poll(&mut second)), None);
-    }
-    holds!(rt; !one.is_woken());
-    holds!(rt; semaphore.release());
-    holds!(rt; one.is_woken());
-    same!(rt; ready(one.poll(&mut first)), Some(Ok(())));
+    same!(rt; played(&rt, rt.alloc(), 2, &A_DROPPED_FUTURE)?, None);
     Ok(())
 }
+
+const A_CANCELLED_PAGER: [(Call, Told); 9] = [
+    (Ask(First), Nothing),
+    (Poll(First, First), Permit(None)),
+    (Register, Asked(Ok(true))),
+    (PollPager(Second), Granted(None)),
+    (Cancel, Nothing),
+    (IsWoken(First), Is(false)),
+    (Release, Is(true)),
+    (IsWoken(First), Is(true)),
+    (Poll(First, First), Permit(Some(Ok(())))),
+];
 
 #[test]
 fn a_cancelled_pager_wakes_no_other_task(rt: HostRuntime) -> io::Result<()> {
-    let semaphore = Semaphore::with_permits(&rt, rt.alloc(), 0, 2)?;
-    let (one, two) = (MockTask::new(&rt)?, MockTask::new(&rt)?);
-    let mut first = semaphore.acquire_async();
-    same!(rt; ready(one.poll(&mut first)), None);
-    let mut pager = Pager::new();
-    same!(rt; semaphore.register_pager(&mut pager, 1, false), Ok(true));
-    same!(rt; ready(two.poll(&mut pager.poll_async())), None);
-    pager.cancel();
-    holds!(rt; !one.is_woken());
-    holds!(rt; semaphore.release());
-    holds!(rt; one.is_woken());
-    same!(rt; ready(one.poll(&mut first)), Some(Ok(())));
+    same!(rt; played(&rt, rt.alloc(), 2, &A_CANCELLED_PAGER)?, None);
     Ok(())
 }
+
+// What was left wakes its task for nothing, once, as it is dropped. So that task polls once more, for more permits than there ever
+// are.
+const A_PLACE_THAT_WAS_LEFT: [(Call, Told); 11] = [
+    (Ask(First), Nothing),
+    (Poll(First, First), Permit(None)),
+    (LetGo(First), Nothing),
+    (AskMany(64), Nothing),
+    (PollMany(First), Answer(Some(Ok(false)))),
+    (Ask(Second), Nothing),
+    (Poll(Second, Second), Permit(None)),
+    (Release, Is(true)),
+    (IsWoken(First), Is(false)),
+    (IsWoken(Second), Is(true)),
+    (Poll(Second, Second), Permit(Some(Ok(())))),
+];
 
 #[test]
 fn a_place_that_was_left_holds_no_waker(rt: HostRuntime) -> io::Result<()> {
-    let semaphore = Semaphore::with_permits(&rt, rt.alloc(), 0, 1)?;
-    let (one, two) = (MockTask::new(&rt)?, MockTask::new(&rt)?);
-    {
-        let mut left = semaphore.acquire_async();
-        same!(rt; ready(one.poll(&mut left)), None);
-    }
-    // What was left wakes its task for nothing, once, as it is dropped.
-    let mut never = semaphore.acquire_many_async(64);
-    same!(rt; ready(one.poll(&mut never)), Some(Ok(false)));
-    let mut next = semaphore.acquire_async();
-    same!(rt; ready(two.poll(&mut next)), None);
-    holds!(rt; semaphore.release());
-    holds!(rt; !one.is_woken() && two.is_woken());
-    same!(rt; ready(two.poll(&mut next)), Some(Ok(())));
+    same!(rt; played(&rt, rt.alloc(), 1, &A_PLACE_THAT_WAS_LEFT)?, None);
     Ok(())
 }
+
+const A_FUTURE_AHEAD: [(Call, Told); 9] = [
+    (Ask(Second), Nothing),
+    (Ask(First), Nothing),
+    (Poll(First, First), Permit(None)),
+    (Poll(Second, Second), Permit(None)),
+    (LetGo(First), Nothing),
+    (IsWoken(Second), Is(false)),
+    (Release, Is(true)),
+    (IsWoken(Second), Is(true)),
+    (Poll(Second, Second), Permit(Some(Ok(())))),
+];
 
 #[test]
 fn a_dropped_future_wakes_no_task_behind_it(rt: HostRuntime) -> io::Result<()> {
-    let semaphore = Semaphore::with_permits(&rt, rt.alloc(), 0, 2)?;
-    let (one, two) = (MockTask::new(&rt)?, MockTask::new(&rt)?);
-    let mut second = semaphore.acquire_async();
-    {
-        let mut first = semaphore.acquire_async();
-        same!(rt; ready(one.poll(&mut first)), None);
-        same!(rt; ready(two.poll(&mut second)), None);
-    }
-    holds!(rt; !two.is_woken());
-    holds!(rt; semaphore.release());
-    holds!(rt; two.is_woken());
-    same!(rt; ready(two.poll(&mut second)), Some(Ok(())));
+    same!(rt; played(&rt, rt.alloc(), 2, &A_FUTURE_AHEAD)?, None);
     Ok(())
 }
 
+const A_PAGER_AHEAD: [(Call, Told); 10] = [
+    (Register, Asked(Ok(true))),
+    (PollPager(First), Granted(None)),
+    (Ask(Second), Nothing),
+    (Poll(Second, Second), Permit(None)),
+    (IsWoken(First), Is(false)),
+    (Cancel, Nothing),
+    (IsWoken(Second), Is(false)),
+    (Release, Is(true)),
+    (IsWoken(Second), Is(true)),
+    (Poll(Second, Second), Permit(Some(Ok(())))),
+];
+
 #[test]
 fn a_cancelled_pager_wakes_no_task_behind_it(rt: HostRuntime) -> io::Result<()> {
-    let semaphore = Semaphore::with_permits(&rt, rt.alloc(), 0, 2)?;
-    let (one, two) = (MockTask::new(&rt)?, MockTask::new(&rt)?);
-    let mut pager = Pager::new();
-    same!(rt; semaphore.register_pager(&mut pager, 1, false), Ok(true));
-    same!(rt; ready(one.poll(&mut pager.poll_async())), None);
-    let mut second = semaphore.acquire_async();
-    same!(rt; ready(two.poll(&mut second)), None);
-    holds!(rt; !one.is_woken());
-    pager.cancel();
-    holds!(rt; !two.is_woken());
-    holds!(rt; semaphore.release());
-    holds!(rt; two.is_woken());
-    same!(rt; ready(two.poll(&mut second)), Some(Ok(())));
+    same!(rt; played(&rt, rt.alloc(), 2, &A_PAGER_AHEAD)?, None);
     Ok(())
 }

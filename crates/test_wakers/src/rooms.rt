@@ -5,14 +5,16 @@ use crate::ready;
 use futures::test::MockTask;
 use saa_core::ticket::Full;
 use saa_sync::barrier::Barrier;
+use saa_sync::future::AcquireMany;
 use saa_sync::gate::Gate;
-use saa_sync::lock::{Lock, Mode};
+use saa_sync::lock::{Lock, Mode, TryLockError};
 use saa_sync::pager::{Pager, SyncResult};
 use saa_sync::semaphore::Semaphore;
-use std::alloc::{AllocError, Global};
+use std::alloc::{AllocError, AllocGlobal, Global};
 use std::io;
+use std::random::RandomSource;
 use std::sync::Wait;
-use test_asserts::{holds, same};
+use test_asserts::same;
 
 const ROOMS: [u16; 5] = [1, 20, 32, 300, u16::MAX];
 
@@ -120,87 +122,205 @@ impl Filled {
     }
 }
 
+// Registers a pager and polls it as a task; whether it waits then, and the task isn't woken.
+fn join_one<'s, F: Roomy>(
+    task: &MockTask,
+    form: &'s F,
+    pager: &mut Pager<'s, F>,
+    number: u16,
+) -> bool {
+    let has_joined = form.join(pager, number) == Ok(true);
+    let is_pending = ready(task.poll(&mut pager.poll_async())).is_none();
+    has_joined && is_pending && !task.is_woken()
+}
+
+// Registers as many pagers as there is room for; how many of them wait.
+fn join_all<'s, F: Roomy>(
+    task: &MockTask,
+    form: &'s F,
+    pagers: &mut Vec<Pager<'s, F>>,
+    room: u16,
+) -> Result<u16, AllocError> {
+    let mut waited = 0u16;
+    for number in 0..room {
+        let mut pager = Pager::new();
+        waited = waited.saturating_add(u16::from(join_one(task, form, &mut pager, number)));
+        form.answer_one();
+        pagers.push(pager)?;
+    }
+    Ok(waited)
+}
+
+// Whether one more is told that the room is full.
+fn is_full<F: Roomy>(form: &F, room: u16) -> bool {
+    let mut late = Pager::new();
+    form.join(&mut late, room) == Err(Full)
+}
+
+// How many of these pagers have their answer.
+fn answered<F: Roomy>(task: &MockTask, pagers: &mut [Pager<'_, F>]) -> u16 {
+    let mut answered = 0u16;
+    for pager in pagers.iter_mut() {
+        let is_ready = ready(task.poll(&mut pager.poll_async())).is_some();
+        answered = answered.saturating_add(u16::from(is_ready));
+    }
+    answered
+}
+
 // Fills the room of a form, and answers all.
-fn fill<F: Roomy>(
+fn fill_with<F: Roomy>(
     alloc: Global,
     task: &MockTask,
     form: &F,
     room: u16,
 ) -> Result<Filled, AllocError> {
     let mut pagers = Vec::with_capacity(alloc, usize::from(room))?;
-    let mut waited = 0u16;
-    for number in 0..room {
-        let mut pager = Pager::new();
-        let has_joined = form.join(&mut pager, number) == Ok(true);
-        let is_pending = ready(task.poll(&mut pager.poll_async())).is_none();
-        waited = waited.saturating_add(u16::from(has_joined && is_pending && !task.is_woken()));
-        form.answer_one();
-        pagers.push(pager)?;
-    }
-    let mut late = Pager::new();
-    let is_full = form.join(&mut late, room) == Err(Full);
+    let waited = join_all(task, form, &mut pagers, room)?;
+    let is_full = is_full(form, room);
     form.answer_all();
     let rung = form.rung();
-    let mut answered = 0u16;
-    for pager in pagers.iter_mut() {
-        let is_ready = ready(task.poll(&mut pager.poll_async())).is_some();
-        answered = answered.saturating_add(u16::from(is_ready));
-    }
     Ok(Filled {
         waited,
         is_full,
         rung,
-        answered,
+        answered: answered(task, &mut pagers),
     })
+}
+
+// The same with a task.
+fn fill<H: RandomSource + AllocGlobal, F: Roomy>(
+    rt: &H,
+    form: &F,
+    room: u16,
+) -> io::Result<Filled> {
+    let task = MockTask::new(rt)?;
+    Ok(fill_with(rt.alloc(), &task, form, room)?)
+}
+
+// Fills the room of a semaphore of no permit.
+fn fill_without<H: Wait + RandomSource + AllocGlobal>(rt: &H, room: u16) -> io::Result<Filled> {
+    let semaphore = Semaphore::with_permits(rt, rt.alloc(), 0, room)?;
+    fill(rt, &semaphore, room)
+}
+
+// Fills the room of a semaphore whose permits are all taken; whether they were.
+fn fill_taken<H: Wait + RandomSource + AllocGlobal>(
+    rt: &H,
+    room: u16,
+) -> io::Result<(bool, Filled)> {
+    let semaphore = Semaphore::new(rt, rt.alloc(), room)?;
+    let is_taken = semaphore.try_acquire_many(63);
+    Ok((is_taken, fill(rt, &semaphore, room)?))
 }
 
 #[test]
 fn every_room_of_a_semaphore_is_filled(rt: HostRuntime) -> io::Result<()> {
-    let task = MockTask::new(&rt)?;
     for room in ROOMS {
-        let without = Semaphore::with_permits(&rt, rt.alloc(), 0, room)?;
-        same!(rt; fill(rt.alloc(), &task, &without, room)?, Filled::whole(room));
-        let taken = Semaphore::new(&rt, rt.alloc(), room)?;
-        holds!(rt; taken.try_acquire_many(63));
-        same!(rt; fill(rt.alloc(), &task, &taken, room)?, Filled::whole(room));
+        let told = (fill_without(&rt, room)?, fill_taken(&rt, room)?);
+        let whole = Filled::whole(room);
+        same!(rt; told, (whole, (true, whole)));
     }
     Ok(())
+}
+
+// Fills the room of a lock that is taken; what taking it told.
+fn fill_lock<H: Wait + RandomSource + AllocGlobal>(
+    rt: &H,
+    room: u16,
+) -> io::Result<(Result<(), TryLockError>, Filled)> {
+    let lock = Lock::new(rt, rt.alloc(), room)?;
+    let taken = lock.try_lock();
+    Ok((taken, fill(rt, &lock, room)?))
 }
 
 #[test]
 fn every_room_of_a_lock_is_filled(rt: HostRuntime) -> io::Result<()> {
-    let task = MockTask::new(&rt)?;
     for room in ROOMS {
-        let lock = Lock::new(&rt, rt.alloc(), room)?;
-        same!(rt; lock.try_lock(), Ok(()));
-        same!(rt; fill(rt.alloc(), &task, &lock, room)?, Filled::whole(room));
+        same!(rt; fill_lock(&rt, room)?, (Ok(()), Filled::whole(room)));
     }
     Ok(())
+}
+
+// Fills the room of a gate.
+fn fill_gate<H: Wait + RandomSource + AllocGlobal>(rt: &H, room: u16) -> io::Result<Filled> {
+    let gate = Gate::new(rt, rt.alloc(), room)?;
+    fill(rt, &gate, room)
 }
 
 #[test]
 fn every_room_of_a_gate_is_filled(rt: HostRuntime) -> io::Result<()> {
-    let task = MockTask::new(&rt)?;
     for room in ROOMS {
-        let gate = Gate::new(&rt, rt.alloc(), room)?;
-        same!(rt; fill(rt.alloc(), &task, &gate, room)?, Filled::whole(room));
+        same!(rt; fill_gate(&rt, room)?, Filled::whole(room));
     }
     Ok(())
+}
+
+// Fills the room of a barrier of two.
+fn fill_barrier<H: Wait + RandomSource + AllocGlobal>(rt: &H, room: u16) -> io::Result<Filled> {
+    let barrier = Barrier::with_count(rt, rt.alloc(), 2, room)?;
+    fill(rt, &barrier, room)
 }
 
 #[test]
 fn every_room_of_a_barrier_is_filled(rt: HostRuntime) -> io::Result<()> {
-    let task = MockTask::new(&rt)?;
     for room in ROOMS {
-        let barrier = Barrier::with_count(&rt, rt.alloc(), 2, room)?;
-        same!(rt; fill(rt.alloc(), &task, &barrier, room)?, Filled::whole(room));
+        same!(rt; fill_barrier(&rt, room)?, Filled::whole(room));
     }
     Ok(())
 }
 
+// A future, and the task that polls it.
+#[derive(Drop)]
+struct Asker<'s, R: Wait + Drop> {
+    future: AcquireMany<'s, R>,
+    task: MockTask,
+}
+
+// One who asks for so many permits; whether it waits, which it does where it is told nothing.
+fn ask<'s, H: RandomSource + AllocGlobal, R: Wait + Drop>(
+    rt: &H,
+    semaphore: &'s Semaphore<R>,
+    count: usize,
+) -> io::Result<(Asker<'s, R>, bool)> {
+    let task = MockTask::new(rt)?;
+    let mut future = semaphore.acquire_many_async(count);
+    let is_pending = ready(task.poll(&mut future)).is_none();
+    Ok((Asker { future, task }, is_pending))
+}
+
+// As many as there is room ask; how many wait. The first wants one permit, and all others none.
+fn ask_all<'s, H: RandomSource + AllocGlobal, R: Wait + Drop>(
+    rt: &H,
+    semaphore: &'s Semaphore<R>,
+    askers: &mut Vec<Asker<'s, R>>,
+    room: u16,
+) -> io::Result<u16> {
+    let mut waiting = 0u16;
+    for number in 0..room {
+        let (asker, is_pending) = ask(rt, semaphore, usize::from(number == 0))?;
+        waiting = waiting.saturating_add(u16::from(is_pending));
+        askers.push(asker)?;
+    }
+    Ok(waiting)
+}
+
 // How many of these tasks are woken.
-fn woken(tasks: &[MockTask]) -> usize {
-    tasks.iter().filter(|task| task.is_woken()).count()
+fn woken<R: Wait + Drop>(askers: &[Asker<'_, R>]) -> usize {
+    askers.iter().filter(|asker| asker.task.is_woken()).count()
+}
+
+// How many wait in a room of this size, how many tasks are woken then, whether a permit is released, and how many are woken by that.
+fn wake_all<H: Wait + RandomSource + AllocGlobal>(
+    rt: &H,
+    alloc: Global,
+    room: u16,
+) -> io::Result<(u16, usize, bool, usize)> {
+    let semaphore = Semaphore::with_permits(rt, alloc, 0, room)?;
+    let mut askers = Vec::with_capacity(alloc, usize::from(room))?;
+    let waiting = ask_all(rt, &semaphore, &mut askers, room)?;
+    let early = woken(&askers);
+    let is_released = semaphore.release();
+    Ok((waiting, early, is_released, woken(&askers)))
 }
 
 // Each slot has the waker of its own task: of as many tasks as there are slots, each is woken once all are answered, and none
@@ -208,20 +328,7 @@ fn woken(tasks: &[MockTask]) -> usize {
 #[test]
 fn every_place_of_a_room_wakes_its_own_task(rt: HostRuntime) -> io::Result<()> {
     for room in [1, 20, 32, 300u16] {
-        let semaphore = Semaphore::with_permits(&rt, rt.alloc(), 0, room)?;
-        let mut tasks = Vec::with_capacity(rt.alloc(), usize::from(room))?;
-        let mut futures = Vec::with_capacity(rt.alloc(), usize::from(room))?;
-        for number in 0..room {
-            // The first wants one permit, and all others none.
-            let task = MockTask::new(&rt)?;
-            let mut future = semaphore.acquire_many_async(usize::from(number == 0));
-            same!(rt; ready(task.poll(&mut future)), None);
-            tasks.push(task)?;
-            futures.push(future)?;
-        }
-        same!(rt; woken(&tasks), 0);
-        holds!(rt; semaphore.release());
-        same!(rt; woken(&tasks), usize::from(room));
+        same!(rt; wake_all(&rt, rt.alloc(), room)?, (room, 0, true, usize::from(room)));
     }
     Ok(())
 }
