@@ -108,8 +108,19 @@ const WAITS: [((), Way); 2] = [((), Way::Plain), ((), Way::With)];
 
 const SIZES: [usize; 6] = [0, 1, 2, 3, 63, 64];
 
-// How many lists of so many moves agree, at these sizes and with room for 0, 1 and 2, up to the first that doesn't.
+// How many moves there are, and how many lists of so many agree, at these sizes and with room for 0, 1 and 2, up to the first that
+// doesn't.
 fn agreeing<R: Wait>(
+    rt: &R,
+    alloc: Global,
+    sizes: &[usize],
+    length: u32,
+) -> Result<(usize, u64), AllocError> {
+    let moves = moves::<BarrierCore>(alloc, &CALLS, &[], &[()], &WAITS)?;
+    Ok((moves.len(), lists(rt, alloc, &moves, sizes, length)?))
+}
+
+fn lists<R: Wait>(
     rt: &R,
     alloc: Global,
     moves: &[Move<BarrierCore>],
@@ -130,26 +141,27 @@ fn agreeing<R: Wait>(
 
 #[test]
 fn short_lists_agree(rt: HostRuntime) -> Result<(), Fail> {
-    let moves = moves::<BarrierCore>(rt.alloc(), &CALLS, &[], &[()], &WAITS)?;
-    same!(rt; moves.len(), 17);
-    same!(rt; agreeing(&rt, rt.alloc(), &moves, &SIZES, 0)?, 18);
-    same!(rt; agreeing(&rt, rt.alloc(), &moves, &SIZES, 1)?, 18 * 17);
-    same!(rt; agreeing(&rt, rt.alloc(), &moves, &SIZES, 2)?, 18 * 17 * 17);
-    same!(rt; agreeing(&rt, rt.alloc(), &moves, &SIZES, 3)?, 18 * 17 * 17 * 17);
+    let wanted = [
+        (0, 18),
+        (1, 18 * 17),
+        (2, 18 * 17 * 17),
+        (3, 18 * 17 * 17 * 17),
+    ];
+    for (length, lists) in wanted {
+        same!(rt; agreeing(&rt, rt.alloc(), &SIZES, length)?, (17, lists));
+    }
     Ok(())
 }
 
 #[test]
 fn lists_of_four_agree_at_small_barriers(rt: HostRuntime) -> Result<(), Fail> {
-    let moves = moves::<BarrierCore>(rt.alloc(), &CALLS, &[], &[()], &WAITS)?;
-    same!(rt; agreeing(&rt, rt.alloc(), &moves, &SIZES[..3], 4)?, 9 * 17 * 17 * 17 * 17);
+    same!(rt; agreeing(&rt, rt.alloc(), &SIZES[..3], 4)?, (17, 9 * 17 * 17 * 17 * 17));
     Ok(())
 }
 
 #[test]
 fn lists_of_four_agree_at_large_barriers(rt: HostRuntime) -> Result<(), Fail> {
-    let moves = moves::<BarrierCore>(rt.alloc(), &CALLS, &[], &[()], &WAITS)?;
-    same!(rt; agreeing(&rt, rt.alloc(), &moves, &SIZES[3..], 4)?, 9 * 17 * 17 * 17 * 17);
+    same!(rt; agreeing(&rt, rt.alloc(), &SIZES[3..], 4)?, (17, 9 * 17 * 17 * 17 * 17));
     Ok(())
 }
 
@@ -233,6 +245,25 @@ const EVERY_WAY: [Together; 3] = [
     Together::LastPager,
 ];
 
+// Whether two rounds of so many sleepers and one last arrival, who comes in this way, go right.
+fn is_right<R: Wait + Threads + Sync>(
+    rt: &R,
+    alloc: Global,
+    patience: Patience,
+    by: By,
+    (count, together): (u16, Together),
+) -> Result<bool, AllocError> {
+    let size = usize::from(count).saturating_add(1);
+    let form = with_patience(rt, alloc, size, count, patience)?;
+    let plan = Plan {
+        count: u64::from(count),
+        by,
+        together,
+        is_patient: patience.looks != 0,
+    };
+    Ok(all_wake_together(rt, &form, plan))
+}
+
 // Rounds of these numbers of sleepers and one last arrival; the number where one went wrong, or 0.
 fn wrong_wakes<R: Wait + Threads + Sync>(
     rt: &R,
@@ -242,15 +273,7 @@ fn wrong_wakes<R: Wait + Threads + Sync>(
 ) -> Result<u64, AllocError> {
     for count in [1u16, 2, 3, 48, 62] {
         for together in EVERY_WAY {
-            let size = usize::from(count).saturating_add(1);
-            let form = with_patience(rt, alloc, size, count, patience)?;
-            let plan = Plan {
-                count: u64::from(count),
-                by,
-                together,
-                is_patient: patience.looks != 0,
-            };
-            if !all_wake_together(rt, &form, plan) {
+            if !is_right(rt, alloc, patience, by, (count, together))? {
                 return Ok(u64::from(count));
             }
         }

@@ -142,8 +142,19 @@ const CALLS: [GateCall; 6] = [
 
 const WAITS: [((), Way); 2] = [((), Way::Plain), ((), Way::With)];
 
-// How many lists of so many moves agree, from these sizes and with room for 0, 1 and 2, up to the first that doesn't.
+// How many moves there are, and how many lists of so many agree, from these sizes and with room for 0, 1 and 2, up to the first that
+// doesn't.
 fn agreeing<R: Wait>(
+    rt: &R,
+    alloc: Global,
+    sizes: &[usize],
+    length: u32,
+) -> Result<(usize, u64), AllocError> {
+    let moves = moves::<GateCore>(alloc, &CALLS, &[], &[()], &WAITS)?;
+    Ok((moves.len(), lists(rt, alloc, &moves, sizes, length)?))
+}
+
+fn lists<R: Wait>(
     rt: &R,
     alloc: Global,
     moves: &[Move<GateCore>],
@@ -164,19 +175,16 @@ fn agreeing<R: Wait>(
 
 #[test]
 fn short_lists_agree(rt: HostRuntime) -> Result<(), Fail> {
-    let moves = moves::<GateCore>(rt.alloc(), &CALLS, &[], &[()], &WAITS)?;
-    same!(rt; moves.len(), 22);
-    same!(rt; agreeing(&rt, rt.alloc(), &moves, &[0, 1, 2], 0)?, 9);
-    same!(rt; agreeing(&rt, rt.alloc(), &moves, &[0, 1, 2], 1)?, 9 * 22);
-    same!(rt; agreeing(&rt, rt.alloc(), &moves, &[0, 1, 2], 2)?, 9 * 22 * 22);
-    same!(rt; agreeing(&rt, rt.alloc(), &moves, &[0, 1, 2], 3)?, 9 * 22 * 22 * 22);
+    let wanted = [(0, 9), (1, 9 * 22), (2, 9 * 22 * 22), (3, 9 * 22 * 22 * 22)];
+    for (length, lists) in wanted {
+        same!(rt; agreeing(&rt, rt.alloc(), &[0, 1, 2], length)?, (22, lists));
+    }
     Ok(())
 }
 
 #[test]
 fn lists_of_four_agree_from_a_controlled_gate(rt: HostRuntime) -> Result<(), Fail> {
-    let moves = moves::<GateCore>(rt.alloc(), &CALLS, &[], &[()], &WAITS)?;
-    same!(rt; agreeing(&rt, rt.alloc(), &moves, &[0], 4)?, 3 * 22 * 22 * 22 * 22);
+    same!(rt; agreeing(&rt, rt.alloc(), &[0], 4)?, (22, 3 * 22 * 22 * 22 * 22));
     Ok(())
 }
 
@@ -274,6 +282,25 @@ const EVERY_WAY: [Together; 6] = [
     Together::Forget,
 ];
 
+// Whether so many sleepers wake who are answered in this way.
+fn is_right<R: Wait + Threads + Sync>(
+    rt: &R,
+    alloc: Global,
+    patience: Patience,
+    by: By,
+    (count, together): (u16, Together),
+) -> Result<bool, AllocError> {
+    let others = u16::from(matches!(together, Together::Cancel | Together::Forget));
+    let form = with_patience(rt, alloc, count.saturating_add(others), patience)?;
+    let plan = Plan {
+        count: u64::from(count),
+        by,
+        together,
+        is_patient: patience.looks != 0,
+    };
+    Ok(all_wake_together(rt, &form, plan))
+}
+
 // Each way to answer these numbers of sleepers; the number where one went wrong, or 0.
 fn wrong_wakes<R: Wait + Threads + Sync>(
     rt: &R,
@@ -283,15 +310,7 @@ fn wrong_wakes<R: Wait + Threads + Sync>(
 ) -> Result<u64, AllocError> {
     for count in [1u16, 2, 3, 48, 100] {
         for together in EVERY_WAY {
-            let others = u16::from(matches!(together, Together::Cancel | Together::Forget));
-            let form = with_patience(rt, alloc, count.saturating_add(others), patience)?;
-            let plan = Plan {
-                count: u64::from(count),
-                by,
-                together,
-                is_patient: patience.looks != 0,
-            };
-            if !all_wake_together(rt, &form, plan) {
+            if !is_right(rt, alloc, patience, by, (count, together))? {
                 return Ok(u64::from(count));
             }
         }
