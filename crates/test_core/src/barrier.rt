@@ -1,14 +1,16 @@
 //! Worked rows of the barrier.
 
-use crate::played::{Makes, Played, play};
+use crate::stories::{Answer, Told, prints, tell};
 use saa_core::barrier::{BarrierAnswer, BarrierCall, BarrierCore};
 use saa_core::bench::{Bench, Command, CommandOf, Reply, ReplyOf};
 use saa_core::ticket::{Error, Full, How, Ticket};
+use std::alloc::AllocGlobal;
+use std::process::Abort;
 use std::test::Fail;
 use test_asserts::same;
 
 /// A call of a row.
-#[derive(Clone, Copy, Debug)]
+#[derive(Clone, Copy)]
 pub enum Call {
     /// Of `count`.
     Count,
@@ -19,10 +21,10 @@ pub enum Call {
 }
 
 /// A call with a ticket.
-#[derive(Clone, Copy, Debug)]
+#[derive(Clone, Copy)]
 pub enum Asked {
-    /// Of `arrive`, as sync.
-    Arrive,
+    /// Of `arrive`, and whether as sync.
+    Arrive(bool),
     /// Of `poll`.
     Poll(How),
     /// Of `poll_number`, as sync.
@@ -33,51 +35,29 @@ pub enum Asked {
     IsRegistered,
 }
 
-/// What a call answers.
-#[derive(Clone, Copy, Debug, Eq, PartialEq)]
-pub enum Answer {
-    /// Of `Count`.
-    Count(usize),
-    /// Of `Next`.
-    Next(Option<u16>),
-    /// Of `Arrive`.
-    Arrived(Result<bool, Full>),
-    /// Of `Poll`.
-    Polled(Result<bool, Error>),
-    /// Of `PollNumber`.
-    PolledNumber(Result<u8, Error>),
-    /// Of `Cancel`.
-    Unit,
-    /// Of `IsRegistered`.
-    Bool(bool),
-    /// Where there is no ticket of the number.
-    NoTicket,
-}
-
 type Row = (Call, Answer);
 
-const JOINED: Answer = Answer::Arrived(Ok(true));
+const JOINED: Answer = Answer::Registered(Ok(true));
 
-const FULL: Answer = Answer::Arrived(Err(Full));
+const FULL: Answer = Answer::Registered(Err(Full));
 
 const LEADS: Answer = Answer::Polled(Ok(true));
 
 const FOLLOWS: Answer = Answer::Polled(Ok(false));
 
+const ARRIVE: Asked = Asked::Arrive(true);
+
 const SYNC: Asked = Asked::Poll(How::Sync);
 
-impl Makes for Played<BarrierCore> {
+impl Told for BarrierCore {
     type Call = Call;
 
-    type Answer = Answer;
-
-    fn make(&mut self, call: Call) -> Answer {
-        let core = &mut self.core;
+    fn answer(&mut self, tickets: &mut [Ticket], call: Call) -> Answer {
         match call {
-            Call::Count => Answer::Count(core.count()),
-            Call::Next => Answer::Next(core.next_answered()),
-            Call::Of(who, asked) => match self.tickets.get_mut(who) {
-                Some(ticket) => ask(core, ticket, asked),
+            Call::Count => Answer::Count(self.count()),
+            Call::Next => Answer::Next(self.next_answered()),
+            Call::Of(who, asked) => match tickets.get_mut(who) {
+                Some(ticket) => ask(self, ticket, asked),
                 None => Answer::NoTicket,
             },
         }
@@ -87,27 +67,33 @@ impl Makes for Played<BarrierCore> {
 // Makes a call with a ticket.
 fn ask(core: &mut BarrierCore, ticket: &mut Ticket, asked: Asked) -> Answer {
     match asked {
-        Asked::Arrive => Answer::Arrived(core.arrive(ticket, true)),
+        Asked::Arrive(is_sync) => Answer::Registered(core.arrive(ticket, is_sync)),
         Asked::Poll(how) => Answer::Polled(core.poll(ticket, how)),
         Asked::PollNumber => Answer::PolledNumber(core.poll_number(ticket, How::Sync)),
         Asked::Cancel => {
             core.cancel(ticket);
-            Answer::Unit
+            Answer::Nothing
         }
-        Asked::IsRegistered => Answer::Bool(ticket.is_registered()),
+        Asked::IsRegistered => Answer::Is(ticket.is_registered()),
     }
 }
 
+// Tells a story at a barrier of so many tasks with so much room.
+fn tell_at(rt: &(impl Abort + AllocGlobal), (count, room): (usize, u16), story: &[Row]) {
+    let mut core = BarrierCore::with_count(rt.alloc(), count, room).expect(rt, "no memory");
+    tell(rt, &mut core, story);
+}
+
 const A_DROPPED_ARRIVAL: [Row; 13] = [
-    (Call::Of(0, Asked::Arrive), JOINED),
-    (Call::Of(1, Asked::Arrive), JOINED),
+    (Call::Of(0, ARRIVE), JOINED),
+    (Call::Of(1, ARRIVE), JOINED),
     (Call::Count, Answer::Count(1)),
-    (Call::Of(0, Asked::Cancel), Answer::Unit),
-    (Call::Of(0, Asked::IsRegistered), Answer::Bool(false)),
+    (Call::Of(0, Asked::Cancel), Answer::Nothing),
+    (Call::Of(0, Asked::IsRegistered), Answer::Is(false)),
     (Call::Count, Answer::Count(2)),
     (Call::Next, Answer::Next(None)),
-    (Call::Of(2, Asked::Arrive), JOINED),
-    (Call::Of(3, Asked::Arrive), JOINED),
+    (Call::Of(2, ARRIVE), JOINED),
+    (Call::Of(3, ARRIVE), JOINED),
     (Call::Of(3, SYNC), LEADS),
     (Call::Of(1, SYNC), FOLLOWS),
     (Call::Of(2, SYNC), FOLLOWS),
@@ -115,57 +101,50 @@ const A_DROPPED_ARRIVAL: [Row; 13] = [
 ];
 
 #[test]
-fn a_dropped_arrival_is_taken_back(rt: HostRuntime) -> Result<(), Fail> {
-    let core = BarrierCore::with_count(rt.alloc(), 3, 4)?;
-    play(&rt, &mut Played::new(core), &A_DROPPED_ARRIVAL);
-    Ok(())
+fn a_dropped_arrival_is_taken_back(rt: HostRuntime) {
+    tell_at(&rt, (3, 4), &A_DROPPED_ARRIVAL);
 }
 
 const SIZE_0: [Row; 4] = [
     (Call::Count, Answer::Count(0)),
-    (Call::Of(0, Asked::Arrive), JOINED),
+    (Call::Of(0, ARRIVE), JOINED),
     (Call::Of(0, SYNC), Answer::Polled(Err(Error::NotReady))),
     (Call::Count, Answer::Count(0)),
 ];
 
 #[test]
-fn a_barrier_of_size_0_lets_nobody_pass(rt: HostRuntime) -> Result<(), Fail> {
-    let core = BarrierCore::with_count(rt.alloc(), 0, 2)?;
-    play(&rt, &mut Played::new(core), &SIZE_0);
-    Ok(())
+fn a_barrier_of_size_0_lets_nobody_pass(rt: HostRuntime) {
+    tell_at(&rt, (0, 2), &SIZE_0);
 }
 
 const ALONE: [Row; 3] = [
-    (Call::Of(0, Asked::Arrive), JOINED),
+    (Call::Of(0, ARRIVE), JOINED),
     (Call::Of(0, SYNC), LEADS),
     (Call::Count, Answer::Count(1)),
 ];
 
 const TWO: [Row; 9] = [
-    (Call::Of(0, Asked::Arrive), JOINED),
-    (Call::Of(1, Asked::Arrive), JOINED),
-    (Call::Of(2, Asked::Arrive), FULL),
+    (Call::Of(0, ARRIVE), JOINED),
+    (Call::Of(1, ARRIVE), JOINED),
+    (Call::Of(2, ARRIVE), FULL),
     (Call::Next, Answer::Next(Some(0))),
     (Call::Next, Answer::Next(None)),
     (Call::Of(0, Asked::PollNumber), Answer::PolledNumber(Ok(0))),
     (Call::Of(1, Asked::PollNumber), Answer::PolledNumber(Ok(1))),
-    (Call::Of(2, Asked::Arrive), JOINED),
+    (Call::Of(2, ARRIVE), JOINED),
     (Call::Count, Answer::Count(1)),
 ];
 
 #[test]
-fn the_last_arrival_needs_no_slot(rt: HostRuntime) -> Result<(), Fail> {
-    let alone = BarrierCore::with_count(rt.alloc(), 1, 0)?;
-    play(&rt, &mut Played::new(alone), &ALONE);
-    let core = BarrierCore::with_count(rt.alloc(), 2, 1)?;
-    play(&rt, &mut Played::new(core), &TWO);
-    Ok(())
+fn the_last_arrival_needs_no_slot(rt: HostRuntime) {
+    tell_at(&rt, (1, 0), &ALONE);
+    tell_at(&rt, (2, 1), &TWO);
 }
 
 const A_DROPPED_ANSWER: [Row; 7] = [
-    (Call::Of(0, Asked::Arrive), JOINED),
-    (Call::Of(1, Asked::Arrive), JOINED),
-    (Call::Of(1, Asked::Cancel), Answer::Unit),
+    (Call::Of(0, ARRIVE), JOINED),
+    (Call::Of(1, ARRIVE), JOINED),
+    (Call::Of(1, Asked::Cancel), Answer::Nothing),
     (Call::Count, Answer::Count(2)),
     (
         Call::Of(0, Asked::Poll(How::Async)),
@@ -176,36 +155,41 @@ const A_DROPPED_ANSWER: [Row; 7] = [
 ];
 
 #[test]
-fn a_dropped_answer_is_only_consumed(rt: HostRuntime) -> Result<(), Fail> {
-    let core = BarrierCore::with_count(rt.alloc(), 2, 2)?;
-    play(&rt, &mut Played::new(core), &A_DROPPED_ANSWER);
-    Ok(())
+fn a_dropped_answer_is_only_consumed(rt: HostRuntime) {
+    tell_at(&rt, (2, 2), &A_DROPPED_ANSWER);
 }
+
+// Tells a story at a barrier of 3 tasks with room for 4, and compares what it prints behind it.
+fn prints_at(rt: &(impl Abort + AllocGlobal), story: &[Row], text: &str) -> Result<(), Fail> {
+    let mut core = BarrierCore::with_count(rt.alloc(), 3, 4)?;
+    prints(rt, rt.alloc(), &mut core, (story, text))
+}
+
+const OF_THE_MOST: [Row; 1] = [(Call::Count, Answer::Count(63))];
 
 #[test]
 fn a_core_prints_its_counts(rt: HostRuntime) -> Result<(), Fail> {
     same!(rt; BarrierCore::MAX_TASKS, 63);
-    let large = BarrierCore::with_count(rt.alloc(), 64, 0)?;
-    same!(rt; large.count(), 63);
-    let core = BarrierCore::with_count(rt.alloc(), 3, 4)?;
-    let text = format!(in rt.alloc(); "{core:?}")?;
-    same!(rt; text.as_str(), "BarrierCore { count: 3, waiting: 0 }");
-    Ok(())
+    tell_at(&rt, (64, 0), &OF_THE_MOST);
+    prints_at(&rt, &[], "BarrierCore { count: 3, waiting: 0 }")
 }
+
+const TWO_ARRIVE: [Row; 2] = [
+    (Call::Of(0, ARRIVE), JOINED),
+    (Call::Of(1, Asked::Arrive(false)), JOINED),
+];
+
+const ALL_ARRIVE: [Row; 3] = [
+    (Call::Of(0, ARRIVE), JOINED),
+    (Call::Of(1, Asked::Arrive(false)), JOINED),
+    (Call::Of(2, ARRIVE), JOINED),
+];
 
 // Whoever was answered holds its slot until it takes its answer, and waits no more.
 #[test]
 fn a_core_prints_who_waits_and_not_who_was_answered(rt: HostRuntime) -> Result<(), Fail> {
-    let mut core = BarrierCore::with_count(rt.alloc(), 3, 4)?;
-    let (mut one, mut two, mut last) = (Ticket::new(), Ticket::new(), Ticket::new());
-    same!(rt; core.arrive(&mut one, true), Ok(true));
-    same!(rt; core.arrive(&mut two, false), Ok(true));
-    let text = format!(in rt.alloc(); "{core:?}")?;
-    same!(rt; text.as_str(), "BarrierCore { count: 1, waiting: 2 }");
-    same!(rt; core.arrive(&mut last, true), Ok(true));
-    let text = format!(in rt.alloc(); "{core:?}")?;
-    same!(rt; text.as_str(), "BarrierCore { count: 3, waiting: 0 }");
-    Ok(())
+    prints_at(&rt, &TWO_ARRIVE, "BarrierCore { count: 1, waiting: 2 }")?;
+    prints_at(&rt, &ALL_ARRIVE, "BarrierCore { count: 3, waiting: 0 }")
 }
 
 const COMMANDS: [Command<BarrierCore>; 11] = [

@@ -1,15 +1,16 @@
 //! Worked rows of the gate.
 
-use crate::played::{Makes, Played, play};
+use crate::stories::{Answer, Told, prints, tell};
 use saa_core::bench::{Bench, Command, CommandOf, Reply, ReplyOf};
 use saa_core::gate::{Error, GateAnswer, GateCall, GateCore, State};
 use saa_core::ticket::{Full, How, Ticket};
-use saa_core_spec::polling;
+use std::alloc::AllocGlobal;
+use std::process::Abort;
 use std::test::Fail;
 use test_asserts::same;
 
 /// A call of a row.
-#[derive(Clone, Copy, Debug)]
+#[derive(Clone, Copy)]
 pub enum Call {
     /// Of `state`.
     State,
@@ -30,7 +31,7 @@ pub enum Call {
 }
 
 /// A call with a ticket.
-#[derive(Clone, Copy, Debug)]
+#[derive(Clone, Copy)]
 pub enum Asked {
     /// Whether as sync.
     Register(bool),
@@ -42,33 +43,6 @@ pub enum Asked {
     Cancel,
     /// Of the ticket itself.
     IsRegistered,
-}
-
-/// What a call answers.
-#[derive(Clone, Copy, Debug, Eq, PartialEq)]
-pub enum Answer {
-    /// Of `State`.
-    State(State),
-    /// Of `Reset`.
-    Reset(Option<State>),
-    /// Of `Permit` and `Reject`.
-    Answered(Result<usize, State>),
-    /// Of `Open` and `Seal`.
-    Moved(State, usize),
-    /// Of `Next`.
-    Next(Option<u16>),
-    /// Of `Register`.
-    Registered(Result<bool, Full>),
-    /// Of `Poll`.
-    Polled(Result<State, Error>),
-    /// Of `PollNumber`.
-    PolledNumber(Result<u8, polling::Error>),
-    /// Of `Cancel`.
-    Unit,
-    /// Of `IsRegistered`.
-    Bool(bool),
-    /// Where there is no ticket of the number.
-    NoTicket,
 }
 
 type Row = (Call, Answer);
@@ -83,29 +57,26 @@ const TRY: Asked = Asked::Poll(How::Try);
 
 const SYNC: Asked = Asked::Poll(How::Sync);
 
-impl Makes for Played<GateCore> {
+impl Told for GateCore {
     type Call = Call;
 
-    type Answer = Answer;
-
-    fn make(&mut self, call: Call) -> Answer {
-        let core = &mut self.core;
+    fn answer(&mut self, tickets: &mut [Ticket], call: Call) -> Answer {
         match call {
-            Call::State => Answer::State(core.state()),
-            Call::Reset => Answer::Reset(core.reset()),
-            Call::Permit => Answer::Answered(core.permit()),
-            Call::Reject => Answer::Answered(core.reject()),
+            Call::State => Answer::In(self.state()),
+            Call::Reset => Answer::Reset(self.reset()),
+            Call::Permit => Answer::Moved(self.permit()),
+            Call::Reject => Answer::Moved(self.reject()),
             Call::Open => {
-                let (state, count) = core.open();
-                Answer::Moved(state, count)
+                let (state, count) = self.open();
+                Answer::Was(state, count)
             }
             Call::Seal => {
-                let (state, count) = core.seal();
-                Answer::Moved(state, count)
+                let (state, count) = self.seal();
+                Answer::Was(state, count)
             }
-            Call::Next => Answer::Next(core.next_answered()),
-            Call::Of(who, asked) => match self.tickets.get_mut(who) {
-                Some(ticket) => ask(core, ticket, asked),
+            Call::Next => Answer::Next(self.next_answered()),
+            Call::Of(who, asked) => match tickets.get_mut(who) {
+                Some(ticket) => ask(self, ticket, asked),
                 None => Answer::NoTicket,
             },
         }
@@ -116,100 +87,98 @@ impl Makes for Played<GateCore> {
 fn ask(core: &mut GateCore, ticket: &mut Ticket, asked: Asked) -> Answer {
     match asked {
         Asked::Register(is_sync) => Answer::Registered(core.register(ticket, is_sync)),
-        Asked::Poll(how) => Answer::Polled(core.poll(ticket, how)),
+        Asked::Poll(how) => Answer::Passed(core.poll(ticket, how)),
         Asked::PollNumber(how) => Answer::PolledNumber(core.poll_number(ticket, how)),
         Asked::Cancel => {
             core.cancel(ticket);
-            Answer::Unit
+            Answer::Nothing
         }
-        Asked::IsRegistered => Answer::Bool(ticket.is_registered()),
+        Asked::IsRegistered => Answer::Is(ticket.is_registered()),
     }
 }
 
+// Tells a story at a gate with so much room.
+fn tell_at(rt: &(impl Abort + AllocGlobal), room: u16, story: &[Row]) {
+    let mut core = GateCore::new(rt.alloc(), room).expect(rt, "no memory");
+    tell(rt, &mut core, story);
+}
+
 const A_RESET: [Row; 4] = [
-    (Call::Seal, Answer::Moved(State::Controlled, 0)),
+    (Call::Seal, Answer::Was(State::Controlled, 0)),
     (Call::Reset, Answer::Reset(Some(State::Sealed))),
-    (Call::State, Answer::State(State::Controlled)),
+    (Call::State, Answer::In(State::Controlled)),
     (Call::Reset, Answer::Reset(None)),
 ];
 
 #[test]
-fn a_reset_makes_a_sealed_gate_controlled(rt: HostRuntime) -> Result<(), Fail> {
-    let core = GateCore::new(rt.alloc(), 4)?;
-    play(&rt, &mut Played::new(core), &A_RESET);
-    Ok(())
+fn a_reset_makes_a_sealed_gate_controlled(rt: HostRuntime) {
+    tell_at(&rt, 4, &A_RESET);
 }
 
 // The first of two is dropped. Then, of three, the second is dropped first, so the first is answered before it is dropped.
 const DROPPED_WAITERS: [Row; 16] = [
     (Call::Of(0, REGISTER), JOINED),
     (Call::Of(1, REGISTER), JOINED),
-    (Call::Of(0, Asked::Cancel), Answer::Unit),
-    (Call::Of(0, Asked::IsRegistered), Answer::Bool(false)),
+    (Call::Of(0, Asked::Cancel), Answer::Nothing),
+    (Call::Of(0, Asked::IsRegistered), Answer::Is(false)),
     (
         Call::Of(1, TRY),
-        Answer::Polled(Err(Error::SpuriousFailure)),
+        Answer::Passed(Err(Error::SpuriousFailure)),
     ),
-    (Call::Permit, Answer::Answered(Ok(0))),
-    (Call::Open, Answer::Moved(State::Controlled, 0)),
-    (Call::Permit, Answer::Answered(Err(State::Open))),
+    (Call::Permit, Answer::Moved(Ok(0))),
+    (Call::Open, Answer::Was(State::Controlled, 0)),
+    (Call::Permit, Answer::Moved(Err(State::Open))),
     (Call::Reset, Answer::Reset(Some(State::Open))),
     (Call::Of(0, REGISTER), JOINED),
     (Call::Of(1, REGISTER), JOINED),
     (Call::Of(2, REGISTER), JOINED),
-    (Call::Of(1, Asked::Cancel), Answer::Unit),
-    (Call::Of(0, Asked::Cancel), Answer::Unit),
+    (Call::Of(1, Asked::Cancel), Answer::Nothing),
+    (Call::Of(0, Asked::Cancel), Answer::Nothing),
     (
         Call::Of(2, Asked::PollNumber(How::Try)),
         Answer::PolledNumber(Ok(12)),
     ),
-    (Call::Permit, Answer::Answered(Ok(0))),
+    (Call::Permit, Answer::Moved(Ok(0))),
 ];
 
 #[test]
-fn a_dropped_waiter_wakes_the_others(rt: HostRuntime) -> Result<(), Fail> {
-    let core = GateCore::new(rt.alloc(), 4)?;
-    play(&rt, &mut Played::new(core), &DROPPED_WAITERS);
-    Ok(())
+fn a_dropped_waiter_wakes_the_others(rt: HostRuntime) {
+    tell_at(&rt, 4, &DROPPED_WAITERS);
 }
 
 const NO_SLOT: [Row; 7] = [
     (Call::Of(0, REGISTER), FULL),
-    (Call::Open, Answer::Moved(State::Controlled, 0)),
+    (Call::Open, Answer::Was(State::Controlled, 0)),
     (Call::Of(0, REGISTER), JOINED),
-    (Call::Of(0, TRY), Answer::Polled(Ok(State::Open))),
-    (Call::Seal, Answer::Moved(State::Open, 0)),
+    (Call::Of(0, TRY), Answer::Passed(Ok(State::Open))),
+    (Call::Seal, Answer::Was(State::Open, 0)),
     (Call::Of(0, REGISTER), JOINED),
-    (Call::Of(0, TRY), Answer::Polled(Err(Error::Sealed))),
+    (Call::Of(0, TRY), Answer::Passed(Err(Error::Sealed))),
 ];
 
 #[test]
-fn an_open_gate_needs_no_slot(rt: HostRuntime) -> Result<(), Fail> {
-    let core = GateCore::new(rt.alloc(), 0)?;
-    play(&rt, &mut Played::new(core), &NO_SLOT);
-    Ok(())
+fn an_open_gate_needs_no_slot(rt: HostRuntime) {
+    tell_at(&rt, 0, &NO_SLOT);
 }
 
 const MODES: [Row; 9] = [
     (Call::Of(0, REGISTER), JOINED),
-    (Call::Of(0, SYNC), Answer::Polled(Err(Error::NotReady))),
-    (Call::Open, Answer::Moved(State::Controlled, 1)),
+    (Call::Of(0, SYNC), Answer::Passed(Err(Error::NotReady))),
+    (Call::Open, Answer::Was(State::Controlled, 1)),
     (Call::Next, Answer::Next(Some(0))),
     (Call::Next, Answer::Next(None)),
     (
         Call::Of(0, Asked::Poll(How::Async)),
-        Answer::Polled(Err(Error::WrongMode)),
+        Answer::Passed(Err(Error::WrongMode)),
     ),
-    (Call::Of(0, Asked::IsRegistered), Answer::Bool(true)),
-    (Call::Of(0, SYNC), Answer::Polled(Ok(State::Open))),
-    (Call::Of(0, SYNC), Answer::Polled(Err(Error::NotRegistered))),
+    (Call::Of(0, Asked::IsRegistered), Answer::Is(true)),
+    (Call::Of(0, SYNC), Answer::Passed(Ok(State::Open))),
+    (Call::Of(0, SYNC), Answer::Passed(Err(Error::NotRegistered))),
 ];
 
 #[test]
-fn an_answer_is_consumed_in_the_right_mode(rt: HostRuntime) -> Result<(), Fail> {
-    let core = GateCore::new(rt.alloc(), 1)?;
-    play(&rt, &mut Played::new(core), &MODES);
-    Ok(())
+fn an_answer_is_consumed_in_the_right_mode(rt: HostRuntime) {
+    tell_at(&rt, 1, &MODES);
 }
 
 const A_PERMIT: [Row; 10] = [
@@ -217,45 +186,40 @@ const A_PERMIT: [Row; 10] = [
     (Call::Of(1, REGISTER), JOINED),
     (Call::Of(2, REGISTER), JOINED),
     (Call::Of(3, REGISTER), JOINED),
-    (Call::Permit, Answer::Answered(Ok(4))),
-    (Call::Of(0, SYNC), Answer::Polled(Ok(State::Controlled))),
-    (Call::Of(1, SYNC), Answer::Polled(Ok(State::Controlled))),
-    (Call::Of(2, SYNC), Answer::Polled(Ok(State::Controlled))),
-    (Call::Of(3, SYNC), Answer::Polled(Ok(State::Controlled))),
-    (Call::Permit, Answer::Answered(Ok(0))),
+    (Call::Permit, Answer::Moved(Ok(4))),
+    (Call::Of(0, SYNC), Answer::Passed(Ok(State::Controlled))),
+    (Call::Of(1, SYNC), Answer::Passed(Ok(State::Controlled))),
+    (Call::Of(2, SYNC), Answer::Passed(Ok(State::Controlled))),
+    (Call::Of(3, SYNC), Answer::Passed(Ok(State::Controlled))),
+    (Call::Permit, Answer::Moved(Ok(0))),
 ];
 
 #[test]
-fn a_permit_lets_all_pass_who_wait(rt: HostRuntime) -> Result<(), Fail> {
-    let core = GateCore::new(rt.alloc(), 4)?;
-    play(&rt, &mut Played::new(core), &A_PERMIT);
-    Ok(())
+fn a_permit_lets_all_pass_who_wait(rt: HostRuntime) {
+    tell_at(&rt, 4, &A_PERMIT);
 }
 
 const A_REJECT: [Row; 8] = [
     (Call::Of(0, REGISTER), JOINED),
     (Call::Of(1, Asked::Register(false)), JOINED),
     (Call::Of(2, REGISTER), JOINED),
-    (Call::Reject, Answer::Answered(Ok(3))),
-    (Call::Of(0, TRY), Answer::Polled(Err(Error::Rejected))),
-    (Call::Seal, Answer::Moved(State::Controlled, 0)),
-    (Call::Of(1, TRY), Answer::Polled(Err(Error::Rejected))),
-    (Call::Open, Answer::Moved(State::Sealed, 0)),
+    (Call::Reject, Answer::Moved(Ok(3))),
+    (Call::Of(0, TRY), Answer::Passed(Err(Error::Rejected))),
+    (Call::Seal, Answer::Was(State::Controlled, 0)),
+    (Call::Of(1, TRY), Answer::Passed(Err(Error::Rejected))),
+    (Call::Open, Answer::Was(State::Sealed, 0)),
 ];
 
 #[test]
-fn a_rejected_answer_stays_as_it_is(rt: HostRuntime) -> Result<(), Fail> {
-    let core = GateCore::new(rt.alloc(), 4)?;
-    play(&rt, &mut Played::new(core), &A_REJECT);
-    Ok(())
+fn a_rejected_answer_stays_as_it_is(rt: HostRuntime) {
+    tell_at(&rt, 4, &A_REJECT);
 }
 
 #[test]
 fn a_core_prints_its_state(rt: HostRuntime) -> Result<(), Fail> {
-    let core = GateCore::new(rt.alloc(), 4)?;
-    let text = format!(in rt.alloc(); "{core:?}")?;
-    same!(rt; text.as_str(), "GateCore { state: Controlled, waiting: 0 }");
-    Ok(())
+    let mut core = GateCore::new(rt.alloc(), 4)?;
+    let text = "GateCore { state: Controlled, waiting: 0 }";
+    prints(&rt, rt.alloc(), &mut core, (&[], text))
 }
 
 const COMMANDS: [Command<GateCore>; 13] = [

@@ -14,9 +14,9 @@ mod lock;
 #[cfg(test)]
 mod numbers;
 #[cfg(test)]
-mod played;
-#[cfg(test)]
 mod semaphore;
+#[cfg(test)]
+mod stories;
 pub mod widths;
 #[cfg(test)]
 mod words;

@@ -1,14 +1,16 @@
 //! Worked rows of the lock.
 
-use crate::played::{Makes, Played, play};
+use crate::stories::{Answer, Told, prints, tell};
 use saa_core::bench::{Bench, Command, CommandOf, Reply, ReplyOf};
 use saa_core::lock::{LockAnswer, LockCall, LockCore, Mode, TryLockError};
 use saa_core::ticket::{Error, Full, How, Ticket};
+use std::alloc::{AllocError, AllocGlobal, Global};
+use std::process::Abort;
 use std::test::Fail;
-use test_asserts::{holds, same};
+use test_asserts::same;
 
 /// A call of a row.
-#[derive(Clone, Copy, Debug)]
+#[derive(Clone, Copy)]
 pub enum Call {
     /// Of a call that needs no ticket.
     On(LockCall),
@@ -19,7 +21,7 @@ pub enum Call {
 }
 
 /// A call with a ticket.
-#[derive(Clone, Copy, Debug)]
+#[derive(Clone, Copy)]
 pub enum Asked {
     /// In a mode, and whether as sync.
     Register(Mode, bool),
@@ -29,25 +31,6 @@ pub enum Asked {
     Cancel,
     /// Of the ticket itself.
     IsRegistered,
-}
-
-/// What a call answers.
-#[derive(Clone, Copy, Debug, Eq, PartialEq)]
-pub enum Answer {
-    /// Of what is released or asked.
-    Bool(bool),
-    /// Of the two tries.
-    Tried(Result<(), TryLockError>),
-    /// Of `Word`.
-    Word(u64),
-    /// Of `Register`.
-    Registered(Result<bool, Full>),
-    /// Of `Poll`.
-    Polled(Result<bool, Error>),
-    /// Of `Cancel`.
-    Unit,
-    /// Where there is no ticket of the number.
-    NoTicket,
 }
 
 type Row = (Call, Answer);
@@ -80,9 +63,9 @@ const SYNC: Asked = Asked::Poll(How::Sync);
 
 const EXCLUSIVE: Asked = Asked::Register(Mode::Exclusive, true);
 
-const YES: Answer = Answer::Bool(true);
+const YES: Answer = Answer::Is(true);
 
-const NO: Answer = Answer::Bool(false);
+const NO: Answer = Answer::Is(false);
 
 const OWNED: Answer = Answer::Tried(Ok(()));
 
@@ -98,18 +81,15 @@ const NOT_READY: Answer = Answer::Polled(Err(Error::NotReady));
 
 const WRONG_MODE: Answer = Answer::Polled(Err(Error::WrongMode));
 
-impl Makes for Played<LockCore> {
+impl Told for LockCore {
     type Call = Call;
 
-    type Answer = Answer;
-
-    fn make(&mut self, call: Call) -> Answer {
-        let core = &mut self.core;
+    fn answer(&mut self, tickets: &mut [Ticket], call: Call) -> Answer {
         match call {
-            Call::On(call) => say(core, call),
-            Call::Word => Answer::Word(core.word()),
-            Call::Of(who, asked) => match self.tickets.get_mut(who) {
-                Some(ticket) => ask(core, ticket, asked),
+            Call::On(call) => say(self, call),
+            Call::Word => Answer::Word(self.word()),
+            Call::Of(who, asked) => match tickets.get_mut(who) {
+                Some(ticket) => ask(self, ticket, asked),
                 None => Answer::NoTicket,
             },
         }
@@ -121,15 +101,15 @@ fn say(core: &mut LockCore, call: LockCall) -> Answer {
     match call {
         LockCall::TryLock => Answer::Tried(core.try_lock()),
         LockCall::TryShare => Answer::Tried(core.try_share()),
-        LockCall::ReleaseLock => Answer::Bool(core.release_lock()),
-        LockCall::ReleaseShare => Answer::Bool(core.release_share()),
-        LockCall::Downgrade => Answer::Bool(core.downgrade()),
-        LockCall::PoisonLock => Answer::Bool(core.poison_lock()),
-        LockCall::ClearPoison => Answer::Bool(core.clear_poison()),
-        LockCall::IsFree => Answer::Bool(core.is_free()),
-        LockCall::IsLocked => Answer::Bool(core.is_locked()),
-        LockCall::IsShared => Answer::Bool(core.is_shared()),
-        LockCall::IsPoisoned => Answer::Bool(core.is_poisoned()),
+        LockCall::ReleaseLock => Answer::Is(core.release_lock()),
+        LockCall::ReleaseShare => Answer::Is(core.release_share()),
+        LockCall::Downgrade => Answer::Is(core.downgrade()),
+        LockCall::PoisonLock => Answer::Is(core.poison_lock()),
+        LockCall::ClearPoison => Answer::Is(core.clear_poison()),
+        LockCall::IsFree => Answer::Is(core.is_free()),
+        LockCall::IsLocked => Answer::Is(core.is_locked()),
+        LockCall::IsShared => Answer::Is(core.is_shared()),
+        LockCall::IsPoisoned => Answer::Is(core.is_poisoned()),
     }
 }
 
@@ -140,10 +120,16 @@ fn ask(core: &mut LockCore, ticket: &mut Ticket, asked: Asked) -> Answer {
         Asked::Poll(how) => Answer::Polled(core.poll(ticket, how)),
         Asked::Cancel => {
             core.cancel(ticket);
-            Answer::Unit
+            Answer::Nothing
         }
-        Asked::IsRegistered => Answer::Bool(ticket.is_registered()),
+        Asked::IsRegistered => Answer::Is(ticket.is_registered()),
     }
+}
+
+// Tells a story at a lock with so much room.
+fn tell_at(rt: &(impl Abort + AllocGlobal), room: u16, story: &[Row]) {
+    let mut core = LockCore::new(rt.alloc(), room).expect(rt, "no memory");
+    tell(rt, &mut core, story);
 }
 
 const IN_ORDER: [Row; 19] = [
@@ -175,10 +161,8 @@ const IN_ORDER: [Row; 19] = [
 ];
 
 #[test]
-fn readers_and_a_writer_pass_in_order_and_poison_ends_all(rt: HostRuntime) -> Result<(), Fail> {
-    let core = LockCore::new(rt.alloc(), 4)?;
-    play(&rt, &mut Played::new(core), &IN_ORDER);
-    Ok(())
+fn readers_and_a_writer_pass_in_order_and_poison_ends_all(rt: HostRuntime) {
+    tell_at(&rt, 4, &IN_ORDER);
 }
 
 const LOWERED: [Row; 21] = [
@@ -206,12 +190,8 @@ const LOWERED: [Row; 21] = [
 ];
 
 #[test]
-fn an_owner_becomes_a_sharer_and_those_in_front_share_beside_it(
-    rt: HostRuntime,
-) -> Result<(), Fail> {
-    let core = LockCore::new(rt.alloc(), 4)?;
-    play(&rt, &mut Played::new(core), &LOWERED);
-    Ok(())
+fn an_owner_becomes_a_sharer_and_those_in_front_share_beside_it(rt: HostRuntime) {
+    tell_at(&rt, 4, &LOWERED);
 }
 
 const LOWERED_POISON: [Row; 5] = [
@@ -223,44 +203,64 @@ const LOWERED_POISON: [Row; 5] = [
 ];
 
 #[test]
-fn a_poisoned_lock_is_not_downgraded(rt: HostRuntime) -> Result<(), Fail> {
-    let core = LockCore::new(rt.alloc(), 4)?;
-    play(&rt, &mut Played::new(core), &LOWERED_POISON);
-    Ok(())
+fn a_poisoned_lock_is_not_downgraded(rt: HostRuntime) {
+    tell_at(&rt, 4, &LOWERED_POISON);
+}
+
+// What a ticket is told; `None` where there is none.
+type Polled = Option<Result<bool, Error>>;
+
+// So many tickets that ask for a share as sync, one after another, without those that didn't join.
+fn sharers(core: &mut LockCore, alloc: Global, count: usize) -> Result<Vec<Ticket>, AllocError> {
+    let mut tickets = Vec::new(alloc);
+    for _ticket in 0..count {
+        let mut ticket = Ticket::new();
+        if core.register(&mut ticket, Mode::Shared, true) == Ok(true) {
+            tickets.push(ticket)?;
+        }
+    }
+    Ok(tickets)
+}
+
+// Polls the tickets as sync, one after another, until one isn't granted: how many are, and what that one is told.
+fn grants(core: &mut LockCore, tickets: &mut [Ticket]) -> (usize, Polled) {
+    let mut granted = 0usize;
+    for ticket in tickets {
+        let told = core.poll(ticket, How::Sync);
+        if told != Ok(true) {
+            return (granted, Some(told));
+        }
+        granted = granted.saturating_add(1);
+    }
+    (granted, None)
+}
+
+// Polls one of the tickets as sync.
+fn poll_at(core: &mut LockCore, tickets: &mut [Ticket], who: usize) -> Polled {
+    Some(core.poll(tickets.get_mut(who)?, How::Sync))
+}
+
+// Makes the owner a sharer, and then releases a share: whether that may be, and what the tickets are told after each.
+fn lower(
+    core: &mut LockCore,
+    tickets: &mut [Ticket],
+) -> ((bool, (usize, Polled)), (bool, [Polled; 2])) {
+    let lowered = (core.downgrade(), grants(core, tickets));
+    let released = core.release_share();
+    let told = [poll_at(core, tickets, 61), poll_at(core, tickets, 62)];
+    (lowered, (released, told))
 }
 
 #[test]
 fn sixty_one_of_seventy_share_with_the_owner_that_was(rt: HostRuntime) -> Result<(), Fail> {
     let mut core = LockCore::new(rt.alloc(), 70)?;
     same!(rt; core.try_lock(), Ok(()));
-    let mut tickets = Vec::new(rt.alloc());
-    for asked in 1..=70 {
-        let mut ticket = Ticket::new();
-        assert_eq!(rt;
-            core.register(&mut ticket, Mode::Shared, true),
-            Ok(true),
-            "{asked}"
-        );
-        tickets.push(ticket)?;
-    }
-    holds!(rt; core.downgrade());
-    for who in 0..61 {
-        assert_eq!(rt;
-            poll_at(&mut core, &mut tickets, who),
-            Some(Ok(true)),
-            "{who}"
-        );
-    }
-    same!(rt; poll_at(&mut core, &mut tickets, 61), Some(Err(Error::NotReady)));
-    holds!(rt; core.release_share());
-    same!(rt; poll_at(&mut core, &mut tickets, 61), Some(Ok(true)));
-    same!(rt; poll_at(&mut core, &mut tickets, 62), Some(Err(Error::NotReady)));
+    let mut tickets = sharers(&mut core, rt.alloc(), 70)?;
+    same!(rt; tickets.len(), 70);
+    let not_ready = Some(Err(Error::NotReady));
+    let wanted = ((true, (61, not_ready)), (true, [Some(Ok(true)), not_ready]));
+    same!(rt; lower(&mut core, &mut tickets), wanted);
     Ok(())
-}
-
-// Polls one of the tickets as sync; `None` where there is none of the number.
-fn poll_at(core: &mut LockCore, tickets: &mut [Ticket], who: usize) -> Option<Result<bool, Error>> {
-    Some(core.poll(tickets.get_mut(who)?, How::Sync))
 }
 
 const NO_MORE: [Row; 5] = [
@@ -271,14 +271,21 @@ const NO_MORE: [Row; 5] = [
     (TRY_SHARE, OWNED),
 ];
 
+// How many of so many tries get a share, before one doesn't.
+fn shares(core: &mut LockCore, tries: usize) -> usize {
+    for owners in 0..tries {
+        if core.try_share().is_err() {
+            return owners;
+        }
+    }
+    tries
+}
+
 #[test]
 fn sixty_two_share_and_no_more(rt: HostRuntime) -> Result<(), Fail> {
-    let core = LockCore::new(rt.alloc(), 4)?;
-    let mut played = Played::new(core);
-    for _owner in 0..LockCore::MAX_SHARED_OWNERS {
-        play(&rt, &mut played, &[(TRY_SHARE, OWNED)]);
-    }
-    play(&rt, &mut played, &NO_MORE);
+    let mut core = LockCore::new(rt.alloc(), 4)?;
+    same!(rt; shares(&mut core, LockCore::MAX_SHARED_OWNERS), LockCore::MAX_SHARED_OWNERS);
+    tell(&rt, &mut core, &NO_MORE);
     Ok(())
 }
 
@@ -288,22 +295,20 @@ const A_POISONED_ANSWER: [Row; 7] = [
     (POISON, YES),
     (CLEAR, YES),
     (TRY_LOCK, OWNED),
-    (Call::Of(0, Asked::Cancel), Answer::Unit),
+    (Call::Of(0, Asked::Cancel), Answer::Nothing),
     (IS_LOCKED, YES),
 ];
 
 #[test]
-fn a_poisoned_answer_gives_nothing_back(rt: HostRuntime) -> Result<(), Fail> {
-    let core = LockCore::new(rt.alloc(), 4)?;
-    play(&rt, &mut Played::new(core), &A_POISONED_ANSWER);
-    Ok(())
+fn a_poisoned_answer_gives_nothing_back(rt: HostRuntime) {
+    tell_at(&rt, 4, &A_POISONED_ANSWER);
 }
 
 const A_DROPPED_WAITER: [Row; 8] = [
     (TRY_SHARE, OWNED),
     (Call::Of(0, EXCLUSIVE), JOINED),
     (Call::Of(1, Asked::Register(Mode::Shared, true)), JOINED),
-    (Call::Of(0, Asked::Cancel), Answer::Unit),
+    (Call::Of(0, Asked::Cancel), Answer::Nothing),
     (Call::Of(1, TRY), GRANTED),
     (RELEASE_SHARE, YES),
     (RELEASE_SHARE, YES),
@@ -311,10 +316,8 @@ const A_DROPPED_WAITER: [Row; 8] = [
 ];
 
 #[test]
-fn a_dropped_waiter_lets_those_behind_it_pass(rt: HostRuntime) -> Result<(), Fail> {
-    let core = LockCore::new(rt.alloc(), 4)?;
-    play(&rt, &mut Played::new(core), &A_DROPPED_WAITER);
-    Ok(())
+fn a_dropped_waiter_lets_those_behind_it_pass(rt: HostRuntime) {
+    tell_at(&rt, 4, &A_DROPPED_WAITER);
 }
 
 const A_DROPPED_GRANT: [Row; 7] = [
@@ -322,32 +325,26 @@ const A_DROPPED_GRANT: [Row; 7] = [
     (Call::Of(0, EXCLUSIVE), JOINED),
     (Call::Of(1, EXCLUSIVE), JOINED),
     (RELEASE_LOCK, YES),
-    (Call::Of(0, Asked::Cancel), Answer::Unit),
+    (Call::Of(0, Asked::Cancel), Answer::Nothing),
     (Call::Of(1, TRY), GRANTED),
     (IS_LOCKED, YES),
 ];
 
 #[test]
-fn a_dropped_grant_passes_the_lock_on(rt: HostRuntime) -> Result<(), Fail> {
-    let core = LockCore::new(rt.alloc(), 4)?;
-    play(&rt, &mut Played::new(core), &A_DROPPED_GRANT);
-    Ok(())
+fn a_dropped_grant_passes_the_lock_on(rt: HostRuntime) {
+    tell_at(&rt, 4, &A_DROPPED_GRANT);
 }
 
 const POISONED_MEANWHILE: [Row; 4] = [
     (Call::Of(0, EXCLUSIVE), JOINED),
     (POISON, YES),
-    (Call::Of(0, Asked::Cancel), Answer::Unit),
+    (Call::Of(0, Asked::Cancel), Answer::Nothing),
     (IS_POISONED, YES),
 ];
 
 #[test]
-fn a_grant_that_is_dropped_at_a_poisoned_lock_gives_nothing_back(
-    rt: HostRuntime,
-) -> Result<(), Fail> {
-    let core = LockCore::new(rt.alloc(), 4)?;
-    play(&rt, &mut Played::new(core), &POISONED_MEANWHILE);
-    Ok(())
+fn a_grant_that_is_dropped_at_a_poisoned_lock_gives_nothing_back(rt: HostRuntime) {
+    tell_at(&rt, 4, &POISONED_MEANWHILE);
 }
 
 const WHOEVER_RELEASES: [Row; 6] = [
@@ -355,15 +352,13 @@ const WHOEVER_RELEASES: [Row; 6] = [
     (POISON, YES),
     (CLEAR, YES),
     (TRY_LOCK, OWNED),
-    (Call::Of(0, Asked::Cancel), Answer::Unit),
+    (Call::Of(0, Asked::Cancel), Answer::Nothing),
     (IS_FREE, YES),
 ];
 
 #[test]
-fn whoever_releases_releases(rt: HostRuntime) -> Result<(), Fail> {
-    let core = LockCore::new(rt.alloc(), 4)?;
-    play(&rt, &mut Played::new(core), &WHOEVER_RELEASES);
-    Ok(())
+fn whoever_releases_releases(rt: HostRuntime) {
+    tell_at(&rt, 4, &WHOEVER_RELEASES);
 }
 
 const WRONG_MODES: [Row; 7] = [
@@ -377,10 +372,8 @@ const WRONG_MODES: [Row; 7] = [
 ];
 
 #[test]
-fn a_poll_in_the_wrong_mode_leaves_the_answer(rt: HostRuntime) -> Result<(), Fail> {
-    let core = LockCore::new(rt.alloc(), 4)?;
-    play(&rt, &mut Played::new(core), &WRONG_MODES);
-    Ok(())
+fn a_poll_in_the_wrong_mode_leaves_the_answer(rt: HostRuntime) {
+    tell_at(&rt, 4, &WRONG_MODES);
 }
 
 const WORDS: [Row; 14] = [
@@ -401,21 +394,21 @@ const WORDS: [Row; 14] = [
 ];
 
 #[test]
-fn the_word_shows_the_owners_poison_and_the_newest_who_waits(rt: HostRuntime) -> Result<(), Fail> {
-    let core = LockCore::new(rt.alloc(), 1)?;
-    play(&rt, &mut Played::new(core), &WORDS);
-    Ok(())
+fn the_word_shows_the_owners_poison_and_the_newest_who_waits(rt: HostRuntime) {
+    tell_at(&rt, 1, &WORDS);
 }
+
+const A_SHARER: [Row; 1] = [(TRY_SHARE, OWNED)];
+
+const A_WAITER: [Row; 1] = [(Call::Of(0, EXCLUSIVE), JOINED)];
 
 #[test]
 fn a_lock_shows_its_state(rt: HostRuntime) -> Result<(), Fail> {
     let mut core = LockCore::new(rt.alloc(), 4)?;
-    same!(rt; core.try_share(), Ok(()));
-    same!(rt; format!(in rt.alloc(); "{core:?}")?.as_str(), "LockCore { locked: false, share_count: 1, poisoned: false, waiting: 0 }");
-    let mut one = Ticket::new();
-    same!(rt; core.register(&mut one, Mode::Exclusive, true), Ok(true));
-    same!(rt; format!(in rt.alloc(); "{core:?}")?.as_str(), "LockCore { locked: false, share_count: 1, poisoned: false, waiting: 1 }");
-    Ok(())
+    let text = "LockCore { locked: false, share_count: 1, poisoned: false, waiting: 0 }";
+    prints(&rt, rt.alloc(), &mut core, (&A_SHARER, text))?;
+    let text = "LockCore { locked: false, share_count: 1, poisoned: false, waiting: 1 }";
+    prints(&rt, rt.alloc(), &mut core, (&A_WAITER, text))
 }
 
 const COMMANDS: [Command<LockCore>; 12] = [

@@ -10,13 +10,11 @@ fn states_have_numbers(rt: HostRuntime) {
         (1, State::Sealed),
         (2, State::Open),
     ] {
-        same!(rt; u8::from(state), number);
-        same!(rt; usize::from(state), number as usize);
-        same!(rt; State::from(number), state);
-        same!(rt; State::from(number as usize), state);
+        let numbers = (u8::from(state), usize::from(state));
+        let states = (State::from(number), State::from(number as usize));
+        same!(rt; (numbers, states), ((number, number as usize), (state, state)));
     }
-    same!(rt; State::from(3u8), State::Open);
-    same!(rt; State::from(256usize), State::Open);
+    same!(rt; (State::from(3u8), State::from(256usize)), (State::Open, State::Open));
 }
 
 #[test]
@@ -29,11 +27,9 @@ fn errors_have_numbers(rt: HostRuntime) {
         (20, Error::WrongMode),
         (24, Error::NotReady),
     ] {
-        same!(rt; u8::from(error), number);
-        same!(rt; usize::from(error), number as usize);
-        same!(rt; Error::from(number), error);
-        same!(rt; Error::from(number as usize), error);
+        let numbers = (u8::from(error), usize::from(error));
+        let errors = (Error::from(number), Error::from(number as usize));
+        same!(rt; (numbers, errors), ((number, number as usize), (error, error)));
     }
-    same!(rt; Error::from(5usize), Error::NotReady);
-    same!(rt; Error::from(0u8), Error::NotReady);
+    same!(rt; (Error::from(5usize), Error::from(0u8)), (Error::NotReady, Error::NotReady));
 }

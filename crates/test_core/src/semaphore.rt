@@ -1,14 +1,16 @@
 //! Worked rows of the semaphore.
 
-use crate::played::{Makes, Played, play};
+use crate::stories::{Answer, Told, prints, tell};
 use crate::widths::{fewest, most};
 use saa_core::semaphore::{SemaphoreCore, SemaphoreCoreOf};
 use saa_core::ticket::{Error, Full, How, Ticket};
+use std::alloc::AllocGlobal;
+use std::process::Abort;
 use std::test::Fail;
-use test_asserts::{holds, same};
+use test_asserts::same;
 
 /// A call of a row.
-#[derive(Clone, Copy, Debug)]
+#[derive(Clone, Copy)]
 pub enum Call {
     /// Of `try_acquire`.
     TryAcquire,
@@ -33,7 +35,7 @@ pub enum Call {
 }
 
 /// A call with a ticket.
-#[derive(Clone, Copy, Debug)]
+#[derive(Clone, Copy)]
 pub enum Asked {
     /// So many permits, and whether as sync.
     Register(usize, bool),
@@ -47,34 +49,11 @@ pub enum Asked {
     IsRegistered,
 }
 
-/// What a call answers.
-#[derive(Clone, Copy, Debug, Eq, PartialEq)]
-pub enum Answer {
-    /// Of what is tried, released or asked.
-    Bool(bool),
-    /// Of `Available`.
-    Number(usize),
-    /// Of `Word`.
-    Word(u64),
-    /// Of `Next`.
-    Next(Option<u16>),
-    /// Of `Register`.
-    Registered(Result<bool, Full>),
-    /// Of `Poll`.
-    Polled(Result<(), Error>),
-    /// Of `PollNumber`.
-    PolledNumber(Result<u8, Error>),
-    /// Of `Cancel`.
-    Unit,
-    /// Where there is no ticket of the number.
-    NoTicket,
-}
-
 type Row = (Call, Answer);
 
-const YES: Answer = Answer::Bool(true);
+const YES: Answer = Answer::Is(true);
 
-const NO: Answer = Answer::Bool(false);
+const NO: Answer = Answer::Is(false);
 
 const JOINED: Answer = Answer::Registered(Ok(true));
 
@@ -82,31 +61,28 @@ const REFUSED: Answer = Answer::Registered(Ok(false));
 
 const FULL: Answer = Answer::Registered(Err(Full));
 
-const TAKEN: Answer = Answer::Polled(Ok(()));
+const TAKEN: Answer = Answer::Taken(Ok(()));
 
-const NOT_READY: Answer = Answer::Polled(Err(Error::NotReady));
+const NOT_READY: Answer = Answer::Taken(Err(Error::NotReady));
 
 const POLL: Asked = Asked::Poll(How::Sync);
 
-impl<const MAX: usize> Makes for Played<SemaphoreCoreOf<MAX>> {
+impl<const MAX: usize> Told for SemaphoreCoreOf<MAX> {
     type Call = Call;
 
-    type Answer = Answer;
-
-    fn make(&mut self, call: Call) -> Answer {
-        let core = &mut self.core;
+    fn answer(&mut self, tickets: &mut [Ticket], call: Call) -> Answer {
         match call {
-            Call::TryAcquire => Answer::Bool(core.try_acquire()),
-            Call::TryAcquireMany(count) => Answer::Bool(core.try_acquire_many(count)),
-            Call::Release => Answer::Bool(core.release()),
-            Call::ReleaseMany(count) => Answer::Bool(core.release_many(count)),
-            Call::Available => Answer::Number(core.available_permits()),
-            Call::IsOpen => Answer::Bool(core.is_open()),
-            Call::IsClosed => Answer::Bool(core.is_closed()),
-            Call::Word => Answer::Word(core.word()),
-            Call::Next => Answer::Next(core.next_answered()),
-            Call::Of(who, asked) => match self.tickets.get_mut(who) {
-                Some(ticket) => ask(core, ticket, asked),
+            Call::TryAcquire => Answer::Is(self.try_acquire()),
+            Call::TryAcquireMany(count) => Answer::Is(self.try_acquire_many(count)),
+            Call::Release => Answer::Is(self.release()),
+            Call::ReleaseMany(count) => Answer::Is(self.release_many(count)),
+            Call::Available => Answer::Count(self.available_permits()),
+            Call::IsOpen => Answer::Is(self.is_open()),
+            Call::IsClosed => Answer::Is(self.is_closed()),
+            Call::Word => Answer::Word(self.word()),
+            Call::Next => Answer::Next(self.next_answered()),
+            Call::Of(who, asked) => match tickets.get_mut(who) {
+                Some(ticket) => ask(self, ticket, asked),
                 None => Answer::NoTicket,
             },
         }
@@ -123,14 +99,20 @@ fn ask<const MAX: usize>(
         Asked::Register(count, is_sync) => Answer::Registered(core.register(
             ticket, count, is_sync,
         )),
-        Asked::Poll(how) => Answer::Polled(core.poll(ticket, how)),
+        Asked::Poll(how) => Answer::Taken(core.poll(ticket, how)),
         Asked::PollNumber(how) => Answer::PolledNumber(core.poll_number(ticket, how)),
         Asked::Cancel => {
             core.cancel(ticket);
-            Answer::Unit
+            Answer::Nothing
         }
-        Asked::IsRegistered => Answer::Bool(ticket.is_registered()),
+        Asked::IsRegistered => Answer::Is(ticket.is_registered()),
     }
+}
+
+// Tells a story at a semaphore of 63 permits with so much room.
+fn tell_at(rt: &(impl Abort + AllocGlobal), room: u16, story: &[Row]) {
+    let mut core = SemaphoreCore::new(rt.alloc(), room).expect(rt, "no memory");
+    tell(rt, &mut core, story);
 }
 
 const A_RELEASE: [Row; 15] = [
@@ -139,23 +121,21 @@ const A_RELEASE: [Row; 15] = [
     (Call::Of(1, Asked::Register(1, true)), JOINED),
     (Call::TryAcquire, NO),
     (Call::Release, YES),
-    (Call::Available, Answer::Number(4)),
+    (Call::Available, Answer::Count(4)),
     (Call::IsOpen, YES),
     (Call::Release, YES),
-    (Call::Available, Answer::Number(0)),
+    (Call::Available, Answer::Count(0)),
     (Call::IsClosed, YES),
     (Call::Of(0, POLL), TAKEN),
     (Call::Of(1, POLL), NOT_READY),
     (Call::ReleaseMany(5), YES),
     (Call::Of(1, POLL), TAKEN),
-    (Call::Available, Answer::Number(4)),
+    (Call::Available, Answer::Count(4)),
 ];
 
 #[test]
-fn a_release_grants_the_line_in_order(rt: HostRuntime) -> Result<(), Fail> {
-    let core = SemaphoreCore::new(rt.alloc(), 4)?;
-    play(&rt, &mut Played::new(core), &A_RELEASE);
-    Ok(())
+fn a_release_grants_the_line_in_order(rt: HostRuntime) {
+    tell_at(&rt, 4, &A_RELEASE);
 }
 
 const A_WAITER_LEAVES: [Row; 9] = [
@@ -163,18 +143,16 @@ const A_WAITER_LEAVES: [Row; 9] = [
     (Call::Of(0, Asked::Register(11, true)), JOINED),
     (Call::Of(1, Asked::Register(9, true)), JOINED),
     (Call::ReleaseMany(9), YES),
-    (Call::Available, Answer::Number(9)),
-    (Call::Of(0, Asked::Cancel), Answer::Unit),
+    (Call::Available, Answer::Count(9)),
+    (Call::Of(0, Asked::Cancel), Answer::Nothing),
     (Call::Of(0, Asked::IsRegistered), NO),
     (Call::Of(1, POLL), TAKEN),
-    (Call::Available, Answer::Number(0)),
+    (Call::Available, Answer::Count(0)),
 ];
 
 #[test]
-fn a_waiter_that_leaves_lets_the_next_in(rt: HostRuntime) -> Result<(), Fail> {
-    let core = SemaphoreCore::new(rt.alloc(), 4)?;
-    play(&rt, &mut Played::new(core), &A_WAITER_LEAVES);
-    Ok(())
+fn a_waiter_that_leaves_lets_the_next_in(rt: HostRuntime) {
+    tell_at(&rt, 4, &A_WAITER_LEAVES);
 }
 
 const AN_ANSWERED_SLOT: [Row; 9] = [
@@ -193,10 +171,8 @@ const AN_ANSWERED_SLOT: [Row; 9] = [
 ];
 
 #[test]
-fn an_answered_slot_is_still_held(rt: HostRuntime) -> Result<(), Fail> {
-    let core = SemaphoreCore::new(rt.alloc(), 1)?;
-    play(&rt, &mut Played::new(core), &AN_ANSWERED_SLOT);
-    Ok(())
+fn an_answered_slot_is_still_held(rt: HostRuntime) {
+    tell_at(&rt, 1, &AN_ANSWERED_SLOT);
 }
 
 const NO_PERMITS: [Row; 10] = [
@@ -209,14 +185,12 @@ const NO_PERMITS: [Row; 10] = [
     (Call::Release, YES),
     (Call::Of(0, POLL), TAKEN),
     (Call::Of(1, POLL), TAKEN),
-    (Call::Available, Answer::Number(0)),
+    (Call::Available, Answer::Count(0)),
 ];
 
 #[test]
-fn no_permits_wait_in_turn(rt: HostRuntime) -> Result<(), Fail> {
-    let core = SemaphoreCore::new(rt.alloc(), 4)?;
-    play(&rt, &mut Played::new(core), &NO_PERMITS);
-    Ok(())
+fn no_permits_wait_in_turn(rt: HostRuntime) {
+    tell_at(&rt, 4, &NO_PERMITS);
 }
 
 const WORDS: [Row; 9] = [
@@ -232,14 +206,18 @@ const WORDS: [Row; 9] = [
 ];
 
 #[test]
-fn the_word_shows_what_is_out_and_the_newest_who_waits(rt: HostRuntime) -> Result<(), Fail> {
-    let core = SemaphoreCore::new(rt.alloc(), 1)?;
-    play(&rt, &mut Played::new(core), &WORDS);
-    Ok(())
+fn the_word_shows_what_is_out_and_the_newest_who_waits(rt: HostRuntime) {
+    tell_at(&rt, 1, &WORDS);
+}
+
+// Tells a story at a semaphore of 63 permits, of which so many are available, with room for 4.
+fn tell_with(rt: &(impl Abort + AllocGlobal), permits: usize, story: &[Row]) {
+    let mut core = SemaphoreCore::with_permits(rt.alloc(), permits, 4).expect(rt, "no memory");
+    tell(rt, &mut core, story);
 }
 
 const ODD_COUNTS: [Row; 14] = [
-    (Call::Available, Answer::Number(63)),
+    (Call::Available, Answer::Count(63)),
     (Call::TryAcquireMany(64), NO),
     (Call::Of(0, Asked::Register(64, true)), REFUSED),
     (Call::ReleaseMany(64), NO),
@@ -252,45 +230,39 @@ const ODD_COUNTS: [Row; 14] = [
     (Call::TryAcquireMany(usize::MAX), NO),
     (Call::Of(0, Asked::Register(usize::MAX, true)), REFUSED),
     (Call::ReleaseMany(usize::MAX), NO),
-    (Call::Available, Answer::Number(63)),
+    (Call::Available, Answer::Count(63)),
 ];
 
 #[test]
-fn odd_counts_change_nothing(rt: HostRuntime) -> Result<(), Fail> {
+fn odd_counts_change_nothing(rt: HostRuntime) {
     same!(rt; SemaphoreCore::MAX_PERMITS, 63);
-    let core = SemaphoreCore::with_permits(rt.alloc(), 100, 4)?;
-    play(&rt, &mut Played::new(core), &ODD_COUNTS);
-    Ok(())
+    tell_with(&rt, 100, &ODD_COUNTS);
 }
 
 const WITHHELD: [Row; 5] = [
     (Call::Release, YES),
-    (Call::Available, Answer::Number(1)),
+    (Call::Available, Answer::Count(1)),
     (Call::TryAcquire, YES),
     (Call::ReleaseMany(63), YES),
     (Call::Release, NO),
 ];
 
 #[test]
-fn withheld_permits_may_be_released(rt: HostRuntime) -> Result<(), Fail> {
-    let core = SemaphoreCore::with_permits(rt.alloc(), 0, 4)?;
-    play(&rt, &mut Played::new(core), &WITHHELD);
-    Ok(())
+fn withheld_permits_may_be_released(rt: HostRuntime) {
+    tell_with(&rt, 0, &WITHHELD);
 }
 
 const A_DROPPED_GRANT: [Row; 5] = [
     (Call::TryAcquireMany(60), YES),
     (Call::Of(0, Asked::Register(3, true)), JOINED),
-    (Call::Available, Answer::Number(0)),
-    (Call::Of(0, Asked::Cancel), Answer::Unit),
-    (Call::Available, Answer::Number(3)),
+    (Call::Available, Answer::Count(0)),
+    (Call::Of(0, Asked::Cancel), Answer::Nothing),
+    (Call::Available, Answer::Count(3)),
 ];
 
 #[test]
-fn a_dropped_grant_goes_back(rt: HostRuntime) -> Result<(), Fail> {
-    let core = SemaphoreCore::new(rt.alloc(), 4)?;
-    play(&rt, &mut Played::new(core), &A_DROPPED_GRANT);
-    Ok(())
+fn a_dropped_grant_goes_back(rt: HostRuntime) {
+    tell_at(&rt, 4, &A_DROPPED_GRANT);
 }
 
 const OF_A_THOUSAND: [Row; 11] = [
@@ -298,13 +270,13 @@ const OF_A_THOUSAND: [Row; 11] = [
     (Call::TryAcquireMany(1_000), YES),
     (Call::Of(1, Asked::Register(300, true)), JOINED),
     (Call::ReleaseMany(299), YES),
-    (Call::Available, Answer::Number(299)),
+    (Call::Available, Answer::Count(299)),
     (Call::ReleaseMany(1), YES),
-    (Call::Available, Answer::Number(0)),
+    (Call::Available, Answer::Count(0)),
     (Call::Of(1, POLL), TAKEN),
     (Call::ReleaseMany(1_001), NO),
     (Call::ReleaseMany(1_000), YES),
-    (Call::Available, Answer::Number(1_000)),
+    (Call::Available, Answer::Count(1_000)),
 ];
 
 const A_WORD_OF_A_THOUSAND: [Row; 3] = [
@@ -313,18 +285,21 @@ const A_WORD_OF_A_THOUSAND: [Row; 3] = [
     (Call::Word, Answer::Word(1_000 + 262_144)),
 ];
 
+// Tells a story at a semaphore of a thousand permits with so much room.
+fn tell_at_a_thousand(rt: &(impl Abort + AllocGlobal), room: u16, story: &[Row]) {
+    let mut core = SemaphoreCoreOf::<1_000>::new(rt.alloc(), room).expect(rt, "no memory");
+    tell(rt, &mut core, story);
+}
+
 #[test]
-fn a_thousand_permits(rt: HostRuntime) -> Result<(), Fail> {
+fn a_thousand_permits(rt: HostRuntime) {
     same!(rt; SemaphoreCoreOf::<1_000>::MAX_PERMITS, 1_000);
-    let core = SemaphoreCoreOf::<1_000>::new(rt.alloc(), 4)?;
-    play(&rt, &mut Played::new(core), &OF_A_THOUSAND);
-    let core = SemaphoreCoreOf::<1_000>::new(rt.alloc(), 1)?;
-    play(&rt, &mut Played::new(core), &A_WORD_OF_A_THOUSAND);
-    Ok(())
+    tell_at_a_thousand(&rt, 4, &OF_A_THOUSAND);
+    tell_at_a_thousand(&rt, 1, &A_WORD_OF_A_THOUSAND);
 }
 
 const OF_THE_MOST: [Row; 5] = [
-    (Call::Available, Answer::Number(65_535)),
+    (Call::Available, Answer::Count(65_535)),
     (Call::TryAcquireMany(65_535), YES),
     (Call::Word, Answer::Word(65_535)),
     (Call::ReleaseMany(65_536), NO),
@@ -333,8 +308,7 @@ const OF_THE_MOST: [Row; 5] = [
 
 #[test]
 fn the_most_permits(rt: HostRuntime) -> Result<(), Fail> {
-    let core = most(rt.alloc(), 70_000, 4)?;
-    play(&rt, &mut Played::new(core), &OF_THE_MOST);
+    tell(&rt, &mut most(rt.alloc(), 70_000, 4)?, &OF_THE_MOST);
     Ok(())
 }
 
@@ -351,35 +325,72 @@ const OF_ONE: [Row; 8] = [
 
 #[test]
 fn one_permit(rt: HostRuntime) -> Result<(), Fail> {
-    let core = fewest(rt.alloc(), 2)?;
-    play(&rt, &mut Played::new(core), &OF_ONE);
+    tell(&rt, &mut fewest(rt.alloc(), 2)?, &OF_ONE);
     Ok(())
 }
 
+// Two cores of one kind.
+#[derive(Drop)]
+struct Two {
+    own: SemaphoreCore,
+    other: SemaphoreCore,
+}
+
+// One of two cores.
+#[derive(Clone, Copy)]
+enum At {
+    Own,
+    Other,
+}
+
+impl Told for Two {
+    type Call = (At, Call);
+
+    fn answer(&mut self, tickets: &mut [Ticket], (at, call): (At, Call)) -> Answer {
+        match at {
+            At::Own => self.own.answer(tickets, call),
+            At::Other => self.other.answer(tickets, call),
+        }
+    }
+}
+
+const ANOTHER_CORE: [((At, Call), Answer); 10] = [
+    ((At::Own, Call::TryAcquireMany(63)), YES),
+    ((At::Own, Call::Of(0, Asked::Register(1, true))), JOINED),
+    (
+        (At::Other, Call::Of(0, POLL)),
+        Answer::Taken(Err(Error::NotRegistered)),
+    ),
+    (
+        (At::Own, Call::Of(0, Asked::Poll(How::Async))),
+        Answer::Taken(Err(Error::WrongMode)),
+    ),
+    ((At::Own, Call::Of(0, POLL)), NOT_READY),
+    ((At::Other, Call::Of(0, Asked::Cancel)), Answer::Nothing),
+    ((At::Other, Call::Of(0, Asked::IsRegistered)), NO),
+    ((At::Own, Call::Release), YES),
+    ((At::Own, Call::Available), Answer::Count(0)),
+    ((At::Own, Call::Of(1, Asked::Register(1, true))), FULL),
+];
+
 #[test]
 fn a_ticket_is_nothing_to_another_core(rt: HostRuntime) -> Result<(), Fail> {
-    let mut a = SemaphoreCore::new(rt.alloc(), 1)?;
-    let mut b = SemaphoreCore::new(rt.alloc(), 1)?;
-    let mut ticket = Ticket::new();
-    holds!(rt; a.try_acquire_many(63));
-    same!(rt; a.register(&mut ticket, 1, true), Ok(true));
-    same!(rt; b.poll(&mut ticket, How::Sync), Err(Error::NotRegistered));
-    same!(rt; a.poll(&mut ticket, How::Async), Err(Error::WrongMode));
-    same!(rt; a.poll(&mut ticket, How::Sync), Err(Error::NotReady));
-    b.cancel(&mut ticket);
-    holds!(rt; !ticket.is_registered());
-    holds!(rt; a.release());
-    same!(rt; a.available_permits(), 0);
-    same!(rt; a.register(&mut Ticket::new(), 1, true), Err(Full));
+    let mut two = Two {
+        own: SemaphoreCore::new(rt.alloc(), 1)?,
+        other: SemaphoreCore::new(rt.alloc(), 1)?,
+    };
+    tell(&rt, &mut two, &ANOTHER_CORE);
     Ok(())
 }
+
+const TWO_ASK: [Row; 2] = [
+    (Call::Of(0, Asked::Register(5, true)), JOINED),
+    (Call::Of(1, Asked::Register(5, false)), JOINED),
+];
 
 #[test]
 fn a_core_prints_its_counts(rt: HostRuntime) -> Result<(), Fail> {
     let mut core = SemaphoreCore::with_permits(rt.alloc(), 4, 2)?;
-    same!(rt; core.register(&mut Ticket::new(), 5, true), Ok(true));
-    same!(rt; core.register(&mut Ticket::new(), 5, false), Ok(true));
-    let text = format!(in rt.alloc(); "{core:?}")?;
-    same!(rt; text.as_str(), "SemaphoreCore { available_permits: 4, waiting: 2 }");
-    Ok(())
+    let text = "SemaphoreCore { available_permits: 4, waiting: 2 }";
+    prints(&rt, rt.alloc(), &mut core, (&TWO_ASK, text))
 }

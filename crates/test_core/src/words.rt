@@ -12,7 +12,7 @@ use std::test::Fail;
 use test_asserts::same;
 
 // A main word by its parts.
-fn word(count: u16, is_flagged: bool, is_poisoned: bool, tail: u16) -> Word {
+fn word((count, is_flagged, is_poisoned, tail): (u16, bool, bool, u16)) -> Word {
     Word {
         count,
         is_flagged,
@@ -21,24 +21,38 @@ fn word(count: u16, is_flagged: bool, is_poisoned: bool, tail: u16) -> Word {
     }
 }
 
+// The parts of main words, and their bits.
+const MAIN_WORDS: [((u16, bool, bool, u16), u64); 8] = [
+    ((0, false, false, 0), 0),
+    ((63, false, false, 0), 63),
+    ((63, false, false, 1), 262_207),
+    ((58, true, false, 1), 327_738),
+    ((0, false, true, 0), 131_072),
+    ((1_000, true, false, 2), 1_000 + 65_536 + 524_288),
+    ((65_535, false, false, 0), 65_535),
+    ((1, true, true, 65_535), 17_179_803_649),
+];
+
 #[test]
 fn a_main_word_is_its_bits(rt: HostRuntime) {
-    same!(rt; word(0, false, false, 0).pack(), 0);
-    same!(rt; word(63, false, false, 0).pack(), 63);
-    same!(rt; word(63, false, false, 1).pack(), 262_207);
-    same!(rt; word(58, true, false, 1).pack(), 327_738);
-    same!(rt; word(0, false, true, 0).pack(), 131_072);
-    same!(rt; word(1_000, true, false, 2).pack(), 1_000 + 65_536 + 524_288);
-    same!(rt; word(65_535, false, false, 0).pack(), 65_535);
-    same!(rt; word(1, true, true, 65_535).pack(), 17_179_803_649);
+    for (parts, bits) in MAIN_WORDS {
+        same!(rt; word(parts).pack(), bits);
+    }
 }
+
+// Bits, and the parts of the main word that is read from them.
+const MAIN_BITS: [(u64, (u16, bool, bool, u16)); 4] = [
+    (327_738, (58, true, false, 1)),
+    (131_072, (0, false, true, 0)),
+    (262_207, (63, false, false, 1)),
+    (u64::MAX, (65_535, true, true, 65_535)),
+];
 
 #[test]
 fn a_main_word_is_read_from_its_bits(rt: HostRuntime) {
-    same!(rt; Word::unpack(327_738), word(58, true, false, 1));
-    same!(rt; Word::unpack(131_072), word(0, false, true, 0));
-    same!(rt; Word::unpack(262_207), word(63, false, false, 1));
-    same!(rt; Word::unpack(u64::MAX), word(65_535, true, true, 65_535));
+    for (bits, parts) in MAIN_BITS {
+        same!(rt; Word::unpack(bits), word(parts));
+    }
 }
 
 #[test]
@@ -49,18 +63,19 @@ fn a_line_word_is_its_bits(rt: HostRuntime) {
         newer: 2,
     };
     same!(rt; word.pack(), 0x0002_0001_0003);
-    same!(rt; LineWord::unpack(0x0002_0001_0003), word);
-    same!(rt; LineWord::unpack(0xFFFF_0002_0001_0003), word);
+    for bits in [0x0002_0001_0003, 0xFFFF_0002_0001_0003] {
+        same!(rt; LineWord::unpack(bits), word);
+    }
 }
+
+// Answers, and their words.
+const ANSWERS: [(Option<u8>, u16); 3] = [(None, 0), (Some(0), 1), (Some(2), 3)];
 
 #[test]
 fn an_answer_word_is_its_value_and_one(rt: HostRuntime) {
-    same!(rt; answer_word::pack(None), 0);
-    same!(rt; answer_word::pack(Some(0)), 1);
-    same!(rt; answer_word::pack(Some(2)), 3);
-    same!(rt; answer_word::unpack(0), None);
-    same!(rt; answer_word::unpack(1), Some(0));
-    same!(rt; answer_word::unpack(3), Some(2));
+    for (answer, word) in ANSWERS {
+        same!(rt; (answer_word::pack(answer), answer_word::unpack(word)), (word, answer));
+    }
     same!(rt; answer_word::unpack(256), Some(255));
 }
 
@@ -80,48 +95,61 @@ fn each_request_has_its_number(rt: HostRuntime) {
         (3, Request::WaitShared),
     ];
     for (number, mode) in modes {
-        same!(rt; request_number(mode), number);
-        same!(rt; ForModes::read(number), mode);
+        same!(rt; (request_number(mode), ForModes::read(number)), (number, mode));
     }
     for count in [0, 1, 63, 65_535] {
-        same!(rt; request_number(Request::Permits(count)), count);
-        same!(rt; ForPermits::read(count), Request::Permits(count));
+        let permits = Request::Permits(count);
+        same!(rt; (request_number(permits), ForPermits::read(count)), (count, permits));
     }
+}
+
+// How many wait in a line, its newest place and one, and its oldest place with what it asked.
+fn seen(links: &Links<ForPermits>) -> (u16, u16, Option<(u16, Request)>) {
+    (links.waiting(), links.tail(), links.oldest())
 }
 
 #[test]
 fn a_place_leaves_wherever_it_stands(rt: HostRuntime) -> Result<(), Fail> {
     let mut links = Links::<ForPermits>::with_room(rt.alloc(), 3)?;
-    same!(rt; (links.waiting(), links.tail()), (0, 0));
-    same!(rt; links.oldest(), None);
-
+    let empty = seen(&links);
     links.push(2, Request::Permits(5));
     links.push(0, Request::Permits(6));
     links.push(1, Request::Permits(7));
-    same!(rt; (links.waiting(), links.tail()), (3, 2));
-    same!(rt; links.oldest(), Some((2, Request::Permits(5))));
+    let full = seen(&links);
+    same!(rt; (empty, full), ((0, 0, None), (3, 2, Some((2, Request::Permits(5))))));
 
     // The one between, the oldest, the newest, and the last of all.
     links.remove(0);
-    same!(rt; (links.waiting(), links.tail()), (2, 2));
-    same!(rt; links.oldest(), Some((2, Request::Permits(5))));
+    let without_the_middle = seen(&links);
     links.remove(2);
-    same!(rt; (links.waiting(), links.tail()), (1, 2));
-    same!(rt; links.oldest(), Some((1, Request::Permits(7))));
+    let without_the_oldest = seen(&links);
     links.push(2, Request::Permits(8));
-    same!(rt; (links.waiting(), links.tail()), (2, 3));
+    let with_one_more = seen(&links);
     links.remove(2);
-    same!(rt; (links.waiting(), links.tail()), (1, 2));
+    let without_the_newest = seen(&links);
     links.remove(1);
-    same!(rt; (links.waiting(), links.tail()), (0, 0));
-    same!(rt; links.oldest(), None);
+    let the_last = Some((1, Request::Permits(7)));
+    same!(rt; [
+        without_the_middle,
+        without_the_oldest,
+        with_one_more,
+        without_the_newest,
+        seen(&links),
+    ], [
+        (2, 2, Some((2, Request::Permits(5)))),
+        (1, 2, the_last),
+        (2, 3, the_last),
+        (1, 2, the_last),
+        (0, 0, None),
+    ]);
 
     // The oldest is taken, and taken again.
     links.push(1, Request::Permits(9));
     links.push(0, Request::Permits(1));
-    same!(rt; links.pop(), Some((1, Request::Permits(9))));
-    same!(rt; (links.waiting(), links.tail()), (1, 1));
-    same!(rt; links.pop(), Some((0, Request::Permits(1))));
-    same!(rt; (links.pop(), links.tail()), (None, 0));
+    let first = (links.pop(), seen(&links));
+    let second = (links.pop(), links.tail());
+    let third = (links.pop(), links.tail());
+    same!(rt; first, (Some((1, Request::Permits(9))), (1, 1, Some((0, Request::Permits(1))))));
+    same!(rt; [second, third], [(Some((0, Request::Permits(1))), 0), (None, 0)]);
     Ok(())
 }
