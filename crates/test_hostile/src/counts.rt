@@ -6,14 +6,12 @@ ghost use Rattle.std.specs.Prelude.{◌<◌};
 use futures::executor::block_on;
 use saa::barrier::{Barrier, BarrierCore};
 use saa::gate::Gate;
-use saa::lock::Lock;
+use saa::lock::{Lock, Mode};
 use saa::pager::Pager;
 use saa::semaphore::{Semaphore, SemaphoreCoreOf, SemaphoreOf};
 use saa::ticket::{How, Ticket};
 use std::alloc::{AllocError, AllocGlobal, Global};
 use std::cell::Cell;
-use std::io;
-use std::process::Abort;
 use std::random::RandomSource;
 use std::sync::Wait;
 use std::sync::atomic::Ordering;
@@ -43,29 +41,54 @@ fn left_of(count: usize, bound: usize) -> usize {
     }
 }
 
+// Whether so many are taken of all permits exactly where they may be.
+fn core_takes<const MAX: usize>(full: &mut SemaphoreCoreOf<MAX>, count: usize) -> bool {
+    full.try_acquire_many(count) == (count <= MAX)
+        && full.available_permits() == left_of(count, MAX)
+}
+
+// Whether so many are given back, where none is left, exactly where they may be.
+fn core_releases<const MAX: usize>(empty: &mut SemaphoreCoreOf<MAX>, count: usize) -> bool {
+    empty.release_many(count) == (count <= MAX)
+        && empty.available_permits() == MAX.saturating_sub(left_of(count, MAX))
+}
+
+// Whether a ticket is granted so many exactly where they may be asked for.
+fn core_grants<const MAX: usize>(asked: &mut SemaphoreCoreOf<MAX>, count: usize) -> bool {
+    let is_had = count <= MAX;
+    let mut ticket = Ticket::new();
+    asked.register(&mut ticket, count, true) == Ok(is_had)
+        && ticket.is_registered() == is_had
+        && asked.available_permits() == left_of(count, MAX)
+        && asked.poll(&mut ticket, How::Sync).is_ok() == is_had
+}
+
 fn at_a_core<const MAX: usize>(alloc: Global, count: usize) -> Result<bool, AllocError>
     requires bound { 0 < MAX }
     requires narrow { MAX < 65536 }
 {
-    let (is_had, left) = (count <= MAX, left_of(count, MAX));
-    let mut full = SemaphoreCoreOf::<MAX>::new(alloc, 1)?;
-    let is_taken = full.try_acquire_many(count) == is_had && full.available_permits() == left;
-    let mut empty = SemaphoreCoreOf::<MAX>::with_permits(alloc, 0, 1)?;
-    let is_released = empty.release_many(count) == is_had
-        && empty.available_permits() == MAX.saturating_sub(left);
-    let mut asked = SemaphoreCoreOf::<MAX>::new(alloc, 1)?;
-    let mut ticket = Ticket::new();
-    let is_asked = asked.register(&mut ticket, count, true) == Ok(is_had)
-        && ticket.is_registered() == is_had
-        && asked.available_permits() == left
-        && asked.poll(&mut ticket, How::Sync).is_ok() == is_had;
-    let made = SemaphoreCoreOf::<MAX>::with_permits(alloc, count, 1)?;
-    Ok(is_taken && is_released && is_asked && made.available_permits() == count.min(MAX))
+    let is_taken = core_takes(&mut SemaphoreCoreOf::<MAX>::new(alloc, 1)?, count);
+    let is_released = core_releases(
+        &mut SemaphoreCoreOf::<MAX>::with_permits(alloc, 0, 1)?,
+        count,
+    );
+    let is_granted = core_grants(&mut SemaphoreCoreOf::<MAX>::new(alloc, 1)?, count);
+    let made = SemaphoreCoreOf::<MAX>::with_permits(alloc, count, 1)?.available_permits();
+    Ok(is_taken && is_released && is_granted && made == count.min(MAX))
 }
 
 // How many permits are available.
 fn left<R: Wait + Drop, const MAX: usize>(semaphore: &SemaphoreOf<R, MAX>) -> usize {
     semaphore.available_permits(Ordering::SeqCst)
+}
+
+fn takes<R: Wait + Drop, const MAX: usize>(full: &SemaphoreOf<R, MAX>, count: usize) -> bool {
+    full.try_acquire_many(count) == (count <= MAX) && left(full) == left_of(count, MAX)
+}
+
+fn releases<R: Wait + Drop, const MAX: usize>(empty: &SemaphoreOf<R, MAX>, count: usize) -> bool {
+    empty.release_many(count) == (count <= MAX)
+        && left(empty) == MAX.saturating_sub(left_of(count, MAX))
 }
 
 fn at_a_semaphore<R: Wait, const MAX: usize>(
@@ -76,14 +99,30 @@ fn at_a_semaphore<R: Wait, const MAX: usize>(
     requires bound { 0 < MAX }
     requires narrow { MAX < 65536 }
 {
-    let (is_had, rest) = (count <= MAX, left_of(count, MAX));
-    let full = SemaphoreOf::<&R, MAX>::new(rt, alloc, 1)?;
-    let is_taken = full.try_acquire_many(count) == is_had && left(&full) == rest;
-    let empty = SemaphoreOf::<&R, MAX>::with_permits(rt, alloc, 0, 1)?;
-    let is_released = empty.release_many(count) == is_had
-        && left(&empty) == MAX.saturating_sub(rest);
-    let made = SemaphoreOf::<&R, MAX>::with_permits(rt, alloc, count, 1)?;
-    Ok(is_taken && is_released && left(&made) == count.min(MAX))
+    let is_taken = takes(&SemaphoreOf::<&R, MAX>::new(rt, alloc, 1)?, count);
+    let is_released = releases(
+        &SemaphoreOf::<&R, MAX>::with_permits(rt, alloc, 0, 1)?,
+        count,
+    );
+    let made = left(&SemaphoreOf::<&R, MAX>::with_permits(rt, alloc, count, 1)?);
+    Ok(is_taken && is_released && made == count.min(MAX))
+}
+
+fn takes_at_once<R: Wait + Drop, const MAX: usize>(
+    plain: &SemaphoreOf<R, MAX>,
+    count: usize,
+) -> bool {
+    plain.acquire_many_sync(count) == Ok(count <= MAX) && left(plain) == left_of(count, MAX)
+}
+
+fn takes_without_a_callback<R: Wait + Drop, const MAX: usize>(
+    with: &SemaphoreOf<R, MAX>,
+    count: usize,
+) -> bool {
+    let runs = Cell::new(0u8);
+    with.acquire_many_sync_with(count, || runs.set(1)) == Ok(count <= MAX)
+        && left(with) == left_of(count, MAX)
+        && runs.get() == 0
 }
 
 // The calls that would wait where nothing is left: none does, and no callback runs.
@@ -95,15 +134,30 @@ fn that_may_wait<R: Wait, const MAX: usize>(
     requires bound { 0 < MAX }
     requires narrow { MAX < 65536 }
 {
-    let (is_had, rest) = (count <= MAX, left_of(count, MAX));
-    let plain = SemaphoreOf::<&R, MAX>::new(rt, alloc, 1)?;
-    let is_had_plain = plain.acquire_many_sync(count) == Ok(is_had) && left(&plain) == rest;
-    let with = SemaphoreOf::<&R, MAX>::new(rt, alloc, 1)?;
-    let runs = Cell::new(0u8);
-    let is_had_with = with.acquire_many_sync_with(count, || runs.set(1)) == Ok(is_had)
-        && left(&with) == rest
-        && runs.get() == 0;
+    let is_had_plain = takes_at_once(&SemaphoreOf::<&R, MAX>::new(rt, alloc, 1)?, count);
+    let is_had_with = takes_without_a_callback(&SemaphoreOf::<&R, MAX>::new(rt, alloc, 1)?, count);
     Ok(is_had_plain && is_had_with)
+}
+
+fn pager_joins<R: Wait + Drop, const MAX: usize>(
+    paged: &SemaphoreOf<R, MAX>,
+    count: usize,
+) -> bool {
+    let is_had = count <= MAX;
+    let mut pager = Pager::new();
+    paged.register_pager(&mut pager, count, true) == Ok(is_had)
+        && pager.is_registered() == is_had
+        && left(paged) == left_of(count, MAX)
+}
+
+fn future_ends<R: Wait + RandomSource + AllocGlobal, const MAX: usize>(
+    rt: &R,
+    polled: &SemaphoreOf<&R, MAX>,
+    count: usize,
+) -> bool {
+    let is_told = block_on(rt, polled.acquire_many_async(count)).is_ok_and(|answer| answer
+        == Ok(count <= MAX));
+    is_told && left(polled) == left_of(count, MAX)
 }
 
 // A pager and a future that are answered at once.
@@ -115,16 +169,9 @@ fn by_who_asks<R: Wait + RandomSource + AllocGlobal, const MAX: usize>(
     requires bound { 0 < MAX }
     requires narrow { MAX < 65536 }
 {
-    let (is_had, rest) = (count <= MAX, left_of(count, MAX));
-    let paged = SemaphoreOf::<&R, MAX>::new(rt, alloc, 1)?;
-    let mut pager = Pager::new();
-    let is_paged = paged.register_pager(&mut pager, count, true) == Ok(is_had)
-        && pager.is_registered() == is_had
-        && left(&paged) == rest;
-    let polled = SemaphoreOf::<&R, MAX>::new(rt, alloc, 1)?;
-    let is_told = block_on(rt, polled.acquire_many_async(count)).is_ok_and(|answer| answer
-        == Ok(is_had));
-    Ok(is_paged && is_told && left(&polled) == rest)
+    let is_paged = pager_joins(&SemaphoreOf::<&R, MAX>::new(rt, alloc, 1)?, count);
+    let is_told = future_ends(rt, &SemaphoreOf::<&R, MAX>::new(rt, alloc, 1)?, count);
+    Ok(is_paged && is_told)
 }
 
 // The first count at which a call went wrong.
@@ -148,58 +195,72 @@ fn wrong_count<R: Wait + RandomSource + AllocGlobal, const MAX: usize>(
 }
 
 #[test]
-fn at_every_call_of_a_semaphore(rt: HostRuntime) -> io::Result<()> {
-    same!(rt; wrong_count::<_, 1>(&rt, rt.alloc())?, None);
-    same!(rt; wrong_count::<_, 63>(&rt, rt.alloc())?, None);
-    same!(rt; wrong_count::<_, 1_000>(&rt, rt.alloc())?, None);
-    same!(rt; wrong_count::<_, 65_535>(&rt, rt.alloc())?, None);
-    Ok(())
+fn at_every_call_of_a_semaphore(rt: HostRuntime) {
+    same!(rt; wrong_count::<_, 1>(&rt, rt.alloc()), Ok(None));
+    same!(rt; wrong_count::<_, 63>(&rt, rt.alloc()), Ok(None));
+    same!(rt; wrong_count::<_, 1_000>(&rt, rt.alloc()), Ok(None));
+    same!(rt; wrong_count::<_, 65_535>(&rt, rt.alloc()), Ok(None));
+}
+
+// How many tasks a core and a barrier have that are made of so many.
+fn tasks_of(rt: &impl Wait, alloc: Global, count: usize) -> Result<(usize, usize), AllocError> {
+    let of_core = BarrierCore::with_count(alloc, count, 1)?.count();
+    let of_barrier = Barrier::with_count(rt, alloc, count, 1)?.count(Ordering::SeqCst);
+    Ok((of_core, of_barrier))
 }
 
 #[test]
-fn of_a_barrier(rt: HostRuntime) -> io::Result<()> {
+fn of_a_barrier(rt: HostRuntime) {
     for count in counts_at(63) {
-        let core = BarrierCore::with_count(rt.alloc(), count, 1)?;
-        assert!(rt; core.count() == count.min(63), "of {count}");
-        let barrier = Barrier::with_count(&rt, rt.alloc(), count, 1)?;
-        assert!(rt;
-            barrier.count(Ordering::SeqCst) == count.min(63),
-            "of {count}"
-        );
+        let wanted = count.min(63);
+        same!(rt; (count, tasks_of(&rt, rt.alloc(), count)), (count, Ok((wanted, wanted))));
     }
-    Ok(())
+}
+
+// Whether a pager may wait for a permit.
+fn waits_for_a_permit<R: Wait + Drop>(semaphore: &Semaphore<R>) -> bool {
+    let mut pager = Pager::new();
+    semaphore.register_pager(&mut pager, 1, true).is_ok()
+}
+
+// Whether a lock is had, and a pager may wait for a share.
+fn waits_for_a_share<R: Wait + Drop>(lock: &Lock<R>) -> (bool, bool) {
+    let is_had = lock.try_lock().is_ok();
+    let mut pager = Pager::new();
+    let is_asked = lock.register_pager(&mut pager, Mode::Shared, true).is_ok();
+    (is_had, is_asked)
+}
+
+// Whether a pager may wait at a gate.
+fn waits_to_pass<R: Wait + Drop>(gate: &Gate<R>) -> bool {
+    let mut pager = Pager::new();
+    gate.register_pager(&mut pager, true).is_ok()
+}
+
+// Whether a pager may wait at a barrier.
+fn waits_to_meet<R: Wait + Drop>(barrier: &Barrier<R>) -> bool {
+    let mut pager = Pager::new();
+    barrier.register_pager(&mut pager, true).is_ok()
+}
+
+// Whether there is room to wait at a form of each kind, and the lock is had.
+fn may_wait(
+    rt: &impl Wait,
+    alloc: Global,
+    room: u16,
+) -> Result<(bool, (bool, bool), bool, bool), AllocError> {
+    let of_permits = waits_for_a_permit(&Semaphore::with_permits(rt, alloc, 0, room)?);
+    let of_shares = waits_for_a_share(&Lock::new(rt, alloc, room)?);
+    let of_passing = waits_to_pass(&Gate::new(rt, alloc, room)?);
+    let of_meeting = waits_to_meet(&Barrier::with_count(rt, alloc, 2, room)?);
+    Ok((of_permits, of_shares, of_passing, of_meeting))
 }
 
 #[test]
-fn of_a_room(rt: HostRuntime) -> io::Result<()> {
+fn of_a_room(rt: HostRuntime) {
     for room in [0u16, 1, 62, 63, 64, 255, 256, u16::MAX] {
-        let semaphore = Semaphore::with_permits(&rt, rt.alloc(), 0, room)?;
-        let mut pager = Pager::new();
-        assert!(rt;
-            semaphore.register_pager(&mut pager, 1, true).is_ok() == (room > 0),
-            "of {room}"
-        );
-        let lock = Lock::new(&rt, rt.alloc(), room)?;
-        assert!(rt; lock.try_lock().is_ok(), "of {room}");
-        let mut pager = Pager::new();
-        assert!(rt;
-            lock.register_pager(&mut pager, saa::lock::Mode::Shared, true)
-                .is_ok()
-                == (room > 0),
-            "of {room}"
-        );
-        let gate = Gate::new(&rt, rt.alloc(), room)?;
-        let mut pager = Pager::new();
-        assert!(rt;
-            gate.register_pager(&mut pager, true).is_ok() == (room > 0),
-            "of {room}"
-        );
-        let barrier = Barrier::with_count(&rt, rt.alloc(), 2, room)?;
-        let mut pager = Pager::new();
-        assert!(rt;
-            barrier.register_pager(&mut pager, true).is_ok() == (room > 0),
-            "of {room}"
-        );
+        let waits = room > 0;
+        let wanted = (waits, (true, waits), waits, waits);
+        same!(rt; (room, may_wait(&rt, rt.alloc(), room)), (room, Ok(wanted)));
     }
-    Ok(())
 }

@@ -18,11 +18,9 @@ use saa::pager::{Pager, SyncResult};
 use saa::semaphore::{SemaphoreAnswer, SemaphoreCall, SemaphoreCoreOf, SemaphoreOf};
 use saa::ticket::{Error, Full};
 use std::alloc::{AllocError, Global};
-use std::io;
-use std::process::Abort;
 use std::sync::Wait;
 use std::sync::atomic::Ordering;
-use test_asserts::{holds, same};
+use test_asserts::same;
 
 // A threaded form, and the core whose commands it does.
 trait Form: SyncResult + Drop {
@@ -327,59 +325,60 @@ fn at_barriers(
 
 // 27 commands.
 #[test]
-fn at_a_semaphore(rt: HostRuntime) -> io::Result<()> {
+fn at_a_semaphore(rt: HostRuntime) {
     for room in 0..3u16 {
-        let (lists, different) = at_semaphores::<_, 63>(&rt, rt.alloc(), room, &[0, 1, 63])?;
-        holds!(rt; lists == 531_441);
-        assert!(rt; different == 0, "in a room for {room}");
+        let told = at_semaphores::<_, 63>(&rt, rt.alloc(), room, &[0, 1, 63]);
+        same!(rt; (room, told), (room, Ok((531_441, 0))));
     }
-    Ok(())
+}
+
+// Lists of three with odd counts, at a semaphore of so many permits.
+fn with_odd_counts<R: Wait, const MAX: usize>(
+    rt: &R,
+    alloc: Global,
+    room: u16,
+) -> Result<(u64, u64), AllocError>
+    requires bound { 0 < MAX }
+    requires narrow { MAX < 65536 }
+{
+    at_semaphores::<R, MAX>(rt, alloc, room, &odd_counts(MAX))
 }
 
 // 45 commands, so lists of three, with odd counts.
 #[test]
-fn at_semaphores_of_any_bound(rt: HostRuntime) -> io::Result<()> {
-    let wanted = (91_125, 0);
+fn at_semaphores_of_any_bound(rt: HostRuntime) {
+    let wanted = Ok((91_125, 0));
     for room in 0..3u16 {
-        same!(rt; at_semaphores::<_, 1>(&rt, rt.alloc(), room, &odd_counts(1))?, wanted);
-        same!(rt; at_semaphores::<_, 63>(&rt, rt.alloc(), room, &odd_counts(63))?, wanted);
-        same!(rt; at_semaphores::<_, 1_000>(&rt, rt.alloc(), room, &odd_counts(1_000))?, wanted);
-        same!(rt; at_semaphores::<_, 65_535>(&rt, rt.alloc(), room, &odd_counts(65_535))?, wanted);
+        same!(rt; (room, with_odd_counts::<_, 1>(&rt, rt.alloc(), room)), (room, wanted));
+        same!(rt; (room, with_odd_counts::<_, 63>(&rt, rt.alloc(), room)), (room, wanted));
+        same!(rt; (room, with_odd_counts::<_, 1_000>(&rt, rt.alloc(), room)), (room, wanted));
+        same!(rt; (room, with_odd_counts::<_, 65_535>(&rt, rt.alloc(), room)), (room, wanted));
     }
-    Ok(())
 }
 
 // 33 commands.
 #[test]
-fn at_a_lock(rt: HostRuntime) -> io::Result<()> {
+fn at_a_lock(rt: HostRuntime) {
     for room in 0..3u16 {
-        let (lists, different) = at_locks(&rt, rt.alloc(), room)?;
-        holds!(rt; lists == 1_185_921);
-        assert!(rt; different == 0, "in a room for {room}");
+        same!(rt; (room, at_locks(&rt, rt.alloc(), room)), (room, Ok((1_185_921, 0))));
     }
-    Ok(())
 }
 
 // 16 commands.
 #[test]
-fn at_a_gate(rt: HostRuntime) -> io::Result<()> {
+fn at_a_gate(rt: HostRuntime) {
     for room in 0..3u16 {
-        let (lists, different) = at_gates(&rt, rt.alloc(), room)?;
-        holds!(rt; lists == 65_536);
-        assert!(rt; different == 0, "in a room for {room}");
+        same!(rt; (room, at_gates(&rt, rt.alloc(), room)), (room, Ok((65_536, 0))));
     }
-    Ok(())
 }
 
 // 11 commands.
 #[test]
-fn at_a_barrier(rt: HostRuntime) -> io::Result<()> {
+fn at_a_barrier(rt: HostRuntime) {
     for size in [0usize, 1, 2, 3, 63] {
         for room in 0..3u16 {
-            let (lists, different) = at_barriers(&rt, rt.alloc(), (size, room))?;
-            holds!(rt; lists == 14_641);
-            assert!(rt; different == 0, "of size {size} in a room for {room}");
+            let told = at_barriers(&rt, rt.alloc(), (size, room));
+            same!(rt; (size, room, told), (size, room, Ok((14_641, 0))));
         }
     }
-    Ok(())
 }
