@@ -1,12 +1,13 @@
 //! Worked rows of the barrier.
 
-use crate::stories::{Answer, Told, prints, tell};
+ghost use Rattle.std.specs.Prelude.{◌≡◌, IfOk, length};
+
+use crate::stories::{Answer, Told, prints, run_on, tell};
 use saa_core::barrier::{BarrierAnswer, BarrierCall, BarrierCore};
 use saa_core::bench::{Bench, Command, CommandOf, Reply, ReplyOf};
 use saa_core::ticket::{Error, Full, How, Ticket};
-use std::alloc::AllocGlobal;
+use std::alloc::{AllocError, AllocGlobal, Global};
 use std::process::Abort;
-use std::test::Fail;
 use test_asserts::same;
 
 /// A call of a row.
@@ -160,18 +161,18 @@ fn a_dropped_answer_is_only_consumed(rt: HostRuntime) {
 }
 
 // Tells a story at a barrier of 3 tasks with room for 4, and compares what it prints behind it.
-fn prints_at(rt: &(impl Abort + AllocGlobal), story: &[Row], text: &str) -> Result<(), Fail> {
-    let mut core = BarrierCore::with_count(rt.alloc(), 3, 4)?;
-    prints(rt, rt.alloc(), &mut core, (story, text))
+fn prints_at(rt: &(impl Abort + AllocGlobal), story: &[Row], text: &str) {
+    let mut core = BarrierCore::with_count(rt.alloc(), 3, 4).expect(rt, "no memory");
+    prints(rt, rt.alloc(), &mut core, (story, text));
 }
 
 const OF_THE_MOST: [Row; 1] = [(Call::Count, Answer::Count(63))];
 
 #[test]
-fn a_core_prints_its_counts(rt: HostRuntime) -> Result<(), Fail> {
+fn a_core_prints_its_counts(rt: HostRuntime) {
     same!(rt; BarrierCore::MAX_TASKS, 63);
     tell_at(&rt, (64, 0), &OF_THE_MOST);
-    prints_at(&rt, &[], "BarrierCore { count: 3, waiting: 0 }")
+    prints_at(&rt, &[], "BarrierCore { count: 3, waiting: 0 }");
 }
 
 const TWO_ARRIVE: [Row; 2] = [
@@ -187,9 +188,9 @@ const ALL_ARRIVE: [Row; 3] = [
 
 // Whoever was answered holds its slot until it takes its answer, and waits no more.
 #[test]
-fn a_core_prints_who_waits_and_not_who_was_answered(rt: HostRuntime) -> Result<(), Fail> {
-    prints_at(&rt, &TWO_ARRIVE, "BarrierCore { count: 1, waiting: 2 }")?;
-    prints_at(&rt, &ALL_ARRIVE, "BarrierCore { count: 3, waiting: 0 }")
+fn a_core_prints_who_waits_and_not_who_was_answered(rt: HostRuntime) {
+    prints_at(&rt, &TWO_ARRIVE, "BarrierCore { count: 1, waiting: 2 }");
+    prints_at(&rt, &ALL_ARRIVE, "BarrierCore { count: 3, waiting: 0 }");
 }
 
 const COMMANDS: [Command<BarrierCore>; 11] = [
@@ -220,13 +221,17 @@ const REPLIES: [Reply<BarrierCore>; 11] = [
     ReplyOf::Answered(BarrierAnswer::Count(2)),
 ];
 
+// A bench over a barrier of 2 tasks with room for 2, with four pagers.
+fn bench(alloc: Global) -> Result<Bench<BarrierCore>, AllocError>
+    ensures pagers { IfOk result (λ bench. length bench.book ≡ 4) }
+{
+    Bench::new(alloc, BarrierCore::with_count(alloc, 2, 2)?, 4)
+}
+
 // Two rounds of size 2, run as commands over a bench.
 #[test]
-fn rounds_follow_one_another_on_a_bench(rt: HostRuntime) -> Result<(), Fail> {
-    let core = BarrierCore::with_count(rt.alloc(), 2, 2)?;
-    let mut bench: Bench<BarrierCore> = Bench::new(rt.alloc(), core, 4)?;
+fn rounds_follow_one_another_on_a_bench(rt: HostRuntime) {
+    let mut bench = bench(rt.alloc()).expect(&rt, "no memory");
     let mut out: [Reply<BarrierCore>; 11] = [ReplyOf::Dropped; 11];
-    bench.run(&COMMANDS, &mut out);
-    same!(rt; out, REPLIES);
-    Ok(())
+    same!(rt; run_on(&mut bench, &COMMANDS, &mut out, &REPLIES), None);
 }

@@ -1,19 +1,23 @@
 //! A bench over a core that is in use.
 
+ghost use Rattle.std.specs.Prelude.{◌≡◌, length};
+
+use crate::stories::run_on;
 use saa_core::bench::{Bench, Command, CommandOf, Reply, ReplyOf};
 use saa_core::semaphore::{SemaphoreAnswer, SemaphoreCall, SemaphoreCore};
 use saa_core::ticket::{Error, Full, Ticket};
-use std::process::Abort;
 use std::test::Fail;
-use test_asserts::{holds, same};
+use test_asserts::same;
 
 // Takes all permits of a core, lets one slot wait for 1 permit and one for 2, and releases one: one slot waits, and the
 // answer of the other isn't consumed.
-fn use_core(rt: &impl Abort, core: &mut SemaphoreCore) {
-    holds!(rt; core.try_acquire_many(63));
-    same!(rt; core.register(&mut Ticket::new(), 1, true), Ok(true));
-    same!(rt; core.register(&mut Ticket::new(), 2, true), Ok(true));
-    holds!(rt; core.release());
+fn use_core(core: &mut SemaphoreCore) -> (bool, [Result<bool, Full>; 2], bool) {
+    let is_taken = core.try_acquire_many(63);
+    let joined = [
+        core.register(&mut Ticket::new(), 1, true),
+        core.register(&mut Ticket::new(), 2, true),
+    ];
+    (is_taken, joined, core.release())
 }
 
 const COMMANDS: [Command<SemaphoreCore>; 10] = [
@@ -42,18 +46,24 @@ const REPLIES: [Reply<SemaphoreCore>; 10] = [
     ReplyOf::Dropped,
 ];
 
+// Registers the last pager: whether the first is idle before, the reply, and whether the last is registered then.
+fn register_last(bench: &mut Bench<SemaphoreCore>) -> (bool, Reply<SemaphoreCore>, bool)
+    requires pagers { length bench.old.book ≡ 3 }
+{
+    let is_idle = !bench.is_registered(0);
+    let reply = bench.do_one(&CommandOf::Register(2, 0, true));
+    (is_idle, reply, bench.is_registered(2))
+}
+
 // Of room 4, the two slots that are used outside the bench leave two.
 #[test]
 fn a_core_in_use_is_run_as_it_is(rt: HostRuntime) -> Result<(), Fail> {
     let mut core = SemaphoreCore::new(rt.alloc(), 4)?;
-    use_core(&rt, &mut core);
+    same!(rt; use_core(&mut core), (true, [Ok(true); 2], true));
     let mut bench: Bench<SemaphoreCore> = Bench::new(rt.alloc(), core, 3)?;
     same!(rt; bench.pagers(), 3);
     let mut out: [Reply<SemaphoreCore>; 10] = [ReplyOf::Dropped; 10];
-    bench.run(&COMMANDS, &mut out);
-    same!(rt; out, REPLIES);
-    holds!(rt; !bench.is_registered(0));
-    same!(rt; bench.do_one(&CommandOf::Register(2, 0, true)), ReplyOf::Registered(Ok(true)));
-    holds!(rt; bench.is_registered(2));
+    same!(rt; run_on(&mut bench, &COMMANDS, &mut out, &REPLIES), None);
+    same!(rt; register_last(&mut bench), (true, ReplyOf::Registered(Ok(true)), true));
     Ok(())
 }

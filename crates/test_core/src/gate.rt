@@ -1,12 +1,13 @@
 //! Worked rows of the gate.
 
-use crate::stories::{Answer, Told, prints, tell};
+ghost use Rattle.std.specs.Prelude.{◌≡◌, IfOk, length};
+
+use crate::stories::{Answer, Told, prints, run_on, tell};
 use saa_core::bench::{Bench, Command, CommandOf, Reply, ReplyOf};
 use saa_core::gate::{Error, GateAnswer, GateCall, GateCore, State};
 use saa_core::ticket::{Full, How, Ticket};
-use std::alloc::AllocGlobal;
+use std::alloc::{AllocError, AllocGlobal, Global};
 use std::process::Abort;
-use std::test::Fail;
 use test_asserts::same;
 
 /// A call of a row.
@@ -216,10 +217,10 @@ fn a_rejected_answer_stays_as_it_is(rt: HostRuntime) {
 }
 
 #[test]
-fn a_core_prints_its_state(rt: HostRuntime) -> Result<(), Fail> {
-    let mut core = GateCore::new(rt.alloc(), 4)?;
+fn a_core_prints_its_state(rt: HostRuntime) {
+    let mut core = GateCore::new(rt.alloc(), 4).expect(&rt, "no memory");
     let text = "GateCore { state: Controlled, waiting: 0 }";
-    prints(&rt, rt.alloc(), &mut core, (&[], text))
+    prints(&rt, rt.alloc(), &mut core, (&[], text));
 }
 
 const COMMANDS: [Command<GateCore>; 13] = [
@@ -254,13 +255,17 @@ const REPLIES: [Reply<GateCore>; 13] = [
     ReplyOf::Answered(GateAnswer::Reset(Some(State::Open))),
 ];
 
+// A bench over a gate with room for 2, with two pagers.
+fn bench(alloc: Global) -> Result<Bench<GateCore>, AllocError>
+    ensures pagers { IfOk result (λ bench. length bench.book ≡ 2) }
+{
+    Bench::new(alloc, GateCore::new(alloc, 2)?, 2)
+}
+
 // Every call, as commands over a bench.
 #[test]
-fn calls_are_run_on_a_bench(rt: HostRuntime) -> Result<(), Fail> {
-    let core = GateCore::new(rt.alloc(), 2)?;
-    let mut bench: Bench<GateCore> = Bench::new(rt.alloc(), core, 2)?;
+fn calls_are_run_on_a_bench(rt: HostRuntime) {
+    let mut bench = bench(rt.alloc()).expect(&rt, "no memory");
     let mut out: [Reply<GateCore>; 13] = [ReplyOf::Dropped; 13];
-    bench.run(&COMMANDS, &mut out);
-    same!(rt; out, REPLIES);
-    Ok(())
+    same!(rt; run_on(&mut bench, &COMMANDS, &mut out, &REPLIES), None);
 }

@@ -7,8 +7,8 @@ use saa_core::line::{Line, LineOf, LinkedLine};
 use saa_core_spec::request::Request;
 use saa_core_words::links::Links;
 use saa_core_words::requests::ForPermits;
+use std::alloc::AllocError;
 use std::process::Abort;
-use std::test::Fail;
 use test_asserts::same;
 
 // A call at a line.
@@ -179,8 +179,8 @@ impl<O: Ordered> Desk<O> {
 }
 
 // Tells a story at a line that was just made.
-fn tell<O: Ordered>(rt: &impl Abort, line: LineOf<O>, story: &[(Call, Told)]) {
-    let slots = [None; 3];
+fn tell<O: Ordered>(rt: &impl Abort, made: Result<LineOf<O>, AllocError>, story: &[(Call, Told)]) {
+    let (line, slots) = (made.expect(rt, "no memory"), [None; 3]);
     same!(rt; Desk { line, slots }.first_other(story), None);
 }
 
@@ -216,9 +216,8 @@ const EVERY_CALL: [(Call, Told); 28] = [
 ];
 
 #[test]
-fn every_call_answers_as_it_says(rt: HostRuntime) -> Result<(), Fail> {
-    tell(&rt, Line::with_room(rt.alloc(), 2)?, &EVERY_CALL);
-    Ok(())
+fn every_call_answers_as_it_says(rt: HostRuntime) {
+    tell(&rt, Line::with_room(rt.alloc(), 2), &EVERY_CALL);
 }
 
 // The second slot is taken, held anew and answered anew, while its wake is owed still. Once it was told, its next answer
@@ -245,9 +244,8 @@ const TOLD_ONCE: [(Call, Told); 18] = [
 ];
 
 #[test]
-fn each_answered_slot_is_told_once(rt: HostRuntime) -> Result<(), Fail> {
-    tell(&rt, Line::with_room(rt.alloc(), 2)?, &TOLD_ONCE);
-    Ok(())
+fn each_answered_slot_is_told_once(rt: HostRuntime) {
+    tell(&rt, Line::with_room(rt.alloc(), 2), &TOLD_ONCE);
 }
 
 const WHEREVER_IT_STANDS: [(Call, Told); 25] = [
@@ -279,8 +277,7 @@ const WHEREVER_IT_STANDS: [(Call, Told); 25] = [
 ];
 
 #[test]
-fn a_slot_of_a_linked_line_leaves_wherever_it_stands(rt: HostRuntime) -> Result<(), Fail> {
-    let line = LinkedLine::<ForPermits>::with_room(rt.alloc(), 3)?;
-    tell(&rt, line, &WHEREVER_IT_STANDS);
-    Ok(())
+fn a_slot_of_a_linked_line_leaves_wherever_it_stands(rt: HostRuntime) {
+    let made = LinkedLine::<ForPermits>::with_room(rt.alloc(), 3);
+    tell(&rt, made, &WHEREVER_IT_STANDS);
 }

@@ -1,12 +1,13 @@
 //! Worked rows of the lock.
 
-use crate::stories::{Answer, Told, prints, tell};
+ghost use Rattle.std.specs.Prelude.{◌≡◌, IfOk, length};
+
+use crate::stories::{Answer, Told, prints, run_on, tell};
 use saa_core::bench::{Bench, Command, CommandOf, Reply, ReplyOf};
 use saa_core::lock::{LockAnswer, LockCall, LockCore, Mode, TryLockError};
 use saa_core::ticket::{Error, Full, How, Ticket};
 use std::alloc::{AllocError, AllocGlobal, Global};
 use std::process::Abort;
-use std::test::Fail;
 use test_asserts::same;
 
 /// A call of a row.
@@ -240,27 +241,37 @@ fn poll_at(core: &mut LockCore, tickets: &mut [Ticket], who: usize) -> Polled {
     Some(core.poll(tickets.get_mut(who)?, How::Sync))
 }
 
-// Makes the owner a sharer, and then releases a share: whether that may be, and what the tickets are told after each.
-fn lower(
-    core: &mut LockCore,
-    tickets: &mut [Ticket],
-) -> ((bool, (usize, Polled)), (bool, [Polled; 2])) {
+// Whether the owner becomes a sharer, and a share is released then; and what the tickets are told after each.
+type Lowered = ((bool, (usize, Polled)), (bool, [Polled; 2]));
+
+// Makes the owner a sharer, and then releases a share.
+fn lower(core: &mut LockCore, tickets: &mut [Ticket]) -> Lowered {
     let lowered = (core.downgrade(), grants(core, tickets));
     let released = core.release_share();
     let told = [poll_at(core, tickets, 61), poll_at(core, tickets, 62)];
     (lowered, (released, told))
 }
 
+// Makes the owner a sharer while seventy wait for a share: how many joined, and what is told as above.
+fn lower_before_seventy(
+    core: &mut LockCore,
+    alloc: Global,
+) -> Result<(usize, Lowered), AllocError> {
+    let mut tickets = sharers(core, alloc, 70)?;
+    let joined = tickets.len();
+    Ok((joined, lower(core, &mut tickets)))
+}
+
+const NOT_YET: Polled = Some(Err(Error::NotReady));
+
+const SIXTY_ONE_SHARE: Lowered = ((true, (61, NOT_YET)), (true, [Some(Ok(true)), NOT_YET]));
+
 #[test]
-fn sixty_one_of_seventy_share_with_the_owner_that_was(rt: HostRuntime) -> Result<(), Fail> {
-    let mut core = LockCore::new(rt.alloc(), 70)?;
+fn sixty_one_of_seventy_share_with_the_owner_that_was(rt: HostRuntime) {
+    let mut core = LockCore::new(rt.alloc(), 70).expect(&rt, "no memory");
     same!(rt; core.try_lock(), Ok(()));
-    let mut tickets = sharers(&mut core, rt.alloc(), 70)?;
-    same!(rt; tickets.len(), 70);
-    let not_ready = Some(Err(Error::NotReady));
-    let wanted = ((true, (61, not_ready)), (true, [Some(Ok(true)), not_ready]));
-    same!(rt; lower(&mut core, &mut tickets), wanted);
-    Ok(())
+    let lowered = lower_before_seventy(&mut core, rt.alloc()).expect(&rt, "no memory");
+    same!(rt; lowered, (70, SIXTY_ONE_SHARE));
 }
 
 const NO_MORE: [Row; 5] = [
@@ -282,11 +293,10 @@ fn shares(core: &mut LockCore, tries: usize) -> usize {
 }
 
 #[test]
-fn sixty_two_share_and_no_more(rt: HostRuntime) -> Result<(), Fail> {
-    let mut core = LockCore::new(rt.alloc(), 4)?;
+fn sixty_two_share_and_no_more(rt: HostRuntime) {
+    let mut core = LockCore::new(rt.alloc(), 4).expect(&rt, "no memory");
     same!(rt; shares(&mut core, LockCore::MAX_SHARED_OWNERS), LockCore::MAX_SHARED_OWNERS);
     tell(&rt, &mut core, &NO_MORE);
-    Ok(())
 }
 
 const A_POISONED_ANSWER: [Row; 7] = [
@@ -398,17 +408,28 @@ fn the_word_shows_the_owners_poison_and_the_newest_who_waits(rt: HostRuntime) {
     tell_at(&rt, 1, &WORDS);
 }
 
+// Tells a story at a lock with room for 4, and compares what it prints behind it.
+fn prints_at(rt: &(impl Abort + AllocGlobal), story: &[Row], text: &str) {
+    let mut core = LockCore::new(rt.alloc(), 4).expect(rt, "no memory");
+    prints(rt, rt.alloc(), &mut core, (story, text));
+}
+
 const A_SHARER: [Row; 1] = [(TRY_SHARE, OWNED)];
 
-const A_WAITER: [Row; 1] = [(Call::Of(0, EXCLUSIVE), JOINED)];
+const A_SHARER_AND_A_WAITER: [Row; 2] = [(TRY_SHARE, OWNED), (Call::Of(0, EXCLUSIVE), JOINED)];
 
 #[test]
-fn a_lock_shows_its_state(rt: HostRuntime) -> Result<(), Fail> {
-    let mut core = LockCore::new(rt.alloc(), 4)?;
-    let text = "LockCore { locked: false, share_count: 1, poisoned: false, waiting: 0 }";
-    prints(&rt, rt.alloc(), &mut core, (&A_SHARER, text))?;
-    let text = "LockCore { locked: false, share_count: 1, poisoned: false, waiting: 1 }";
-    prints(&rt, rt.alloc(), &mut core, (&A_WAITER, text))
+fn a_lock_shows_its_state(rt: HostRuntime) {
+    prints_at(
+        &rt,
+        &A_SHARER,
+        "LockCore { locked: false, share_count: 1, poisoned: false, waiting: 0 }",
+    );
+    prints_at(
+        &rt,
+        &A_SHARER_AND_A_WAITER,
+        "LockCore { locked: false, share_count: 1, poisoned: false, waiting: 1 }",
+    );
 }
 
 const COMMANDS: [Command<LockCore>; 12] = [
@@ -441,13 +462,17 @@ const REPLIES: [Reply<LockCore>; 12] = [
     ReplyOf::Answered(LockAnswer::Bool(true)),
 ];
 
+// A bench over a lock with room for 1, with two pagers.
+fn bench(alloc: Global) -> Result<Bench<LockCore>, AllocError>
+    ensures pagers { IfOk result (λ bench. length bench.book ≡ 2) }
+{
+    Bench::new(alloc, LockCore::new(alloc, 1)?, 2)
+}
+
 #[test]
-fn a_bench_of_a_lock_runs_its_commands(rt: HostRuntime) -> Result<(), Fail> {
-    let core = LockCore::new(rt.alloc(), 1)?;
-    let mut bench: Bench<LockCore> = Bench::new(rt.alloc(), core, 2)?;
+fn a_bench_of_a_lock_runs_its_commands(rt: HostRuntime) {
+    let mut bench = bench(rt.alloc()).expect(&rt, "no memory");
     same!(rt; bench.pagers(), 2);
     let mut out: [Reply<LockCore>; 12] = [ReplyOf::Dropped; 12];
-    bench.run(&COMMANDS, &mut out);
-    same!(rt; out, REPLIES);
-    Ok(())
+    same!(rt; run_on(&mut bench, &COMMANDS, &mut out, &REPLIES), None);
 }

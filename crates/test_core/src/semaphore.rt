@@ -4,9 +4,8 @@ use crate::stories::{Answer, Told, prints, tell};
 use crate::widths::{fewest, most};
 use saa_core::semaphore::{SemaphoreCore, SemaphoreCoreOf};
 use saa_core::ticket::{Error, Full, How, Ticket};
-use std::alloc::AllocGlobal;
+use std::alloc::{AllocError, AllocGlobal, Global};
 use std::process::Abort;
-use std::test::Fail;
 use test_asserts::same;
 
 /// A call of a row.
@@ -307,9 +306,9 @@ const OF_THE_MOST: [Row; 5] = [
 ];
 
 #[test]
-fn the_most_permits(rt: HostRuntime) -> Result<(), Fail> {
-    tell(&rt, &mut most(rt.alloc(), 70_000, 4)?, &OF_THE_MOST);
-    Ok(())
+fn the_most_permits(rt: HostRuntime) {
+    let mut core = most(rt.alloc(), 70_000, 4).expect(&rt, "no memory");
+    tell(&rt, &mut core, &OF_THE_MOST);
 }
 
 const OF_ONE: [Row; 8] = [
@@ -324,9 +323,9 @@ const OF_ONE: [Row; 8] = [
 ];
 
 #[test]
-fn one_permit(rt: HostRuntime) -> Result<(), Fail> {
-    tell(&rt, &mut fewest(rt.alloc(), 2)?, &OF_ONE);
-    Ok(())
+fn one_permit(rt: HostRuntime) {
+    let mut core = fewest(rt.alloc(), 2).expect(&rt, "no memory");
+    tell(&rt, &mut core, &OF_ONE);
 }
 
 // Two cores of one kind.
@@ -334,6 +333,15 @@ fn one_permit(rt: HostRuntime) -> Result<(), Fail> {
 struct Two {
     own: SemaphoreCore,
     other: SemaphoreCore,
+}
+
+impl Two {
+    // Each with room for 1.
+    fn new(alloc: Global) -> Result<Two, AllocError> {
+        let own = SemaphoreCore::new(alloc, 1)?;
+        let other = SemaphoreCore::new(alloc, 1)?;
+        Ok(Two { own, other })
+    }
 }
 
 // One of two cores.
@@ -374,13 +382,9 @@ const ANOTHER_CORE: [((At, Call), Answer); 10] = [
 ];
 
 #[test]
-fn a_ticket_is_nothing_to_another_core(rt: HostRuntime) -> Result<(), Fail> {
-    let mut two = Two {
-        own: SemaphoreCore::new(rt.alloc(), 1)?,
-        other: SemaphoreCore::new(rt.alloc(), 1)?,
-    };
+fn a_ticket_is_nothing_to_another_core(rt: HostRuntime) {
+    let mut two = Two::new(rt.alloc()).expect(&rt, "no memory");
     tell(&rt, &mut two, &ANOTHER_CORE);
-    Ok(())
 }
 
 const TWO_ASK: [Row; 2] = [
@@ -389,8 +393,8 @@ const TWO_ASK: [Row; 2] = [
 ];
 
 #[test]
-fn a_core_prints_its_counts(rt: HostRuntime) -> Result<(), Fail> {
-    let mut core = SemaphoreCore::with_permits(rt.alloc(), 4, 2)?;
+fn a_core_prints_its_counts(rt: HostRuntime) {
+    let mut core = SemaphoreCore::with_permits(rt.alloc(), 4, 2).expect(&rt, "no memory");
     let text = "SemaphoreCore { available_permits: 4, waiting: 2 }";
-    prints(&rt, rt.alloc(), &mut core, (&TWO_ASK, text))
+    prints(&rt, rt.alloc(), &mut core, (&TWO_ASK, text));
 }

@@ -1,6 +1,6 @@
 //! Worked rows of words, and a line that is joined and left at each of its places.
 
-ghost use Rattle.std.specs.Prelude.{◌≡◌};
+ghost use Rattle.std.specs.Prelude.{◌≡◌, []};
 
 use saa_core_spec::request::Request;
 use saa_core_words::answer_word::{self, AnswerWord};
@@ -8,7 +8,6 @@ use saa_core_words::line_word::LineWord;
 use saa_core_words::links::Links;
 use saa_core_words::requests::{ForModes, ForPermits, Requests, request_number};
 use saa_core_words::word::Word;
-use std::test::Fail;
 use test_asserts::same;
 
 // A main word by its parts.
@@ -104,52 +103,79 @@ fn each_request_has_its_number(rt: HostRuntime) {
 }
 
 // How many wait in a line, its newest place and one, and its oldest place with what it asked.
-fn seen(links: &Links<ForPermits>) -> (u16, u16, Option<(u16, Request)>) {
+type Seen = (u16, u16, Option<(u16, Request)>);
+
+fn seen(links: &Links<ForPermits>) -> Seen {
     (links.waiting(), links.tail(), links.oldest())
 }
 
-#[test]
-fn a_place_leaves_wherever_it_stands(rt: HostRuntime) -> Result<(), Fail> {
-    let mut links = Links::<ForPermits>::with_room(rt.alloc(), 3)?;
-    let empty = seen(&links);
+const OLDEST: Option<(u16, Request)> = Some((2, Request::Permits(5)));
+
+const LAST: Option<(u16, Request)> = Some((1, Request::Permits(7)));
+
+const EMPTY: Seen = (0, 0, None);
+
+// With nobody and with three; then without the one between, without the oldest, with one more, without that newest, and
+// without the last of all.
+const JOINED_AND_LEFT: [Seen; 7] = [
+    EMPTY,
+    (3, 2, OLDEST),
+    (2, 2, OLDEST),
+    (1, 2, LAST),
+    (2, 3, LAST),
+    (1, 2, LAST),
+    EMPTY,
+];
+
+// The oldest is taken, and taken again, and there is none.
+const TAKEN: [(Option<(u16, Request)>, Seen); 3] = [
+    (
+        Some((1, Request::Permits(9))),
+        (1, 1, Some((0, Request::Permits(1)))),
+    ),
+    (Some((0, Request::Permits(1))), EMPTY),
+    (None, EMPTY),
+];
+
+// Three join and leave, one joins again, and two are taken.
+fn join_and_leave(links: &mut Links<ForPermits>) -> ([Seen; 7], [(Option<(u16, Request)>, Seen); 3])
+    requires empty { links.old ≡ record { line = []; room = 3 } }
+{
+    let nobody = seen(links);
     links.push(2, Request::Permits(5));
     links.push(0, Request::Permits(6));
     links.push(1, Request::Permits(7));
-    let full = seen(&links);
-    same!(rt; (empty, full), ((0, 0, None), (3, 2, Some((2, Request::Permits(5))))));
-
-    // The one between, the oldest, the newest, and the last of all.
+    let three = seen(links);
     links.remove(0);
-    let without_the_middle = seen(&links);
+    let without_the_middle = seen(links);
     links.remove(2);
-    let without_the_oldest = seen(&links);
+    let without_the_oldest = seen(links);
     links.push(2, Request::Permits(8));
-    let with_one_more = seen(&links);
+    let with_one_more = seen(links);
     links.remove(2);
-    let without_the_newest = seen(&links);
+    let without_the_newest = seen(links);
     links.remove(1);
-    let the_last = Some((1, Request::Permits(7)));
-    same!(rt; [
+    let left = [
+        nobody,
+        three,
         without_the_middle,
         without_the_oldest,
         with_one_more,
         without_the_newest,
-        seen(&links),
-    ], [
-        (2, 2, Some((2, Request::Permits(5)))),
-        (1, 2, the_last),
-        (2, 3, the_last),
-        (1, 2, the_last),
-        (0, 0, None),
-    ]);
-
-    // The oldest is taken, and taken again.
+        seen(links),
+    ];
     links.push(1, Request::Permits(9));
     links.push(0, Request::Permits(1));
-    let first = (links.pop(), seen(&links));
-    let second = (links.pop(), links.tail());
-    let third = (links.pop(), links.tail());
-    same!(rt; first, (Some((1, Request::Permits(9))), (1, 1, Some((0, Request::Permits(1))))));
-    same!(rt; [second, third], [(Some((0, Request::Permits(1))), 0), (None, 0)]);
-    Ok(())
+    let taken = [
+        (links.pop(), seen(links)),
+        (links.pop(), seen(links)),
+        (links.pop(), seen(links)),
+    ];
+    (left, taken)
+}
+
+#[test]
+fn a_place_leaves_wherever_it_stands(rt: HostRuntime) {
+    let mut links = Links::<ForPermits>::with_room(rt.alloc(), 3).expect(&rt, "no memory");
+    same!(rt; join_and_leave(&mut links), (JOINED_AND_LEFT, TAKEN));
 }
