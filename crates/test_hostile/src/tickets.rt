@@ -6,7 +6,7 @@ use saa::gate::{self, GateAnswer, GateCall, GateCore, State};
 use saa::lock::{LockAnswer, LockCall, LockCore, Mode};
 use saa::semaphore::{SemaphoreAnswer, SemaphoreCall, SemaphoreCore};
 use saa::ticket::{Error, Full, How, Ticket};
-use std::alloc::AllocGlobal;
+use std::alloc::{AllocError, AllocGlobal};
 use std::fmt::Debug;
 use std::process::Abort;
 use test_asserts::same;
@@ -137,25 +137,37 @@ where
     }
 }
 
+// Tells a story at two cores that were just made.
+fn tell<P: Polls>(
+    rt: &impl Abort,
+    (own, other): (Result<P, AllocError>, Result<P, AllocError>),
+    story: &[Row<P>],
+)
+where
+    P::Answer: PartialEq + Debug,
+    P::Value: PartialEq + Debug,
+{
+    let own = own.expect(rt, "no memory");
+    let other = other.expect(rt, "no memory");
+    same!(rt; Two::new(own, other).first_other(story), None);
+}
+
 // Tells a story at two locks with so much room.
 fn tell_locks(rt: &(impl Abort + AllocGlobal), room: u16, story: &[Row<LockCore>]) {
-    let own = LockCore::new(rt.alloc(), room).expect(rt, "no memory");
-    let other = LockCore::new(rt.alloc(), room).expect(rt, "no memory");
-    same!(rt; Two::new(own, other).first_other(story), None);
+    let own = LockCore::new(rt.alloc(), room);
+    tell(rt, (own, LockCore::new(rt.alloc(), room)), story);
 }
 
 // Tells a story at two semaphores with so much room.
 fn tell_semaphores(rt: &(impl Abort + AllocGlobal), room: u16, story: &[Row<SemaphoreCore>]) {
-    let own = SemaphoreCore::new(rt.alloc(), room).expect(rt, "no memory");
-    let other = SemaphoreCore::new(rt.alloc(), room).expect(rt, "no memory");
-    same!(rt; Two::new(own, other).first_other(story), None);
+    let own = SemaphoreCore::new(rt.alloc(), room);
+    tell(rt, (own, SemaphoreCore::new(rt.alloc(), room)), story);
 }
 
 // Tells a story at two gates with so much room.
 fn tell_gates(rt: &(impl Abort + AllocGlobal), room: u16, story: &[Row<GateCore>]) {
-    let own = GateCore::new(rt.alloc(), room).expect(rt, "no memory");
-    let other = GateCore::new(rt.alloc(), room).expect(rt, "no memory");
-    same!(rt; Two::new(own, other).first_other(story), None);
+    let own = GateCore::new(rt.alloc(), room);
+    tell(rt, (own, GateCore::new(rt.alloc(), room)), story);
 }
 
 // Tells a story at two barriers of so many tasks with so much room.
@@ -164,9 +176,9 @@ fn tell_barriers(
     (count, room): (usize, u16),
     story: &[Row<BarrierCore>],
 ) {
-    let own = BarrierCore::with_count(rt.alloc(), count, room).expect(rt, "no memory");
-    let other = BarrierCore::with_count(rt.alloc(), count, room).expect(rt, "no memory");
-    same!(rt; Two::new(own, other).first_other(story), None);
+    let own = BarrierCore::with_count(rt.alloc(), count, room);
+    let other = BarrierCore::with_count(rt.alloc(), count, room);
+    tell(rt, (own, other), story);
 }
 
 const A_CLEARED_LOCK: [Row<LockCore>; 6] = [
