@@ -1,12 +1,10 @@
 //! Worked rows of the barrier.
 
-ghost use Rattle.std.specs.Prelude.{◌≡◌, IfOk, length};
-
-use crate::stories::{Answer, Told, prints, run_on, tell};
+use crate::stories::{Answer, Told, prints, tell};
 use saa_core::barrier::{BarrierAnswer, BarrierCall, BarrierCore};
 use saa_core::bench::{Bench, Command, CommandOf, Reply, ReplyOf};
 use saa_core::ticket::{Error, Full, How, Ticket};
-use std::alloc::{AllocError, AllocGlobal, Global};
+use std::alloc::AllocGlobal;
 use std::process::Abort;
 use test_asserts::same;
 
@@ -221,17 +219,12 @@ const REPLIES: [Reply<BarrierCore>; 11] = [
     ReplyOf::Answered(BarrierAnswer::Count(2)),
 ];
 
-// A bench over a barrier of 2 tasks with room for 2, with four pagers.
-fn bench(alloc: Global) -> Result<Bench<BarrierCore>, AllocError>
-    ensures pagers { IfOk result (λ bench. length bench.book ≡ 4) }
-{
-    Bench::new(alloc, BarrierCore::with_count(alloc, 2, 2)?, 4)
-}
-
 // Two rounds of size 2, run as commands over a bench.
 #[test]
 fn rounds_follow_one_another_on_a_bench(rt: HostRuntime) {
-    let mut bench = bench(rt.alloc()).expect(&rt, "no memory");
+    let core = BarrierCore::with_count(rt.alloc(), 2, 2).expect(&rt, "no memory");
+    let mut bench: Bench<BarrierCore> = Bench::new(rt.alloc(), core, 4).expect(&rt, "no memory");
     let mut out: [Reply<BarrierCore>; 11] = [ReplyOf::Dropped; 11];
-    same!(rt; run_on(&mut bench, &COMMANDS, &mut out, &REPLIES), None);
+    bench.run(&COMMANDS, &mut out);
+    same!(rt; out, REPLIES);
 }

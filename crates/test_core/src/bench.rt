@@ -2,11 +2,9 @@
 
 ghost use Rattle.std.specs.Prelude.{◌≡◌, length};
 
-use crate::stories::run_on;
 use saa_core::bench::{Bench, Command, CommandOf, Reply, ReplyOf};
 use saa_core::semaphore::{SemaphoreAnswer, SemaphoreCall, SemaphoreCore};
 use saa_core::ticket::{Error, Full, Ticket};
-use std::test::Fail;
 use test_asserts::same;
 
 // Takes all permits of a core, lets one slot wait for 1 permit and one for 2, and releases one: one slot waits, and the
@@ -57,13 +55,13 @@ fn register_last(bench: &mut Bench<SemaphoreCore>) -> (bool, Reply<SemaphoreCore
 
 // Of room 4, the two slots that are used outside the bench leave two.
 #[test]
-fn a_core_in_use_is_run_as_it_is(rt: HostRuntime) -> Result<(), Fail> {
-    let mut core = SemaphoreCore::new(rt.alloc(), 4)?;
+fn a_core_in_use_is_run_as_it_is(rt: HostRuntime) {
+    let mut core = SemaphoreCore::new(rt.alloc(), 4).expect(&rt, "no memory");
     same!(rt; use_core(&mut core), (true, [Ok(true); 2], true));
-    let mut bench: Bench<SemaphoreCore> = Bench::new(rt.alloc(), core, 3)?;
+    let mut bench: Bench<SemaphoreCore> = Bench::new(rt.alloc(), core, 3).expect(&rt, "no memory");
     same!(rt; bench.pagers(), 3);
     let mut out: [Reply<SemaphoreCore>; 10] = [ReplyOf::Dropped; 10];
-    same!(rt; run_on(&mut bench, &COMMANDS, &mut out, &REPLIES), None);
+    bench.run(&COMMANDS, &mut out);
+    same!(rt; out, REPLIES);
     same!(rt; register_last(&mut bench), (true, ReplyOf::Registered(Ok(true)), true));
-    Ok(())
 }

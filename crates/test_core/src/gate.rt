@@ -1,12 +1,10 @@
 //! Worked rows of the gate.
 
-ghost use Rattle.std.specs.Prelude.{◌≡◌, IfOk, length};
-
-use crate::stories::{Answer, Told, prints, run_on, tell};
+use crate::stories::{Answer, Told, prints, tell};
 use saa_core::bench::{Bench, Command, CommandOf, Reply, ReplyOf};
 use saa_core::gate::{Error, GateAnswer, GateCall, GateCore, State};
 use saa_core::ticket::{Full, How, Ticket};
-use std::alloc::{AllocError, AllocGlobal, Global};
+use std::alloc::AllocGlobal;
 use std::process::Abort;
 use test_asserts::same;
 
@@ -255,17 +253,12 @@ const REPLIES: [Reply<GateCore>; 13] = [
     ReplyOf::Answered(GateAnswer::Reset(Some(State::Open))),
 ];
 
-// A bench over a gate with room for 2, with two pagers.
-fn bench(alloc: Global) -> Result<Bench<GateCore>, AllocError>
-    ensures pagers { IfOk result (λ bench. length bench.book ≡ 2) }
-{
-    Bench::new(alloc, GateCore::new(alloc, 2)?, 2)
-}
-
 // Every call, as commands over a bench.
 #[test]
 fn calls_are_run_on_a_bench(rt: HostRuntime) {
-    let mut bench = bench(rt.alloc()).expect(&rt, "no memory");
+    let core = GateCore::new(rt.alloc(), 2).expect(&rt, "no memory");
+    let mut bench: Bench<GateCore> = Bench::new(rt.alloc(), core, 2).expect(&rt, "no memory");
     let mut out: [Reply<GateCore>; 13] = [ReplyOf::Dropped; 13];
-    same!(rt; run_on(&mut bench, &COMMANDS, &mut out, &REPLIES), None);
+    bench.run(&COMMANDS, &mut out);
+    same!(rt; out, REPLIES);
 }

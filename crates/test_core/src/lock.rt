@@ -1,8 +1,6 @@
 //! Worked rows of the lock.
 
-ghost use Rattle.std.specs.Prelude.{◌≡◌, IfOk, length};
-
-use crate::stories::{Answer, Told, prints, run_on, tell};
+use crate::stories::{Answer, Told, prints, tell};
 use saa_core::bench::{Bench, Command, CommandOf, Reply, ReplyOf};
 use saa_core::lock::{LockAnswer, LockCall, LockCore, Mode, TryLockError};
 use saa_core::ticket::{Error, Full, How, Ticket};
@@ -462,17 +460,12 @@ const REPLIES: [Reply<LockCore>; 12] = [
     ReplyOf::Answered(LockAnswer::Bool(true)),
 ];
 
-// A bench over a lock with room for 1, with two pagers.
-fn bench(alloc: Global) -> Result<Bench<LockCore>, AllocError>
-    ensures pagers { IfOk result (λ bench. length bench.book ≡ 2) }
-{
-    Bench::new(alloc, LockCore::new(alloc, 1)?, 2)
-}
-
 #[test]
 fn a_bench_of_a_lock_runs_its_commands(rt: HostRuntime) {
-    let mut bench = bench(rt.alloc()).expect(&rt, "no memory");
+    let core = LockCore::new(rt.alloc(), 1).expect(&rt, "no memory");
+    let mut bench: Bench<LockCore> = Bench::new(rt.alloc(), core, 2).expect(&rt, "no memory");
     same!(rt; bench.pagers(), 2);
     let mut out: [Reply<LockCore>; 12] = [ReplyOf::Dropped; 12];
-    same!(rt; run_on(&mut bench, &COMMANDS, &mut out, &REPLIES), None);
+    bench.run(&COMMANDS, &mut out);
+    same!(rt; out, REPLIES);
 }

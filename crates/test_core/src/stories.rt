@@ -2,10 +2,6 @@
 //!
 //! A call that stands in a test's text is proved there anew; one that stands in a row of a table is data, and costs no proof.
 
-ghost use Rattle.std.specs.Prelude.{◌≡◌, All, length};
-ghost use Rattle.saa_core_spec.specs.Run.{IsWithin};
-
-use saa_core::bench::{Bench, Command, Primitive, Reply};
 use saa_core::gate::{Error as GateError, State};
 use saa_core::lock::TryLockError;
 use saa_core::ticket::{Error, Full, Ticket};
@@ -87,28 +83,4 @@ pub fn prints<C: Told + Debug>(
     tell(rt, core, story);
     let printed = format!(in alloc; "{core:?}").expect(rt, "no memory");
     same!(rt; printed.as_str(), text);
-}
-
-/// Runs commands on a bench, with their replies in `out`; the first that is another than wanted, and its place.
-pub fn run_on<P: Primitive>(
-    bench: &mut Bench<P>,
-    commands: &[Command<P>],
-    out: &mut [Reply<P>],
-    wanted: &[Reply<P>],
-) -> Option<(usize, Reply<P>)>
-where
-    P::Answer: PartialEq,
-    P::Value: PartialEq,
-    requires same_length { length commands.now ≡ length out.old }
-    requires all_wanted { length wanted.now ≡ length commands.now }
-    requires within { All (IsWithin (length bench.old.book)) commands.now }
-    ensures pagers { length bench.new.book ≡ length bench.old.book }
-{
-    bench.run(commands, out);
-    for (place, (reply, wanted)) in out.iter().zip(wanted).enumerate() {
-        if *reply != *wanted {
-            return Some((place, *reply));
-        }
-    }
-    None
 }
