@@ -4,84 +4,237 @@
 ghost use Rattle.saa_word_threads.specs.Locks.{IsDealtBy, IsLeftOf};
 
 use saa_word_threads::lock::{Error, Left, Lock, Mode, Place, TryLockError};
+use std::alloc::AllocGlobal;
+use std::process::Abort;
 use std::sync::Wait;
 use std::test::Fail;
 use std::thread;
 use std::thread::Threads;
 use test_asserts::same;
 
-#[test]
-fn a_downgrade_lets_a_sharer_in(rt: HostRuntime) -> Result<(), Fail> {
-    let (lock, mut places) = Lock::new(rt.alloc(), 2)?;
-    let mut second = places.pop().expect(&rt, "place 1");
-    let mut first = places.pop().expect(&rt, "place 0");
-    places.destroy_empty();
-    same!(rt; lock.try_lock(&rt, &mut first), Ok(()));
-    same!(rt; lock.register(&rt, &mut second, Mode::Shared), true);
-    same!(rt; lock.try_poll(&mut second), Err(Error::NotReady));
-    same!(rt; lock.downgrade(&rt, &mut first), true);
-    same!(rt; lock.is_shared(&mut first), true);
-    same!(rt; lock.try_poll(&mut second), Ok(true));
-    same!(rt; lock.release_share(&rt, &mut first), true);
-    same!(rt; lock.release_share(&rt, &mut second), true);
-    same!(rt; lock.release_share(&rt, &mut second), false);
-    let left = lock.leave(&rt, first);
-    let other = lock.leave(&rt, second);
-    same!(rt; [left.place(), other.place()], [0, 1]);
-    same!(rt; lock.close(left).main(), 0);
-    Ok(())
+// A call of a place.
+#[derive(Clone, Copy)]
+enum Call {
+    TryLock,
+    TryShare,
+    Lock,
+    Share,
+    ReleaseLock,
+    ReleaseShare,
+    Downgrade,
+    Poison,
+    Clear,
+    Register(Mode),
+    TryPoll,
+    Poll,
+    Cancel,
+    Look(Look),
 }
 
-#[test]
-fn poison_answers_a_wait_mode(rt: HostRuntime) -> Result<(), Fail> {
-    let (lock, mut places) = Lock::new(rt.alloc(), 2)?;
-    let mut second = places.pop().expect(&rt, "place 1");
-    let mut first = places.pop().expect(&rt, "place 0");
+// A call that only reads.
+#[derive(Clone, Copy)]
+enum Look {
+    IsFree,
+    IsLocked,
+    IsShared,
+    IsPoisoned,
+}
+
+// What a call answers.
+#[derive(Clone, Copy, Debug, PartialEq)]
+enum Told {
+    Nothing,
+    Is(bool),
+    Tried(Result<(), TryLockError>),
+    Polled(Result<bool, Error>),
+}
+
+// Who makes a call.
+#[derive(Clone, Copy)]
+enum Who {
+    First,
+    Second,
+}
+
+// Makes a call that only reads.
+fn read(lock: &Lock, place: &mut Place, call: Look) -> bool
+    requires { IsDealtBy lock.now place.old }
+    ensures { IsDealtBy lock.now place.new }
+{
+    match call {
+        Look::IsFree => lock.is_free(place),
+        Look::IsLocked => lock.is_locked(place),
+        Look::IsShared => lock.is_shared(place),
+        Look::IsPoisoned => lock.is_poisoned(place),
+    }
+}
+
+// Makes a call.
+fn make(rt: &impl Wait, lock: &Lock, place: &mut Place, call: Call) -> Told
+    requires { IsDealtBy lock.now place.old }
+    ensures { IsDealtBy lock.now place.new }
+{
+    match call {
+        Call::TryLock => Told::Tried(lock.try_lock(rt, place)),
+        Call::TryShare => Told::Tried(lock.try_share(rt, place)),
+        Call::Lock => Told::Is(lock.lock(rt, place)),
+        Call::Share => Told::Is(lock.share(rt, place)),
+        Call::ReleaseLock => Told::Is(lock.release_lock(rt, place)),
+        Call::ReleaseShare => Told::Is(lock.release_share(rt, place)),
+        Call::Downgrade => Told::Is(lock.downgrade(rt, place)),
+        Call::Poison => Told::Is(lock.poison_lock(rt, place)),
+        Call::Clear => Told::Is(lock.clear_poison(rt, place)),
+        Call::Register(mode) => Told::Is(lock.register(rt, place, mode)),
+        Call::TryPoll => Told::Polled(lock.try_poll(place)),
+        Call::Poll => Told::Polled(lock.poll(rt, place)),
+        Call::Cancel => {
+            lock.cancel(rt, place);
+            Told::Nothing
+        }
+        Call::Look(call) => Told::Is(read(lock, place, call)),
+    }
+}
+
+type Row = (Who, Call, Told);
+
+// The first row that was answered otherwise, counted from 0, and its answer.
+fn first_other(
+    rt: &impl Wait,
+    lock: &Lock,
+    first: &mut Place,
+    second: &mut Place,
+    story: &[Row],
+) -> Option<(usize, Told)>
+    requires first { IsDealtBy lock.now first.old }
+    requires second { IsDealtBy lock.now second.old }
+    ensures first { IsDealtBy lock.now first.new }
+    ensures second { IsDealtBy lock.now second.new }
+{
+    for row in 0..story.len() {
+        let (who, call, wanted) = story[row];
+        let told = match who {
+            Who::First => make(rt, lock, first, call),
+            Who::Second => make(rt, lock, second, call),
+        };
+        if told != wanted {
+            return Some((row, told));
+        }
+    }
+    None
+}
+
+// What a story of two places tells: the first row that was answered otherwise, the places' numbers, and the main word once both
+// have left.
+type Ended = (Option<(usize, Told)>, [u16; 2], u64);
+
+// Tells a story of two places.
+fn tell<R: Wait + Abort + AllocGlobal>(rt: &R, story: &[Row]) -> Ended {
+    let (lock, mut places) = Lock::new(rt.alloc(), 2).expect(rt, "no memory");
+    let mut second = places.pop().expect(rt, "place 1");
+    let mut first = places.pop().expect(rt, "place 0");
     places.destroy_empty();
-    same!(rt; lock.try_lock(&rt, &mut first), Ok(()));
-    same!(rt; lock.register(&rt, &mut second, Mode::WaitShared), true);
-    same!(rt; lock.poison_lock(&rt, &mut first), true);
-    same!(rt; lock.poll(&rt, &mut second), Ok(false));
-    same!(rt; lock.share(&rt, &mut second), false);
-    same!(rt; lock.try_share(&rt, &mut second), Err(TryLockError::Poisoned));
-    same!(rt; lock.is_poisoned(&mut first), true);
-    same!(rt; lock.clear_poison(&rt, &mut first), true);
-    let left = lock.leave(&rt, first);
-    lock.leave(&rt, second);
-    same!(rt; lock.close(left).main(), 0);
-    Ok(())
+    let other = first_other(rt, &lock, &mut first, &mut second, story);
+    let left = lock.leave(rt, first);
+    let numbers = [left.place(), lock.leave(rt, second).place()];
+    (other, numbers, lock.close(left).main())
+}
+
+const A_DOWNGRADE: [Row; 9] = [
+    (Who::First, Call::TryLock, Told::Tried(Ok(()))),
+    (Who::Second, Call::Register(Mode::Shared), Told::Is(true)),
+    (
+        Who::Second,
+        Call::TryPoll,
+        Told::Polled(Err(Error::NotReady)),
+    ),
+    (Who::First, Call::Downgrade, Told::Is(true)),
+    (Who::First, Call::Look(Look::IsShared), Told::Is(true)),
+    (Who::Second, Call::TryPoll, Told::Polled(Ok(true))),
+    (Who::First, Call::ReleaseShare, Told::Is(true)),
+    (Who::Second, Call::ReleaseShare, Told::Is(true)),
+    (Who::Second, Call::ReleaseShare, Told::Is(false)),
+];
+
+#[test]
+fn a_downgrade_lets_a_sharer_in(rt: HostRuntime) {
+    same!(rt; tell(&rt, &A_DOWNGRADE), (None, [0, 1], 0));
+}
+
+const POISON: [Row; 8] = [
+    (Who::First, Call::TryLock, Told::Tried(Ok(()))),
+    (
+        Who::Second,
+        Call::Register(Mode::WaitShared),
+        Told::Is(true),
+    ),
+    (Who::First, Call::Poison, Told::Is(true)),
+    (Who::Second, Call::Poll, Told::Polled(Ok(false))),
+    (Who::Second, Call::Share, Told::Is(false)),
+    (
+        Who::Second,
+        Call::TryShare,
+        Told::Tried(Err(TryLockError::Poisoned)),
+    ),
+    (Who::First, Call::Look(Look::IsPoisoned), Told::Is(true)),
+    (Who::First, Call::Clear, Told::Is(true)),
+];
+
+#[test]
+fn poison_answers_a_wait_mode(rt: HostRuntime) {
+    same!(rt; tell(&rt, &POISON), (None, [0, 1], 0));
 }
 
 // Each call that the rows above don't make, or make with one answer only: modes, cancels and what is read. At the end the word is that of a
 // lock that one share is out of.
+const MODES: [Row; 23] = [
+    (Who::First, Call::Look(Look::IsFree), Told::Is(true)),
+    (Who::First, Call::Lock, Told::Is(true)),
+    (Who::Second, Call::Look(Look::IsFree), Told::Is(false)),
+    (Who::Second, Call::Look(Look::IsLocked), Told::Is(true)),
+    (Who::Second, Call::Look(Look::IsShared), Told::Is(false)),
+    (
+        Who::Second,
+        Call::TryLock,
+        Told::Tried(Err(TryLockError::WouldBlock)),
+    ),
+    (
+        Who::Second,
+        Call::Register(Mode::WaitExclusive),
+        Told::Is(true),
+    ),
+    (Who::Second, Call::Register(Mode::Shared), Told::Is(false)),
+    (Who::Second, Call::Share, Told::Is(false)),
+    (Who::First, Call::ReleaseLock, Told::Is(true)),
+    (Who::First, Call::ReleaseLock, Told::Is(false)),
+    (Who::Second, Call::Poll, Told::Polled(Ok(true))),
+    (
+        Who::Second,
+        Call::Poll,
+        Told::Polled(Err(Error::NotRegistered)),
+    ),
+    (Who::Second, Call::Look(Look::IsFree), Told::Is(true)),
+    (Who::Second, Call::Look(Look::IsPoisoned), Told::Is(false)),
+    (Who::First, Call::Downgrade, Told::Is(false)),
+    (Who::First, Call::Poison, Told::Is(false)),
+    (Who::First, Call::Clear, Told::Is(false)),
+    (Who::Second, Call::Share, Told::Is(true)),
+    (Who::First, Call::Register(Mode::Exclusive), Told::Is(true)),
+    (
+        Who::Second,
+        Call::TryShare,
+        Told::Tried(Err(TryLockError::WouldBlock)),
+    ),
+    (Who::First, Call::Cancel, Told::Nothing),
+    (
+        Who::First,
+        Call::TryPoll,
+        Told::Polled(Err(Error::NotRegistered)),
+    ),
+];
+
 #[test]
-fn modes_and_what_is_read(rt: HostRuntime) -> Result<(), Fail> {
-    let (lock, mut places) = Lock::new(rt.alloc(), 2)?;
-    let mut second = places.pop().expect(&rt, "place 1");
-    let mut first = places.pop().expect(&rt, "place 0");
-    places.destroy_empty();
-    same!(rt; lock.is_free(&mut first), true);
-    same!(rt; lock.lock(&rt, &mut first), true);
-    same!(rt; [lock.is_free(&mut second), lock.is_locked(&mut second), lock.is_shared(&mut second)], [false, true, false]);
-    same!(rt; lock.try_lock(&rt, &mut second), Err(TryLockError::WouldBlock));
-    same!(rt; lock.register(&rt, &mut second, Mode::WaitExclusive), true);
-    same!(rt; lock.register(&rt, &mut second, Mode::Shared), false);
-    same!(rt; lock.share(&rt, &mut second), false);
-    same!(rt; lock.release_lock(&rt, &mut first), true);
-    same!(rt; lock.release_lock(&rt, &mut first), false);
-    same!(rt; lock.poll(&rt, &mut second), Ok(true));
-    same!(rt; lock.poll(&rt, &mut second), Err(Error::NotRegistered));
-    same!(rt; [lock.is_free(&mut second), lock.is_poisoned(&mut second)], [true, false]);
-    same!(rt; [lock.downgrade(&rt, &mut first), lock.poison_lock(&rt, &mut first), lock.clear_poison(&rt, &mut first)], [false, false, false]);
-    same!(rt; lock.share(&rt, &mut second), true);
-    same!(rt; lock.register(&rt, &mut first, Mode::Exclusive), true);
-    same!(rt; lock.try_share(&rt, &mut second), Err(TryLockError::WouldBlock));
-    lock.cancel(&rt, &mut first);
-    same!(rt; lock.try_poll(&mut first), Err(Error::NotRegistered));
-    let left = lock.leave(&rt, first);
-    lock.leave(&rt, second);
-    same!(rt; lock.close(left).main(), 1);
-    Ok(())
+fn modes_and_what_is_read(rt: HostRuntime) {
+    same!(rt; tell(&rt, &MODES), (None, [0, 1], 1));
 }
 
 // Takes shares of a lock until one is refused; how many it took.

@@ -3,36 +3,81 @@
 ghost use Rattle.saa_word_threads.specs.Semaphores.{IsDealtBy, IsLeftOf};
 ghost use Rattle.std.specs.Prelude.{◌<◌};
 
-use crate::worker::{Call, Told, Worker, last_of};
-use saa_word_threads::semaphore::{Error, Left, Place, Semaphore, SemaphoreOf};
-use std::alloc::AllocError;
+use crate::worker::{Call, Told, Worker, last_of, make};
+use saa_word_threads::semaphore::{Error, Left, Place, Semaphore, SemaphoreOf, Words};
+use std::alloc::{AllocError, AllocGlobal};
+use std::process::Abort;
 use std::sync::Wait;
 use std::test::Fail;
 use std::thread;
 use test_asserts::same;
 
+// Who makes a call.
+#[derive(Clone, Copy)]
+enum Who {
+    First,
+    Second,
+}
+
+// Makes calls of two places in order; the first that answers something else, and its answer.
+fn first_other(
+    rt: &impl Wait,
+    semaphore: &Semaphore,
+    first: &mut Place,
+    second: &mut Place,
+    story: &[(Who, Call, Told)],
+) -> Option<(usize, Told)>
+    requires first { IsDealtBy semaphore.now first.old }
+    requires second { IsDealtBy semaphore.now second.old }
+    ensures first { IsDealtBy semaphore.now first.new }
+    ensures second { IsDealtBy semaphore.now second.new }
+{
+    for row in 0..story.len() {
+        let (who, call, wanted) = story[row];
+        let told = match who {
+            Who::First => make(rt, semaphore, first, call),
+            Who::Second => make(rt, semaphore, second, call),
+        };
+        if told != wanted {
+            return Some((row, told));
+        }
+    }
+    None
+}
+
+const FITS_LATER: [(Who, Call, Told); 12] = [
+    (Who::First, Call::Try(63), Told::Bool(true)),
+    (Who::Second, Call::Register(10), Told::Bool(true)),
+    (Who::Second, Call::Register(1), Told::Bool(false)),
+    (Who::Second, Call::Acquire(1), Told::Bool(false)),
+    (
+        Who::Second,
+        Call::TryPoll,
+        Told::Polled(Err(Error::NotReady)),
+    ),
+    (Who::First, Call::Available, Told::Number(0)),
+    (Who::First, Call::Release(5), Told::Bool(true)),
+    (Who::First, Call::Available, Told::Number(5)),
+    (Who::First, Call::Release(5), Told::Bool(true)),
+    (Who::First, Call::Available, Told::Number(0)),
+    (Who::Second, Call::TryPoll, Told::Polled(Ok(()))),
+    (
+        Who::Second,
+        Call::TryPoll,
+        Told::Polled(Err(Error::NotRegistered)),
+    ),
+];
+
 #[test]
-fn a_release_that_fits_later(rt: HostRuntime) -> Result<(), Fail> {
-    let (semaphore, mut places) = Semaphore::new(rt.alloc(), 0, 2)?;
+fn a_release_that_fits_later(rt: HostRuntime) {
+    let (semaphore, mut places) = Semaphore::new(rt.alloc(), 0, 2).expect(&rt, "no memory");
     let mut second = places.pop().expect(&rt, "place 1");
     let mut first = places.pop().expect(&rt, "place 0");
     places.destroy_empty();
-    same!(rt; semaphore.try_acquire_many(&rt, &mut first, 63), true);
-    same!(rt; semaphore.register(&rt, &mut second, 10), true);
-    same!(rt; semaphore.register(&rt, &mut second, 1), false);
-    same!(rt; semaphore.acquire_many(&rt, &mut second, 1), false);
-    same!(rt; semaphore.try_poll(&mut second), Err(Error::NotReady));
-    same!(rt; semaphore.available_permits(&mut first), 0);
-    same!(rt; semaphore.release_many(&rt, &mut first, 5), true);
-    same!(rt; semaphore.available_permits(&mut first), 5);
-    same!(rt; semaphore.release_many(&rt, &mut first, 5), true);
-    same!(rt; semaphore.available_permits(&mut first), 0);
-    same!(rt; semaphore.try_poll(&mut second), Ok(()));
-    same!(rt; semaphore.try_poll(&mut second), Err(Error::NotRegistered));
+    let other = first_other(&rt, &semaphore, &mut first, &mut second, &FITS_LATER);
     let left = semaphore.leave(&rt, first);
     semaphore.leave(&rt, second);
-    same!(rt; semaphore.close(left).main(), 63);
-    Ok(())
+    same!(rt; (other, semaphore.close(left).main()), (None, 63));
 }
 
 // Takes 40 permits and gives them back, 100 times, and leaves; how often it had them.
@@ -133,62 +178,106 @@ fn counts_at_the_bounds(rt: HostRuntime) -> Result<(), Fail> {
     Ok(())
 }
 
-#[test]
-fn no_more_are_withheld_than_there_are(rt: HostRuntime) -> Result<(), Fail> {
-    for (withheld, held) in [(0, 0), (62, 62), (63, 63), (64, 63), (usize::MAX, 63)] {
-        let (semaphore, mut places) = Semaphore::new(rt.alloc(), withheld, 1)?;
-        let mut place = places.pop().expect(&rt, "the place");
-        places.destroy_empty();
-        same!(rt; semaphore.available_permits(&mut place), 63 - held);
-        let left = semaphore.leave(&rt, place);
-        same!(rt; semaphore.close(left).main(), u64::from(held));
-    }
-    Ok(())
+// How many permits are available where so many are withheld, and the main word at the end.
+fn withheld<R: Wait + Abort + AllocGlobal>(rt: &R, permits: usize) -> (u16, u64) {
+    let (semaphore, mut places) = Semaphore::new(rt.alloc(), permits, 1).expect(rt, "no memory");
+    let mut place = places.pop().expect(rt, "the place");
+    places.destroy_empty();
+    let available = semaphore.available_permits(&mut place);
+    let left = semaphore.leave(rt, place);
+    (available, semaphore.close(left).main())
 }
 
 #[test]
-fn as_many_places_as_were_wanted(rt: HostRuntime) -> Result<(), Fail> {
-    let (_nobodys, places) = Semaphore::new(rt.alloc(), 5, 0)?;
-    same!(rt; places.len(), 0);
-    for count in [1u16, 65_535] {
-        let (semaphore, mut places) = Semaphore::new(rt.alloc(), 5, count)?;
-        same!(rt; places.len(), usize::from(count));
-        let mut place = last_of(&semaphore, &mut places).expect(&rt, "the last place");
-        same!(rt; semaphore.register(&rt, &mut place, 58), true);
-        let left = semaphore.leave(&rt, place);
-        let number = left.place();
-        same!(rt; number, count - 1);
-        let words = semaphore.close(left);
-        same!(rt; words.main(), 5);
-        same!(rt; [words.line(0), words.line(number)], [Some(0), Some(0)]);
-        same!(rt; [words.answer(0), words.answer(number)], [Some(0), Some(0)]);
-        same!(rt; [words.line(count), words.line(u16::MAX)], [None, None]);
-        same!(rt; [words.answer(count), words.answer(u16::MAX)], [None, None]);
+fn no_more_are_withheld_than_there_are(rt: HostRuntime) {
+    for (permits, held) in [(0, 0), (62, 62), (63, 63), (64, 63), (usize::MAX, 63)] {
+        same!(rt; (permits, withheld(&rt, permits)), (permits, (63 - held, u64::from(held))));
     }
-    Ok(())
+}
+
+// The main word; and the line words and the answers of the first place and of the last, and where there is no place.
+type Shown = (u64, [Option<u64>; 4], [Option<u64>; 4]);
+
+fn shown(words: &Words, last: u16, beyond: u16) -> Shown {
+    (
+        words.main(),
+        [
+            words.line(0),
+            words.line(last),
+            words.line(beyond),
+            words.line(u16::MAX),
+        ],
+        [
+            words.answer(0),
+            words.answer(last),
+            words.answer(beyond),
+            words.answer(u16::MAX),
+        ],
+    )
+}
+
+// How many places a semaphore has of which so many are wanted, whether the last may register, its number, and the words.
+fn wanted<R: Wait + Abort + AllocGlobal>(rt: &R, count: u16) -> (usize, bool, u16, Shown) {
+    let (semaphore, mut places) = Semaphore::new(rt.alloc(), 5, count).expect(rt, "no memory");
+    let dealt = places.len();
+    let mut place = last_of(&semaphore, &mut places).expect(rt, "the last place");
+    let is_made = semaphore.register(rt, &mut place, 58);
+    let left = semaphore.leave(rt, place);
+    let number = left.place();
+    (
+        dealt,
+        is_made,
+        number,
+        shown(&semaphore.close(left), number, count),
+    )
+}
+
+#[test]
+fn as_many_places_as_were_wanted(rt: HostRuntime) {
+    let (_nobodys, places) = Semaphore::new(rt.alloc(), 5, 0).expect(&rt, "no memory");
+    same!(rt; places.len(), 0);
+    let words = [Some(0), Some(0), None, None];
+    for count in [1u16, 65_535] {
+        same!(rt; wanted(&rt, count), (usize::from(count), true, count - 1, (5, words, words)));
+    }
+}
+
+// Two register while none is available, and so many are released: whether that may be, the main word, the line word of the newest,
+// and all answers.
+fn released<R: Wait + Abort + AllocGlobal>(
+    rt: &R,
+    permits: usize,
+) -> ([bool; 3], u64, Option<u64>, [Option<u64>; 3]) {
+    let (semaphore, mut places) = Semaphore::new(rt.alloc(), 63, 3).expect(rt, "no memory");
+    let mut third = places.pop().expect(rt, "place 2");
+    let mut second = places.pop().expect(rt, "place 1");
+    let mut first = places.pop().expect(rt, "place 0");
+    places.destroy_empty();
+    let made = [
+        semaphore.register(rt, &mut second, 10),
+        semaphore.register(rt, &mut third, 5),
+        semaphore.release_many(rt, &mut first, permits),
+    ];
+    let left = semaphore.leave(rt, first);
+    let words = semaphore.close(left);
+    let answers = [words.answer(0), words.answer(1), words.answer(2)];
+    (made, words.main(), words.line(2), answers)
 }
 
 // What the words are while two still wait: the tail stands from bit 18 on in the main word, the older neighbour from bit 16 on in a line
 // word, each as its number plus 1, and an answer that grants is 1.
 #[test]
-fn words_of_who_waits_and_of_who_is_answered(rt: HostRuntime) -> Result<(), Fail> {
-    for (released, main, older, answer) in [
+fn words_of_who_waits_and_of_who_is_answered(rt: HostRuntime) {
+    for (permits, main, older, answer) in [
         (0, 63 + (3 << 18), 2 << 16, 0),
         (12, 61 + (3 << 18), 0, 1),
     ] {
-        let (semaphore, mut places) = Semaphore::new(rt.alloc(), 63, 3)?;
-        let mut third = places.pop().expect(&rt, "place 2");
-        let mut second = places.pop().expect(&rt, "place 1");
-        let mut first = places.pop().expect(&rt, "place 0");
-        places.destroy_empty();
-        same!(rt; semaphore.register(&rt, &mut second, 10), true);
-        same!(rt; semaphore.register(&rt, &mut third, 5), true);
-        same!(rt; semaphore.release_many(&rt, &mut first, released), true);
-        let left = semaphore.leave(&rt, first);
-        let words = semaphore.close(left);
-        same!(rt; words.main(), main);
-        same!(rt; words.line(2), Some(5 + older));
-        same!(rt; [words.answer(0), words.answer(1), words.answer(2)], [Some(0), Some(answer), Some(0)]);
+        let wanted = (
+            [true; 3],
+            main,
+            Some(5 + older),
+            [Some(0), Some(answer), Some(0)],
+        );
+        same!(rt; released(&rt, permits), wanted);
     }
-    Ok(())
 }

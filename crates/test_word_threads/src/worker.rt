@@ -38,6 +38,31 @@ pub enum Told {
     Nothing,
 }
 
+/// Makes a call of a place that the semaphore dealt.
+pub fn make<const MAX: usize>(
+    rt: &impl Wait,
+    semaphore: &SemaphoreOf<MAX>,
+    place: &mut Place,
+    call: Call,
+) -> Told
+    requires { IsDealtBy semaphore.now place.old }
+    ensures { IsDealtBy semaphore.now place.new }
+{
+    match call {
+        Call::Try(count) => Told::Bool(semaphore.try_acquire_many(rt, place, count)),
+        Call::Register(count) => Told::Bool(semaphore.register(rt, place, count)),
+        Call::Acquire(count) => Told::Bool(semaphore.acquire_many(rt, place, count)),
+        Call::Release(count) => Told::Bool(semaphore.release_many(rt, place, count)),
+        Call::TryPoll => Told::Polled(semaphore.try_poll(place)),
+        Call::Poll => Told::Polled(semaphore.poll(rt, place)),
+        Call::Cancel => {
+            semaphore.cancel(rt, place);
+            Told::Nothing
+        }
+        Call::Available => Told::Number(semaphore.available_permits(place)),
+    }
+}
+
 impl<'s, const MAX: usize> Worker<'s, MAX> {
     /// A place that this semaphore dealt.
     pub fn new(semaphore: &'s SemaphoreOf<MAX>, place: Place) -> Self
@@ -48,20 +73,7 @@ impl<'s, const MAX: usize> Worker<'s, MAX> {
 
     /// Makes a call.
     pub fn make(&mut self, rt: &impl Wait, call: Call) -> Told {
-        let place = &mut self.place;
-        match call {
-            Call::Try(count) => Told::Bool(self.semaphore.try_acquire_many(rt, place, count)),
-            Call::Register(count) => Told::Bool(self.semaphore.register(rt, place, count)),
-            Call::Acquire(count) => Told::Bool(self.semaphore.acquire_many(rt, place, count)),
-            Call::Release(count) => Told::Bool(self.semaphore.release_many(rt, place, count)),
-            Call::TryPoll => Told::Polled(self.semaphore.try_poll(place)),
-            Call::Poll => Told::Polled(self.semaphore.poll(rt, place)),
-            Call::Cancel => {
-                self.semaphore.cancel(rt, place);
-                Told::Nothing
-            }
-            Call::Available => Told::Number(self.semaphore.available_permits(place)),
-        }
+        make(rt, self.semaphore, &mut self.place, call)
     }
 
     /// Leaves the semaphore.
