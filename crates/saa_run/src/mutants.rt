@@ -3,8 +3,9 @@
 //! The reader is written apart from the definitions and from the program's own. It knows only how lines are spelled, so a run is compared by
 //! its status, by how many lines it answered, and by the line that it calls bad.
 
-use crate::run::{machine, script};
+use crate::schedule_tests::played;
 use crate::spelling::{Language, first_bad_line};
+use crate::tests::{Written, run_over_memory};
 use std::alloc::{AllocError, Global};
 use std::test::Fail;
 
@@ -96,17 +97,20 @@ fn number_in(digits: &[u8]) -> Option<u64> {
     Some(number)
 }
 
+// Runs a text in its language: what was written, and the status.
+fn run_in(alloc: Global, language: Language, text: &[u8]) -> Written {
+    match language {
+        Language::Script => run_over_memory(alloc, text),
+        Language::Schedule => played(alloc, text),
+    }
+}
+
 // Whether a run of this text did what the plain reader says of it.
 fn is_as_spelled(alloc: Global, language: Language, text: &[u8]) -> bool {
-    let mut reader = text;
-    let mut writer = Vec::new(alloc);
-    let status = match language {
-        Language::Script => script(alloc, &mut reader, &mut writer),
-        Language::Schedule => machine(alloc, &mut reader, &mut writer),
-    };
+    let (output, status) = run_in(alloc, language, text);
     let (good, bad) = first_bad_line(language, text);
     let wanted_status = if bad.is_some() { 2 } else { 0 };
-    status == wanted_status && told(writer.as_slice()) == (good.saturating_sub(1), bad)
+    status == wanted_status && told(output.as_slice()) == (good.saturating_sub(1), bad)
 }
 
 // The first of the changed texts that isn't treated as the plain reader says.
@@ -132,13 +136,8 @@ fn first_wrong(
 
 #[test]
 fn changed_scripts_are_bad_where_they_are(rt: HostRuntime) -> Result<(), Fail> {
-    assert_eq!(rt;
-        first_wrong(rt.alloc(), Language::Script, &SCRIPTS, 1)?,
-        None
-    );
-    assert_eq!(rt;
-        first_wrong(rt.alloc(), Language::Schedule, &SCHEDULES, 2)?,
-        None
-    );
+    let script = first_wrong(rt.alloc(), Language::Script, &SCRIPTS, 1)?;
+    let schedule = first_wrong(rt.alloc(), Language::Schedule, &SCHEDULES, 2)?;
+    assert_eq!(rt; (script, schedule), (None, None));
     Ok(())
 }

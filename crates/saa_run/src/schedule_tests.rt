@@ -5,7 +5,7 @@ use crate::cancel_rows::CANCEL_ROWS;
 use crate::lock_rows::LOCK_ROWS;
 use crate::run::machine;
 use crate::schedule::end;
-use crate::tests::{BreakingReader, Row, with_room};
+use crate::tests::{BreakingReader, Row, Written, and_often, other, with_room};
 use saa_word::machine::{Machine, Move, Step, WordCall};
 use std::alloc::{AllocError, Global};
 use std::io::ErrorKind;
@@ -305,8 +305,8 @@ const BAD_AT_A_LOCK: [&str; 40] = [
 ];
 
 // Runs a schedule over memory.
-fn played(alloc: Global, input: &str) -> (Vec<u8>, u8) {
-    let mut reader = input.as_bytes();
+pub(crate) fn played(alloc: Global, input: &[u8]) -> Written {
+    let mut reader = input;
     let mut writer = Vec::new(alloc);
     let status = machine(alloc, &mut reader, &mut writer);
     (writer, status)
@@ -320,41 +320,31 @@ fn schedules(rt: HostRuntime) {
         .chain(&LOCK_ROWS)
         .chain(&BOUND_SCHEDULES)
     {
-        let (output, status) = played(rt.alloc(), row.input);
+        let written = played(rt.alloc(), row.input.as_bytes());
         assert_eq!(rt;
-            output.as_slice(),
-            row.output.as_bytes(),
+            other(written, row.output.as_bytes(), row.status),
+            None,
             "of {:?}",
             row.input
         );
-        assert_eq!(rt; status, row.status, "of {:?}", row.input);
     }
 }
 
 #[test]
 fn bad_first_lines(rt: HostRuntime) {
-    for input in BAD_FIRST {
-        let (output, status) = played(rt.alloc(), input);
-        assert_eq!(rt;
-            output.as_slice(),
-            b"bad line 1\n".as_slice(),
-            "of {input:?}"
-        );
-        assert_eq!(rt; status, 2, "of {input:?}");
+    for input in &BAD_FIRST {
+        let written = played(rt.alloc(), input.as_bytes());
+        assert_eq!(rt; other(written, b"bad line 1\n", 2), None, "of {input:?}");
     }
 }
 
-// What is written where a line stands behind two good ones, the second of which starts a call, and in front of a third; and the
-// status.
-fn behind(alloc: Global, front: &str, line: &str) -> Result<(Vec<u8>, u8), AllocError> {
+// A line behind two good ones, the second of which starts a call, and in front of a third.
+fn between(alloc: Global, front: &str, line: &str) -> Result<Vec<u8>, AllocError> {
     let mut input = Vec::new(alloc);
     input.extend_from_slice(front.as_bytes())?;
     input.extend_from_slice(line.as_bytes())?;
     input.extend_from_slice(b"\nword\n")?;
-    let mut reader = input.as_slice();
-    let mut writer = Vec::new(alloc);
-    let status = machine(alloc, &mut reader, &mut writer);
-    Ok((writer, status))
+    Ok(input)
 }
 
 // The first of these lines that doesn't end the run as a bad one behind two good ones.
@@ -364,8 +354,9 @@ fn accepted<'l>(
     lines: &[&'l str],
 ) -> Result<Option<&'l str>, AllocError> {
     for line in lines {
-        let (output, status) = behind(alloc, front, line)?;
-        if output.as_slice() != b"going\nbad line 3\n".as_slice() || status != 2 {
+        let input = between(alloc, front, line)?;
+        let written = played(alloc, input.as_slice());
+        if other(written, b"going\nbad line 3\n", 2).is_some() {
             return Ok(Some(line));
         }
     }
@@ -388,20 +379,30 @@ fn bad_lines_at_a_lock(rt: HostRuntime) -> Result<(), Fail> {
     Ok(())
 }
 
+// What is written of a line of 81 bytes between two good ones.
+fn written_of_long_line(alloc: Global) -> Result<Written, AllocError> {
+    let mut input = and_often(alloc, b"semaphore 0 2\nword\n", b"0", 81)?;
+    input.extend_from_slice(b"\nword\n")?;
+    Ok(played(alloc, input.as_slice()))
+}
+
 /// A line of 81 bytes is bad, whatever its first 80 bytes are.
 #[test]
 fn a_long_line_is_bad(rt: HostRuntime) -> Result<(), Fail> {
-    let mut input = Vec::new(rt.alloc());
-    input.extend_from_slice(b"semaphore 0 2\nword\n")?;
-    for _byte in 0..81u8 {
-        input.push(b'0')?;
-    }
-    input.extend_from_slice(b"\nword\n")?;
-    let mut reader = input.as_slice();
-    let mut writer = Vec::new(rt.alloc());
-    assert_eq!(rt; machine(rt.alloc(), &mut reader, &mut writer), 2);
-    assert_eq!(rt; writer.as_slice(), b"0 0 0 0\nbad line 3\n".as_slice());
+    let written = written_of_long_line(rt.alloc())?;
+    assert_eq!(rt; other(written, b"0 0 0 0\nbad line 3\n", 2), None);
     Ok(())
+}
+
+// What a schedule writes whose input is interrupted behind these bytes, and its status.
+fn read_to(alloc: Global, left: &[u8]) -> Written {
+    let mut reader = BreakingReader {
+        left,
+        kind: ErrorKind::Interrupted,
+    };
+    let mut writer = Vec::new(alloc);
+    let status = machine(alloc, &mut reader, &mut writer);
+    (writer, status)
 }
 
 /// A read that fails, here one that a signal interrupted, ends the run with status 4, and what went out is a beginning of the text.
@@ -409,15 +410,23 @@ fn a_long_line_is_bad(rt: HostRuntime) -> Result<(), Fail> {
 fn a_read_fails(rt: HostRuntime) {
     let row = &SCHEDULES[0];
     for count in 0..row.input.len() + 1 {
-        let mut reader = BreakingReader {
-            left: &row.input.as_bytes()[..count],
-            kind: ErrorKind::Interrupted,
-        };
-        let mut writer = Vec::new(rt.alloc());
-        assert_eq!(rt; machine(rt.alloc(), &mut reader, &mut writer), 4);
-        assert!(rt; row.output.as_bytes().starts_with(writer.as_slice()));
-        assert!(rt; writer.len() == row.output.len() || count < row.input.len());
+        let (output, status) = read_to(rt.alloc(), &row.input.as_bytes()[..count]);
+        let is_beginning = row.output.as_bytes().starts_with(output.as_slice());
+        let is_whole = output.len() == row.output.len() || count < row.input.len();
+        assert_eq!(rt;
+            (status, is_beginning, is_whole),
+            (4, true, true),
+            "behind {count} bytes"
+        );
     }
+}
+
+// What a writer with this much room takes of a schedule, and the schedule's status.
+fn written_to(alloc: Global, input: &str, room: usize) -> Written {
+    let mut reader = input.as_bytes();
+    let mut writer = with_room(alloc, room);
+    let status = machine(alloc, &mut reader, &mut writer);
+    (writer.taken, status)
 }
 
 /// A write that fails ends the run with status 4, and what went out is a beginning of the text.
@@ -425,10 +434,12 @@ fn a_read_fails(rt: HostRuntime) {
 fn a_write_fails(rt: HostRuntime) {
     let row = &SCHEDULES[0];
     for room in 0..row.output.len() {
-        let mut reader = row.input.as_bytes();
-        let mut writer = with_room(rt.alloc(), room);
-        assert_eq!(rt; machine(rt.alloc(), &mut reader, &mut writer), 4);
-        assert_eq!(rt; writer.taken.as_slice(), &row.output.as_bytes()[..room]);
+        let taken = written_to(rt.alloc(), row.input, room);
+        assert_eq!(rt;
+            other(taken, &row.output.as_bytes()[..room], 4),
+            None,
+            "behind {room} bytes"
+        );
     }
 }
 

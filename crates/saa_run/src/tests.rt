@@ -1,21 +1,28 @@
 //! What no contract says: that memory and transfers succeed where they can, and the exact bytes of the
 //! worked rows, which were written down by hand.
 
+mod more_rows;
+
+ghost use Rattle.std.specs.Prelude.{◌<◌, ◌≤◌};
+
 use crate::asked;
 use crate::bound_rows::BOUND_ROWS;
 use crate::kind_rows::KIND_ROWS;
 use crate::run::{Wanted, script, threads, usage, wanted};
 use crate::script::said::Said;
 use crate::script::spoken::said;
+use crate::tests::more_rows::MORE_ROWS;
 use saa_core::bench::ReplyOf;
 use saa_core::semaphore::{SemaphoreAnswer, SemaphoreCore};
 use saa_run_text::reply::{put_bad_line, put_reply};
 use saa_run_text::run::no_memory;
 use saa_run_text::transfer::{Cut, LineBytes, put, read_line};
-use std::alloc::Global;
+use std::alloc::{AllocError, Global};
 use std::env::{Env, FillError};
 use std::io::{self, Read, Write};
+use std::sync::Wait;
 use std::test::Fail;
+use std::thread::Threads;
 
 /// A script, what is written of it, and the status.
 pub(crate) struct Row {
@@ -24,8 +31,8 @@ pub(crate) struct Row {
     pub(crate) status: u8,
 }
 
-/// The worked rows, the examples, and bad lines of each kind.
-const ROWS: [Row; 38] = [
+/// The worked rows, and the examples.
+const ROWS: [Row; 10] = [
     // A release serves the oldest waiters that fit, one after another.
     Row {
         input: "semaphore 63 4\ntry 60\nreg 1 5 sync\nreg 2 1 sync\ntry 1\nrelease 1\navailable\nrelease 1\navailable\npoll_sync 1\npoll_sync 2\nrelease 5\npoll_sync 2\navailable\n",
@@ -86,179 +93,23 @@ const ROWS: [Row; 38] = [
         output: "true\nfalse\ntrue\nfalse\ntrue\n0\nfalse\ntrue\ntrue\nwrong_mode\nnot_ready\nnot_ready\ntrue\nok\nnot_registered\ndropped\nfalse\ntrue\n",
         status: 0,
     },
-    // A pager that is registered is not registered again.
-    Row {
-        input: "semaphore 0 2\nreg 0 1 sync\nreg 0 1 sync\nregistered 0\n",
-        output: "true\nfalse\ntrue\n",
-        status: 0,
-    },
-    // A first line alone.
-    Row {
-        input: "semaphore 63 4\n",
-        output: "",
-        status: 0,
-    },
-    // A first line that no newline ends.
-    Row {
-        input: "semaphore 63 4",
-        output: "",
-        status: 0,
-    },
-    // The largest room.
-    Row {
-        input: "semaphore 63 65535\navailable\n",
-        output: "63\n",
-        status: 0,
-    },
-    // A last line that no newline ends, and that is good.
-    Row {
-        input: "semaphore 63 4\ntry 1",
-        output: "true\n",
-        status: 0,
-    },
-    // One that is bad.
-    Row {
-        input: "semaphore 63 4\ntry 1\ntry",
-        output: "true\nbad line 3\n",
-        status: 2,
-    },
-    // An empty input.
-    Row {
-        input: "",
-        output: "bad line 1\n",
-        status: 2,
-    },
-    // An empty first line.
-    Row {
-        input: "\n",
-        output: "bad line 1\n",
-        status: 2,
-    },
-    // A room of 65536.
-    Row {
-        input: "semaphore 63 65536\n",
-        output: "bad line 1\n",
-        status: 2,
-    },
-    // A first line without its room.
-    Row {
-        input: "semaphore 63\n",
-        output: "bad line 1\n",
-        status: 2,
-    },
-    // A first line with a field too many.
-    Row {
-        input: "semaphore 63 4 4\n",
-        output: "bad line 1\n",
-        status: 2,
-    },
-    // Two spaces.
-    Row {
-        input: "semaphore 63 4\ntry  1\n",
-        output: "bad line 2\n",
-        status: 2,
-    },
-    // A space in front.
-    Row {
-        input: "semaphore 63 4\n try 1\n",
-        output: "bad line 2\n",
-        status: 2,
-    },
-    // A space behind.
-    Row {
-        input: "semaphore 63 4\ntry 1 \n",
-        output: "bad line 2\n",
-        status: 2,
-    },
-    // A leading zero.
-    Row {
-        input: "semaphore 63 4\ntry 01\n",
-        output: "bad line 2\n",
-        status: 2,
-    },
-    // A sign.
-    Row {
-        input: "semaphore 63 4\ntry +1\n",
-        output: "bad line 2\n",
-        status: 2,
-    },
-    // Seven digits.
-    Row {
-        input: "semaphore 63 4\ntry 1000000\n",
-        output: "bad line 2\n",
-        status: 2,
-    },
-    // Six digits.
-    Row {
-        input: "semaphore 63 4\ntry 999999\n",
-        output: "false\n",
-        status: 0,
-    },
-    // A carriage return.
-    Row {
-        input: "semaphore 63 4\ntry 1\r\n",
-        output: "bad line 2\n",
-        status: 2,
-    },
-    // 81 bytes.
-    Row {
-        input: "semaphore 63 4\nxxxxxxxxxxxxxxxxxxxxxxxxxxxxxxxxxxxxxxxxxxxxxxxxxxxxxxxxxxxxxxxxxxxxxxxxxxxxxxxxx\n",
-        output: "bad line 2\n",
-        status: 2,
-    },
-    // 81 bytes in the first line.
-    Row {
-        input: "xxxxxxxxxxxxxxxxxxxxxxxxxxxxxxxxxxxxxxxxxxxxxxxxxxxxxxxxxxxxxxxxxxxxxxxxxxxxxxxxx\nsemaphore 63 4\n",
-        output: "bad line 1\n",
-        status: 2,
-    },
-    // An empty line.
-    Row {
-        input: "semaphore 63 4\n\n",
-        output: "bad line 2\n",
-        status: 2,
-    },
-    // An unknown word.
-    Row {
-        input: "semaphore 63 4\nfrob 1\n",
-        output: "bad line 2\n",
-        status: 2,
-    },
-    // A word in capitals.
-    Row {
-        input: "semaphore 63 4\nTRY 1\n",
-        output: "bad line 2\n",
-        status: 2,
-    },
-    // A pager of 100.
-    Row {
-        input: "semaphore 63 4\ntry_poll 100\n",
-        output: "bad line 2\n",
-        status: 2,
-    },
-    // A pager of 99.
-    Row {
-        input: "semaphore 63 4\ntry_poll 99\n",
-        output: "not_registered\n",
-        status: 0,
-    },
-    // A mode that is none.
-    Row {
-        input: "semaphore 63 4\nreg 1 1 both\n",
-        output: "bad line 2\n",
-        status: 2,
-    },
-    // Nothing is read behind a bad line.
-    Row {
-        input: "semaphore 63 4\navailable\nno\navailable\n",
-        output: "63\nbad line 3\n",
-        status: 2,
-    },
 ];
 
+/// What was written, and the status.
+pub(crate) type Written = (Vec<u8>, u8);
+
+/// What was written, where it isn't this.
+pub(crate) fn other(written: Written, output: &[u8], status: u8) -> Option<Written> {
+    if written.0.as_slice() == output && written.1 == status {
+        None
+    } else {
+        Some(written)
+    }
+}
+
 /// Runs a script over memory: what it wrote, and its status.
-fn run_over_memory(alloc: Global, input: &str) -> (Vec<u8>, u8) {
-    let mut reader = input.as_bytes();
+pub(crate) fn run_over_memory(alloc: Global, input: &[u8]) -> Written {
+    let mut reader = input;
     let mut writer = Vec::new(alloc);
     let status = script(alloc, &mut reader, &mut writer);
     (writer, status)
@@ -266,15 +117,19 @@ fn run_over_memory(alloc: Global, input: &str) -> (Vec<u8>, u8) {
 
 #[test]
 fn rows_and_bad_lines(rt: HostRuntime) {
-    for row in ROWS.iter().chain(&KIND_ROWS).chain(&BOUND_ROWS) {
-        let (output, status) = run_over_memory(rt.alloc(), row.input);
+    for row in ROWS
+        .iter()
+        .chain(&MORE_ROWS)
+        .chain(&KIND_ROWS)
+        .chain(&BOUND_ROWS)
+    {
+        let written = run_over_memory(rt.alloc(), row.input.as_bytes());
         assert_eq!(rt;
-            output.as_slice(),
-            row.output.as_bytes(),
+            other(written, row.output.as_bytes(), row.status),
+            None,
             "of {:?}",
             row.input
         );
-        assert_eq!(rt; status, row.status, "of {:?}", row.input);
     }
 }
 
@@ -342,50 +197,53 @@ pub(crate) fn with_room(alloc: Global, room: usize) -> NarrowWriter {
     }
 }
 
+/// Some bytes, and others so often behind them.
+pub(crate) fn and_often(
+    alloc: Global,
+    front: &[u8],
+    bytes: &[u8],
+    times: u16,
+) -> Result<Vec<u8>, AllocError> {
+    let mut all = Vec::new(alloc);
+    all.extend_from_slice(front)?;
+    for _time in 0..times {
+        all.extend_from_slice(bytes)?;
+    }
+    Ok(all)
+}
+
 /// A script of 3,000 lines behind the first: each is answered.
 #[test]
 fn many_lines(rt: HostRuntime) -> Result<(), Fail> {
-    let mut input = Vec::new(rt.alloc());
-    input.extend_from_slice(b"semaphore 63 4\n")?;
-    let mut output = Vec::new(rt.alloc());
-    for _ in 0..1500u16 {
-        input.extend_from_slice(b"try 1\nrelease 1\n")?;
-        output.extend_from_slice(b"true\ntrue\n")?;
-    }
-    let mut reader = input.as_slice();
-    let mut writer = Vec::new(rt.alloc());
-    assert_eq!(rt; script(rt.alloc(), &mut reader, &mut writer), 0);
-    assert_eq!(rt; writer.as_slice(), output.as_slice());
+    let input = and_often(rt.alloc(), b"semaphore 63 4\n", b"try 1\nrelease 1\n", 1500)?;
+    let wanted = and_often(rt.alloc(), b"", b"true\ntrue\n", 1500)?;
+    let written = run_over_memory(rt.alloc(), input.as_slice());
+    assert_eq!(rt; other(written, wanted.as_slice(), 0), None);
     Ok(())
+}
+
+/// What is written of a long line at the end of the input, behind this front and with this end.
+fn written_of(alloc: Global, front: &str, length: u16, end: &str) -> Result<Written, AllocError> {
+    let mut input = and_often(alloc, front.as_bytes(), b"x", length)?;
+    input.extend_from_slice(end.as_bytes())?;
+    Ok(run_over_memory(alloc, input.as_slice()))
 }
 
 /// A long line at the end of the input, with and without a last newline: bad, by its number.
 #[test]
 fn long_last_lines(rt: HostRuntime) -> Result<(), Fail> {
-    for front in ["", "semaphore 63 4\n"] {
-        for length in [79u8, 80, 81] {
-            for end in ["", "\n"] {
-                let mut input = Vec::new(rt.alloc());
-                input.extend_from_slice(front.as_bytes())?;
-                for _ in 0..length {
-                    input.push(b'x')?;
-                }
-                input.extend_from_slice(end.as_bytes())?;
-                let mut reader = input.as_slice();
-                let mut writer = Vec::new(rt.alloc());
-                let status = script(rt.alloc(), &mut reader, &mut writer);
-                let told: &str = if front.is_empty() {
-                    "bad line 1\n"
-                } else {
-                    "bad line 2\n"
-                };
-                assert_eq!(rt; status, 2, "of {length} bytes and {end:?}");
-                assert_eq!(rt;
-                    writer.as_slice(),
-                    told.as_bytes(),
-                    "of {length} bytes and {end:?}"
-                );
-            }
+    for length in [79u16, 80, 81] {
+        for end in ["", "\n"] {
+            let first = written_of(rt.alloc(), "", length, end)?;
+            let second = written_of(rt.alloc(), "semaphore 63 4\n", length, end)?;
+            assert_eq!(rt;
+                (
+                    other(first, b"bad line 1\n", 2),
+                    other(second, b"bad line 2\n", 2)
+                ),
+                (None, None),
+                "of {length} bytes and {end:?}"
+            );
         }
     }
     Ok(())
@@ -396,6 +254,15 @@ fn long_last_lines(rt: HostRuntime) -> Result<(), Fail> {
 struct HoldingWriter {
     held: Vec<u8>,
     out: Vec<u8>,
+}
+
+impl HoldingWriter {
+    fn new(alloc: Global) -> Self {
+        HoldingWriter {
+            held: Vec::new(alloc),
+            out: Vec::new(alloc),
+        }
+    }
 }
 
 impl Write for HoldingWriter {
@@ -411,38 +278,64 @@ impl Write for HoldingWriter {
     }
 }
 
+/// What a script let out when it ended, and its status.
+fn let_out<R: Read>(alloc: Global, reader: &mut R) -> Written {
+    let mut writer = HoldingWriter::new(alloc);
+    let status = script(alloc, reader, &mut writer);
+    (writer.out, status)
+}
+
+/// The same of what is said of refused memory.
+fn let_out_of_no_memory(alloc: Global) -> Written {
+    let mut writer = HoldingWriter::new(alloc);
+    let status = no_memory(&mut writer);
+    (writer.out, status)
+}
+
+/// The same of an input that breaks off.
+fn let_out_of_broken(alloc: Global, left: &[u8]) -> Written {
+    let mut reader = BreakingReader {
+        left,
+        kind: io::ErrorKind::Other,
+    };
+    let_out(alloc, &mut reader)
+}
+
+/// Inputs that are read to their end, what is let out of each, and the status.
+const FLUSHED: [Row; 3] = [
+    Row {
+        input: INPUT,
+        output: OUTPUT,
+        status: 0,
+    },
+    Row {
+        input: "semaphore 63 4\ntry 60\nno\n",
+        output: "true\nbad line 3\n",
+        status: 2,
+    },
+    Row {
+        input: "",
+        output: "bad line 1\n",
+        status: 2,
+    },
+];
+
 /// What lets nothing out before it is flushed has let all out when the run ends, whatever its status.
 #[test]
 fn all_is_flushed(rt: HostRuntime) {
-    for (input, output, status) in [
-        (INPUT, OUTPUT, 0u8),
-        ("semaphore 63 4\ntry 60\nno\n", "true\nbad line 3\n", 2),
-        ("", "bad line 1\n", 2),
-    ] {
-        let mut reader = input.as_bytes();
-        let mut writer = HoldingWriter {
-            held: Vec::new(rt.alloc()),
-            out: Vec::new(rt.alloc()),
-        };
-        assert_eq!(rt; script(rt.alloc(), &mut reader, &mut writer), status);
-        assert_eq!(rt; writer.out.as_slice(), output.as_bytes());
+    for row in &FLUSHED {
+        let out = let_out(rt.alloc(), &mut row.input.as_bytes());
+        assert_eq!(rt; other(out, row.output.as_bytes(), row.status), None);
     }
-    let mut reader = BreakingReader {
-        left: INPUT.as_bytes(),
-        kind: io::ErrorKind::Other,
-    };
-    let mut writer = HoldingWriter {
-        held: Vec::new(rt.alloc()),
-        out: Vec::new(rt.alloc()),
-    };
-    assert_eq!(rt; script(rt.alloc(), &mut reader, &mut writer), 4);
-    assert_eq!(rt; writer.out.as_slice(), OUTPUT.as_bytes());
-    let mut writer = HoldingWriter {
-        held: Vec::new(rt.alloc()),
-        out: Vec::new(rt.alloc()),
-    };
-    assert_eq!(rt; no_memory(&mut writer), 3);
-    assert_eq!(rt; writer.out.as_slice(), b"no memory\n".as_slice());
+    let broken = let_out_of_broken(rt.alloc(), INPUT.as_bytes());
+    let refused = let_out_of_no_memory(rt.alloc());
+    assert_eq!(rt;
+        (
+            other(broken, OUTPUT.as_bytes(), 4),
+            other(refused, b"no memory\n", 3),
+        ),
+        (None, None)
+    );
 }
 
 /// A writer that counts the pieces that it is handed, and those that are one line.
@@ -475,9 +368,8 @@ fn one_write_a_reply(rt: HostRuntime) {
         pieces: 0,
         lines: 0,
     };
-    assert_eq!(rt; script(rt.alloc(), &mut reader, &mut writer), 2);
-    assert_eq!(rt; writer.pieces, 7);
-    assert_eq!(rt; writer.lines, 7);
+    let status = script(rt.alloc(), &mut reader, &mut writer);
+    assert_eq!(rt; (status, writer.pieces, writer.lines), (2, 7, 7));
 }
 
 /// A program's environment with these arguments, its name first.
@@ -507,186 +399,276 @@ impl Env for Arguments<'_> {
     }
 }
 
+/// The words that a program is called by, and what they ask for.
+const ASKED: [(&[&[u8]], Wanted); 6] = [
+    (&[b"saa-run", b"script"], Wanted::Script),
+    (&[b"/tmp/\xff/saa-run", b"script"], Wanted::Script),
+    (&[b"saa-run", b"\xff"], Wanted::Usage),
+    (&[b"saa-run", b"script", b"\xff"], Wanted::Usage),
+    (&[b"script"], Wanted::Usage),
+    (&[], Wanted::Usage),
+];
+
 /// Only what stands behind the program's name is judged: the name may be any bytes.
 #[test]
 fn what_is_asked(rt: HostRuntime) {
-    let asks = |words: &[&[u8]]| asked(&Arguments { words }, rt.alloc());
-    assert_eq!(rt; asks(&[b"saa-run", b"script"]), Some(Wanted::Script));
-    assert_eq!(rt;
-        asks(&[b"/tmp/\xff/saa-run", b"script"]),
-        Some(Wanted::Script)
-    );
-    assert_eq!(rt; asks(&[b"saa-run", b"\xff"]), Some(Wanted::Usage));
-    assert_eq!(rt;
-        asks(&[b"saa-run", b"script", b"\xff"]),
-        Some(Wanted::Usage)
-    );
-    assert_eq!(rt; asks(&[b"script"]), Some(Wanted::Usage));
-    assert_eq!(rt; asks(&[]), Some(Wanted::Usage));
+    for (words, wanted) in &ASKED {
+        assert_eq!(rt;
+            asked(&Arguments { words }, rt.alloc()),
+            Some(*wanted),
+            "of {words:?}"
+        );
+    }
 }
 
 const INPUT: &str = "semaphore 2 4\ntry 2\navailable\nreg 1 1 sync\n";
 
 const OUTPUT: &str = "true\n0\ntrue\n";
 
+/// What a script writes whose input breaks off behind these bytes, and its status.
+fn read_to(alloc: Global, left: &[u8]) -> Written {
+    let mut reader = BreakingReader {
+        left,
+        kind: io::ErrorKind::Other,
+    };
+    let mut writer = Vec::new(alloc);
+    let status = script(alloc, &mut reader, &mut writer);
+    (writer, status)
+}
+
 /// A read that fails, behind any number of bytes: no half line is called bad, and what went out is a beginning.
 #[test]
 fn a_read_fails(rt: HostRuntime) {
     for count in 0..INPUT.len() + 1 {
-        let mut reader = BreakingReader {
-            left: &INPUT.as_bytes()[..count],
-            kind: io::ErrorKind::Other,
-        };
-        let mut writer = Vec::new(rt.alloc());
+        let (output, status) = read_to(rt.alloc(), &INPUT.as_bytes()[..count]);
+        let is_beginning = OUTPUT.as_bytes().starts_with(output.as_slice());
+        let is_whole = output.len() == OUTPUT.len() || count < INPUT.len();
         assert_eq!(rt;
-            script(rt.alloc(), &mut reader, &mut writer),
-            4,
+            (status, is_beginning, is_whole),
+            (4, true, true),
             "behind {count} bytes"
         );
-        assert!(rt;
-            OUTPUT.as_bytes().starts_with(writer.as_slice()),
-            "behind {count} bytes"
-        );
-        assert!(rt; writer.len() == OUTPUT.len() || count < INPUT.len());
     }
+}
+
+/// What a writer takes of a script, and the script's status.
+fn written_to(alloc: Global, input: &str, writer: NarrowWriter) -> Written {
+    let mut reader = input.as_bytes();
+    let mut writer = writer;
+    let status = script(alloc, &mut reader, &mut writer);
+    (writer.taken, status)
 }
 
 /// A write that fails, behind any number of bytes.
 #[test]
 fn a_write_fails(rt: HostRuntime) {
-    for room in 0..OUTPUT.len() {
-        let mut reader = INPUT.as_bytes();
-        let mut writer = with_room(rt.alloc(), room);
+    for room in 0..OUTPUT.len() + 1 {
+        let taken = written_to(rt.alloc(), INPUT, with_room(rt.alloc(), room));
+        let status = if room < OUTPUT.len() { 4 } else { 0 };
         assert_eq!(rt;
-            script(rt.alloc(), &mut reader, &mut writer),
-            4,
+            other(taken, &OUTPUT.as_bytes()[..room], status),
+            None,
             "behind {room} bytes"
         );
-        assert_eq!(rt; writer.taken.as_slice(), &OUTPUT.as_bytes()[..room]);
     }
-    let mut reader = INPUT.as_bytes();
-    let mut writer = with_room(rt.alloc(), OUTPUT.len());
-    assert_eq!(rt; script(rt.alloc(), &mut reader, &mut writer), 0);
-    assert_eq!(rt; writer.taken.as_slice(), OUTPUT.as_bytes());
 }
 
 /// A write of the line that tells of a bad line fails, and so does a flush at the end.
 #[test]
 fn a_last_write_fails(rt: HostRuntime) {
-    let mut reader = "no\n".as_bytes();
-    let mut writer = with_room(rt.alloc(), 3);
-    assert_eq!(rt; script(rt.alloc(), &mut reader, &mut writer), 4);
-    assert_eq!(rt; writer.taken.as_slice(), b"bad".as_slice());
-    let mut reader = INPUT.as_bytes();
-    let mut writer = NarrowWriter {
+    let bad = written_to(rt.alloc(), "no\n", with_room(rt.alloc(), 3));
+    let unflushed = NarrowWriter {
         taken: Vec::new(rt.alloc()),
         room: 100,
         flushes: false,
     };
-    assert_eq!(rt; script(rt.alloc(), &mut reader, &mut writer), 4);
-    assert_eq!(rt; writer.taken.as_slice(), OUTPUT.as_bytes());
+    let whole = written_to(rt.alloc(), INPUT, unflushed);
+    assert_eq!(rt;
+        (other(bad, b"bad", 4), other(whole, OUTPUT.as_bytes(), 4)),
+        (None, None)
+    );
+}
+
+/// The last words that a program may write.
+#[derive(Clone, Copy, Debug)]
+enum Last {
+    Usage,
+    NoMemory,
+}
+
+/// Last words that are written into so much room, what is taken of them, and the status.
+struct LastRow {
+    words: Last,
+    room: usize,
+    taken: &'static str,
+    status: u8,
+}
+
+const LAST_WORDS: [LastRow; 4] = [
+    LastRow {
+        words: Last::Usage,
+        room: 100,
+        taken: "usage: saa-run script | machine | threads N\n",
+        status: 2,
+    },
+    LastRow {
+        words: Last::NoMemory,
+        room: 100,
+        taken: "no memory\n",
+        status: 3,
+    },
+    LastRow {
+        words: Last::Usage,
+        room: 5,
+        taken: "usage",
+        status: 4,
+    },
+    LastRow {
+        words: Last::NoMemory,
+        room: 0,
+        taken: "",
+        status: 4,
+    },
+];
+
+/// What is taken of last words, and their status.
+fn said_last(alloc: Global, row: &LastRow) -> Written {
+    let mut writer = with_room(alloc, row.room);
+    let status = match row.words {
+        Last::Usage => usage(&mut writer),
+        Last::NoMemory => no_memory(&mut writer),
+    };
+    (writer.taken, status)
 }
 
 /// The line that says how the program is used, and what is said of refused memory.
 #[test]
 fn last_words(rt: HostRuntime) {
-    let mut writer = Vec::new(rt.alloc());
-    assert_eq!(rt; usage(&mut writer), 2);
-    assert_eq!(rt;
-        writer.as_slice(),
-        b"usage: saa-run script | machine | threads N\n".as_slice()
-    );
-    let mut writer = Vec::new(rt.alloc());
-    assert_eq!(rt; no_memory(&mut writer), 3);
-    assert_eq!(rt; writer.as_slice(), b"no memory\n".as_slice());
-    let mut writer = with_room(rt.alloc(), 5);
-    assert_eq!(rt; usage(&mut writer), 4);
-    assert_eq!(rt; writer.taken.as_slice(), b"usage".as_slice());
-    let mut writer = with_room(rt.alloc(), 0);
-    assert_eq!(rt; no_memory(&mut writer), 4);
+    for row in &LAST_WORDS {
+        let written = said_last(rt.alloc(), row);
+        assert_eq!(rt;
+            other(written, row.taken.as_bytes(), row.status),
+            None,
+            "of {:?} into {} bytes",
+            row.words,
+            row.room
+        );
+    }
+}
+
+/// What threads write into a writer with this much room, and the status.
+fn told_by<R: Threads + Wait + Sync>(rt: &R, alloc: Global, count: u8, room: usize) -> Written
+    requires some { 0 < count }
+    requires many { count ≤ 32 }
+{
+    let mut writer = with_room(alloc, room);
+    let status = threads(rt, alloc, count, &mut writer);
+    (writer.taken, status)
 }
 
 /// Two threads, and as many as there may be: what they counted is told, each count on a line of its own.
 #[test]
 fn threads_are_counted(rt: HostRuntime) {
-    let mut writer = Vec::new(rt.alloc());
-    assert_eq!(rt; threads(&rt, rt.alloc(), 2, &mut writer), 0);
+    let two = told_by(&rt, rt.alloc(), 2, 100);
+    let all = told_by(&rt, rt.alloc(), 32, 100);
+    let cut = told_by(&rt, rt.alloc(), 1, 8);
     assert_eq!(rt;
-        writer.as_slice(),
-        b"leaders 4\navailable 63\njournal 100\n".as_slice()
+        (
+            other(two, b"leaders 4\navailable 63\njournal 100\n", 0),
+            other(all, b"leaders 4\navailable 63\njournal 1600\n", 0),
+            other(cut, b"leaders ", 4),
+        ),
+        (None, None, None)
     );
-    let mut writer = Vec::new(rt.alloc());
-    assert_eq!(rt; threads(&rt, rt.alloc(), 32, &mut writer), 0);
-    assert_eq!(rt;
-        writer.as_slice(),
-        b"leaders 4\navailable 63\njournal 1600\n".as_slice()
-    );
-    let mut writer = with_room(rt.alloc(), 8);
-    assert_eq!(rt; threads(&rt, rt.alloc(), 1, &mut writer), 4);
-    assert_eq!(rt; writer.taken.as_slice(), b"leaders ".as_slice());
 }
+
+/// What is wanted by these words.
+fn wanted_by(alloc: Global, words: &[&str]) -> Result<Wanted, AllocError> {
+    let mut args = Vec::new(alloc);
+    for word in words {
+        args.push(String::from_str(alloc, word)?)?;
+    }
+    Ok(wanted(args.as_slice()))
+}
+
+/// The second of two words, of which the first is `threads`, and what they ask for.
+const COUNTS: [(&str, Wanted); 12] = [
+    ("1", Wanted::Threads(1)),
+    ("2", Wanted::Threads(2)),
+    ("32", Wanted::Threads(32)),
+    ("33", Wanted::Usage),
+    ("0", Wanted::Usage),
+    ("02", Wanted::Usage),
+    ("002", Wanted::Usage),
+    ("257", Wanted::Usage),
+    ("+2", Wanted::Usage),
+    ("2 ", Wanted::Usage),
+    ("two", Wanted::Usage),
+    ("", Wanted::Usage),
+];
 
 /// The word `threads` and a number from 1 to 32 in plain decimal ask for so many threads.
 #[test]
 fn so_many_threads_are_wanted(rt: HostRuntime) -> Result<(), Fail> {
-    for (count, answer) in [
-        ("1", Wanted::Threads(1)),
-        ("2", Wanted::Threads(2)),
-        ("32", Wanted::Threads(32)),
-        ("33", Wanted::Usage),
-        ("0", Wanted::Usage),
-        ("02", Wanted::Usage),
-        ("002", Wanted::Usage),
-        ("257", Wanted::Usage),
-        ("+2", Wanted::Usage),
-        ("2 ", Wanted::Usage),
-        ("two", Wanted::Usage),
-        ("", Wanted::Usage),
-    ] {
-        let mut words = Vec::new(rt.alloc());
-        words.push(String::from_str(rt.alloc(), "threads")?)?;
-        words.push(String::from_str(rt.alloc(), count)?)?;
-        assert_eq!(rt; wanted(words.as_slice()), answer, "of {count:?}");
-        words.push(String::from_str(rt.alloc(), count)?)?;
-        assert_eq!(rt; wanted(words.as_slice()), Wanted::Usage, "of {count:?}");
+    for (count, answer) in &COUNTS {
+        let of_two = wanted_by(rt.alloc(), &["threads", *count])?;
+        let of_three = wanted_by(rt.alloc(), &["threads", *count, *count])?;
+        assert_eq!(rt;
+            (of_two, of_three),
+            (*answer, Wanted::Usage),
+            "of {count:?}"
+        );
     }
     Ok(())
 }
 
+/// Words, and what they ask for.
+const WANTED: [(&[&str], Wanted); 11] = [
+    (&[], Wanted::Usage),
+    (&["script"], Wanted::Script),
+    (&["script", "script"], Wanted::Usage),
+    (&["machine"], Wanted::Machine),
+    (&["machine", "machine"], Wanted::Usage),
+    (&["machine "], Wanted::Usage),
+    (&["Machine"], Wanted::Usage),
+    (&["threads"], Wanted::Usage),
+    (&["Script"], Wanted::Usage),
+    (&["script "], Wanted::Usage),
+    (&[""], Wanted::Usage),
+];
+
 /// Exactly the word `script` asks for a script, and exactly `machine` for a schedule.
 #[test]
 fn what_is_wanted(rt: HostRuntime) -> Result<(), Fail> {
-    let mut words = Vec::new(rt.alloc());
-    assert_eq!(rt; wanted(words.as_slice()), Wanted::Usage);
-    words.push(String::from_str(rt.alloc(), "script")?)?;
-    assert_eq!(rt; wanted(words.as_slice()), Wanted::Script);
-    words.push(String::from_str(rt.alloc(), "script")?)?;
-    assert_eq!(rt; wanted(words.as_slice()), Wanted::Usage);
-    let mut words = Vec::new(rt.alloc());
-    words.push(String::from_str(rt.alloc(), "machine")?)?;
-    assert_eq!(rt; wanted(words.as_slice()), Wanted::Machine);
-    words.push(String::from_str(rt.alloc(), "machine")?)?;
-    assert_eq!(rt; wanted(words.as_slice()), Wanted::Usage);
-    for other in ["machine ", "Machine", "threads", "Script", "script ", ""] {
-        let mut words = Vec::new(rt.alloc());
-        words.push(String::from_str(rt.alloc(), other)?)?;
-        assert_eq!(rt; wanted(words.as_slice()), Wanted::Usage, "of {other:?}");
+    for (words, answer) in &WANTED {
+        assert_eq!(rt; wanted_by(rt.alloc(), words)?, *answer, "of {words:?}");
     }
     Ok(())
+}
+
+/// Reads a line that a newline ends, and a last one: whether each ended as it must, and was read.
+fn lines_are_read() -> [(bool, bool); 2] {
+    let mut reader = b"one\ntwo".as_slice();
+    let mut line = LineBytes::new();
+    let is_ended = matches!(read_line(&mut reader, &mut line), Cut::Newline);
+    let is_one = line.as_slice() == b"one".as_slice();
+    let is_last = matches!(read_line(&mut reader, &mut line), Cut::End);
+    let is_two = line.as_slice() == b"two".as_slice();
+    [(is_ended, is_one), (is_last, is_two)]
 }
 
 /// Each call of `transfer` once.
 #[test]
 fn transfers(rt: HostRuntime) {
-    let mut reader = b"one\ntwo".as_slice();
-    let mut line = LineBytes::new();
-    assert!(rt; matches!(read_line(&mut reader, &mut line), Cut::Newline));
-    assert_eq!(rt; line.as_slice(), b"one".as_slice());
-    assert!(rt; matches!(read_line(&mut reader, &mut line), Cut::End));
-    assert_eq!(rt; line.as_slice(), b"two".as_slice());
     let mut writer = Vec::new(rt.alloc());
-    assert!(rt; put(&mut writer, b"one").is_ok());
-    assert!(rt; put(&mut writer, b"two").is_ok());
+    let are_put = [
+        put(&mut writer, b"one").is_ok(),
+        put(&mut writer, b"two").is_ok(),
+    ];
+    assert_eq!(rt;
+        (lines_are_read(), are_put),
+        ([(true, true), (true, true)], [true, true])
+    );
     assert_eq!(rt; writer.as_slice(), b"onetwo".as_slice());
 }
 
@@ -695,11 +677,16 @@ fn transfers(rt: HostRuntime) {
 fn replies(rt: HostRuntime) {
     let mut writer = Vec::new(rt.alloc());
     let said = said::<SemaphoreCore>(ReplyOf::Answered(SemaphoreAnswer::Number(63)));
-    assert!(rt; put_reply(&mut writer, said).is_ok());
-    assert!(rt; put_reply(&mut writer, Said::Full).is_ok());
-    assert!(rt; put_bad_line(&mut writer, 18446744073709551615).is_ok());
+    let are_put = (
+        put_reply(&mut writer, said).is_ok(),
+        put_reply(&mut writer, Said::Full).is_ok(),
+        put_bad_line(&mut writer, 18446744073709551615).is_ok(),
+    );
     assert_eq!(rt;
-        writer.as_slice(),
-        b"63\nfull\nbad line 18446744073709551615\n".as_slice()
+        (are_put, writer.as_slice()),
+        (
+            (true, true, true),
+            b"63\nfull\nbad line 18446744073709551615\n".as_slice(),
+        )
     );
 }

@@ -74,6 +74,16 @@ struct Tally {
     has_kept: AtomicBool,
 }
 
+// The numbers of a tally.
+#[derive(Clone, Copy)]
+struct Seen {
+    begun: u64,
+    holds: u64,
+    alone: u64,
+    tries: u64,
+    granted: u64,
+}
+
 impl Tally {
     fn new(allowed: u8, keeps: bool) -> Tally {
         Tally {
@@ -84,6 +94,17 @@ impl Tally {
             tries: AtomicU64::new(0),
             granted: AtomicU64::new(0),
             has_kept: AtomicBool::new(!keeps),
+        }
+    }
+
+    // What has been counted up to now.
+    fn seen(&self) -> Seen {
+        Seen {
+            begun: self.begun.load(Ordering::SeqCst),
+            holds: self.holds.load(Ordering::SeqCst),
+            alone: self.alone.load(Ordering::SeqCst),
+            tries: self.tries.load(Ordering::SeqCst),
+            granted: self.granted.load(Ordering::SeqCst),
         }
     }
 }
@@ -152,8 +173,8 @@ fn two_at_once(rt: HostRuntime) -> io::Result<()> {
         has_one_begun: AtomicBool::new(false),
     };
     let counts = run_with(&rt, rt.alloc(), 2, &pair)?;
-    assert!(rt; pair.has_one_begun.load(Ordering::SeqCst));
-    assert_eq!(rt; counts, counted(2));
+    let has_begun = pair.has_one_begun.load(Ordering::SeqCst);
+    assert_eq!(rt; (has_begun, counts), (true, counted(2)));
     Ok(())
 }
 
@@ -161,12 +182,11 @@ fn two_at_once(rt: HostRuntime) -> io::Result<()> {
 #[test]
 fn one_alone(rt: HostRuntime) -> io::Result<()> {
     let tally = Tally::new(1, false);
-    assert_eq!(rt; run_with(&rt, rt.alloc(), 1, &tally)?, counted(1));
-    assert_eq!(rt; tally.begun.load(Ordering::SeqCst), 1);
-    assert_eq!(rt; tally.holds.load(Ordering::SeqCst), 100);
-    assert_eq!(rt; tally.alone.load(Ordering::SeqCst), 100);
-    assert_eq!(rt; tally.tries.load(Ordering::SeqCst), 50);
-    assert_eq!(rt; tally.granted.load(Ordering::SeqCst), 50);
+    let counts = run_with(&rt, rt.alloc(), 1, &tally)?;
+    let seen = tally.seen();
+    assert_eq!(rt; counts, counted(1));
+    assert_eq!(rt; (seen.begun, seen.holds, seen.alone), (1, 100, 100));
+    assert_eq!(rt; (seen.tries, seen.granted), (50, 50));
     Ok(())
 }
 
@@ -174,22 +194,22 @@ fn one_alone(rt: HostRuntime) -> io::Result<()> {
 #[test]
 fn who_finds_no_permits_waits(rt: HostRuntime) -> io::Result<()> {
     let tally = Tally::new(2, true);
-    assert_eq!(rt; run_with(&rt, rt.alloc(), 2, &tally)?, counted(2));
-    assert_eq!(rt; tally.begun.load(Ordering::SeqCst), 3);
-    assert_eq!(rt; tally.holds.load(Ordering::SeqCst), 200);
+    let counts = run_with(&rt, rt.alloc(), 2, &tally)?;
+    let seen = tally.seen();
+    assert_eq!(rt; (counts, seen.begun, seen.holds), (counted(2), 3, 200));
     Ok(())
 }
 
 // Each has a number of its own, and together they take all 63 permits of the journal's semaphore.
 #[test]
 fn thirty_two(rt: HostRuntime) -> io::Result<()> {
-    assert_eq!(rt; run(&rt, rt.alloc(), 32)?, counted(32));
+    let unwatched = run(&rt, rt.alloc(), 32)?;
     let tally = Tally::new(32, true);
-    assert_eq!(rt; run_with(&rt, rt.alloc(), 32, &tally)?, counted(32));
-    assert_eq!(rt; tally.begun.load(Ordering::SeqCst), u64::from(u32::MAX));
-    assert_eq!(rt; tally.holds.load(Ordering::SeqCst), 3_200);
-    assert_eq!(rt; tally.tries.load(Ordering::SeqCst), 1_600);
-    assert_eq!(rt; tally.granted.load(Ordering::SeqCst), 63);
+    let counts = run_with(&rt, rt.alloc(), 32, &tally)?;
+    let seen = tally.seen();
+    assert_eq!(rt; (unwatched, counts), (counted(32), counted(32)));
+    assert_eq!(rt; (seen.begun, seen.holds), (u64::from(u32::MAX), 3_200));
+    assert_eq!(rt; (seen.tries, seen.granted), (1_600, 63));
     Ok(())
 }
 
@@ -198,11 +218,14 @@ fn thirty_two(rt: HostRuntime) -> io::Result<()> {
 fn one_that_cannot_be_started_ends_all(rt: HostRuntime) -> io::Result<()> {
     for allowed in [0, 1, 2] {
         let tally = Tally::new(allowed, false);
-        assert!(rt; run_with(&rt, rt.alloc(), 3, &tally).is_err());
+        let is_refused = run_with(&rt, rt.alloc(), 3, &tally).is_err();
         let bits = 1u64.wrapping_shl(u32::from(allowed)).saturating_sub(1);
-        assert_eq!(rt; tally.begun.load(Ordering::SeqCst), bits);
-        assert_eq!(rt; tally.holds.load(Ordering::SeqCst), 0);
-        assert_eq!(rt; tally.tries.load(Ordering::SeqCst), 0);
+        let seen = tally.seen();
+        assert_eq!(rt;
+            (is_refused, seen.begun, seen.holds, seen.tries),
+            (true, bits, 0, 0),
+            "where {allowed} were started"
+        );
     }
     Ok(())
 }
@@ -236,7 +259,7 @@ fn permits_are_counted_in_the_end(rt: HostRuntime) -> io::Result<()> {
         stolen: AtomicU64::new(0),
     };
     let counts = run_with(&rt, rt.alloc(), 1, &thief)?;
-    assert_eq!(rt; thief.stolen.load(Ordering::SeqCst), 3);
-    assert_eq!(rt; counts.available, 60);
+    let stolen = thief.stolen.load(Ordering::SeqCst);
+    assert_eq!(rt; (stolen, counts.available), (3, 60));
     Ok(())
 }
