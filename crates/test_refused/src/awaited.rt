@@ -2,7 +2,7 @@
 //! answer is the same. Only where `block_on` itself is refused is there none, and then the future is awaited anew.
 
 use crate::anew;
-use crate::came::Came;
+use crate::came::{Came, row};
 use futures::executor::block_on;
 use saa_sync::barrier::Barrier;
 use saa_sync::gate::{Gate, State};
@@ -10,7 +10,7 @@ use saa_sync::lock::Lock;
 use saa_sync::lock_api::{Mutex, RwLock, lock_async, read_async, write_async};
 use saa_sync::pager::Pager;
 use saa_sync::semaphore::Semaphore;
-use std::alloc::{AllocGlobal, Global};
+use std::alloc::{AllocError, AllocGlobal, Global};
 use std::io;
 use std::random::RandomSource;
 use std::rt::Runtime;
@@ -26,18 +26,71 @@ fn rest() {
     }
 }
 
-// Awaits a future, anew where that was refused.
-macro_rules! awaited {
-    ($rt:expr; $future:expr, $wanted:pat) => {
-        match block_on($rt, $future) {
-            Ok($wanted) => Came::AtOnce,
-            Ok(_) => Came::Wrong,
-            Err(_) => match block_on($rt, $future) {
-                Ok($wanted) => Came::Anew,
-                _ => Came::Wrong,
-            },
+// What is awaited.
+#[derive(Clone, Copy)]
+enum What {
+    Permit,
+    TwoPermits,
+    Turn,
+    Share,
+    Gate,
+    Barrier,
+    Mutex,
+    Reader,
+    Writer,
+}
+
+// What another thread lets be answered.
+const ANSWERED: [(&str, What); 6] = [
+    ("a permit awaited", What::Permit),
+    ("two permits awaited", What::TwoPermits),
+    ("a lock awaited, taken before (true)", What::Turn),
+    ("a share awaited", What::Share),
+    ("a gate awaited", What::Gate),
+    ("a barrier awaited", What::Barrier),
+];
+
+// These are answered at once: how long one waits is the lock's matter.
+const GUARDS: [(&str, What); 3] = [
+    ("a mutex awaited", What::Mutex),
+    ("a reader awaited", What::Reader),
+    ("a writer awaited", What::Writer),
+];
+
+// The forms whose futures are awaited.
+#[derive(Drop)]
+struct Forms<'r, R: Wait> {
+    semaphore: Semaphore<&'r R>,
+    lock: Lock<&'r R>,
+    gate: Gate<&'r R>,
+    barrier: Barrier<&'r R>,
+    mutex: Mutex<&'r R, u32>,
+    rwlock: RwLock<&'r R, u32>,
+}
+
+impl<'r, R: Wait> Forms<'r, R> {
+    fn new(rt: &'r R, alloc: Global) -> Result<Self, AllocError> {
+        Ok(Forms {
+            semaphore: Semaphore::with_permits(rt, alloc, 0, 4)?,
+            lock: Lock::new(rt, alloc, 4)?,
+            gate: Gate::new(rt, alloc, 4)?,
+            barrier: Barrier::with_count(rt, alloc, 2, 4)?,
+            mutex: Mutex::new(rt, alloc, 5u32, 4)?,
+            rwlock: RwLock::new(rt, alloc, 5u32, 4)?,
+        })
+    }
+
+    // Lets a future be answered.
+    fn answer(&self, what: What) {
+        match what {
+            What::Permit => drop(self.semaphore.release_many(1)),
+            What::TwoPermits => drop(self.semaphore.release_many(2)),
+            What::Turn | What::Share => drop(self.lock.release_lock()),
+            What::Gate => drop(self.gate.open()),
+            What::Barrier => drop(self.barrier.wait_sync()),
+            What::Mutex | What::Reader | What::Writer => {}
         }
-    };
+    }
 }
 
 /// Awaits each, and prints a line for each.
@@ -45,90 +98,72 @@ pub fn rows<R: Runtime + RandomSource + AllocGlobal + Threads + Wait + Sync>(
     rt: &R,
     alloc: Global,
 ) -> io::Result<()> {
-    permits(rt, alloc)?;
-    turns(rt, alloc)?;
-    gatherings(rt, alloc)?;
-    pagers(rt, alloc)?;
-    guards(rt, alloc)
+    let forms = anew!(Forms::new(rt, alloc));
+    rows_of(rt, &forms)
 }
 
-fn permits<R: Runtime + RandomSource + AllocGlobal + Threads + Wait + Sync>(
+// The same of forms that are made.
+fn rows_of<R: Runtime + RandomSource + AllocGlobal + Threads + Wait + Sync>(
     rt: &R,
-    alloc: Global,
+    forms: &Forms<'_, R>,
 ) -> io::Result<()> {
-    let semaphore = anew!(Semaphore::with_permits(rt, alloc, 0, 4));
-    let answers = || {
-        rest();
-        semaphore.release_many(1)
-    };
-    let (_, came) = thread::join(
-        rt,
-        answers,
-        || awaited!(rt; semaphore.acquire_async(), Ok(())),
-    );
-    println!(rt; "a permit awaited: {came}")?;
-    let answers = || {
-        rest();
-        semaphore.release_many(2)
-    };
-    let (_, came) = thread::join(
-        rt,
-        answers,
-        || awaited!(rt; semaphore.acquire_many_async(2), Ok(true)),
-    );
-    println!(rt; "two permits awaited: {came}")
+    for (name, what) in &ANSWERED {
+        row(rt, name, answered_later(rt, forms, *what))?;
+    }
+    row(rt, "a pager awaited", awaited_pager(rt, &forms.semaphore))?;
+    for (name, what) in &GUARDS {
+        row(rt, name, awaited(rt, forms, *what))?;
+    }
+    Ok(())
 }
 
-fn turns<R: Runtime + RandomSource + AllocGlobal + Threads + Wait + Sync>(
+// Awaits a future while another thread lets it be answered.
+fn answered_later<R: RandomSource + AllocGlobal + Threads + Wait + Sync>(
     rt: &R,
-    alloc: Global,
-) -> io::Result<()> {
-    let lock = anew!(Lock::new(rt, alloc, 4));
-    let is_taken = lock.try_lock().is_ok();
+    forms: &Forms<'_, R>,
+    what: What,
+) -> Came {
+    // The lock is another's.
+    if matches!(what, What::Turn) && forms.lock.try_lock().is_err() {
+        return Came::Wrong;
+    }
     let answers = || {
         rest();
-        lock.release_lock()
+        forms.answer(what)
     };
-    let (_, came) = thread::join(rt, answers, || awaited!(rt; lock.lock_async(), Ok(true)));
-    println!(rt; "a lock awaited, taken before ({is_taken}): {came}")?;
-    let answers = || {
-        rest();
-        lock.release_lock()
-    };
-    let (_, came) = thread::join(rt, answers, || awaited!(rt; lock.share_async(), Ok(true)));
-    println!(rt; "a share awaited: {came}")
+    let (_, came) = thread::join(rt, answers, || awaited(rt, forms, what));
+    came
 }
 
-fn gatherings<R: Runtime + RandomSource + AllocGlobal + Threads + Wait + Sync>(
-    rt: &R,
-    alloc: Global,
-) -> io::Result<()> {
-    let gate = anew!(Gate::new(rt, alloc, 4));
-    let answers = || {
-        rest();
-        gate.open()
-    };
-    let (_, came) = thread::join(
-        rt,
-        answers,
-        || awaited!(rt; gate.enter_async(), Ok(Ok(State::Open))),
-    );
-    println!(rt; "a gate awaited: {came}")?;
-    let barrier = anew!(Barrier::with_count(rt, alloc, 2, 4));
-    let arrives = || {
-        rest();
-        barrier.wait_sync()
-    };
-    let (_, came) = thread::join(rt, arrives, || awaited!(rt; barrier.wait_async(), Ok(_)));
-    println!(rt; "a barrier awaited: {came}")
+// Awaits a future, anew where that was refused.
+fn awaited<R: RandomSource + AllocGlobal + Wait>(rt: &R, forms: &Forms<'_, R>, what: What) -> Came {
+    match is_answered(rt, forms, what) {
+        Some(true) => Came::AtOnce,
+        Some(false) => Came::Wrong,
+        None => match is_answered(rt, forms, what) {
+            Some(true) => Came::Anew,
+            _ => Came::Wrong,
+        },
+    }
 }
 
-fn pagers<R: Runtime + RandomSource + AllocGlobal + Threads + Wait + Sync>(
+// Whether a future is answered as it must be; nothing where it was refused to await it.
+fn is_answered<R: RandomSource + AllocGlobal + Wait>(
     rt: &R,
-    alloc: Global,
-) -> io::Result<()> {
-    let semaphore = anew!(Semaphore::with_permits(rt, alloc, 0, 4));
-    println!(rt; "a pager awaited: {}", awaited_pager(rt, &semaphore))
+    forms: &Forms<'_, R>,
+    what: What,
+) -> Option<bool> {
+    Some(match what {
+        What::Permit => block_on(rt, forms.semaphore.acquire_async()).ok()? == Ok(()),
+        What::TwoPermits => block_on(rt, forms.semaphore.acquire_many_async(2)).ok()? == Ok(true),
+        What::Turn => block_on(rt, forms.lock.lock_async()).ok()? == Ok(true),
+        What::Share => block_on(rt, forms.lock.share_async()).ok()? == Ok(true),
+        What::Gate => block_on(rt, forms.gate.enter_async()).ok()? == Ok(Ok(State::Open)),
+        What::Barrier => block_on(rt, forms.barrier.wait_async()).ok()?.is_ok(),
+        What::Mutex => block_on(rt, lock_async(&forms.mutex)).ok()?.is_ok(),
+        What::Reader => block_on(rt, read_async(&forms.rwlock)).ok()?.is_ok(),
+        What::Writer => block_on(rt, write_async(&forms.rwlock)).ok()?.is_ok(),
+    })
 }
 
 // Registers a pager, and awaits its answer.
@@ -148,28 +183,17 @@ fn awaited_pager<R: RandomSource + AllocGlobal + Threads + Wait + Sync>(
     came
 }
 
-// Polls a pager until it is answered.
+// Polls a pager until it is answered, anew where that was refused.
 fn poll_pager<R: RandomSource + AllocGlobal + Wait, H: Wait + Drop>(
     rt: &R,
     mut pager: Pager<'_, Semaphore<H>>,
 ) -> Came {
-    awaited!(rt; pager.poll_async(), Ok(()))
-}
-
-// These are answered at once: how long one waits is the lock's matter.
-fn guards<R: Runtime + RandomSource + AllocGlobal + Wait>(rt: &R, alloc: Global) -> io::Result<()> {
-    let mutex = anew!(Mutex::new(rt, alloc, 5u32, 4));
-    println!(rt;
-        "a mutex awaited: {}",
-        awaited!(rt; lock_async(&mutex), Ok(_guard))
-    )?;
-    let rwlock = anew!(RwLock::new(rt, alloc, 5u32, 4));
-    println!(rt;
-        "a reader awaited: {}",
-        awaited!(rt; read_async(&rwlock), Ok(_guard))
-    )?;
-    println!(rt;
-        "a writer awaited: {}",
-        awaited!(rt; write_async(&rwlock), Ok(_guard))
-    )
+    match block_on(rt, pager.poll_async()) {
+        Ok(answer) if answer == Ok(()) => Came::AtOnce,
+        Ok(_) => Came::Wrong,
+        Err(_) => match block_on(rt, pager.poll_async()) {
+            Ok(answer) if answer == Ok(()) => Came::Anew,
+            _ => Came::Wrong,
+        },
+    }
 }

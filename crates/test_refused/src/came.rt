@@ -1,6 +1,8 @@
 //! What came of something that takes memory.
 
 use std::fmt::{self, Display, Formatter, Write};
+use std::io;
+use std::rt::Runtime;
 
 /// What came of it.
 #[derive(Clone, Copy, Debug, Eq, PartialEq)]
@@ -24,6 +26,11 @@ impl Came {
     }
 }
 
+/// Prints what came of something.
+pub fn row<R: Runtime>(rt: &R, name: &str, came: Came) -> io::Result<()> {
+    println!(rt; "{name}: {came}")
+}
+
 impl Display for Came {
     fn fmt<W: Write>(&self, f: &mut Formatter<W>) -> fmt::Result {
         f.write_str(match self {
@@ -32,20 +39,6 @@ impl Display for Came {
             Came::Wrong => "WRONG",
         })
     }
-}
-
-/// Makes something, twice where it was refused.
-#[macro_export]
-macro_rules! made {
-    ($make:expr) => {
-        match $make {
-            Ok(_made) => Came::AtOnce,
-            Err(_) => match $make {
-                Ok(_made) => Came::Anew,
-                Err(_) => Came::Wrong,
-            },
-        }
-    };
 }
 
 /// Makes something that the rows need, anew where it was refused.

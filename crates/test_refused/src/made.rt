@@ -1,7 +1,7 @@
 //! Cores, benches, machines, and the forms that threads share: where memory is refused nothing is made.
 
-use crate::came::Came;
-use crate::{anew, made};
+use crate::anew;
+use crate::came::{Came, row};
 use saa_core::barrier::BarrierCore;
 use saa_core::bench::Bench;
 use saa_core::gate::GateCore;
@@ -22,130 +22,120 @@ use std::io;
 use std::rt::Runtime;
 use std::sync::{Arc, Wait};
 
+// What is made.
+#[derive(Clone, Copy)]
+enum What {
+    SemaphoreCore,
+    WideSemaphoreCore,
+    LockCore,
+    GateCore,
+    BarrierCore,
+    Bench,
+    SemaphoreMachine,
+    LockMachine,
+    WordSemaphore,
+    WordLock,
+    Semaphore,
+    WideSemaphore,
+    Lock,
+    Gate,
+    Barrier,
+    Mutex,
+    RwLock,
+    WordMutex,
+    WordRwLock,
+}
+
+// Its name, in the order of the rows.
+const ROWS: [(&str, What); 19] = [
+    ("semaphore core", What::SemaphoreCore),
+    ("wide semaphore core", What::WideSemaphoreCore),
+    ("lock core", What::LockCore),
+    ("gate core", What::GateCore),
+    ("barrier core", What::BarrierCore),
+    ("bench", What::Bench),
+    ("machine of a semaphore", What::SemaphoreMachine),
+    ("machine of a lock", What::LockMachine),
+    ("word semaphore", What::WordSemaphore),
+    ("word lock", What::WordLock),
+    ("semaphore", What::Semaphore),
+    ("wide semaphore", What::WideSemaphore),
+    ("lock", What::Lock),
+    ("gate", What::Gate),
+    ("barrier", What::Barrier),
+    ("mutex", What::Mutex),
+    ("reader-writer lock", What::RwLock),
+    ("word mutex", What::WordMutex),
+    ("word reader-writer lock", What::WordRwLock),
+];
+
 /// Makes each, and prints a line for each.
+///
+/// The value that guards stand round is dropped where nothing is made, and with what is made: one owner is left.
 pub fn rows<R: Runtime + Wait>(rt: &R, alloc: Global) -> io::Result<()> {
-    cores(rt, alloc)?;
-    words(rt, alloc)?;
-    forms(rt, alloc)?;
-    guarded(rt, alloc)
-}
-
-fn cores<R: Runtime>(rt: &R, alloc: Global) -> io::Result<()> {
-    row(rt, "semaphore core", semaphore_core(alloc))?;
-    row(rt, "wide semaphore core", wide_core(alloc))?;
-    row(rt, "lock core", lock_core(alloc))?;
-    row(rt, "gate core", gate_core(alloc))?;
-    row(rt, "barrier core", barrier_core(alloc))?;
-    row(rt, "bench", bench(alloc))
-}
-
-fn words<R: Runtime>(rt: &R, alloc: Global) -> io::Result<()> {
-    row(rt, "machine of a semaphore", semaphore_machine(alloc))?;
-    row(rt, "machine of a lock", lock_machine(alloc))?;
-    row(rt, "word semaphore", word_semaphore(alloc))?;
-    row(rt, "word lock", word_lock(alloc))
-}
-
-fn forms<R: Runtime + Wait>(rt: &R, alloc: Global) -> io::Result<()> {
-    row(rt, "semaphore", semaphore(rt, alloc))?;
-    row(rt, "wide semaphore", wide_semaphore(rt, alloc))?;
-    row(rt, "lock", lock(rt, alloc))?;
-    row(rt, "gate", gate(rt, alloc))?;
-    row(rt, "barrier", barrier(rt, alloc))
-}
-
-// The values that are handed in are dropped where nothing is made, and with what is made: one owner is left.
-fn guarded<R: Runtime + Wait>(rt: &R, alloc: Global) -> io::Result<()> {
     let value = anew!(Arc::new(alloc, 5u32));
-    row(rt, "mutex", mutex(rt, alloc, &value))?;
-    row(rt, "reader-writer lock", rwlock(rt, alloc, &value))?;
-    row(rt, "word mutex", word_mutex(alloc, &value))?;
-    row(rt, "word reader-writer lock", word_rwlock(alloc, &value))
+    rows_with(rt, alloc, &value)
 }
 
-fn row<R: Runtime>(rt: &R, name: &str, came: Came) -> io::Result<()> {
-    println!(rt; "{name}: {came}")
+// The same with this value.
+fn rows_with<R: Runtime + Wait>(rt: &R, alloc: Global, value: &Arc<u32>) -> io::Result<()> {
+    for (name, what) in &ROWS {
+        let came = made(rt, alloc, *what, value);
+        row(rt, name, came.and(if_alone(value)))?;
+    }
+    Ok(())
 }
 
-fn semaphore_core(alloc: Global) -> Came {
-    made!(SemaphoreCore::new(alloc, 4))
-}
-
-fn wide_core(alloc: Global) -> Came {
-    made!(SemaphoreCoreOf::<1000>::with_permits(alloc, 5, 4))
-}
-
-fn lock_core(alloc: Global) -> Came {
-    made!(LockCore::new(alloc, 4))
-}
-
-fn gate_core(alloc: Global) -> Came {
-    made!(GateCore::new(alloc, 4))
-}
-
-fn barrier_core(alloc: Global) -> Came {
-    made!(BarrierCore::with_count(alloc, 3, 4))
-}
-
-fn bench(alloc: Global) -> Came {
-    made!(bench_of_three(alloc))
-}
-
-fn bench_of_three(alloc: Global) -> Result<Bench<SemaphoreCore>, AllocError> {
-    Bench::new(alloc, SemaphoreCore::new(alloc, 4)?, 3)
-}
-
-fn semaphore_machine(alloc: Global) -> Came {
-    made!(Machine::semaphore(alloc, 7, 3))
-}
-
-fn lock_machine(alloc: Global) -> Came {
-    made!(Machine::lock(alloc, 3))
-}
-
-fn word_semaphore(alloc: Global) -> Came {
-    made!(WordSemaphore::new(alloc, 7, 3))
-}
-
-fn word_lock(alloc: Global) -> Came {
-    made!(WordLock::new(alloc, 3))
-}
-
-fn semaphore<R: Wait>(rt: &R, alloc: Global) -> Came {
-    made!(Semaphore::new(rt, alloc, 4))
-}
-
-fn wide_semaphore<R: Wait>(rt: &R, alloc: Global) -> Came {
-    made!(SemaphoreOf::<_, 1000>::with_permits(rt, alloc, 5, 4))
-}
-
-fn lock<R: Wait>(rt: &R, alloc: Global) -> Came {
-    made!(Lock::new(rt, alloc, 4))
-}
-
-fn gate<R: Wait>(rt: &R, alloc: Global) -> Came {
-    made!(Gate::new(rt, alloc, 4))
-}
-
-fn barrier<R: Wait>(rt: &R, alloc: Global) -> Came {
-    made!(Barrier::with_count(rt, alloc, 3, 4))
-}
-
-// What came of it, where the value has one owner behind it.
-fn if_dropped(came: Came, value: &Arc<u32>) -> Came {
+// Wrong where a value has more than one owner.
+fn if_alone(value: &Arc<u32>) -> Came {
     if Arc::strong_count(value) == 1 {
-        came
+        Came::AtOnce
     } else {
         Came::Wrong
     }
 }
 
-fn mutex<R: Wait>(rt: &R, alloc: Global, value: &Arc<u32>) -> Came {
-    let came = made!(mutex_of(rt, alloc, value));
-    if_dropped(came, value)
+// Makes it, anew where it was refused.
+fn made<R: Wait>(rt: &R, alloc: Global, what: What, value: &Arc<u32>) -> Came {
+    if is_made(rt, alloc, what, value) {
+        Came::AtOnce
+    } else if is_made(rt, alloc, what, value) {
+        Came::Anew
+    } else {
+        Came::Wrong
+    }
 }
 
-fn mutex_of<'a, R: Wait>(
+// Whether it was made, and not refused.
+fn is_made<R: Wait>(rt: &R, alloc: Global, what: What, value: &Arc<u32>) -> bool {
+    match what {
+        What::SemaphoreCore => SemaphoreCore::new(alloc, 4).is_ok(),
+        What::WideSemaphoreCore => SemaphoreCoreOf::<1000>::with_permits(alloc, 5, 4).is_ok(),
+        What::LockCore => LockCore::new(alloc, 4).is_ok(),
+        What::GateCore => GateCore::new(alloc, 4).is_ok(),
+        What::BarrierCore => BarrierCore::with_count(alloc, 3, 4).is_ok(),
+        What::Bench => bench(alloc).is_ok(),
+        What::SemaphoreMachine => Machine::semaphore(alloc, 7, 3).is_ok(),
+        What::LockMachine => Machine::lock(alloc, 3).is_ok(),
+        What::WordSemaphore => WordSemaphore::new(alloc, 7, 3).is_ok(),
+        What::WordLock => WordLock::new(alloc, 3).is_ok(),
+        What::Semaphore => Semaphore::new(rt, alloc, 4).is_ok(),
+        What::WideSemaphore => SemaphoreOf::<_, 1000>::with_permits(rt, alloc, 5, 4).is_ok(),
+        What::Lock => Lock::new(rt, alloc, 4).is_ok(),
+        What::Gate => Gate::new(rt, alloc, 4).is_ok(),
+        What::Barrier => Barrier::with_count(rt, alloc, 3, 4).is_ok(),
+        What::Mutex => mutex(rt, alloc, value).is_ok(),
+        What::RwLock => rwlock(rt, alloc, value).is_ok(),
+        What::WordMutex => word_mutex(alloc, value).is_ok(),
+        What::WordRwLock => word_rwlock(alloc, value).is_ok(),
+    }
+}
+
+fn bench(alloc: Global) -> Result<Bench<SemaphoreCore>, AllocError> {
+    Bench::new(alloc, SemaphoreCore::new(alloc, 4)?, 3)
+}
+
+fn mutex<'a, R: Wait>(
     rt: &'a R,
     alloc: Global,
     value: &Arc<u32>,
@@ -153,12 +143,7 @@ fn mutex_of<'a, R: Wait>(
     Mutex::new(rt, alloc, Arc::try_clone(value)?, 4)
 }
 
-fn rwlock<R: Wait>(rt: &R, alloc: Global, value: &Arc<u32>) -> Came {
-    let came = made!(rwlock_of(rt, alloc, value));
-    if_dropped(came, value)
-}
-
-fn rwlock_of<'a, R: Wait>(
+fn rwlock<'a, R: Wait>(
     rt: &'a R,
     alloc: Global,
     value: &Arc<u32>,
@@ -166,24 +151,14 @@ fn rwlock_of<'a, R: Wait>(
     RwLock::new(rt, alloc, Arc::try_clone(value)?, 4)
 }
 
-fn word_mutex(alloc: Global, value: &Arc<u32>) -> Came {
-    let came = made!(word_mutex_of(alloc, value));
-    if_dropped(came, value)
-}
-
-fn word_mutex_of(
+fn word_mutex(
     alloc: Global,
     value: &Arc<u32>,
 ) -> Result<(WordMutex<Arc<u32>>, Vec<Place>), AllocError> {
     WordMutex::new(alloc, Arc::try_clone(value)?, 3)
 }
 
-fn word_rwlock(alloc: Global, value: &Arc<u32>) -> Came {
-    let came = made!(word_rwlock_of(alloc, value));
-    if_dropped(came, value)
-}
-
-fn word_rwlock_of(
+fn word_rwlock(
     alloc: Global,
     value: &Arc<u32>,
 ) -> Result<(WordRwLock<Arc<u32>>, Vec<Place>), AllocError> {
