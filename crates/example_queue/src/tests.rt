@@ -2,9 +2,11 @@
 
 use crate::exchange::exchange;
 use crate::queue::{Popped, Queue, Refused};
+use saa::ticket::Full;
 use std::io;
 use std::process::Abort;
-use std::time::Duration;
+use std::sync::Wait;
+use std::time::{Clock, Duration};
 
 #[test]
 fn a_pair_and_more(rt: HostRuntime) -> io::Result<()> {
@@ -15,22 +17,71 @@ fn a_pair_and_more(rt: HostRuntime) -> io::Result<()> {
     Ok(())
 }
 
+// A call at a queue of numbers.
+#[derive(Clone, Copy)]
+enum Call {
+    Push(u8),
+    TryPush(u8),
+    PushFor(u8, Duration),
+    Pop,
+    TryPop,
+    PopFor(Duration),
+    Close,
+}
+
+// What a call tells.
+#[derive(Clone, Copy, Debug, PartialEq)]
+enum Told {
+    Pushed(Result<(), Refused<u8>>),
+    Popped(Result<Option<u8>, Full>),
+    InTime(Result<Popped<u8>, Full>),
+    Closed(Result<(), Full>),
+}
+
+fn answer<R: Wait + Clock + Copy + Drop>(queue: &Queue<R, u8>, call: Call) -> Told {
+    match call {
+        Call::Push(item) => Told::Pushed(queue.push(item)),
+        Call::TryPush(item) => Told::Pushed(queue.try_push(item)),
+        Call::PushFor(item, patience) => Told::Pushed(queue.push_for(item, patience)),
+        Call::Pop => Told::Popped(queue.pop()),
+        Call::TryPop => Told::Popped(queue.try_pop()),
+        Call::PopFor(patience) => Told::InTime(queue.pop_for(patience)),
+        Call::Close => Told::Closed(queue.close()),
+    }
+}
+
+// Calls at a queue for two items, one after another, and what each must tell.
+const CALLS: [(Call, Told); 14] = [
+    (Call::TryPop, Told::Popped(Ok(None))),
+    (Call::Push(1), Told::Pushed(Ok(()))),
+    (Call::TryPush(2), Told::Pushed(Ok(()))),
+    (Call::TryPush(3), Told::Pushed(Err(Refused::WouldWait(3)))),
+    (
+        Call::PushFor(3, Duration::ZERO),
+        Told::Pushed(Err(Refused::TooLate(3))),
+    ),
+    (Call::Close, Told::Closed(Ok(()))),
+    (Call::Push(4), Told::Pushed(Err(Refused::Closed(4)))),
+    (Call::Pop, Told::Popped(Ok(Some(1)))),
+    (Call::TryPop, Told::Popped(Ok(Some(2)))),
+    (Call::Pop, Told::Popped(Ok(None))),
+    (Call::Pop, Told::Popped(Ok(None))),
+    (Call::Push(5), Told::Pushed(Err(Refused::Closed(5)))),
+    (
+        Call::PushFor(5, Duration::MAX),
+        Told::Pushed(Err(Refused::Closed(5))),
+    ),
+    (
+        Call::PopFor(Duration::MAX),
+        Told::InTime(Ok(Popped::Closed)),
+    ),
+];
+
 #[test]
 fn a_full_queue_and_a_closed_one(rt: HostRuntime) -> io::Result<()> {
     let queue = Queue::new(&rt, rt.alloc(), 2, 1)?;
-    assert!(rt; queue.try_pop().is_ok_and(|item: Option<u8>| item.is_none()));
-    assert!(rt; queue.push(1).is_ok());
-    assert!(rt; queue.try_push(2).is_ok());
-    assert!(rt; queue.try_push(3) == Err(Refused::WouldWait(3)));
-    assert!(rt; queue.push_for(3, Duration::ZERO) == Err(Refused::TooLate(3)));
-    assert!(rt; queue.close().is_ok());
-    assert!(rt; queue.push(4) == Err(Refused::Closed(4)));
-    assert!(rt; queue.pop().is_ok_and(|item| item == Some(1)));
-    assert!(rt; queue.try_pop().is_ok_and(|item| item == Some(2)));
-    assert!(rt; queue.pop().is_ok_and(|item| item.is_none()));
-    assert!(rt; queue.pop().is_ok_and(|item| item.is_none()));
-    assert!(rt; queue.push(5) == Err(Refused::Closed(5)));
-    assert!(rt; queue.push_for(5, Duration::MAX) == Err(Refused::Closed(5)));
-    assert!(rt; queue.pop_for(Duration::MAX) == Ok(Popped::Closed));
+    for (call, wanted) in &CALLS {
+        assert_eq!(rt; answer(&queue, *call), *wanted);
+    }
     Ok(())
 }
