@@ -4,7 +4,8 @@ use crate::pool::{Pool, Refused};
 use crate::work::{Seen, share};
 use std::io;
 use std::process::Abort;
-use std::time::Duration;
+use std::sync::Wait;
+use std::time::{Clock, Duration};
 
 #[test]
 fn one_connection_and_a_hundred(rt: HostRuntime) -> io::Result<()> {
@@ -31,27 +32,51 @@ fn one_connection_and_a_hundred(rt: HostRuntime) -> io::Result<()> {
     Ok(())
 }
 
+// Checks out the other of two connections: whether one more is refused then, at once and in time, and what was used and is out.
+fn with_both_out<R: Wait + Clock>(pool: &Pool<'_, R, 2>) -> (bool, bool, bool, (u64, usize)) {
+    let other = pool.try_check_out();
+    let is_refused = matches!(pool.try_check_out(), Err(Refused::WouldWait));
+    let is_late = matches!(pool.check_out_for(Duration::ZERO), Err(Refused::TooLate));
+    (other.is_ok(), is_refused, is_late, pool.uses())
+}
+
+// Checks a connection out that is in, for no use; whether it was had, and what was used and is out then.
+fn unused<R: Wait + Clock>(pool: &Pool<'_, R, 2>) -> (bool, (u64, usize)) {
+    let is_had = pool.check_out_for(Duration::ZERO).is_ok();
+    (is_had, pool.uses())
+}
+
+// The same of one that is used once.
+fn used<R: Wait>(pool: &Pool<'_, R, 2>) -> (bool, (u64, usize)) {
+    let is_had = match pool.try_check_out() {
+        Ok(mut checkout) => {
+            checkout.connection().use_once();
+            true
+        }
+        Err(_refused) => false,
+    };
+    (is_had, pool.uses())
+}
+
+// Shuts a pool down; whether it refuses everybody then.
+fn shut_down<R: Wait>(pool: &Pool<'_, R, 2>) -> (bool, bool) {
+    pool.shut_down();
+    let is_shut = matches!(pool.check_out(), Err(Refused::Shut));
+    (is_shut, matches!(pool.check_out(), Err(Refused::Shut)))
+}
+
 #[test]
 fn a_pool_that_is_out_and_one_that_is_shut(rt: HostRuntime) -> io::Result<()> {
     let pool = Pool::<_, 2>::new(&rt, rt.alloc(), 1)?;
-    let one = pool.try_check_out();
-    let two = pool.check_out();
-    assert!(rt; one.is_ok() && two.is_ok());
-    assert!(rt; pool.uses() == (0, 2));
-    assert!(rt; matches!(pool.try_check_out(), Err(Refused::WouldWait)));
-    assert!(rt; matches!(pool.check_out_for(Duration::ZERO), Err(Refused::TooLate)));
+    let one = pool.check_out();
+    let is_out = one.is_ok();
+    let with_both_out = with_both_out(&pool);
+    let unused = unused(&pool);
+    let used = used(&pool);
+    let shut = shut_down(&pool);
     drop(one);
-    assert!(rt; pool.check_out_for(Duration::ZERO).is_ok());
-    assert!(rt; pool.uses() == (0, 1));
-    match pool.try_check_out() {
-        Ok(mut checkout) => checkout.connection().use_once(),
-        Err(_) => assert!(rt; false),
-    }
-    assert!(rt; pool.uses() == (1, 1));
-    pool.shut_down();
-    assert!(rt; matches!(pool.check_out(), Err(Refused::Shut)));
-    assert!(rt; matches!(pool.check_out(), Err(Refused::Shut)));
-    drop(two);
-    assert!(rt; pool.uses() == (1, 0));
+    assert!(rt; is_out && with_both_out == (true, true, true, (0, 2)));
+    assert!(rt; unused == (true, (0, 1)) && used == (true, (1, 1)));
+    assert!(rt; shut == (true, true) && pool.uses() == (1, 0));
     Ok(())
 }

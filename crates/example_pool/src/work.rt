@@ -2,7 +2,7 @@
 
 ghost use Rattle.std.specs.Prelude.{◌<◌};
 
-use crate::pool::{Pool, Refused};
+use crate::pool::{Connection, Pool, Refused};
 use std::alloc::{AllocError, Global};
 use std::io;
 use std::sync::Wait;
@@ -59,24 +59,58 @@ fn pass_on<R: Threads + Wait + Clock + Sync, const MAX: usize>(
     pool: &Pool<'_, R, MAX>,
     workers: u16,
 ) -> Result<Seen, AllocError> {
+    let (mut kept, refused) = take_all(alloc, pool)?;
+    let taken = kept.len();
+    let is_late = is_late(pool);
+    for connection in &mut kept {
+        connection.use_once();
+    }
+    let turns = turns_with_one(rt, pool, kept.pop(), workers);
+    for connection in kept {
+        pool.give_back(connection);
+    }
+    match turns {
+        Some(turns) => Ok(Seen {
+            taken,
+            refused,
+            late: u64::from(is_late),
+            turns,
+            uses: 0,
+        }),
+        None => Err(AllocError),
+    }
+}
+
+// Takes all connections, with one try more than there are: those that it got, and how many tries were refused.
+fn take_all<R: Wait, const MAX: usize>(
+    alloc: Global,
+    pool: &Pool<'_, R, MAX>,
+) -> Result<(Vec<Connection>, u64), AllocError> {
     let mut kept = Vec::new(alloc);
     let mut refused = 0u64;
-    // One try more than there are connections.
     for _try in 0..=MAX {
         match pool.try_check_out() {
             Ok(checkout) => kept.push(checkout.keep())?,
             Err(_refused) => refused = refused.saturating_add(1),
         }
     }
-    let taken = kept.len();
-    let is_late = matches!(
-        pool.check_out_for(Duration::from_millis(PATIENCE)),
-        Err(Refused::TooLate)
-    );
-    for connection in &mut kept {
-        connection.use_once();
-    }
-    let last = kept.pop();
+    Ok((kept, refused))
+}
+
+// Waits for one connection more; whether it was told that time was up.
+fn is_late<R: Wait + Clock, const MAX: usize>(pool: &Pool<'_, R, MAX>) -> bool {
+    let one_more = pool.check_out_for(Duration::from_millis(PATIENCE));
+    matches!(one_more, Err(Refused::TooLate))
+}
+
+// Starts so many workers, and gives back one connection, which goes from worker to worker, in the order of asking; the others stay
+// out. How many turns the workers had with all out; none where one couldn't be started.
+fn turns_with_one<R: Threads + Wait + Sync, const MAX: usize>(
+    rt: &R,
+    pool: &Pool<'_, R, MAX>,
+    last: Option<Connection>,
+    workers: u16,
+) -> Option<u64> {
     let counter = AtomicU64::new(0);
     let turns = &counter;
     let is_whole = thread::scope(thread::scope_env(), rt, |scope| {
@@ -84,25 +118,15 @@ fn pass_on<R: Threads + Wait + Clock + Sync, const MAX: usize>(
         for _worker in 0..workers {
             is_whole = is_whole && scope.spawn(move || work(pool, turns)).is_ok();
         }
-        // One comes back, and goes from worker to worker, in the order of asking; the others stay out.
         if let Some(connection) = last {
             pool.give_back(connection);
         }
         is_whole
     });
-    for connection in kept {
-        pool.give_back(connection);
-    }
     if is_whole {
-        Ok(Seen {
-            taken,
-            refused,
-            late: u64::from(is_late),
-            turns: turns.load(Ordering::SeqCst),
-            uses: 0,
-        })
+        Some(turns.load(Ordering::SeqCst))
     } else {
-        Err(AllocError)
+        None
     }
 }
 
