@@ -47,6 +47,19 @@ fn twenty_calls<J: Journal>(
     let Some(mut share) = shares.pop() else {
         return Ok(Came::Wrong);
     };
+    let came = calls_alike(&mut journal, &mut bench, &mut share);
+    if journal.history().len() != 20 || share.calls() != 20 {
+        return Ok(Came::Wrong);
+    }
+    Ok(came)
+}
+
+// Makes five calls four times at both: what came of them.
+fn calls_alike<J: Journal>(
+    journal: &mut Journalled<SemaphoreCore, J>,
+    bench: &mut Bench<SemaphoreCore>,
+    share: &mut Share<J>,
+) -> Came {
     let mut came = Came::AtOnce;
     for _round in 0..4 {
         let five = [
@@ -57,13 +70,10 @@ fn twenty_calls<J: Journal>(
             CommandOf::Call(SemaphoreCall::AvailablePermits),
         ];
         for command in five {
-            came = came.and(made_alike(&mut journal, &mut bench, &mut share, &command));
+            came = came.and(made_alike(journal, bench, share, &command));
         }
     }
-    if journal.history().len() != 20 || share.calls() != 20 {
-        return Ok(Came::Wrong);
-    }
-    Ok(came)
+    came
 }
 
 // Makes a call under the journal, anew where it was refused: whether nothing was changed then, and it is answered as the bench answers it.
