@@ -215,6 +215,46 @@ fn gather<J: Journal>(
     }
 }
 
+// What so many workers share, over this journal.
+fn place_for<'r, J: Journal, R: Wait>(
+    rt: &'r R,
+    alloc: Global,
+    journal: Journalled<SemaphoreCore, J>,
+    workers: u8,
+) -> Result<Place<'r, J, R>, AllocError> {
+    let size = usize::from(workers);
+    let room = u16::from(workers);
+    let done = Vec::with_capacity(alloc, size)?;
+    Ok(Place {
+        rt,
+        gate: Gate::new(rt, alloc, room)?,
+        barrier: Barrier::with_count(rt, alloc, size, room)?,
+        permits: Semaphore::new(rt, alloc, room)?,
+        journal: Mutex::new(journal),
+        done: Mutex::new(done),
+    })
+}
+
+// What the workers did, once all have ended.
+fn count<J: Journal, R: Wait, W: Watch>(
+    alloc: Global,
+    place: Place<'_, J, R>,
+    watch: &W,
+) -> Result<Counts, AllocError>
+    requires { J.dealt ≡ J.parts }
+    ensures { IfOk result (λ counts. counts.journal ≡ 50 * J.parts) }
+{
+    let available = place.permits.available_permits(Ordering::SeqCst);
+    let journal = place.journal.into_inner();
+    watch.read(&journal);
+    let (leaders, journal) = gather(alloc, journal, place.done.into_inner())?;
+    Ok(Counts {
+        leaders,
+        available,
+        journal,
+    })
+}
+
 // Runs the workers over a journal of a core that is handed in.
 fn run_over<J: Journal + Send + Sync, R: Threads + Wait + Sync, W: Watch + Sync>(
     rt: &R,
@@ -232,30 +272,14 @@ fn run_over<J: Journal + Send + Sync, R: Threads + Wait + Sync, W: Watch + Sync>
     requires opening { object_of core (replicate 0 Unregistered) ≡ J.opening }
     ensures { IfOk result (λ counts. counts.journal ≡ 50 * workers) }
 {
-    let size = usize::from(workers);
     let room = u16::from(workers);
     let (journal, shares) = Journalled::<SemaphoreCore, J>::new(alloc, core, 0, blank, room)?;
     let starting = workers_of(alloc, shares)?;
-    let place = Place {
-        rt,
-        gate: Gate::new(rt, alloc, room)?,
-        barrier: Barrier::with_count(rt, alloc, size, room)?,
-        permits: Semaphore::new(rt, alloc, room)?,
-        journal: Mutex::new(journal),
-        done: Mutex::new(Vec::with_capacity(alloc, size)?),
-    };
+    let place = place_for(rt, alloc, journal, workers)?;
     if !start_all(&place, starting, watch) {
         return Err(AllocError);
     }
-    let available = place.permits.available_permits(Ordering::SeqCst);
-    let journal = place.journal.into_inner();
-    watch.read(&journal);
-    let (leaders, journal) = gather(alloc, journal, place.done.into_inner())?;
-    Ok(Counts {
-        leaders,
-        available,
-        journal,
-    })
+    count(alloc, place, watch)
 }
 
 /// Starts so many workers, each on a thread of its own, lets `watch` see them, and counts what they did when all are done.
