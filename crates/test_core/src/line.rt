@@ -45,7 +45,7 @@ trait Ordered: Order {
     // Joins a line, if that can keep the request.
     fn join(line: &mut LineOf<Self>, request: Request) -> Option<u16>;
 
-    // The slot of the newest who waits, if links tell it.
+    // The slot of the newest waiter, if links tell it.
     fn newest(&self) -> Option<u16>;
 }
 
@@ -111,7 +111,7 @@ impl<O: Ordered> Desk<O> {
         }
     }
 
-    // Tells who waits longest.
+    // Tells the oldest waiter.
     fn oldest(&mut self) -> Told {
         match self.line.oldest() {
             Some((slot, request)) => Told::Waiter(Some((self.name(slot), request))),
@@ -119,7 +119,7 @@ impl<O: Ordered> Desk<O> {
         }
     }
 
-    // Grants so many who wait longest, if so many wait.
+    // Grants so many of the oldest waiters, if there are so many.
     fn grant_front(&mut self, count: u16) -> Told {
         if count <= self.line.waiting() {
             self.line.grant_front(count);

@@ -286,7 +286,7 @@ fn let_go<R: Wait + Drop>(
     is_first
 }
 
-/// A semaphore of so many permits with room for one who waits, which goes to sleep at once.
+/// A semaphore of so many permits with room for one waiter, which parks at once.
 pub fn sleepy<R: Wait + Drop, const MAX: usize>(
     rt: R,
     alloc: Global,

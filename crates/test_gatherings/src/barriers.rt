@@ -245,7 +245,7 @@ const EVERY_WAY: [Together; 3] = [
     Together::LastPager,
 ];
 
-// Whether two rounds of so many sleepers and one last arrival, who comes in this way, go right.
+// Whether two rounds of so many sleepers and one last arrival, which comes in this way, go right.
 fn is_right<R: Wait + Threads + Sync>(
     rt: &R,
     alloc: Global,

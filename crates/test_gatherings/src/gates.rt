@@ -282,7 +282,7 @@ const EVERY_WAY: [Together; 6] = [
     Together::Forget,
 ];
 
-// Whether so many sleepers wake who are answered in this way.
+// Whether so many sleepers wake that are answered in this way.
 fn is_right<R: Wait + Threads + Sync>(
     rt: &R,
     alloc: Global,

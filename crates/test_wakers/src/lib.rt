@@ -29,7 +29,7 @@ fn ready<T>(polled: Poll<T>) -> Option<T> {
     }
 }
 
-// Answers who waits, and takes the wake that is owed for that, but wakes nobody: the waker stays where it is.
+// Answers the waiter, and takes the wake that is pending for that, but wakes nobody: the waker stays where it is.
 #[cfg(test)]
 fn answer_untold<R: Wait + Drop>(semaphore: &Semaphore<R>) -> bool {
     call_untold(semaphore.shell(), |core| {

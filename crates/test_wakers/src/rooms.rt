@@ -276,7 +276,7 @@ struct Asker<'s, R: Wait + Drop> {
     task: MockTask,
 }
 
-// One who asks for so many permits; whether it waits, which it does where it is told nothing.
+// A task that asks for so many permits; whether it waits, which it does where its poll is pending.
 fn ask<'s, H: RandomSource + AllocGlobal, R: Wait + Drop>(
     rt: &H,
     semaphore: &'s Semaphore<R>,

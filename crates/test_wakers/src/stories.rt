@@ -40,7 +40,7 @@ pub(crate) enum Call {
     PollPager(Who),
     Cancel,
     Release,
-    // Who waits is answered, and nobody woken.
+    // The waiter is answered, and nobody woken.
     AnswerUntold,
     // Whether a task was woken since its last poll.
     IsWoken(Who),

@@ -166,7 +166,7 @@ fn bring_beside<'s, H: Threads + Wait + RandomSource + AllocGlobal + Sync, R: Wa
     )
 }
 
-// Whether who waits was answered first where that is wanted, and what was told of bringing a waker out; `None` if its task didn't
+// Whether the waiter was answered first where that is wanted, and what was told of bringing a waker out; `None` if its task didn't
 // sleep.
 type Brought = Option<(bool, (Told, bool))>;
 
