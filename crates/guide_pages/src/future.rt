@@ -8,6 +8,7 @@ use std::random::RandomSource;
 use std::sync::Wait;
 use std::{io, thread};
 
+#[test]
 fn main(rt: HostRuntime) -> io::Result<()> {
     // One permit, and room for two who wait.
     let permits = Semaphore::with_permits(&rt, rt.alloc(), 1, 2)?;

@@ -6,6 +6,7 @@ use std::sync::Wait;
 use std::sync::atomic::{AtomicU64, Ordering};
 use std::{io, thread};
 
+#[test]
 fn main(rt: HostRuntime) -> io::Result<()> {
     // A free lock, and room for two who wait.
     let lock = Lock::new(&rt, rt.alloc(), 2)?;

@@ -5,6 +5,7 @@ use saa::gate::{Gate, State};
 use std::sync::Wait;
 use std::{io, thread};
 
+#[test]
 fn main(rt: HostRuntime) -> io::Result<()> {
     // A controlled gate, and room for two who wait.
     let gate = Gate::new(&rt, rt.alloc(), 2)?;

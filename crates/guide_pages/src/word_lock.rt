@@ -15,6 +15,7 @@ struct Purse {
     ghost whole: { left + right ≡ 100 },
 }
 
+#[test]
 fn main(rt: HostRuntime) -> io::Result<()> {
     let purse = Purse {
         left: 100,

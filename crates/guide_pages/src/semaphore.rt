@@ -6,6 +6,7 @@ use std::sync::Wait;
 use std::sync::atomic::{AtomicU64, Ordering};
 use std::{io, thread};
 
+#[test]
 fn main(rt: HostRuntime) -> io::Result<()> {
     // Two permits, and room for four who wait for one.
     let desks = Semaphore::with_permits(&rt, rt.alloc(), 2, 4)?;

@@ -6,6 +6,7 @@ use std::sync::Wait;
 use std::sync::atomic::{AtomicU64, Ordering};
 use std::{io, thread};
 
+#[test]
 fn main(rt: HostRuntime) -> io::Result<()> {
     // For two tasks that go on at once, so with room for both.
     let barrier = Barrier::with_count(&rt, rt.alloc(), 2, 2)?;

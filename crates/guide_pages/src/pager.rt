@@ -7,6 +7,7 @@ use saa::ticket::Full;
 use std::io;
 use std::sync::Wait;
 
+#[test]
 fn main(rt: HostRuntime) -> io::Result<()> {
     // One permit, which is out, and room for two who wait.
     let printer = Semaphore::with_permits(&rt, rt.alloc(), 0, 2)?;
