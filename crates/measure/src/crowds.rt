@@ -1,12 +1,10 @@
-//! Locks at which threads meet: what a turn costs at one lock that all threads take, by the number of threads and by what a turn has inside.
+//! Crowds: what a turn costs at one lock at which threads meet, by what a turn has inside, and how long one of them waits for its turn.
 
-use crate::measure::{Case, PASSES, nanos_since, print_cells, print_refused};
-use crate::meeting::{COUNTED, First, Load, Meeting};
+use crate::meeting::{Adds, How, Meeting};
 use crate::places::{Kind, meet_at};
 use crate::takers::Work;
+use crate::times::{Case, PASSES, figure, nanos_since};
 use std::alloc::Global;
-use std::io;
-use std::rt::Runtime;
 use std::sync::Wait;
 use std::thread::Threads;
 use std::time::{Clock, Instant};
@@ -14,91 +12,75 @@ use std::time::{Clock, Instant};
 // How many adds are timed, to find how many take a microsecond.
 const ADDS: u64 = 100_000;
 
-// How many kinds of load there are.
-const LOADS: usize = 5;
+// How many kinds of work there are, and each in tenths of a microsecond: in a turn, and between two turns of a thread.
+const WORKS: usize = 5;
 
-const KINDS: [Kind; 9] = [
-    Kind::Lock,
-    Kind::StrictLock,
-    Kind::SharedLock,
-    Kind::Mutex,
-    Kind::WordLock,
-    Kind::SharedWordLock,
-    Kind::WordMutex,
-    Kind::StdMutex,
-    Kind::StdRead,
-];
+const TENTHS: [(u64, u64); WORKS] = [(0, 0), (1, 0), (10, 0), (1, 1), (10, 10)];
 
-/// Prints for each lock and each number of threads what a turn costs, the median of all passes: with nothing inside, with about 100 and 1,000
-/// nanoseconds of work inside, and with as much between two turns of a thread.
-pub fn print<R: Runtime + Clock + Threads + Wait + Sync>(rt: &R, alloc: Global) -> io::Result<()> {
-    let adds = adds_of_a_microsecond(rt).unwrap_or(0);
-    println!(rt;
-        "at one lock             threads      nothing ns    100 inside ns  1,000 inside ns     100 both ns   1,000 both ns"
-    )?;
-    for kind in KINDS {
-        for threads in [1, 2, 4, 8] {
-            print_crowd(rt, alloc, kind, threads, adds)?;
-        }
-    }
-    println!(rt;
-        "{adds} adds to an atomic number of the thread's own are about a microsecond of work"
-    )
-}
-
-// The loads of a row, where so many adds take a microsecond.
-fn loads(adds: u64) -> [Load; LOADS] {
-    let tenth = adds / 10;
-    [(0, 0), (tenth, 0), (adds, 0), (tenth, tenth), (adds, adds)].map(|(inside, outside)| Load {
-        inside,
-        outside,
-    })
-}
-
-// Prints a row: the median of each load.
-fn print_crowd<R: Runtime + Clock + Threads + Wait + Sync>(
+/// What a turn costs at a lock that threads take so, for each work, where so many adds take a microsecond: the median of all passes.
+pub fn crowd<R: Clock + Threads + Wait + Sync>(
     rt: &R,
     alloc: Global,
     kind: Kind,
-    threads: u16,
+    how: How,
+    case: Case,
     adds: u64,
-) -> io::Result<()> {
-    let case = Case {
-        what: kind.name(),
-        threads: u64::from(threads),
-        times: COUNTED,
-    };
-    let mut medians = [0u64; LOADS];
-    for (median, load) in medians.iter_mut().zip(loads(adds)) {
-        let Some(nanos) = median_nanos(rt, alloc, kind, threads, load) else {
-            return print_refused(rt, case);
+) -> Option<[u64; WORKS]> {
+    let mut medians = [0; WORKS];
+    for (median, (inside, outside)) in medians.iter_mut().zip(TENTHS) {
+        let adds = Adds {
+            inside: adds.saturating_mul(inside) / 10,
+            outside: adds.saturating_mul(outside) / 10,
         };
-        *median = nanos;
+        *median = median_nanos(rt, alloc, kind, how, case, adds)?;
     }
-    print_cells(rt, case, "      ", &medians)?;
-    println!(rt; "")
+    Some(medians)
 }
 
-// How long a thousand turns take: the median of all passes.
-fn median_nanos<R: Threads + Wait + Clock + Sync>(
+// How long so many turns take as the case says: the median of all passes.
+fn median_nanos<R: Clock + Threads + Wait + Sync>(
     rt: &R,
     alloc: Global,
     kind: Kind,
-    threads: u16,
-    load: Load,
+    how: How,
+    case: Case,
+    adds: Adds,
 ) -> Option<u64> {
-    let mut times = [0u64; PASSES];
-    for time in &mut times {
-        let meeting = Meeting::new(alloc, threads, load, First::TakesTurns);
-        meet_at(rt, alloc, kind, &meeting, threads);
-        *time = meeting.figure()?;
+    let mut times = [0; PASSES];
+    for pass in 0..PASSES {
+        let meeting = Meeting::new(alloc, threads_of(case), how, adds, false);
+        meet_at(rt, alloc, kind, &meeting);
+        times[pass] = meeting.figure(case.times)?;
     }
-    times.sort_unstable();
-    Some(times[PASSES / 2])
+    Some(figure(times, false))
+}
+
+/// How long a thread waits for a turn with nothing inside that it takes so, while others take turns of so many adds: the median, the 99th
+/// percentile and the longest of its waits.
+pub fn waits<R: Clock + Threads + Wait + Sync>(
+    rt: &R,
+    alloc: Global,
+    kind: Kind,
+    how: How,
+    case: Case,
+    adds: u64,
+) -> Option<[u64; 3]> {
+    let adds = Adds {
+        inside: adds,
+        outside: 0,
+    };
+    let meeting = Meeting::new(alloc, threads_of(case), how, adds, true);
+    meet_at(rt, alloc, kind, &meeting);
+    meeting.waits(rt)
+}
+
+// How many threads meet.
+fn threads_of(case: Case) -> u16 {
+    u16::try_from(case.count).unwrap_or(1)
 }
 
 /// How many adds of one thread take about a microsecond; `None` where the clock was refused, or showed no time.
-pub fn adds_of_a_microsecond<R: Runtime>(rt: &R) -> Option<u64> {
+pub fn adds_of_a_microsecond<R: Clock>(rt: &R) -> Option<u64> {
     let mut shortest = u64::MAX;
     for _ in 0..PASSES {
         shortest = adds_nanos(rt)?.min(shortest);
@@ -107,7 +89,7 @@ pub fn adds_of_a_microsecond<R: Runtime>(rt: &R) -> Option<u64> {
 }
 
 // How long many adds take, in nanoseconds.
-fn adds_nanos<R: Runtime>(rt: &R) -> Option<u64> {
+fn adds_nanos<R: Clock>(rt: &R) -> Option<u64> {
     let work = Work::new(ADDS);
     let start = Instant::now(rt).ok()?;
     work.work();

@@ -6,23 +6,24 @@
 //! and the ratio, and for one thread the ratios to two bare turns at a `Mutex`; with the name of a part it prints that part, and with
 //! any other arguments only how to run it. What is measured here is proved nowhere. The counter is unfair: whoever comes first takes
 //! what is there.
+//!
+//! What is printed is a table (`tables`); what is timed is a load (`loads`), and one function times each.
 #![tactic(auto)]
 
 mod cores;
 mod crowds;
 mod lines;
-mod locks;
-mod measure;
+mod loads;
 mod meeting;
 mod parts;
-mod permits;
 mod places;
+mod polls;
+mod print;
 mod rounds;
-mod rows;
+mod tables;
 mod takers;
-mod tasks;
-mod values;
-mod waits;
+mod times;
+mod turns;
 mod words;
 
 use std::io;

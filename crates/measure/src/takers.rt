@@ -1,9 +1,8 @@
 //! Locks at which threads meet, and what a thread takes its turns with: ours, the word's at a place of the thread's own, and std's.
-//!
-//! A turn is taken by one call, or by joining the waiters at once and waiting there; or shared.
 
 ghost use Rattle.saa_word_threads.specs.Locks.{IsDealtBy};
 
+use crate::meeting::How;
 use saa_sync::lock::{Lock, Mode};
 use saa_sync::lock_api;
 use saa_sync::pager::Pager;
@@ -38,69 +37,56 @@ impl Work {
 
 /// What a thread takes turns at a lock with.
 pub trait Taker: Drop {
-    /// Takes the lock, waiting where it must, does the work, and gives the lock back.
-    fn take_turn<R: Wait>(&mut self, rt: &R, work: &Work);
-
-    /// The same, but joins the waiters at once where the lock can be asked so.
-    fn join_turn<R: Wait>(&mut self, rt: &R, work: &Work) {
-        self.take_turn(rt, work);
-    }
+    /// Takes the lock so, waiting where it must, does the work, and gives the lock back. A lock that can't be asked so is asked as it can be.
+    fn take_turn<R: Wait>(&mut self, rt: &R, how: How, work: &Work);
 }
 
 /// A lock that any thread takes by itself, with no place.
 pub trait Enter: Sync {
-    /// Takes the lock, waiting where it must, does the work, and gives the lock back.
-    fn enter<R: Wait>(&self, rt: &R, work: &Work);
-
-    /// The same, but joins the waiters at once where the lock can be asked so.
-    fn join<R: Wait>(&self, rt: &R, work: &Work) {
-        self.enter(rt, work);
-    }
-}
-
-/// A lock that threads share.
-pub trait Share: Sync {
-    /// Takes a share of the lock, waiting where it must, does the work, and gives the share back.
-    fn share<R: Wait>(&self, rt: &R, work: &Work);
+    /// Takes the lock so, waiting where it must, does the work, and gives the lock back.
+    fn enter<R: Wait>(&self, rt: &R, how: How, work: &Work);
 }
 
 impl<S: Wait + Drop + Sync> Enter for Lock<S> {
-    fn enter<R: Wait>(&self, _rt: &R, work: &Work) {
-        if self.lock_sync() == Ok(true) {
-            work.work();
-            self.release_lock();
-        }
-    }
-
-    fn join<R: Wait>(&self, _rt: &R, work: &Work) {
-        let mut pager = Pager::new();
-        if self.register_pager(&mut pager, Mode::Exclusive, true) == Ok(true)
-            && pager.poll_sync() == Ok(true)
-        {
-            work.work();
-            self.release_lock();
+    #[inline(always)]
+    fn enter<R: Wait>(&self, _rt: &R, how: How, work: &Work) {
+        match how {
+            How::Called => lock_called(self, work),
+            How::Joined => lock_joined(self, work),
+            How::Shared => lock_shared(self, work),
         }
     }
 }
 
-impl<S: Wait + Drop + Sync> Share for Lock<S> {
-    fn share<R: Wait>(&self, _rt: &R, work: &Work) {
-        if self.share_sync() == Ok(true) {
-            work.work();
-            self.release_share();
-        }
-    }
-}
-
-impl Share for RwLock<u64> {
-    fn share<R: Wait>(&self, rt: &R, work: &Work) {
-        let _guard = self.read(rt);
+#[inline(always)]
+fn lock_called<S: Wait + Drop>(lock: &Lock<S>, work: &Work) {
+    if lock.lock_sync() == Ok(true) {
         work.work();
+        lock.release_lock();
+    }
+}
+
+#[inline(always)]
+fn lock_joined<S: Wait + Drop>(lock: &Lock<S>, work: &Work) {
+    let mut pager = Pager::new();
+    if lock.register_pager(&mut pager, Mode::Exclusive, true) == Ok(true)
+        && pager.poll_sync() == Ok(true)
+    {
+        work.work();
+        lock.release_lock();
+    }
+}
+
+#[inline(always)]
+fn lock_shared<S: Wait + Drop>(lock: &Lock<S>, work: &Work) {
+    if lock.share_sync() == Ok(true) {
+        work.work();
+        lock.release_share();
     }
 }
 
 impl<S: Wait + Drop + Sync> Enter for lock_api::Mutex<S, u64> {
-    fn enter<R: Wait>(&self, _rt: &R, work: &Work) {
+    fn enter<R: Wait>(&self, _rt: &R, _how: How, work: &Work) {
         if let Ok(_guard) = self.lock() {
             work.work();
         }
@@ -108,8 +94,16 @@ impl<S: Wait + Drop + Sync> Enter for lock_api::Mutex<S, u64> {
 }
 
 impl Enter for Mutex<u64> {
-    fn enter<R: Wait>(&self, rt: &R, work: &Work) {
+    fn enter<R: Wait>(&self, rt: &R, _how: How, work: &Work) {
         let _guard = self.lock(rt);
+        work.work();
+    }
+}
+
+// Every turn is shared.
+impl Enter for RwLock<u64> {
+    fn enter<R: Wait>(&self, rt: &R, _how: How, work: &Work) {
+        let _guard = self.read(rt);
         work.work();
     }
 }
@@ -117,71 +111,40 @@ impl Enter for Mutex<u64> {
 /// A thread at such a lock.
 #[derive(Drop)]
 pub struct At<'l, L> {
-    lock: &'l L,
-}
-
-impl<'l, L: Enter> At<'l, L> {
-    /// A thread at this lock.
-    pub fn new(lock: &'l L) -> Self {
-        At { lock }
-    }
+    /// The lock.
+    pub lock: &'l L,
 }
 
 impl<L: Enter> Taker for At<'_, L> {
-    fn take_turn<R: Wait>(&mut self, rt: &R, work: &Work) {
-        self.lock.enter(rt, work);
-    }
-
-    fn join_turn<R: Wait>(&mut self, rt: &R, work: &Work) {
-        self.lock.join(rt, work);
-    }
-}
-
-/// A thread that shares such a lock.
-#[derive(Drop)]
-pub struct Sharing<'l, L> {
-    lock: &'l L,
-}
-
-impl<'l, L: Share> Sharing<'l, L> {
-    /// A thread that shares this lock.
-    pub fn new(lock: &'l L) -> Self {
-        Sharing { lock }
-    }
-}
-
-impl<L: Share> Taker for Sharing<'_, L> {
-    fn take_turn<R: Wait>(&mut self, rt: &R, work: &Work) {
-        self.lock.share(rt, work);
+    #[inline(always)]
+    fn take_turn<R: Wait>(&mut self, rt: &R, how: How, work: &Work) {
+        self.lock.enter(rt, how, work);
     }
 }
 
 /// A place of the word's lock, and the lock that dealt it.
 #[derive(Drop)]
 pub struct AtPlace<'l> {
-    lock: &'l WordLock,
-    place: Place,
+    /// The lock.
+    pub lock: &'l WordLock,
+    /// The place.
+    pub place: Place,
     ghost dealt: { IsDealtBy lock.now place },
 }
 
-impl<'l> AtPlace<'l> {
-    /// A thread at this place.
-    pub fn new(lock: &'l WordLock, place: Place) -> Self
-        requires { IsDealtBy lock.now place }
-    {
-        AtPlace { lock, place }
-    }
-}
-
-impl Taker for AtPlace<'_> {
-    fn take_turn<R: Wait>(&mut self, rt: &R, work: &Work) {
+impl AtPlace<'_> {
+    // Takes the lock alone, by one call.
+    #[inline(always)]
+    fn take_called<R: Wait>(&mut self, rt: &R, work: &Work) {
         if self.lock.lock(rt, &mut self.place) {
             work.work();
             self.lock.release_lock(rt, &mut self.place);
         }
     }
 
-    fn join_turn<R: Wait>(&mut self, rt: &R, work: &Work) {
+    // Joins the waiters at once.
+    #[inline(always)]
+    fn take_joined<R: Wait>(&mut self, rt: &R, work: &Work) {
         if self.lock.register(rt, &mut self.place, WordMode::Exclusive)
             && self.lock.poll(rt, &mut self.place) == Ok(true)
         {
@@ -189,27 +152,10 @@ impl Taker for AtPlace<'_> {
             self.lock.release_lock(rt, &mut self.place);
         }
     }
-}
 
-/// A place of the word's lock that shares it, and the lock that dealt it.
-#[derive(Drop)]
-pub struct SharingAtPlace<'l> {
-    lock: &'l WordLock,
-    place: Place,
-    ghost dealt: { IsDealtBy lock.now place },
-}
-
-impl<'l> SharingAtPlace<'l> {
-    /// A thread at this place.
-    pub fn new(lock: &'l WordLock, place: Place) -> Self
-        requires { IsDealtBy lock.now place }
-    {
-        SharingAtPlace { lock, place }
-    }
-}
-
-impl Taker for SharingAtPlace<'_> {
-    fn take_turn<R: Wait>(&mut self, rt: &R, work: &Work) {
+    // Shares the lock.
+    #[inline(always)]
+    fn take_shared<R: Wait>(&mut self, rt: &R, work: &Work) {
         if self.lock.share(rt, &mut self.place) {
             work.work();
             self.lock.release_share(rt, &mut self.place);
@@ -217,8 +163,20 @@ impl Taker for SharingAtPlace<'_> {
     }
 }
 
+impl Taker for AtPlace<'_> {
+    #[inline(always)]
+    fn take_turn<R: Wait>(&mut self, rt: &R, how: How, work: &Work) {
+        match how {
+            How::Called => self.take_called(rt, work),
+            How::Joined => self.take_joined(rt, work),
+            How::Shared => self.take_shared(rt, work),
+        }
+    }
+}
+
 impl Taker for MutexWorker<'_, u64> {
-    fn take_turn<R: Wait>(&mut self, rt: &R, work: &Work) {
+    #[inline(always)]
+    fn take_turn<R: Wait>(&mut self, rt: &R, _how: How, work: &Work) {
         let _guard = self.lock(rt);
         work.work();
     }

@@ -2,14 +2,13 @@
 
 ghost use Rattle.saa_word_threads.specs.Semaphores.{IsDealtBy};
 
-use crate::measure::{Case, nanos_since};
-use crate::permits::TAKEN;
+use crate::times::{Case, nanos_since};
+use crate::turns::TAKEN;
 use saa_word_threads::semaphore::{Place, Semaphore};
 use std::alloc::Global;
-use std::rt::Runtime;
 use std::sync::Wait;
 use std::thread::{self, Threads};
-use std::time::Instant;
+use std::time::{Clock, Instant};
 
 // A place, and the semaphore that dealt it.
 #[derive(Drop)]
@@ -19,23 +18,16 @@ struct Worker<'s> {
     ghost dealt: { IsDealtBy permits.now place },
 }
 
-impl<'s> Worker<'s> {
-    // The worker at a place.
-    fn new(permits: &'s Semaphore, place: Place) -> Self
-        requires { IsDealtBy permits.now place }
-    {
-        Worker { permits, place }
-    }
-
+impl Worker<'_> {
     // Takes so many turns.
-    fn take_turns(mut self, rt: &impl Wait, turns: u64) {
+    fn take_turns<R: Wait>(mut self, rt: &R, turns: u64) {
         for _turn in 0..turns {
             self.take_turn(rt);
         }
     }
 
     // Takes permits, waiting where it must, and gives them back.
-    fn take_turn(&mut self, rt: &impl Wait) {
+    fn take_turn<R: Wait>(&mut self, rt: &R) {
         if self.permits.acquire_many(rt, &mut self.place, TAKEN) {
             self.permits.release_many(rt, &mut self.place, TAKEN);
         }
@@ -43,13 +35,13 @@ impl<'s> Worker<'s> {
 }
 
 /// How long all turns take together, by as many threads as there are places, in nanoseconds; `None` where memory or the clock was refused.
-pub fn words_nanos<R: Runtime + Threads + Wait + Sync>(
+pub fn words_nanos<R: Clock + Threads + Wait + Sync>(
     rt: &R,
     alloc: Global,
-    case: Case<'_>,
+    case: Case,
 ) -> Option<u64> {
-    let threads = u16::try_from(case.threads).unwrap_or(1);
-    let turns = case.times.checked_div(case.threads).unwrap_or(0);
+    let threads = u16::try_from(case.count).unwrap_or(1);
+    let turns = case.times.checked_div(case.count).unwrap_or(0);
     let (permits, places) = Semaphore::new(alloc, 0, threads).ok()?;
     let start = Instant::now(rt).ok()?;
     let ended = thread::map_vec(
@@ -57,8 +49,17 @@ pub fn words_nanos<R: Runtime + Threads + Wait + Sync>(
         places,
         &|place|
             requires { IsDealtBy permits place }
-        { Worker::new(&permits, place).take_turns(rt, turns) },
+        {
+            let worker = Worker {
+                permits: &permits,
+                place,
+            };
+            worker.take_turns(rt, turns);
+        },
     );
-    let _ended = ended.ok()?;
-    nanos_since(rt, start)
+    if ended.is_ok() {
+        nanos_since(rt, start)
+    } else {
+        None
+    }
 }
