@@ -8,7 +8,6 @@ use saa_sync::gate::{Error, Gate, State};
 use saa_sync::lock::Lock;
 use saa_sync::semaphore::Semaphore;
 use std::alloc::{AllocError, Global};
-use std::io;
 use std::sync::Wait;
 use std::sync::atomic::{AtomicU64, Ordering};
 use test_asserts::{holds, same};
@@ -52,11 +51,10 @@ fn at_a_semaphore<R: Wait + Drop>(
 }
 
 #[test]
-fn a_semaphores_callback_runs_where_it_joins(rt: HostRuntime) -> io::Result<()> {
-    let task = MockTask::new(&rt)?;
-    let told = at_a_semaphore(&rt, rt.alloc(), &task)?;
+fn a_semaphores_callback_runs_where_it_joins(rt: HostRuntime) {
+    let task = MockTask::new(&rt).expect(&rt, "no memory");
+    let told = at_a_semaphore(&rt, rt.alloc(), &task).expect(&rt, "no memory");
     same!(rt; told, ([0, 2_001, 2_001], [None, None, Some(Ok(true))], [true, true, true]));
-    Ok(())
 }
 
 // Futures that are answered at once: one permit, more than there are, and as many as there are where the room is full; and
@@ -78,17 +76,16 @@ fn at_once<R: Wait + Drop>(
 }
 
 #[test]
-fn none_runs_where_the_answer_is_there(rt: HostRuntime) -> io::Result<()> {
-    let task = MockTask::new(&rt)?;
-    let told = at_once(&rt, rt.alloc(), &task)?;
+fn none_runs_where_the_answer_is_there(rt: HostRuntime) {
+    let task = MockTask::new(&rt).expect(&rt, "no memory");
+    let told = at_once(&rt, rt.alloc(), &task).expect(&rt, "no memory");
     same!(rt; told, (Some(Ok(())), [Some(Ok(false)), Some(Err(Full))], 0));
-    Ok(())
 }
 
 #[test]
-fn a_dropped_futures_callback_never_runs_again(rt: HostRuntime) -> io::Result<()> {
-    let semaphore = Semaphore::with_permits(&rt, rt.alloc(), 0, 1)?;
-    let task = MockTask::new(&rt)?;
+fn a_dropped_futures_callback_never_runs_again(rt: HostRuntime) {
+    let semaphore = Semaphore::with_permits(&rt, rt.alloc(), 0, 1).expect(&rt, "no memory");
+    let task = MockTask::new(&rt).expect(&rt, "no memory");
     let runs = AtomicU64::new(0);
     {
         let _never_polled = semaphore.acquire_async_with(|| count(&runs, 0));
@@ -98,7 +95,6 @@ fn a_dropped_futures_callback_never_runs_again(rt: HostRuntime) -> io::Result<()
     same!(rt; runs.load(Ordering::SeqCst), 1);
     holds!(rt; semaphore.release());
     same!(rt; semaphore.available_permits(Ordering::SeqCst), 1);
-    Ok(())
 }
 
 // A reader's callback releases the lock that it waits for, and then a writer waits for that reader: whether the lock was taken,
@@ -130,13 +126,15 @@ fn at_a_lock<R: Wait + Drop>(
 }
 
 #[test]
-fn a_locks_callbacks_may_use_it(rt: HostRuntime) -> io::Result<()> {
-    let (one, two) = (MockTask::new(&rt)?, MockTask::new(&rt)?);
-    let (facts, polls, runs) = at_a_lock(&rt, rt.alloc(), &one, &two)?;
+fn a_locks_callbacks_may_use_it(rt: HostRuntime) {
+    let (one, two) = (
+        MockTask::new(&rt).expect(&rt, "no memory"),
+        MockTask::new(&rt).expect(&rt, "no memory"),
+    );
+    let (facts, polls, runs) = at_a_lock(&rt, rt.alloc(), &one, &two).expect(&rt, "no memory");
     same!(rt; facts, [true, true, false, true]);
     same!(rt; polls, [None, Some(Ok(true)), None, Some(Ok(true))]);
     same!(rt; runs, 1_002);
-    Ok(())
 }
 
 // The callback of who enters a gate permits, and then the gate is opened and another enters: what the polls gave, how often the
@@ -169,12 +167,14 @@ fn at_a_gate<R: Wait + Drop>(
 }
 
 #[test]
-fn a_gates_callback_may_permit(rt: HostRuntime) -> io::Result<()> {
-    let task = MockTask::new(&rt)?;
-    let (polls, runs, is_woken, opened) = at_a_gate(&rt, rt.alloc(), &task)?;
+fn a_gates_callback_may_permit(rt: HostRuntime) {
+    let task = MockTask::new(&rt).expect(&rt, "no memory");
+    let (polls, runs, is_woken, opened) = at_a_gate(&rt, rt.alloc(), &task).expect(
+        &rt,
+        "no memory",
+    );
     same!(rt; polls, [None, Some(Ok(Ok(State::Controlled))), Some(Ok(Ok(State::Open)))]);
     same!(rt; (runs, is_woken, opened), ([1_001, 1_001], true, (State::Controlled, 0)));
-    Ok(())
 }
 
 // One task arrives at a barrier of size 0 and is polled twice, and then two at one of size 2: what the polls gave, and how often
@@ -206,10 +206,12 @@ fn at_barriers<R: Wait + Drop + Copy>(
 }
 
 #[test]
-fn an_arrivals_callback_runs_at_a_barrier_of_size_0_too(rt: HostRuntime) -> io::Result<()> {
-    let (one, two) = (MockTask::new(&rt)?, MockTask::new(&rt)?);
-    let (polls, runs) = at_barriers(&rt, rt.alloc(), &one, &two)?;
+fn an_arrivals_callback_runs_at_a_barrier_of_size_0_too(rt: HostRuntime) {
+    let (one, two) = (
+        MockTask::new(&rt).expect(&rt, "no memory"),
+        MockTask::new(&rt).expect(&rt, "no memory"),
+    );
+    let (polls, runs) = at_barriers(&rt, rt.alloc(), &one, &two).expect(&rt, "no memory");
     same!(rt; polls, [None, None, None, Some(Ok(true)), Some(Ok(false))]);
     same!(rt; runs, [1, 1_002, 1_002]);
-    Ok(())
 }

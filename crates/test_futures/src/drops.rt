@@ -1,34 +1,37 @@
 //! Futures that are dropped, at every point of their life, and what comes back.
 
 use crate::barrier_stories::BarrierCall;
-use crate::gate_stories::GateCall;
+use crate::gate_stories::{GateCall, Move};
 use crate::lock_stories::LockCall;
+use crate::semaphore_stories::SemaphoreCall;
 use crate::semaphore_stories::SemaphoreCall::{
     AskMany, AskOne, Enter, IsWoken, LetGoMany, LetGoOne, Permits, PollMany, PollOne, Release,
     ReleaseMany,
 };
-use crate::semaphore_stories::{SemaphoreCall, played_with};
 use crate::stories::Told;
 use crate::stories::Told::{Answer, Count, Is, Moved, Nothing, Passage, Permit, Tried};
 use crate::stories::Who::{First, Second, Third};
-use crate::{barrier_stories, gate_stories, lock_stories};
 use saa_sync::gate::Error;
 use saa_sync::semaphore::Semaphore;
-use std::io;
+use std::sync::Wait;
 use std::sync::atomic::Ordering;
 use test_asserts::same;
 
-#[test]
-fn one_that_was_never_polled_changes_nothing(rt: HostRuntime) -> io::Result<()> {
-    let semaphore = Semaphore::new(&rt, rt.alloc(), 1)?;
+// Makes two futures that are never polled.
+fn never_poll<R: Wait + Drop>(semaphore: &Semaphore<R>) {
     drop(semaphore.acquire_many_async(5));
     drop(semaphore.acquire_async_with(|| {}));
+}
+
+#[test]
+fn one_that_was_never_polled_changes_nothing(rt: HostRuntime) {
+    let semaphore = Semaphore::new(&rt, rt.alloc(), 1).expect(&rt, "no memory");
+    never_poll(&semaphore);
     same!(rt; semaphore.available_permits(Ordering::SeqCst), 63);
-    Ok(())
 }
 
 // The first task asks for two permits, the second for one.
-const ONE_WAITS: [(SemaphoreCall, Told); 8] = [
+pub(crate) const ONE_WAITS: [(SemaphoreCall, Told); 8] = [
     (AskOne(Second), Nothing),
     (AskMany(First, 2), Nothing),
     (PollMany(First, First), Answer(None)),
@@ -39,14 +42,8 @@ const ONE_WAITS: [(SemaphoreCall, Told); 8] = [
     (Permits, Count(0)),
 ];
 
-#[test]
-fn one_that_waits_leaves_the_line(rt: HostRuntime) -> io::Result<()> {
-    same!(rt; played_with(&rt, rt.alloc(), 1, 2, &ONE_WAITS)?, None);
-    Ok(())
-}
-
 // The first task asks for four permits, the second for three.
-const ONE_WAS_GRANTED: [(SemaphoreCall, Told); 11] = [
+pub(crate) const ONE_WAS_GRANTED: [(SemaphoreCall, Told); 11] = [
     (AskMany(Second, 3), Nothing),
     (AskMany(First, 4), Nothing),
     (PollMany(First, First), Answer(None)),
@@ -60,13 +57,7 @@ const ONE_WAS_GRANTED: [(SemaphoreCall, Told); 11] = [
     (Permits, Count(1)),
 ];
 
-#[test]
-fn one_that_was_granted_gives_back(rt: HostRuntime) -> io::Result<()> {
-    same!(rt; played_with(&rt, rt.alloc(), 0, 2, &ONE_WAS_GRANTED)?, None);
-    Ok(())
-}
-
-const ONE_HAS_ENDED: [(SemaphoreCall, Told); 8] = [
+pub(crate) const ONE_HAS_ENDED: [(SemaphoreCall, Told); 8] = [
     (AskMany(First, 2), Nothing),
     (PollMany(First, First), Answer(None)),
     (ReleaseMany(2), Is(true)),
@@ -77,14 +68,8 @@ const ONE_HAS_ENDED: [(SemaphoreCall, Told); 8] = [
     (PollOne(First, First), Permit(None)),
 ];
 
-#[test]
-fn one_that_has_ended_keeps_what_it_got(rt: HostRuntime) -> io::Result<()> {
-    same!(rt; played_with(&rt, rt.alloc(), 0, 1, &ONE_HAS_ENDED)?, None);
-    Ok(())
-}
-
 // The first task is a writer, the others are readers.
-const A_WRITER_IS_DROPPED: [(LockCall, Told); 12] = [
+pub(crate) const A_WRITER_IS_DROPPED: [(LockCall, Told); 12] = [
     (LockCall::TryShare, Tried(Ok(()))),
     (LockCall::AskShare(Second), Nothing),
     (LockCall::AskShare(Third), Nothing),
@@ -99,14 +84,8 @@ const A_WRITER_IS_DROPPED: [(LockCall, Told); 12] = [
     (LockCall::Poll(Third, Third), Answer(Some(Ok(true)))),
 ];
 
-#[test]
-fn a_dropped_writer_lets_the_readers_in(rt: HostRuntime) -> io::Result<()> {
-    same!(rt; lock_stories::played(&rt, rt.alloc(), 4, &A_WRITER_IS_DROPPED)?, None);
-    Ok(())
-}
-
 // The first task leaves, the second stays.
-const ONE_GIVES_UP: [(GateCall, Told); 8] = [
+pub(crate) const ONE_GIVES_UP: [(GateCall, Told); 8] = [
     (GateCall::Ask(Second), Nothing),
     (GateCall::Ask(First), Nothing),
     (GateCall::Poll(First, First), Passage(None)),
@@ -117,17 +96,11 @@ const ONE_GIVES_UP: [(GateCall, Told); 8] = [
         GateCall::Poll(Second, Second),
         Passage(Some(Ok(Err(Error::SpuriousFailure)))),
     ),
-    (GateCall::Permit, Moved(Ok(0))),
+    (GateCall::Make(Move::Permit), Moved(Ok(0))),
 ];
 
-#[test]
-fn who_gives_up_at_a_gate_wakes_the_others(rt: HostRuntime) -> io::Result<()> {
-    same!(rt; gate_stories::played(&rt, rt.alloc(), 4, &ONE_GIVES_UP)?, None);
-    Ok(())
-}
-
 // The first task leaves, the second stays.
-const AN_ARRIVAL_IS_DROPPED: [(BarrierCall, Told); 8] = [
+pub(crate) const AN_ARRIVAL_IS_DROPPED: [(BarrierCall, Told); 8] = [
     (BarrierCall::Ask(First), Nothing),
     (BarrierCall::Poll(First, First), Answer(None)),
     (BarrierCall::Missing, Count(1)),
@@ -138,14 +111,8 @@ const AN_ARRIVAL_IS_DROPPED: [(BarrierCall, Told); 8] = [
     (BarrierCall::IsWoken(Second), Is(false)),
 ];
 
-#[test]
-fn a_dropped_arrival_is_taken_back(rt: HostRuntime) -> io::Result<()> {
-    same!(rt; barrier_stories::played(&rt, rt.alloc(), 2, 2, &AN_ARRIVAL_IS_DROPPED)?, None);
-    Ok(())
-}
-
 // The first task is the old one.
-const A_SLOT_IS_USED_AGAIN: [(SemaphoreCall, Told); 11] = [
+pub(crate) const A_USED_SLOT: [(SemaphoreCall, Told); 11] = [
     (AskOne(First), Nothing),
     (PollOne(First, First), Permit(None)),
     (LetGoOne(First), Nothing),
@@ -158,9 +125,3 @@ const A_SLOT_IS_USED_AGAIN: [(SemaphoreCall, Told); 11] = [
     (IsWoken(Second), Is(true)),
     (PollOne(Second, Second), Permit(Some(Ok(())))),
 ];
-
-#[test]
-fn a_slot_of_a_dropped_future_wakes_its_new_task_alone(rt: HostRuntime) -> io::Result<()> {
-    same!(rt; played_with(&rt, rt.alloc(), 0, 1, &A_SLOT_IS_USED_AGAIN)?, None);
-    Ok(())
-}

@@ -6,21 +6,22 @@ use crate::lent::SemaphoreCall::{
     AskMany, AskOne, CancelMany, CancelOne, HasEndedMany, HasEndedOne, Permits, PollMany, PollOne,
     PollTicket, Register, Release, ReleaseMany, TryAcquireMany,
 };
-use crate::stories::Told::{AnswerOn, Asked, Count, Granted, Is, Nothing, PermitOn, Tried};
+use crate::stories::Told::{
+    AnswerOn, Asked, Count, Granted, Is, Moved, Nothing, PassageOn, PermitOn, Tried, Was,
+};
 use crate::stories::Who::{First, Second, Third};
-use crate::stories::{Desk, Futures, Told, Who, first_other, poll_on};
+use crate::stories::{Desk, Futures, Told, Who, played_at};
 use saa_core::barrier::BarrierCore;
 use saa_core::gate::{Error, GateCore, State};
 use saa_core::lock::LockCore;
 use saa_core::semaphore::SemaphoreCore;
 use saa_core::ticket::{Full, How, Ticket};
 use saa_sync::barrier::Barrier;
-use saa_sync::future::{ManyPermits, OnePermit, Progress, Turn};
+use saa_sync::future::{Arrival, ManyPermits, OnePermit, Passing, Progress, Turn};
 use saa_sync::gate::Gate;
 use saa_sync::lock::Lock;
 use saa_sync::semaphore::Semaphore;
 use std::alloc::{AllocError, Global};
-use std::io;
 use std::sync::Wait;
 use test_asserts::same;
 
@@ -54,7 +55,17 @@ struct SemaphoreDesk<'s, R: Wait + Drop> {
     many: Futures<'s, R, ManyPermits>,
 }
 
-impl<R: Wait + Drop> SemaphoreDesk<'_, R> {
+impl<'s, R: Wait + Drop> SemaphoreDesk<'s, R> {
+    fn new(alloc: Global, semaphore: &'s Semaphore<R>, room: u16) -> Result<Self, AllocError> {
+        Ok(SemaphoreDesk {
+            semaphore,
+            core: SemaphoreCore::new(alloc, room)?,
+            ticket: Ticket::new(),
+            ones: Futures::new(),
+            many: Futures::new(),
+        })
+    }
+
     fn poll_one(&mut self, who: Who) -> Told {
         match self.ones.polled_on(who, &mut self.core) {
             Some(polled) => PermitOn(polled),
@@ -99,16 +110,10 @@ fn played<R: Wait + Drop>(
     alloc: Global,
     room: u16,
     story: &[(SemaphoreCall, Told)],
-) -> Result<Option<(usize, Told)>, AllocError> {
+) -> Result<Option<usize>, AllocError> {
     let semaphore = Semaphore::new(rt, alloc, room)?;
-    let mut desk = SemaphoreDesk {
-        semaphore: &semaphore,
-        core: SemaphoreCore::new(alloc, room)?,
-        ticket: Ticket::new(),
-        ones: Futures::new(),
-        many: Futures::new(),
-    };
-    Ok(first_other(&mut desk, story))
+    let desk = SemaphoreDesk::new(alloc, &semaphore, room)?;
+    Ok(played_at(desk, story))
 }
 
 const IT_IS_DONE: [(SemaphoreCall, Told); 8] = [
@@ -121,12 +126,6 @@ const IT_IS_DONE: [(SemaphoreCall, Told); 8] = [
     (Permits, Count(0)),
     (PollMany(First), AnswerOn(None)),
 ];
-
-#[test]
-fn a_future_joins_waits_and_is_done(rt: HostRuntime) -> io::Result<()> {
-    same!(rt; played(&rt, rt.alloc(), 1, &IT_IS_DONE)?, None);
-    Ok(())
-}
 
 const A_FULL_ROOM: [(SemaphoreCall, Told); 12] = [
     (TryAcquireMany(63), Is(true)),
@@ -143,12 +142,6 @@ const A_FULL_ROOM: [(SemaphoreCall, Told); 12] = [
     (PollMany(Third), AnswerOn(Some(Progress::Done(true)))),
 ];
 
-#[test]
-fn a_full_room_and_a_count_above_the_bound(rt: HostRuntime) -> io::Result<()> {
-    same!(rt; played(&rt, rt.alloc(), 0, &A_FULL_ROOM)?, None);
-    Ok(())
-}
-
 const NOBODY_WAS_TOLD: [(SemaphoreCall, Told); 12] = [
     (TryAcquireMany(60), Is(true)),
     (AskMany(First, 5), Nothing),
@@ -164,12 +157,6 @@ const NOBODY_WAS_TOLD: [(SemaphoreCall, Told); 12] = [
     (Permits, Count(4)),
 ];
 
-#[test]
-fn a_grant_that_nobody_was_told_goes_back(rt: HostRuntime) -> io::Result<()> {
-    same!(rt; played(&rt, rt.alloc(), 4, &NOBODY_WAS_TOLD)?, None);
-    Ok(())
-}
-
 const REGISTERED_AS_ASYNC: [(SemaphoreCall, Told); 9] = [
     (TryAcquireMany(63), Is(true)),
     (Register, Asked(Ok(true))),
@@ -182,10 +169,24 @@ const REGISTERED_AS_ASYNC: [(SemaphoreCall, Told); 9] = [
     (PollOne(First), PermitOn(Some(Progress::Done(())))),
 ];
 
+// Each story of a semaphore, with its room.
+const SEMAPHORE_STORIES: [(&str, u16, &[(SemaphoreCall, Told)]); 4] = [
+    ("a future joins, waits and is done", 1, &IT_IS_DONE),
+    ("a full room and a count above the bound", 0, &A_FULL_ROOM),
+    (
+        "a grant that nobody was told goes back",
+        4,
+        &NOBODY_WAS_TOLD,
+    ),
+    ("a future is registered as async", 2, &REGISTERED_AS_ASYNC),
+];
+
 #[test]
-fn a_future_is_registered_as_async(rt: HostRuntime) -> io::Result<()> {
-    same!(rt; played(&rt, rt.alloc(), 2, &REGISTERED_AS_ASYNC)?, None);
-    Ok(())
+fn a_semaphore_answers_its_futures(rt: HostRuntime) {
+    for (name, room, story) in &SEMAPHORE_STORIES {
+        let other = played(&rt, rt.alloc(), *room, story).expect(&rt, "no memory");
+        same!(rt; (*name, other), (*name, None));
+    }
 }
 
 // A call at a core of a lock, or at a future.
@@ -211,7 +212,15 @@ struct LockDesk<'s, R: Wait + Drop> {
     futures: Futures<'s, R, Turn>,
 }
 
-impl<R: Wait + Drop> LockDesk<'_, R> {
+impl<'s, R: Wait + Drop> LockDesk<'s, R> {
+    fn new(alloc: Global, lock: &'s Lock<R>) -> Result<Self, AllocError> {
+        Ok(LockDesk {
+            lock,
+            core: LockCore::new(alloc, 4)?,
+            futures: Futures::new(),
+        })
+    }
+
     fn poll(&mut self, who: Who) -> Told {
         match self.futures.polled_on(who, &mut self.core) {
             Some(polled) => AnswerOn(polled),
@@ -244,14 +253,10 @@ fn played_at_lock<R: Wait + Drop>(
     rt: R,
     alloc: Global,
     story: &[(LockCall, Told)],
-) -> Result<Option<(usize, Told)>, AllocError> {
+) -> Result<Option<usize>, AllocError> {
     let lock = Lock::new(rt, alloc, 4)?;
-    let mut desk = LockDesk {
-        lock: &lock,
-        core: LockCore::new(alloc, 4)?,
-        futures: Futures::new(),
-    };
-    Ok(first_other(&mut desk, story))
+    let desk = LockDesk::new(alloc, &lock)?;
+    Ok(played_at(desk, story))
 }
 
 // The first is a writer, the others are readers.
@@ -274,12 +279,6 @@ const READERS_ARE_LET_IN: [(LockCall, Told); 16] = [
     (LockCall::ReleaseShare, Is(false)),
 ];
 
-#[test]
-fn a_cancelled_writer_lets_the_readers_behind_it_in(rt: HostRuntime) -> io::Result<()> {
-    same!(rt; played_at_lock(&rt, rt.alloc(), &READERS_ARE_LET_IN)?, None);
-    Ok(())
-}
-
 // The first is a writer, the second a reader.
 const SETTLED_AT_ONCE: [(LockCall, Told); 7] = [
     (LockCall::TryShare, Tried(Ok(()))),
@@ -290,12 +289,6 @@ const SETTLED_AT_ONCE: [(LockCall, Told); 7] = [
     (LockCall::Cancel(First), Nothing),
     (LockCall::Poll(Second), AnswerOn(Some(Progress::Done(true)))),
 ];
-
-#[test]
-fn a_cancelled_waiter_is_settled_for_at_once(rt: HostRuntime) -> io::Result<()> {
-    same!(rt; played_at_lock(&rt, rt.alloc(), &SETTLED_AT_ONCE)?, None);
-    Ok(())
-}
 
 // The first is a reader, the second a writer who comes late.
 const POISONED: [(LockCall, Told); 7] = [
@@ -311,49 +304,203 @@ const POISONED: [(LockCall, Told); 7] = [
     ),
 ];
 
-#[test]
-fn a_poisoned_lock_ends_a_future(rt: HostRuntime) -> io::Result<()> {
-    same!(rt; played_at_lock(&rt, rt.alloc(), &POISONED)?, None);
-    Ok(())
-}
+// Each story of a lock.
+const LOCK_STORIES: [(&str, &[(LockCall, Told)]); 3] = [
+    (
+        "a cancelled writer lets the readers behind it in",
+        &READERS_ARE_LET_IN,
+    ),
+    (
+        "a cancelled waiter is settled for at once",
+        &SETTLED_AT_ONCE,
+    ),
+    ("a poisoned lock ends a future", &POISONED),
+];
 
 #[test]
-fn a_gate_answers_its_futures(rt: HostRuntime) -> io::Result<()> {
-    let gate = Gate::new(&rt, rt.alloc(), 4)?;
-    let mut core = GateCore::new(rt.alloc(), 4)?;
-    let mut first = gate.enter_async();
-    let mut second = gate.enter_async();
-    same!(rt; poll_on(&mut first, &mut core), Some(Progress::Joined));
-    same!(rt; poll_on(&mut second, &mut core), Some(Progress::Joined));
-    same!(rt; core.permit(), Ok(2));
-    same!(rt; poll_on(&mut first, &mut core), Some(Progress::Done(Ok(State::Controlled))));
-    second.cancel_on(&mut core);
-    let mut third = gate.enter_async();
-    let mut fourth = gate.enter_async();
-    same!(rt; poll_on(&mut third, &mut core), Some(Progress::Joined));
-    same!(rt; poll_on(&mut fourth, &mut core), Some(Progress::Joined));
-    third.cancel_on(&mut core);
-    same!(rt; poll_on(&mut fourth, &mut core), Some(Progress::Done(Err(Error::SpuriousFailure))));
-    same!(rt; core.seal(), (State::Controlled, 0));
-    let mut late = gate.enter_async();
-    same!(rt; poll_on(&mut late, &mut core), Some(Progress::Done(Err(Error::Sealed))));
-    Ok(())
+fn a_lock_answers_its_futures(rt: HostRuntime) {
+    for (name, story) in &LOCK_STORIES {
+        let other = played_at_lock(&rt, rt.alloc(), story).expect(&rt, "no memory");
+        same!(rt; (*name, other), (*name, None));
+    }
 }
 
+// A call at a core of a gate, or at a future.
+#[derive(Clone, Copy)]
+enum GateCall {
+    Permit,
+    Seal,
+    Ask(Who),
+    Poll(Who),
+    Cancel(Who),
+}
+
+// A gate, a core, and the futures of a story.
+#[derive(Drop)]
+struct GateDesk<'s, R: Wait + Drop> {
+    gate: &'s Gate<R>,
+    core: GateCore,
+    futures: Futures<'s, R, Passing>,
+}
+
+impl<'s, R: Wait + Drop> GateDesk<'s, R> {
+    fn new(alloc: Global, gate: &'s Gate<R>) -> Result<Self, AllocError> {
+        Ok(GateDesk {
+            gate,
+            core: GateCore::new(alloc, 4)?,
+            futures: Futures::new(),
+        })
+    }
+
+    fn poll(&mut self, who: Who) -> Told {
+        match self.futures.polled_on(who, &mut self.core) {
+            Some(polled) => PassageOn(polled),
+            None => Nothing,
+        }
+    }
+}
+
+impl<R: Wait + Drop> Desk for GateDesk<'_, R> {
+    type Call = GateCall;
+
+    fn answer(&mut self, call: GateCall) -> Told {
+        match call {
+            GateCall::Permit => Moved(self.core.permit()),
+            GateCall::Seal => Was(self.core.seal()),
+            GateCall::Ask(who) => self.futures.put(who, self.gate.enter_async()),
+            GateCall::Poll(who) => self.poll(who),
+            GateCall::Cancel(who) => self.futures.cancel_on(who, &mut self.core),
+        }
+    }
+}
+
+// Plays a story at a core with room for four waiters, which the gate has too; the first row that was told otherwise.
+fn played_at_gate<R: Wait + Drop>(
+    rt: R,
+    alloc: Global,
+    story: &[(GateCall, Told)],
+) -> Result<Option<usize>, AllocError> {
+    let gate = Gate::new(rt, alloc, 4)?;
+    let desk = GateDesk::new(alloc, &gate)?;
+    Ok(played_at(desk, story))
+}
+
+// The last to ask finds the gate sealed.
+const A_GATE_ANSWERS: [(GateCall, Told); 16] = [
+    (GateCall::Ask(First), Nothing),
+    (GateCall::Ask(Second), Nothing),
+    (GateCall::Poll(First), PassageOn(Some(Progress::Joined))),
+    (GateCall::Poll(Second), PassageOn(Some(Progress::Joined))),
+    (GateCall::Permit, Moved(Ok(2))),
+    (
+        GateCall::Poll(First),
+        PassageOn(Some(Progress::Done(Ok(State::Controlled)))),
+    ),
+    (GateCall::Cancel(Second), Nothing),
+    (GateCall::Ask(Third), Nothing),
+    (GateCall::Ask(First), Nothing),
+    (GateCall::Poll(Third), PassageOn(Some(Progress::Joined))),
+    (GateCall::Poll(First), PassageOn(Some(Progress::Joined))),
+    (GateCall::Cancel(Third), Nothing),
+    (
+        GateCall::Poll(First),
+        PassageOn(Some(Progress::Done(Err(Error::SpuriousFailure)))),
+    ),
+    (GateCall::Seal, Was((State::Controlled, 0))),
+    (GateCall::Ask(Second), Nothing),
+    (
+        GateCall::Poll(Second),
+        PassageOn(Some(Progress::Done(Err(Error::Sealed)))),
+    ),
+];
+
 #[test]
-fn a_round_of_two_has_one_leader(rt: HostRuntime) -> io::Result<()> {
-    let barrier = Barrier::with_count(&rt, rt.alloc(), 2, 4)?;
-    let mut core = BarrierCore::with_count(rt.alloc(), 2, 4)?;
-    let mut gone = barrier.wait_async();
-    same!(rt; poll_on(&mut gone, &mut core), Some(Progress::Joined));
-    gone.cancel_on(&mut core);
-    same!(rt; core.count(), 2);
-    let mut first = barrier.wait_async();
-    let mut last = barrier.wait_async();
-    same!(rt; poll_on(&mut first, &mut core), Some(Progress::Joined));
-    same!(rt; core.count(), 1);
-    same!(rt; poll_on(&mut last, &mut core), Some(Progress::Done(true)));
-    same!(rt; poll_on(&mut first, &mut core), Some(Progress::Done(false)));
-    same!(rt; core.count(), 2);
-    Ok(())
+fn a_gate_answers_its_futures(rt: HostRuntime) {
+    let other = played_at_gate(&rt, rt.alloc(), &A_GATE_ANSWERS).expect(&rt, "no memory");
+    same!(rt; other, None);
+}
+
+// A call at a core of a barrier, or at a future.
+#[derive(Clone, Copy)]
+enum BarrierCall {
+    Missing,
+    Ask(Who),
+    Poll(Who),
+    Cancel(Who),
+}
+
+// A barrier, a core, and the futures of a story.
+#[derive(Drop)]
+struct BarrierDesk<'s, R: Wait + Drop> {
+    barrier: &'s Barrier<R>,
+    core: BarrierCore,
+    futures: Futures<'s, R, Arrival>,
+}
+
+impl<'s, R: Wait + Drop> BarrierDesk<'s, R> {
+    fn new(alloc: Global, barrier: &'s Barrier<R>) -> Result<Self, AllocError> {
+        Ok(BarrierDesk {
+            barrier,
+            core: BarrierCore::with_count(alloc, 2, 4)?,
+            futures: Futures::new(),
+        })
+    }
+
+    fn poll(&mut self, who: Who) -> Told {
+        match self.futures.polled_on(who, &mut self.core) {
+            Some(polled) => AnswerOn(polled),
+            None => Nothing,
+        }
+    }
+}
+
+impl<R: Wait + Drop> Desk for BarrierDesk<'_, R> {
+    type Call = BarrierCall;
+
+    fn answer(&mut self, call: BarrierCall) -> Told {
+        match call {
+            BarrierCall::Missing => Count(self.core.count()),
+            BarrierCall::Ask(who) => self.futures.put(who, self.barrier.wait_async()),
+            BarrierCall::Poll(who) => self.poll(who),
+            BarrierCall::Cancel(who) => self.futures.cancel_on(who, &mut self.core),
+        }
+    }
+}
+
+// Plays a story at a core of two with room for four waiters, as the barrier is too; the first row that was told otherwise.
+fn played_at_barrier<R: Wait + Drop>(
+    rt: R,
+    alloc: Global,
+    story: &[(BarrierCall, Told)],
+) -> Result<Option<usize>, AllocError> {
+    let barrier = Barrier::with_count(rt, alloc, 2, 4)?;
+    let desk = BarrierDesk::new(alloc, &barrier)?;
+    Ok(played_at(desk, story))
+}
+
+// The first leaves, the third arrives last.
+const ONE_LEADER: [(BarrierCall, Told); 11] = [
+    (BarrierCall::Ask(First), Nothing),
+    (BarrierCall::Poll(First), AnswerOn(Some(Progress::Joined))),
+    (BarrierCall::Cancel(First), Nothing),
+    (BarrierCall::Missing, Count(2)),
+    (BarrierCall::Ask(Second), Nothing),
+    (BarrierCall::Ask(Third), Nothing),
+    (BarrierCall::Poll(Second), AnswerOn(Some(Progress::Joined))),
+    (BarrierCall::Missing, Count(1)),
+    (
+        BarrierCall::Poll(Third),
+        AnswerOn(Some(Progress::Done(true))),
+    ),
+    (
+        BarrierCall::Poll(Second),
+        AnswerOn(Some(Progress::Done(false))),
+    ),
+    (BarrierCall::Missing, Count(2)),
+];
+
+#[test]
+fn a_round_of_two_has_one_leader(rt: HostRuntime) {
+    let other = played_at_barrier(&rt, rt.alloc(), &ONE_LEADER).expect(&rt, "no memory");
+    same!(rt; other, None);
 }

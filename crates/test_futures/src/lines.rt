@@ -10,8 +10,8 @@ use std::alloc::AllocGlobal;
 use std::random::RandomSource;
 use std::sync::Wait;
 use std::sync::atomic::{AtomicU64, Ordering};
+use std::thread;
 use std::thread::{Threads, yield_now};
-use std::{io, thread};
 use test_asserts::{holds, same};
 
 // How often the main thread looks whether a call that must wait has returned.
@@ -95,9 +95,9 @@ fn sleep_behind<R: Wait + Drop>(
 }
 
 #[test]
-fn a_task_between_two_sleepers_is_served_between_them(rt: HostRuntime) -> io::Result<()> {
-    let semaphore = Semaphore::with_permits(&rt, rt.alloc(), 0, 4)?;
-    let task = MockTask::new(&rt)?;
+fn a_task_between_two_sleepers_is_served_between_them(rt: HostRuntime) {
+    let semaphore = Semaphore::with_permits(&rt, rt.alloc(), 0, 4).expect(&rt, "no memory");
+    let task = MockTask::new(&rt).expect(&rt, "no memory");
     let (joined, ended) = (AtomicU64::new(0), AtomicU64::new(0));
     let ((), ((), (wrong, is_granted))) = thread::join(
         &rt,
@@ -113,7 +113,6 @@ fn a_task_between_two_sleepers_is_served_between_them(rt: HostRuntime) -> io::Re
     same!(rt; wrong, 0);
     holds!(rt; is_granted);
     same!(rt; semaphore.available_permits(Ordering::SeqCst), 0);
-    Ok(())
 }
 
 // Gives one permit once somebody has joined the line.
@@ -128,8 +127,8 @@ fn give_one<R: Wait + Drop>(
 }
 
 #[test]
-fn a_sleeping_executor_is_woken_from_another_thread(rt: HostRuntime) -> io::Result<()> {
-    let semaphore = Semaphore::with_permits(&rt, rt.alloc(), 0, 1)?;
+fn a_sleeping_executor_is_woken_from_another_thread(rt: HostRuntime) {
+    let semaphore = Semaphore::with_permits(&rt, rt.alloc(), 0, 1).expect(&rt, "no memory");
     let joined = AtomicU64::new(0);
     for round in 0..ROUNDS {
         let one = semaphore.acquire_async_with(|| {
@@ -140,10 +139,9 @@ fn a_sleeping_executor_is_woken_from_another_thread(rt: HostRuntime) -> io::Resu
             || block_on(&rt, one),
             || give_one(&rt, &semaphore, &joined, round.saturating_add(1)),
         );
-        same!(rt; answer?, Ok(()));
+        same!(rt; answer.expect(&rt, "no memory"), Ok(()));
     }
     same!(rt; semaphore.available_permits(Ordering::SeqCst), 0);
-    Ok(())
 }
 
 // Adds 1 to a plain counter so often, each time with the lock; as a task, or in calls that sleep.
@@ -172,8 +170,8 @@ fn add<H: Wait + RandomSource + AllocGlobal, R: Wait + Drop>(
 }
 
 #[test]
-fn tasks_and_threads_exclude_each_other(rt: HostRuntime) -> io::Result<()> {
-    let lock = Lock::new(&rt, rt.alloc(), 4)?;
+fn tasks_and_threads_exclude_each_other(rt: HostRuntime) {
+    let lock = Lock::new(&rt, rt.alloc(), 4).expect(&rt, "no memory");
     let counter = AtomicU64::new(0);
     let ((one, two), (three, four)) = thread::join(
         &rt,
@@ -195,7 +193,6 @@ fn tasks_and_threads_exclude_each_other(rt: HostRuntime) -> io::Result<()> {
     same!(rt; [one, two, three, four], [ROUNDS, ROUNDS, ROUNDS, ROUNDS]);
     same!(rt; counter.load(Ordering::SeqCst), 4 * ROUNDS);
     holds!(rt; lock.is_free(Ordering::SeqCst));
-    Ok(())
 }
 
 // Passes so many rounds of a barrier; how often as their leader.
@@ -219,8 +216,8 @@ fn pass<H: Wait + RandomSource + AllocGlobal, R: Wait + Drop>(
 }
 
 #[test]
-fn tasks_and_threads_meet_at_a_barrier(rt: HostRuntime) -> io::Result<()> {
-    let barrier = Barrier::with_count(&rt, rt.alloc(), 3, 3)?;
+fn tasks_and_threads_meet_at_a_barrier(rt: HostRuntime) {
+    let barrier = Barrier::with_count(&rt, rt.alloc(), 3, 3).expect(&rt, "no memory");
     let (one, (two, three)) = thread::join(
         &rt,
         || pass(&rt, &barrier, true),
@@ -234,5 +231,4 @@ fn tasks_and_threads_meet_at_a_barrier(rt: HostRuntime) -> io::Result<()> {
     );
     same!(rt; one.saturating_add(two).saturating_add(three), ROUNDS);
     same!(rt; barrier.count(Ordering::SeqCst), 3);
-    Ok(())
 }

@@ -1,24 +1,30 @@
-//! Stories of a semaphore's futures: its calls, and how they are made.
+//! Stories of a semaphore's futures and pagers: its calls, how they are made, and the test that each story is told.
 
-use crate::pagers::{polled, polled_twice};
+use crate::drops::{A_USED_SLOT, ONE_HAS_ENDED, ONE_WAITS, ONE_WAS_GRANTED};
+use crate::faults::OF_A_SEMAPHORE;
+use crate::pagers::{A_PAGERS_USED_SLOT, A_POLL_IS_DROPPED, IN_THE_WRONG_MODE, THE_NEXT_TASK};
+use crate::ready;
 use crate::semaphore_stories::SemaphoreCall::{
-    AskMany, AskOne, AwaitMany, AwaitOne, Cancel, Enter, HasEndedOne, IsRegistered, IsWoken,
-    LetGoMany, LetGoOne, Permits, PollMany, PollOne, PollPager, PollSync, PollTwice, Register,
-    Release, ReleaseMany, TryAcquireMany,
+    AskMany, AskOne, AwaitMany, AwaitOne, Enter, HasEndedOne, IsWoken, LetGoMany, LetGoOne,
+    OfPager, Permits, PollMany, PollOne, PollTwice, Register, Release, ReleaseMany, TryAcquireMany,
 };
-use crate::stories::Told::{Answer, Asked, Count, Granted, Is, Nothing, Permit, Twice};
-use crate::stories::{Desk, Futures, Tasks, Told, Who, first_other};
+use crate::stories::Told::{Answer, Asked, Count, Is, Nothing, Permit, Twice};
+use crate::stories::{Desk, Futures, PagerCall, Pagers, Tasks, Told, Who, played_at};
+use crate::values::AT_A_GRANT;
+use crate::wakes::{AFTER_THE_END, NO_WAKE, THE_NEWEST_TASK, WHOM_IT_GRANTS};
 use futures::executor::block_on;
+use futures::test::MockTask;
 use saa_sync::future::{ManyPermits, OnePermit};
 use saa_sync::pager::Pager;
 use saa_sync::semaphore::Semaphore;
-use std::alloc::{AllocGlobal, Global};
+use std::alloc::{AllocError, AllocGlobal, Global};
 use std::io;
 use std::random::RandomSource;
 use std::sync::Wait;
 use std::sync::atomic::Ordering;
+use test_asserts::same;
 
-// A call at a semaphore, a task or a future. A poll names its task and then the future; those for one permit and those for
+// A call at a semaphore, a task, a future or a pager. A poll names its task and then the future; those for one permit and those for
 // many are counted apart.
 #[derive(Clone, Copy)]
 pub(crate) enum SemaphoreCall {
@@ -35,13 +41,9 @@ pub(crate) enum SemaphoreCall {
     LetGoMany(Who),
     // A pager is registered for so many permits, as sync or as async.
     Register(Who, usize, bool),
-    IsRegistered(Who),
-    PollSync(Who),
-    // By a future of the pager that is made for this poll.
-    PollPager(Who, Who),
-    // By one future of the pager.
+    OfPager(Who, PagerCall),
+    // A poll of a pager by this task, twice in one future of the pager.
     PollTwice(Who, Who),
-    Cancel(Who),
     // By an executor, until it is answered.
     AwaitOne,
     AwaitMany(usize),
@@ -49,6 +51,32 @@ pub(crate) enum SemaphoreCall {
     IsWoken(Who),
     // A poll of a task that polls no future.
     Enter(Who),
+}
+
+// Each story of a semaphore, with the permits that are there from the start, where they aren't all, and with its room.
+const STORIES: [(&str, Option<usize>, u16, &[(SemaphoreCall, Told)]); 14] = [
+    ("an answer at once", None, 0, &NO_WAKE),
+    ("whom a release wakes", Some(0), 4, &WHOM_IT_GRANTS),
+    ("the newest task", Some(0), 4, &THE_NEWEST_TASK),
+    ("polls after the end", None, 1, &AFTER_THE_END),
+    ("a drop while it waits", Some(1), 2, &ONE_WAITS),
+    ("a drop of a grant", Some(0), 2, &ONE_WAS_GRANTED),
+    ("a drop after the end", Some(0), 1, &ONE_HAS_ENDED),
+    ("a used slot", Some(0), 1, &A_USED_SLOT),
+    ("the wrong mode", Some(0), 1, &IN_THE_WRONG_MODE),
+    ("a dropped poll", Some(0), 1, &A_POLL_IS_DROPPED),
+    ("a cancelled pager", Some(1), 2, &THE_NEXT_TASK),
+    ("a pager's used slot", Some(0), 1, &A_PAGERS_USED_SLOT),
+    ("each error", Some(0), 2, &OF_A_SEMAPHORE),
+    ("a grant by each poll", Some(0), 6, &AT_A_GRANT),
+];
+
+#[test]
+fn each_story_of_a_semaphore_is_told(rt: HostRuntime) {
+    for (name, permits, room, story) in &STORIES {
+        let other = played(&rt, rt.alloc(), (*permits, *room), story).expect(&rt, "no memory");
+        same!(rt; (*name, other), (*name, None));
+    }
 }
 
 // A semaphore with all that a story needs beside it.
@@ -59,8 +87,7 @@ struct SemaphoreDesk<'s, H: Wait + Drop, R: Wait + Drop> {
     tasks: Tasks,
     ones: Futures<'s, R, OnePermit>,
     many: Futures<'s, R, ManyPermits>,
-    first: Pager<'s, Semaphore<R>>,
-    second: Pager<'s, Semaphore<R>>,
+    pagers: Pagers<'s, Semaphore<R>>,
 }
 
 impl<'s, H: Wait + RandomSource + AllocGlobal, R: Wait + Drop> SemaphoreDesk<'s, &'s H, R> {
@@ -71,38 +98,8 @@ impl<'s, H: Wait + RandomSource + AllocGlobal, R: Wait + Drop> SemaphoreDesk<'s,
             tasks: Tasks::new(rt)?,
             ones: Futures::new(),
             many: Futures::new(),
-            first: Pager::new(),
-            second: Pager::new(),
+            pagers: Pagers::new(),
         })
-    }
-
-    // This pager; there are two.
-    fn pager(&mut self, who: Who) -> &mut Pager<'s, Semaphore<R>> {
-        match who {
-            Who::First => &mut self.first,
-            Who::Second | Who::Third => &mut self.second,
-        }
-    }
-
-    fn poll_pager(&mut self, task: Who, who: Who) -> Told {
-        let task = self.tasks.get(task);
-        match who {
-            Who::First => Granted(polled(task, &mut self.first)),
-            Who::Second | Who::Third => Granted(polled(task, &mut self.second)),
-        }
-    }
-
-    fn poll_twice(&mut self, task: Who, who: Who) -> Told {
-        let task = self.tasks.get(task);
-        match who {
-            Who::First => Twice(polled_twice(task, &mut self.first)),
-            Who::Second | Who::Third => Twice(polled_twice(task, &mut self.second)),
-        }
-    }
-
-    fn cancel(&mut self, who: Who) -> Told {
-        self.pager(who).cancel();
-        Nothing
     }
 
     fn poll_one(&mut self, task: Who, who: Who) -> Told {
@@ -153,13 +150,10 @@ impl<'s, H: Wait + RandomSource + AllocGlobal, R: Wait + Drop> Desk
             LetGoOne(who) => self.ones.let_go(who),
             LetGoMany(who) => self.many.let_go(who),
             Register(who, count, is_sync) => {
-                Asked(semaphore.register_pager(self.pager(who), count, is_sync))
+                Asked(semaphore.register_pager(self.pagers.get(who), count, is_sync))
             }
-            IsRegistered(who) => Is(self.pager(who).is_registered()),
-            PollSync(who) => Granted(Some(self.pager(who).poll_sync())),
-            PollPager(task, who) => self.poll_pager(task, who),
-            PollTwice(task, who) => self.poll_twice(task, who),
-            Cancel(who) => self.cancel(who),
+            OfPager(who, call) => self.pagers.answer(self.rt, &self.tasks, who, call),
+            PollTwice(task, who) => polled_twice(self.tasks.get(task), self.pagers.get(who)),
             AwaitOne => self.await_one(),
             AwaitMany(count) => self.await_many(count),
             IsWoken(task) => Is(self.tasks.get(task).is_woken()),
@@ -168,25 +162,35 @@ impl<'s, H: Wait + RandomSource + AllocGlobal, R: Wait + Drop> Desk
     }
 }
 
-// Plays a story at a fresh semaphore with room for so many waiters; the first row that was told otherwise.
-pub(crate) fn played<H: Wait + RandomSource + AllocGlobal>(
-    rt: &H,
-    alloc: Global,
-    room: u16,
-    story: &[(SemaphoreCall, Told)],
-) -> io::Result<Option<(usize, Told)>> {
-    let semaphore = Semaphore::new(rt, alloc, room)?;
-    Ok(first_other(&mut SemaphoreDesk::new(rt, &semaphore)?, story))
+// Two polls of a pager in a task, by one future.
+fn polled_twice<R: Wait + Drop>(task: &MockTask, pager: &mut Pager<'_, Semaphore<R>>) -> Told {
+    let mut poll = pager.poll_async();
+    let first = (ready(task.poll(&mut poll)), task.is_woken());
+    let second = (ready(task.poll(&mut poll)), task.is_woken());
+    Twice(first, second)
 }
 
-// The same at a semaphore of so many permits that are there from the start.
-pub(crate) fn played_with<H: Wait + RandomSource + AllocGlobal>(
+// A semaphore of so many permits, or of as many as there can be, with room for so many waiters.
+fn made<R: Wait + Drop>(
+    rt: R,
+    alloc: Global,
+    permits: Option<usize>,
+    room: u16,
+) -> Result<Semaphore<R>, AllocError> {
+    match permits {
+        Some(count) => Semaphore::with_permits(rt, alloc, count, room),
+        None => Semaphore::new(rt, alloc, room),
+    }
+}
+
+// Plays a story at a fresh semaphore; the first row that was told otherwise.
+fn played<H: Wait + RandomSource + AllocGlobal>(
     rt: &H,
     alloc: Global,
-    permits: usize,
-    room: u16,
+    (permits, room): (Option<usize>, u16),
     story: &[(SemaphoreCall, Told)],
-) -> io::Result<Option<(usize, Told)>> {
-    let semaphore = Semaphore::with_permits(rt, alloc, permits, room)?;
-    Ok(first_other(&mut SemaphoreDesk::new(rt, &semaphore)?, story))
+) -> io::Result<Option<usize>> {
+    let semaphore = made(rt, alloc, permits, room)?;
+    let desk = SemaphoreDesk::new(rt, &semaphore)?;
+    Ok(played_at(desk, story))
 }

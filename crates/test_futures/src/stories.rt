@@ -1,13 +1,18 @@
-//! Stories of futures as tables: what is called at a form and at its futures, row by row, and what each call must tell.
+//! Stories of futures and pagers as tables: what is called at a form, row by row, and what each call must tell.
 //!
 //! A call that stands in a test's text is proved there anew; one that stands in a row of a table is data, and costs no proof.
 
 use crate::ready;
+use futures::executor::block_on;
 use futures::test::MockTask;
-use saa_core::ticket::{Error, Full};
+use saa_core::ticket::{Error, Full, How};
+use saa_sync::barrier::Barrier;
 use saa_sync::future::{Asked, Progress, Question};
-use saa_sync::gate::{Error as GateError, State};
-use saa_sync::lock::TryLockError;
+use saa_sync::gate::{Error as GateError, Gate, State};
+use saa_sync::lock::{Lock, TryLockError};
+use saa_sync::pager::{Pager, SyncResult};
+use saa_sync::semaphore::Semaphore;
+use saa_sync::testing::poll_as;
 use std::alloc::AllocGlobal;
 use std::io;
 use std::random::RandomSource;
@@ -16,8 +21,11 @@ use std::sync::Wait;
 // What a poll gave, if it was ready.
 pub(crate) type Polled<T> = Option<Result<T, Full>>;
 
+// What a poll of a semaphore's pager gave, if it was ready, and whether its task was woken after it.
+pub(crate) type Woken = (Option<Result<(), Error>>, bool);
+
 // What a call tells. A poll that is pending tells `None`.
-#[derive(Clone, Copy, Debug, PartialEq)]
+#[derive(Clone, Copy, PartialEq)]
 pub(crate) enum Told {
     // Nothing: a future was made or dropped, or there is none to poll.
     Nothing,
@@ -29,32 +37,39 @@ pub(crate) enum Told {
     Tried(Result<(), TryLockError>),
     // A poll that asks for one permit.
     Permit(Polled<()>),
-    // A poll that asks for many permits or for a turn at a lock, or arrives at a barrier.
+    // A poll or a call that asks for many permits or for a turn at a lock, or arrives at a barrier.
     Answer(Polled<bool>),
     // How many a gate let pass or refused.
     Moved(Result<usize, State>),
-    // A gate's state before it was opened, and how many that answered.
+    // A gate's state before it was opened or sealed, and how many that answered.
     Was((State, usize)),
-    // A poll that enters a gate.
+    // A poll or a call that enters a gate.
     Passage(Polled<Result<State, GateError>>),
     // A poll on a core that asks for one permit; one of a future that has ended tells `None`.
     PermitOn(Option<Progress<()>>),
-    // A poll on a core that asks for many permits or for a turn at a lock.
+    // A poll on a core that asks for many permits or for a turn at a lock, or arrives at a barrier.
     AnswerOn(Option<Progress<bool>>),
+    // A poll on a core that enters a gate.
+    PassageOn(Option<Progress<Result<State, GateError>>>),
     // A registration.
     Asked(Result<bool, Full>),
-    // A poll of a pager or of a ticket.
+    // A poll of a semaphore's pager or of a ticket.
     Granted(Option<Result<(), Error>>),
-    // Two polls of one future of a pager, and whether its task was woken after each.
-    Twice([(Option<Result<(), Error>>, bool); 2]),
+    // A poll of a pager of a lock or of a barrier.
+    Turned(Option<Result<bool, Error>>),
+    // A poll of a gate's pager.
+    Passed(Option<Result<State, GateError>>),
+    // Two polls of one future of a pager, and whether its task was woken after each. No array: a table of tables can't hold one.
+    Twice(Woken, Woken),
 }
 
-// A task of a story, or a future of it.
+// A task of a story, or a future or a pager of it. There are three tasks and three futures of a kind, and four pagers.
 #[derive(Clone, Copy)]
 pub(crate) enum Who {
     First,
     Second,
     Third,
+    Fourth,
 }
 
 // The tasks of a story.
@@ -79,7 +94,7 @@ impl Tasks {
         match who {
             Who::First => &self.first,
             Who::Second => &self.second,
-            Who::Third => &self.third,
+            Who::Third | Who::Fourth => &self.third,
         }
     }
 
@@ -112,7 +127,7 @@ impl<'s, R: Wait + Drop, Q: Question> Futures<'s, R, Q> {
         match who {
             Who::First => &mut self.first,
             Who::Second => &mut self.second,
-            Who::Third => &mut self.third,
+            Who::Third | Who::Fourth => &mut self.third,
         }
     }
 
@@ -166,7 +181,7 @@ impl<'s, R: Wait + Drop, Q: Question> Futures<'s, R, Q> {
 }
 
 // Polls a future that hasn't ended on a core; `None` for one that has.
-pub(crate) fn poll_on<R: Wait + Drop, Q: Question>(
+fn poll_on<R: Wait + Drop, Q: Question>(
     future: &mut Asked<'_, R, Q>,
     core: &mut Q::Core,
 ) -> Option<Progress<Q::Output>> {
@@ -176,24 +191,146 @@ pub(crate) fn poll_on<R: Wait + Drop, Q: Question>(
     Some(future.poll_on(core))
 }
 
+// A form whose pagers stories speak of.
+pub(crate) trait Form: SyncResult {
+    // What a poll of its pager tells.
+    fn told(answer: Option<Self::Result>) -> Told;
+}
+
+impl<R: Wait + Drop> Form for Semaphore<R> {
+    fn told(answer: Option<Result<(), Error>>) -> Told {
+        Told::Granted(answer)
+    }
+}
+
+impl<R: Wait + Drop> Form for Lock<R> {
+    fn told(answer: Option<Result<bool, Error>>) -> Told {
+        Told::Turned(answer)
+    }
+}
+
+impl<R: Wait + Drop> Form for Gate<R> {
+    fn told(answer: Option<Result<State, GateError>>) -> Told {
+        Told::Passed(answer)
+    }
+}
+
+impl<R: Wait + Drop> Form for Barrier<R> {
+    fn told(answer: Option<Result<bool, Error>>) -> Told {
+        Told::Turned(answer)
+    }
+}
+
+// A call at a pager.
+#[derive(Clone, Copy)]
+pub(crate) enum PagerCall {
+    IsRegistered,
+    TryPoll,
+    PollSync,
+    PollAsync,
+    // By this task, in a future of the pager that is made for this poll.
+    Poll(Who),
+    // By an executor, until it is answered.
+    Await,
+    Cancel,
+    // It is dropped, and a new one has its place.
+    LetGo,
+}
+
+// The pagers of a story.
+#[derive(Drop)]
+pub(crate) struct Pagers<'s, S: Form> {
+    first: Pager<'s, S>,
+    second: Pager<'s, S>,
+    third: Pager<'s, S>,
+    fourth: Pager<'s, S>,
+}
+
+impl<'s, S: Form> Pagers<'s, S> {
+    pub(crate) fn new() -> Self {
+        Pagers {
+            first: Pager::new(),
+            second: Pager::new(),
+            third: Pager::new(),
+            fourth: Pager::new(),
+        }
+    }
+
+    // This pager.
+    pub(crate) fn get(&mut self, who: Who) -> &mut Pager<'s, S> {
+        match who {
+            Who::First => &mut self.first,
+            Who::Second => &mut self.second,
+            Who::Third => &mut self.third,
+            Who::Fourth => &mut self.fourth,
+        }
+    }
+
+    fn cancel(&mut self, who: Who) -> Told {
+        self.get(who).cancel();
+        Told::Nothing
+    }
+
+    fn let_go(&mut self, who: Who) -> Told {
+        *self.get(who) = Pager::new();
+        Told::Nothing
+    }
+
+    // Makes one call at this pager.
+    pub(crate) fn answer<H: Wait + RandomSource + AllocGlobal>(
+        &mut self,
+        rt: &H,
+        tasks: &Tasks,
+        who: Who,
+        call: PagerCall,
+    ) -> Told {
+        match call {
+            PagerCall::IsRegistered => Told::Is(self.get(who).is_registered()),
+            PagerCall::TryPoll => S::told(Some(self.get(who).try_poll())),
+            PagerCall::PollSync => S::told(Some(self.get(who).poll_sync())),
+            PagerCall::PollAsync => S::told(Some(poll_as(self.get(who), How::Async))),
+            PagerCall::Poll(task) => S::told(polled(tasks.get(task), self.get(who))),
+            PagerCall::Await => awaited(rt, self.get(who)),
+            PagerCall::Cancel => self.cancel(who),
+            PagerCall::LetGo => self.let_go(who),
+        }
+    }
+}
+
+// One poll of a pager in a task, by a future that is made for it; what it gave, if it was ready.
+fn polled<S: SyncResult>(task: &MockTask, pager: &mut Pager<'_, S>) -> Option<S::Result> {
+    ready(task.poll(&mut pager.poll_async()))
+}
+
+// Polls a pager as a task of an executor until it is answered; nothing where there is no memory for one.
+fn awaited<H: Wait + RandomSource + AllocGlobal, S: Form>(
+    rt: &H,
+    pager: &mut Pager<'_, S>,
+) -> Told {
+    match block_on(rt, pager.poll_async()) {
+        Ok(answer) => S::told(Some(answer)),
+        Err(_) => Told::Nothing,
+    }
+}
+
 // A form with all that a story needs beside it.
-pub(crate) trait Desk {
-    // A call at it, or at one of its futures.
+pub(crate) trait Desk: Drop {
+    // A call at it, or at one of its futures or pagers.
     type Call: Copy;
 
     // Makes one call.
     fn answer(&mut self, call: Self::Call) -> Told;
 }
 
-// Plays a story; the first row that was told otherwise, counted from 0, and what it was told.
-pub(crate) fn first_other<D: Desk>(
-    desk: &mut D,
-    story: &[(D::Call, Told)],
-) -> Option<(usize, Told)> {
+// Plays a story at a desk, and drops it; the first row that was told otherwise, counted from 0.
+pub(crate) fn played_at<D: Desk>(mut desk: D, story: &[(D::Call, Told)]) -> Option<usize> {
+    first_other(&mut desk, story)
+}
+
+fn first_other<D: Desk>(desk: &mut D, story: &[(D::Call, Told)]) -> Option<usize> {
     for (row, (call, wanted)) in story.iter().enumerate() {
-        let told = desk.answer(*call);
-        if told != *wanted {
-            return Some((row, told));
+        if desk.answer(*call) != *wanted {
+            return Some(row);
         }
     }
     None

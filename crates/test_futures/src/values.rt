@@ -1,371 +1,353 @@
-//! Every value that a primitive can answer, told by a poll of a task, of a pager in each way, and of a future.
+//! Every value that a primitive can answer, told by a poll of a task, of a pager in each way, by a future, and by a call.
+//!
+//! Where a story speaks of each poll, four pagers ask, all are answered, and each polls in its way: by a try, as sync, as async,
+//! and by a task, which polled once before.
 
-use crate::ready;
-use futures::task::Poll;
-use futures::test::MockTask;
-use saa_core::ticket::{Full, How};
-use saa_sync::barrier::Barrier;
-use saa_sync::future::{Asked, Question};
-use saa_sync::gate::{Error as GateError, Gate, State};
-use saa_sync::lock::{Lock, Mode};
-use saa_sync::pager::{Pager, SyncResult};
-use saa_sync::semaphore::Semaphore;
-use saa_sync::testing::poll_as;
-use std::alloc::{AllocError, Global};
-use std::io;
-use std::sync::Wait;
-use test_asserts::same;
+use crate::barrier_stories::BarrierCall;
+use crate::gate_stories::{GateCall, Move};
+use crate::lock_stories::LockCall;
+use crate::semaphore_stories::SemaphoreCall;
+use crate::stories::PagerCall::{Poll, PollAsync, PollSync, TryPoll};
+use crate::stories::Told;
+use crate::stories::Told::{
+    Answer, Asked, Granted, Is, Moved, Nothing, Passage, Passed, Permit, Tried, Turned, Was,
+};
+use crate::stories::Who::{First, Fourth, Second, Third};
+use saa_sync::gate::{Error, State};
+use saa_sync::lock::Mode;
 
-// What four pagers are told: by a try, by a poll as sync, by one as async, and by the poll of a task.
-type FourTold<S> = [Option<<S as SyncResult>::Result>; 4];
-
-// A form at which four pagers and a future ask, and are answered together by a move of this kind.
-pub(crate) trait Tells: SyncResult {
-    // A way to answer all.
-    type Move: Copy;
-
-    // Asks, by a pager.
-    fn ask<'s>(&'s self, pager: &mut Pager<'s, Self>, is_sync: bool) -> Result<bool, Full>;
-
-    // Answers all who ask.
-    fn answer(&self, by: Self::Move);
+// The rows of each poll at a gate: how it answers, what that tells, and what each poll tells.
+macro_rules! polls_at_a_gate {
+    ($by:expr, $moved:expr, $answer:expr) => {
+        [
+            (GateCall::Register(First, true), Asked(Ok(true))),
+            (GateCall::Register(Second, true), Asked(Ok(true))),
+            (GateCall::Register(Third, false), Asked(Ok(true))),
+            (GateCall::Register(Fourth, false), Asked(Ok(true))),
+            (GateCall::OfPager(Fourth, Poll(First)), Passed(None)),
+            (GateCall::Make($by), $moved),
+            (GateCall::OfPager(First, TryPoll), Passed(Some($answer))),
+            (GateCall::OfPager(Second, PollSync), Passed(Some($answer))),
+            (GateCall::OfPager(Third, PollAsync), Passed(Some($answer))),
+            (GateCall::OfPager(Fourth, Poll(First)), Passed(Some($answer))),
+        ]
+    };
 }
 
-// Four pagers ask, all are answered, and each polls in its way; nothing where one of them wasn't registered.
-fn told<S: Tells>(task: &MockTask, form: &S, by: S::Move) -> FourTold<S> {
-    let (mut one, mut two) = (Pager::new(), Pager::new());
-    let (mut three, mut four) = (Pager::new(), Pager::new());
-    let is_first = form.ask(&mut one, true) == Ok(true) && form.ask(&mut two, true) == Ok(true);
-    let is_last = form.ask(&mut three, false) == Ok(true) && form.ask(&mut four, false) == Ok(true);
-    let early = ready(task.poll(&mut four.poll_async()));
-    form.answer(by);
-    if !is_first || !is_last {
-        return [None, None, None, None];
-    }
-    [
-        Some(one.try_poll()),
-        Some(two.poll_sync()),
-        Some(poll_as(&mut three, How::Async)),
-        early.or_else(|| ready(task.poll(&mut four.poll_async()))),
-    ]
+pub(crate) const POLLS_AT_A_PERMIT: [(GateCall, Told); 10] = polls_at_a_gate!(
+    Move::Permit,
+    Moved(Ok(4)),
+    Ok(State::Controlled)
+);
+
+pub(crate) const POLLS_AT_A_REJECTION: [(GateCall, Told); 10] = polls_at_a_gate!(
+    Move::Reject,
+    Moved(Ok(4)),
+    Err(Error::Rejected)
+);
+
+pub(crate) const POLLS_AT_A_DROP: [(GateCall, Told); 10] = polls_at_a_gate!(
+    Move::GiveUp,
+    Asked(Ok(true)),
+    Err(Error::SpuriousFailure)
+);
+
+pub(crate) const POLLS_AT_A_SEAL: [(GateCall, Told); 10] = polls_at_a_gate!(
+    Move::Seal,
+    Was((State::Controlled, 4)),
+    Err(Error::Sealed)
+);
+
+pub(crate) const POLLS_AT_AN_OPENING: [(GateCall, Told); 10] = polls_at_a_gate!(
+    Move::Open,
+    Was((State::Controlled, 4)),
+    Ok(State::Open)
+);
+
+// The rows of a future that enters a gate.
+macro_rules! future_at_a_gate {
+    ($by:expr, $moved:expr, $answer:expr) => {
+        [
+            (GateCall::Ask(First), Nothing),
+            (GateCall::Poll(First, First), Passage(None)),
+            (GateCall::Make($by), $moved),
+            (GateCall::Poll(First, First), Passage(Some(Ok($answer)))),
+        ]
+    };
 }
 
-// The same answer, by each of the four.
-fn all_told<S: SyncResult>(answer: S::Result) -> FourTold<S> {
-    [Some(answer), Some(answer), Some(answer), Some(answer)]
+pub(crate) const FUTURE_AT_A_PERMIT: [(GateCall, Told); 4] = future_at_a_gate!(
+    Move::Permit,
+    Moved(Ok(1)),
+    Ok(State::Controlled)
+);
+
+pub(crate) const FUTURE_AT_A_REJECTION: [(GateCall, Told); 4] = future_at_a_gate!(
+    Move::Reject,
+    Moved(Ok(1)),
+    Err(Error::Rejected)
+);
+
+pub(crate) const FUTURE_AT_A_DROP: [(GateCall, Told); 4] = future_at_a_gate!(
+    Move::GiveUp,
+    Asked(Ok(true)),
+    Err(Error::SpuriousFailure)
+);
+
+pub(crate) const FUTURE_AT_A_SEAL: [(GateCall, Told); 4] = future_at_a_gate!(
+    Move::Seal,
+    Was((State::Controlled, 1)),
+    Err(Error::Sealed)
+);
+
+pub(crate) const FUTURE_AT_AN_OPENING: [(GateCall, Told); 4] = future_at_a_gate!(
+    Move::Open,
+    Was((State::Controlled, 1)),
+    Ok(State::Open)
+);
+
+// Calls that enter a gate.
+pub(crate) const CALL_AT_A_PERMIT: [(GateCall, Told); 1] = [(
+    GateCall::EnterBy(Move::Permit),
+    Passage(Some(Ok(Ok(State::Controlled)))),
+)];
+
+pub(crate) const CALL_AT_A_REJECTION: [(GateCall, Told); 1] = [(
+    GateCall::EnterBy(Move::Reject),
+    Passage(Some(Ok(Err(Error::Rejected)))),
+)];
+
+pub(crate) const CALL_AT_A_DROP: [(GateCall, Told); 1] = [(
+    GateCall::EnterBy(Move::GiveUp),
+    Passage(Some(Ok(Err(Error::SpuriousFailure)))),
+)];
+
+pub(crate) const CALL_AT_A_SEAL: [(GateCall, Told); 1] = [(
+    GateCall::EnterBy(Move::Seal),
+    Passage(Some(Ok(Err(Error::Sealed)))),
+)];
+
+pub(crate) const CALL_AT_AN_OPENING: [(GateCall, Told); 1] = [(
+    GateCall::EnterBy(Move::Open),
+    Passage(Some(Ok(Ok(State::Open)))),
+)];
+
+// The rows of a gate that is decided and has no room: the answer is there at once, for pagers, a future and two calls.
+macro_rules! all_at_a_decided_gate {
+    ($by:expr, $state:expr, $answer:expr) => {
+        [
+            (GateCall::Make($by), Was((State::Controlled, 0))),
+            (GateCall::Register(First, true), Asked(Ok(true))),
+            (GateCall::Register(Second, true), Asked(Ok(true))),
+            (GateCall::Register(Third, false), Asked(Ok(true))),
+            (GateCall::Register(Fourth, false), Asked(Ok(true))),
+            (GateCall::OfPager(Fourth, Poll(First)), Passed(Some($answer))),
+            (GateCall::Make($by), Was(($state, 0))),
+            (GateCall::OfPager(First, TryPoll), Passed(Some($answer))),
+            (GateCall::OfPager(Second, PollSync), Passed(Some($answer))),
+            (GateCall::OfPager(Third, PollAsync), Passed(Some($answer))),
+            (GateCall::Ask(First), Nothing),
+            (GateCall::Poll(First, First), Passage(Some(Ok($answer)))),
+            (GateCall::Enter, Passage(Some(Ok($answer)))),
+            (GateCall::EnterWith, Passage(Some(Ok($answer)))),
+        ]
+    };
 }
 
-// What a future tells that waited until all were answered; nothing where it didn't wait.
-fn told_by_future<'s, S: Tells, R: Wait + Drop, Q: Question>(
-    task: &MockTask,
-    form: &S,
-    by: S::Move,
-    future: &mut Asked<'s, R, Q>,
-) -> Poll<Result<Q::Output, Full>>
-where
-    Q::Output: Drop,
-{
-    if !matches!(task.poll(future), Poll::Pending) {
-        return Poll::Pending;
-    }
-    form.answer(by);
-    task.poll(future)
+pub(crate) const ALL_AT_A_SEALED_GATE: [(GateCall, Told); 14] = all_at_a_decided_gate!(
+    Move::Seal,
+    State::Sealed,
+    Err(Error::Sealed)
+);
+
+pub(crate) const ALL_AT_AN_OPEN_GATE: [(GateCall, Told); 14] = all_at_a_decided_gate!(
+    Move::Open,
+    State::Open,
+    Ok(State::Open)
+);
+
+// The rows of each poll at a lock that one owner has, which is released or poisoned; waiters ask for nothing but the wait.
+macro_rules! polls_at_a_lock {
+    ($by:expr, $is_granted:expr) => {
+        [
+            (LockCall::TryLock, Tried(Ok(()))),
+            (LockCall::Register(First, Mode::WaitShared, true), Asked(Ok(true))),
+            (LockCall::Register(Second, Mode::WaitShared, true), Asked(Ok(true))),
+            (LockCall::Register(Third, Mode::WaitShared, false), Asked(Ok(true))),
+            (LockCall::Register(Fourth, Mode::WaitShared, false), Asked(Ok(true))),
+            (LockCall::OfPager(Fourth, Poll(First)), Turned(None)),
+            ($by, Is(true)),
+            (LockCall::OfPager(First, TryPoll), Turned(Some(Ok($is_granted)))),
+            (LockCall::OfPager(Second, PollSync), Turned(Some(Ok($is_granted)))),
+            (LockCall::OfPager(Third, PollAsync), Turned(Some(Ok($is_granted)))),
+            (LockCall::OfPager(Fourth, Poll(First)), Turned(Some(Ok($is_granted)))),
+        ]
+    };
 }
 
-// How all who enter are answered.
-#[derive(Clone, Copy)]
-pub(crate) enum GateMove {
-    Permit,
-    Reject,
-    Open,
-    Seal,
-    GiveUp,
+pub(crate) const POLLS_AT_A_RELEASE: [(LockCall, Told); 11] = polls_at_a_lock!(
+    LockCall::ReleaseLock,
+    true
+);
+
+pub(crate) const POLLS_AT_POISON: [(LockCall, Told); 11] = polls_at_a_lock!(
+    LockCall::Poison,
+    false
+);
+
+// The rows of a future that wants the lock, or a share of it, while one owner has it.
+macro_rules! future_at_a_lock {
+    ($ask:expr, $by:expr, $is_granted:expr) => {
+        [
+            (LockCall::TryLock, Tried(Ok(()))),
+            ($ask, Nothing),
+            (LockCall::Poll(First, First), Answer(None)),
+            ($by, Is(true)),
+            (LockCall::Poll(First, First), Answer(Some(Ok($is_granted)))),
+        ]
+    };
 }
 
-const GATE_MOVES: [(GateMove, Result<State, GateError>); 5] = [
-    (GateMove::Permit, Ok(State::Controlled)),
-    (GateMove::Reject, Err(GateError::Rejected)),
-    (GateMove::GiveUp, Err(GateError::SpuriousFailure)),
-    (GateMove::Seal, Err(GateError::Sealed)),
-    (GateMove::Open, Ok(State::Open)),
+pub(crate) const WRITER_AT_A_RELEASE: [(LockCall, Told); 5] = future_at_a_lock!(
+    LockCall::Ask(First),
+    LockCall::ReleaseLock,
+    true
+);
+
+pub(crate) const READER_AT_A_RELEASE: [(LockCall, Told); 5] = future_at_a_lock!(
+    LockCall::AskShare(First),
+    LockCall::ReleaseLock,
+    true
+);
+
+pub(crate) const WRITER_AT_POISON: [(LockCall, Told); 5] = future_at_a_lock!(
+    LockCall::Ask(First),
+    LockCall::Poison,
+    false
+);
+
+pub(crate) const READER_AT_POISON: [(LockCall, Told); 5] = future_at_a_lock!(
+    LockCall::AskShare(First),
+    LockCall::Poison,
+    false
+);
+
+// Calls that want the lock, or a share of it, while one owner has it; two calls after them find it poisoned.
+pub(crate) const WRITERS_CALL: [(LockCall, Told); 2] = [
+    (LockCall::TryLock, Tried(Ok(()))),
+    (LockCall::LockBy(true), Answer(Some(Ok(true)))),
 ];
 
-impl<R: Wait + Drop> Tells for Gate<R> {
-    type Move = GateMove;
+pub(crate) const READERS_CALL: [(LockCall, Told); 2] = [
+    (LockCall::TryLock, Tried(Ok(()))),
+    (LockCall::ShareBy(true), Answer(Some(Ok(true)))),
+];
 
-    fn ask<'s>(&'s self, pager: &mut Pager<'s, Self>, is_sync: bool) -> Result<bool, Full> {
-        self.register_pager(pager, is_sync)
-    }
+pub(crate) const WRITERS_CALL_AT_POISON: [(LockCall, Told); 4] = [
+    (LockCall::TryLock, Tried(Ok(()))),
+    (LockCall::LockBy(false), Answer(Some(Ok(false)))),
+    (LockCall::LockNow, Answer(Some(Ok(false)))),
+    (LockCall::ShareNow, Answer(Some(Ok(false)))),
+];
 
-    fn answer(&self, by: GateMove) {
-        match by {
-            GateMove::Permit => {
-                let _permitted = self.permit();
-            }
-            GateMove::Reject => {
-                let _rejected = self.reject();
-            }
-            GateMove::Open => {
-                let _opened = self.open();
-            }
-            GateMove::Seal => {
-                let _sealed = self.seal();
-            }
-            GateMove::GiveUp => {
-                let mut pager = Pager::new();
-                let _joined = self.register_pager(&mut pager, true);
-            }
-        }
-    }
-}
+pub(crate) const READERS_CALL_AT_POISON: [(LockCall, Told); 4] = [
+    (LockCall::TryLock, Tried(Ok(()))),
+    (LockCall::ShareBy(false), Answer(Some(Ok(false)))),
+    (LockCall::LockNow, Answer(Some(Ok(false)))),
+    (LockCall::ShareNow, Answer(Some(Ok(false)))),
+];
 
-// What four pagers are told at a fresh gate.
-fn told_at_a_gate<R: Wait + Drop>(
-    rt: R,
-    alloc: Global,
-    task: &MockTask,
-    by: GateMove,
-) -> Result<FourTold<Gate<R>>, AllocError> {
-    Ok(told(task, &Gate::new(rt, alloc, 6)?, by))
-}
-
-#[test]
-fn every_value_of_a_gate_is_told_by_each_poll(rt: HostRuntime) -> io::Result<()> {
-    let task = MockTask::new(&rt)?;
-    for (by, answer) in GATE_MOVES {
-        let told = told_at_a_gate(&rt, rt.alloc(), &task, by)?;
-        same!(rt; told, all_told::<Gate<&HostRuntime>>(answer));
-    }
-    Ok(())
-}
-
-// What a future is told at a fresh gate.
-fn told_by_entering<R: Wait + Drop>(
-    rt: R,
-    alloc: Global,
-    task: &MockTask,
-    by: GateMove,
-) -> Result<Option<Result<Result<State, GateError>, Full>>, AllocError> {
-    let gate = Gate::new(rt, alloc, 6)?;
-    let mut enter = gate.enter_async();
-    Ok(ready(told_by_future(task, &gate, by, &mut enter)))
-}
-
-#[test]
-fn every_value_of_a_gate_is_told_by_a_future(rt: HostRuntime) -> io::Result<()> {
-    let task = MockTask::new(&rt)?;
-    for (by, answer) in GATE_MOVES {
-        same!(rt; told_by_entering(&rt, rt.alloc(), &task, by)?, Some(Ok(answer)));
-    }
-    Ok(())
-}
-
-// The callback of a call at a fresh gate answers all who wait, its own task among them.
-fn told_by_a_call<R: Wait + Drop>(
-    rt: R,
-    alloc: Global,
-    by: GateMove,
-) -> Result<Result<Result<State, GateError>, Full>, AllocError> {
-    let gate = Gate::new(rt, alloc, 6)?;
-    Ok(gate.enter_sync_with(|| gate.answer(by)))
-}
-
-#[test]
-fn every_value_of_a_gate_is_told_by_a_call(rt: HostRuntime) -> io::Result<()> {
-    for (by, answer) in GATE_MOVES {
-        same!(rt; told_by_a_call(&rt, rt.alloc(), by)?, Ok(answer));
-    }
-    Ok(())
-}
-
-// What all are told at a gate that is decided, and has no room: four pagers, a future, and two calls.
-fn told_at_once<R: Wait + Drop>(
-    rt: R,
-    alloc: Global,
-    task: &MockTask,
-    by: GateMove,
-) -> Result<
+// Nothing is available, and one permit comes for the first; the others ask for none. Then two futures ask, one after the other.
+pub(crate) const AT_A_GRANT: [(SemaphoreCall, Told); 20] = [
+    (SemaphoreCall::TryAcquireMany(0), Is(true)),
+    (SemaphoreCall::Register(First, 1, true), Asked(Ok(true))),
+    (SemaphoreCall::TryAcquireMany(0), Is(false)),
+    (SemaphoreCall::Register(Second, 0, true), Asked(Ok(true))),
+    (SemaphoreCall::Register(Third, 0, false), Asked(Ok(true))),
+    (SemaphoreCall::Register(Fourth, 0, false), Asked(Ok(true))),
+    (SemaphoreCall::OfPager(Fourth, Poll(First)), Granted(None)),
+    (SemaphoreCall::Release, Is(true)),
     (
-        FourTold<Gate<R>>,
-        [Option<Result<Result<State, GateError>, Full>>; 3],
+        SemaphoreCall::OfPager(First, TryPoll),
+        Granted(Some(Ok(()))),
     ),
-    AllocError,
-> {
-    let gate = Gate::new(rt, alloc, 0)?;
-    gate.answer(by);
-    let four = told(task, &gate, by);
-    let future = ready(task.poll(&mut gate.enter_async()));
-    let call = Some(gate.enter_sync());
-    Ok((four, [future, call, Some(gate.enter_sync_with(|| {}))]))
-}
-
-// The answer is there at once, at a gate that is sealed or open.
-#[test]
-fn a_gate_that_is_decided_tells_all_at_once(rt: HostRuntime) -> io::Result<()> {
-    let task = MockTask::new(&rt)?;
-    for (by, answer) in [
-        (GateMove::Seal, Err(GateError::Sealed)),
-        (GateMove::Open, Ok(State::Open)),
-    ] {
-        let (four, others) = told_at_once(&rt, rt.alloc(), &task, by)?;
-        same!(rt; four, all_told::<Gate<&HostRuntime>>(answer));
-        same!(rt; others, [Some(Ok(answer)); 3]);
-    }
-    Ok(())
-}
-
-// Whether a lock that one owner has is released or poisoned; waiters ask for nothing but the wait.
-impl<R: Wait + Drop> Tells for Lock<R> {
-    type Move = bool;
-
-    fn ask<'s>(&'s self, pager: &mut Pager<'s, Self>, is_sync: bool) -> Result<bool, Full> {
-        self.register_pager(pager, Mode::WaitShared, is_sync)
-    }
-
-    fn answer(&self, is_released: bool) {
-        if is_released {
-            self.release_lock();
-        } else {
-            self.poison_lock();
-        }
-    }
-}
-
-// What four pagers are told at a lock that is taken, and whether it was.
-fn told_at_a_lock<R: Wait + Drop>(
-    rt: R,
-    alloc: Global,
-    task: &MockTask,
-    is_granted: bool,
-) -> Result<(bool, FourTold<Lock<R>>), AllocError> {
-    let lock = Lock::new(rt, alloc, 6)?;
-    let is_taken = lock.try_lock() == Ok(());
-    Ok((is_taken, told(task, &lock, is_granted)))
-}
-
-#[test]
-fn every_value_of_a_lock_is_told_by_each_poll(rt: HostRuntime) -> io::Result<()> {
-    let task = MockTask::new(&rt)?;
-    for is_granted in [true, false] {
-        let told = told_at_a_lock(&rt, rt.alloc(), &task, is_granted)?;
-        same!(rt; told, (true, all_told::<Lock<&HostRuntime>>(Ok(is_granted))));
-    }
-    Ok(())
-}
-
-// What a future is told that wants a share, or the lock alone, at a lock that is taken, and whether it was.
-fn told_by_waiting<R: Wait + Drop>(
-    rt: R,
-    alloc: Global,
-    task: &MockTask,
-    is_granted: bool,
-    is_shared: bool,
-) -> Result<(bool, Option<Result<bool, Full>>), AllocError> {
-    let lock = Lock::new(rt, alloc, 1)?;
-    let is_taken = lock.try_lock() == Ok(());
-    let mut future = if is_shared {
-        lock.share_async()
-    } else {
-        lock.lock_async()
-    };
-    let told = ready(told_by_future(task, &lock, is_granted, &mut future));
-    Ok((is_taken, told))
-}
-
-#[test]
-fn every_value_of_a_lock_is_told_by_a_future(rt: HostRuntime) -> io::Result<()> {
-    let task = MockTask::new(&rt)?;
-    for (is_granted, is_shared) in [(true, false), (true, true), (false, false), (false, true)] {
-        let told = told_by_waiting(&rt, rt.alloc(), &task, is_granted, is_shared)?;
-        same!(rt; told, (true, Some(Ok(is_granted))));
-    }
-    Ok(())
-}
-
-// What a call is told that wants a share, or the lock alone, at a lock that is taken, and whether it was; and what two
-// calls are told after that, where the lock is poisoned then.
-fn told_by_a_wait<R: Wait + Drop>(
-    rt: R,
-    alloc: Global,
-    is_granted: bool,
-    is_shared: bool,
-) -> Result<(bool, Result<bool, Full>, Option<[Result<bool, Full>; 2]>), AllocError> {
-    let lock = Lock::new(rt, alloc, 1)?;
-    let is_taken = lock.try_lock() == Ok(());
-    let told = if is_shared {
-        lock.share_sync_with(|| lock.answer(is_granted))
-    } else {
-        lock.lock_sync_with(|| lock.answer(is_granted))
-    };
-    let after = if is_granted {
-        None
-    } else {
-        Some([lock.lock_sync(), lock.share_sync()])
-    };
-    Ok((is_taken, told, after))
-}
-
-#[test]
-fn every_value_of_a_lock_is_told_by_a_call(rt: HostRuntime) -> io::Result<()> {
-    for (is_granted, is_shared) in [(true, false), (true, true), (false, false), (false, true)] {
-        let told = told_by_a_wait(&rt, rt.alloc(), is_granted, is_shared)?;
-        let after = if is_granted {
-            None
-        } else {
-            Some([Ok(false), Ok(false)])
-        };
-        same!(rt; told, (true, Ok(is_granted), after));
-    }
-    Ok(())
-}
-
-// Nothing is available, and one permit comes for the first; the others ask for none.
-impl<R: Wait + Drop> Tells for Semaphore<R> {
-    type Move = ();
-
-    fn ask<'s>(&'s self, pager: &mut Pager<'s, Self>, is_sync: bool) -> Result<bool, Full> {
-        self.register_pager(pager, usize::from(self.try_acquire_many(0)), is_sync)
-    }
-
-    fn answer(&self, _by: ()) {
-        self.release();
-    }
-}
-
-#[test]
-fn a_grant_is_told_by_each_poll(rt: HostRuntime) -> io::Result<()> {
-    let task = MockTask::new(&rt)?;
-    let semaphore = Semaphore::with_permits(&rt, rt.alloc(), 0, 6)?;
-    same!(rt; told(&task, &semaphore, ()), all_told::<Semaphore<&HostRuntime>>(Ok(())));
-    let mut one = semaphore.acquire_async();
-    same!(rt; ready(told_by_future(&task, &semaphore, (), &mut one)), Some(Ok(())));
-    let mut many = semaphore.acquire_many_async(1);
-    same!(rt; ready(told_by_future(&task, &semaphore, (), &mut many)), Some(Ok(true)));
-    Ok(())
-}
+    (
+        SemaphoreCall::OfPager(Second, PollSync),
+        Granted(Some(Ok(()))),
+    ),
+    (
+        SemaphoreCall::OfPager(Third, PollAsync),
+        Granted(Some(Ok(()))),
+    ),
+    (
+        SemaphoreCall::OfPager(Fourth, Poll(First)),
+        Granted(Some(Ok(()))),
+    ),
+    (SemaphoreCall::AskOne(First), Nothing),
+    (SemaphoreCall::PollOne(First, First), Permit(None)),
+    (SemaphoreCall::Release, Is(true)),
+    (SemaphoreCall::PollOne(First, First), Permit(Some(Ok(())))),
+    (SemaphoreCall::AskMany(First, 1), Nothing),
+    (SemaphoreCall::PollMany(First, First), Answer(None)),
+    (SemaphoreCall::Release, Is(true)),
+    (
+        SemaphoreCall::PollMany(First, First),
+        Answer(Some(Ok(true))),
+    ),
+];
 
 // Of size 5: the last arrival answers the four.
-impl<R: Wait + Drop> Tells for Barrier<R> {
-    type Move = ();
+pub(crate) const POLLS_OF_A_ROUND: [(BarrierCall, Told); 10] = [
+    (BarrierCall::Register(First, true), Asked(Ok(true))),
+    (BarrierCall::Register(Second, true), Asked(Ok(true))),
+    (BarrierCall::Register(Third, false), Asked(Ok(true))),
+    (BarrierCall::Register(Fourth, false), Asked(Ok(true))),
+    (BarrierCall::OfPager(Fourth, Poll(First)), Turned(None)),
+    (BarrierCall::Arrive, Answer(Some(Ok(true)))),
+    (
+        BarrierCall::OfPager(First, TryPoll),
+        Turned(Some(Ok(false))),
+    ),
+    (
+        BarrierCall::OfPager(Second, PollSync),
+        Turned(Some(Ok(false))),
+    ),
+    (
+        BarrierCall::OfPager(Third, PollAsync),
+        Turned(Some(Ok(false))),
+    ),
+    (
+        BarrierCall::OfPager(Fourth, Poll(First)),
+        Turned(Some(Ok(false))),
+    ),
+];
 
-    fn ask<'s>(&'s self, pager: &mut Pager<'s, Self>, is_sync: bool) -> Result<bool, Full> {
-        self.register_pager(pager, is_sync)
-    }
+// Of size 1: each arrival leads.
+pub(crate) const POLLS_OF_A_LEADER: [(BarrierCall, Told); 9] = [
+    (BarrierCall::Register(First, true), Asked(Ok(true))),
+    (BarrierCall::Register(Second, true), Asked(Ok(true))),
+    (BarrierCall::Register(Third, false), Asked(Ok(true))),
+    (BarrierCall::Register(Fourth, false), Asked(Ok(true))),
+    (
+        BarrierCall::OfPager(Fourth, Poll(First)),
+        Turned(Some(Ok(true))),
+    ),
+    (BarrierCall::Arrive, Answer(Some(Ok(true)))),
+    (BarrierCall::OfPager(First, TryPoll), Turned(Some(Ok(true)))),
+    (
+        BarrierCall::OfPager(Second, PollSync),
+        Turned(Some(Ok(true))),
+    ),
+    (
+        BarrierCall::OfPager(Third, PollAsync),
+        Turned(Some(Ok(true))),
+    ),
+];
 
-    fn answer(&self, _by: ()) {
-        let _is_leader = self.wait_sync();
-    }
-}
-
-#[test]
-fn every_value_of_a_barrier_is_told_by_each_poll(rt: HostRuntime) -> io::Result<()> {
-    let task = MockTask::new(&rt)?;
-    let barrier = Barrier::with_count(&rt, rt.alloc(), 5, 4)?;
-    same!(rt; told(&task, &barrier, ()), all_told::<Barrier<&HostRuntime>>(Ok(false)));
-    let alone = Barrier::with_count(&rt, rt.alloc(), 1, 0)?;
-    same!(rt; told(&task, &alone, ()), all_told::<Barrier<&HostRuntime>>(Ok(true)));
-    let pair = Barrier::with_count(&rt, rt.alloc(), 2, 1)?;
-    let mut arrival = pair.wait_async();
-    same!(rt; ready(told_by_future(&task, &pair, (), &mut arrival)), Some(Ok(false)));
-    Ok(())
-}
+// Of size 2: the other arrives in a call.
+pub(crate) const FUTURE_IN_A_PAIR: [(BarrierCall, Told); 4] = [
+    (BarrierCall::Ask(First), Nothing),
+    (BarrierCall::Poll(First, First), Answer(None)),
+    (BarrierCall::Arrive, Answer(Some(Ok(true)))),
+    (BarrierCall::Poll(First, First), Answer(Some(Ok(false)))),
+];

@@ -1,26 +1,30 @@
 //! Futures in tasks that are polled by hand: an answer wakes exactly the tasks that it concerns.
 
 use crate::barrier_stories::BarrierCall;
-use crate::gate_stories::GateCall;
+use crate::gate_stories::{GateCall, Move};
 use crate::lock_stories::LockCall;
+use crate::ready;
+use crate::semaphore_stories::SemaphoreCall;
 use crate::semaphore_stories::SemaphoreCall::{
     AskMany, AskOne, AwaitMany, AwaitOne, Enter, HasEndedOne, IsWoken, Permits, PollMany, PollOne,
     Release, TryAcquireMany,
 };
-use crate::semaphore_stories::{SemaphoreCall, played, played_with};
 use crate::stories::Told;
 use crate::stories::Told::{Answer, Count, Is, Moved, Nothing, Passage, Permit, Tried, Was};
 use crate::stories::Who::{First, Second, Third};
-use crate::{barrier_stories, gate_stories, lock_stories, ready};
 use futures::test::MockTask;
 use saa_core::ticket::Full;
+use saa_sync::future::Acquire;
 use saa_sync::gate::{Error, State};
 use saa_sync::semaphore::Semaphore;
+use std::alloc::{AllocGlobal, Global};
 use std::io;
+use std::random::RandomSource;
+use std::sync::Wait;
 use std::sync::atomic::Ordering;
-use test_asserts::{holds, same};
+use test_asserts::same;
 
-const NO_WAKE: [(SemaphoreCall, Told); 6] = [
+pub(crate) const NO_WAKE: [(SemaphoreCall, Told); 6] = [
     (AwaitMany(11), Answer(Some(Ok(true)))),
     (Permits, Count(52)),
     (AwaitOne, Permit(Some(Ok(())))),
@@ -29,14 +33,8 @@ const NO_WAKE: [(SemaphoreCall, Told); 6] = [
     (Permits, Count(51)),
 ];
 
-#[test]
-fn an_answer_that_is_there_needs_no_wake(rt: HostRuntime) -> io::Result<()> {
-    same!(rt; played(&rt, rt.alloc(), 0, &NO_WAKE)?, None);
-    Ok(())
-}
-
 // The first task asks for two permits, the second for one.
-const WHOM_IT_GRANTS: [(SemaphoreCall, Told); 21] = [
+pub(crate) const WHOM_IT_GRANTS: [(SemaphoreCall, Told); 21] = [
     (AskMany(First, 2), Nothing),
     (AskOne(Second), Nothing),
     (PollMany(First, First), Answer(None)),
@@ -60,41 +58,84 @@ const WHOM_IT_GRANTS: [(SemaphoreCall, Told); 21] = [
     (Permits, Count(0)),
 ];
 
-#[test]
-fn a_release_wakes_whom_it_grants(rt: HostRuntime) -> io::Result<()> {
-    same!(rt; played_with(&rt, rt.alloc(), 0, 4, &WHOM_IT_GRANTS)?, None);
-    Ok(())
+// A future that asks for one permit, and the task that polls it.
+#[derive(Drop)]
+struct Waiter<'s, R: Wait + Drop> {
+    task: MockTask,
+    future: Acquire<'s, R>,
+}
+
+// So many futures that no task has polled.
+fn waiters<'s, H: RandomSource + AllocGlobal, R: Wait + Drop>(
+    rt: &H,
+    alloc: Global,
+    semaphore: &'s Semaphore<R>,
+    count: u32,
+) -> io::Result<Vec<Waiter<'s, R>>> {
+    let mut waiters = Vec::new(alloc);
+    for _ in 0..count {
+        let task = MockTask::new(rt)?;
+        let future = semaphore.acquire_async();
+        waiters.push(Waiter { task, future })?;
+    }
+    Ok(waiters)
+}
+
+// Polls each; how many are pending.
+fn pending<R: Wait + Drop>(waiters: &mut [Waiter<'_, R>]) -> u32 {
+    let mut pending = 0u32;
+    for waiter in waiters {
+        let is_pending = ready(waiter.task.poll(&mut waiter.future)).is_none();
+        pending = pending.saturating_add(u32::from(is_pending));
+    }
+    pending
+}
+
+// Polls each; how many are granted.
+fn granted<R: Wait + Drop>(waiters: &mut [Waiter<'_, R>]) -> u32 {
+    let mut granted = 0u32;
+    for waiter in waiters {
+        let is_granted = matches!(ready(waiter.task.poll(&mut waiter.future)), Some(Ok(())));
+        granted = granted.saturating_add(u32::from(is_granted));
+    }
+    granted
+}
+
+// How many were woken since their last poll.
+fn woken<R: Wait + Drop>(waiters: &[Waiter<'_, R>]) -> u32 {
+    let mut woken = 0u32;
+    for waiter in waiters {
+        woken = woken.saturating_add(u32::from(waiter.task.is_woken()));
+    }
+    woken
+}
+
+// Five wait and then a sixth, and five permits are released: how many of the five and of the sixth are pending before it, how
+// many of each it wakes, how many of the five are granted then, and whether the sixth is pending still.
+fn release_for_five<R: Wait + Drop>(
+    semaphore: &Semaphore<R>,
+    five: &mut [Waiter<'_, R>],
+    sixth: &mut [Waiter<'_, R>],
+) -> (bool, [u32; 6]) {
+    let (early, late) = (pending(five), pending(sixth));
+    let is_released = semaphore.release_many(5);
+    let (awake, too_many) = (woken(five), woken(sixth));
+    let (done, still) = (granted(five), pending(sixth));
+    (is_released, [early, late, awake, too_many, done, still])
 }
 
 #[test]
-fn a_release_of_many_wakes_all_whom_it_grants(rt: HostRuntime) -> io::Result<()> {
-    let semaphore = Semaphore::with_permits(&rt, rt.alloc(), 0, 8)?;
-    let mut tasks = Vec::new(rt.alloc());
-    let mut futures = Vec::new(rt.alloc());
-    for _ in 0..5u32 {
-        tasks.push(MockTask::new(&rt)?)?;
-        futures.push(semaphore.acquire_async())?;
-    }
-    for (task, future) in tasks.iter().zip(futures.iter_mut()) {
-        same!(rt; ready(task.poll(future)), None);
-    }
-    let last = MockTask::new(&rt)?;
-    let mut sixth = semaphore.acquire_async();
-    same!(rt; ready(last.poll(&mut sixth)), None);
-    holds!(rt; semaphore.release_many(5));
-    let woken = tasks.iter().filter(|task| task.is_woken()).count();
-    same!(rt; woken, 5);
-    holds!(rt; !last.is_woken());
-    for (task, future) in tasks.iter().zip(futures.iter_mut()) {
-        same!(rt; ready(task.poll(future)), Some(Ok(())));
-    }
-    same!(rt; ready(last.poll(&mut sixth)), None);
+fn a_release_of_many_wakes_all_whom_it_grants(rt: HostRuntime) {
+    let semaphore = Semaphore::with_permits(&rt, rt.alloc(), 0, 8).expect(&rt, "no memory");
+    let mut five = waiters(&rt, rt.alloc(), &semaphore, 5).expect(&rt, "no memory");
+    let mut sixth = waiters(&rt, rt.alloc(), &semaphore, 1).expect(&rt, "no memory");
+    let told = release_for_five(&semaphore, &mut five, &mut sixth);
+    same!(rt; told, (true, [5, 1, 5, 0, 5, 1]));
     same!(rt; semaphore.available_permits(Ordering::SeqCst), 0);
-    Ok(())
 }
 
 // The first task is the old one.
-const THE_NEWEST_TASK: [(SemaphoreCall, Told); 11] = [
+pub(crate) const THE_NEWEST_TASK: [(SemaphoreCall, Told); 11] = [
     (AskOne(First), Nothing),
     (PollOne(First, First), Permit(None)),
     (PollOne(Second, First), Permit(None)),
@@ -108,13 +149,7 @@ const THE_NEWEST_TASK: [(SemaphoreCall, Told); 11] = [
     (PollOne(Second, First), Permit(Some(Ok(())))),
 ];
 
-#[test]
-fn the_newest_task_is_woken(rt: HostRuntime) -> io::Result<()> {
-    same!(rt; played_with(&rt, rt.alloc(), 0, 4, &THE_NEWEST_TASK)?, None);
-    Ok(())
-}
-
-const AFTER_THE_END: [(SemaphoreCall, Told); 15] = [
+pub(crate) const AFTER_THE_END: [(SemaphoreCall, Told); 15] = [
     (AskOne(First), Nothing),
     (PollOne(First, First), Permit(Some(Ok(())))),
     (HasEndedOne(First), Is(true)),
@@ -132,14 +167,8 @@ const AFTER_THE_END: [(SemaphoreCall, Told); 15] = [
     (IsWoken(First), Is(true)),
 ];
 
-#[test]
-fn a_poll_after_the_end_yields(rt: HostRuntime) -> io::Result<()> {
-    same!(rt; played(&rt, rt.alloc(), 1, &AFTER_THE_END)?, None);
-    Ok(())
-}
-
 // The first two tasks are readers, the third a writer.
-const A_LOCK_WAKES: [(LockCall, Told); 24] = [
+pub(crate) const A_LOCK_WAKES: [(LockCall, Told); 24] = [
     (LockCall::TryLock, Tried(Ok(()))),
     (LockCall::AskShare(First), Nothing),
     (LockCall::AskShare(Second), Nothing),
@@ -167,18 +196,12 @@ const A_LOCK_WAKES: [(LockCall, Told); 24] = [
     (LockCall::IsPoisoned, Is(true)),
 ];
 
-#[test]
-fn a_lock_wakes_its_tasks(rt: HostRuntime) -> io::Result<()> {
-    same!(rt; lock_stories::played(&rt, rt.alloc(), 4, &A_LOCK_WAKES)?, None);
-    Ok(())
-}
-
-const A_GATE_WAKES: [(GateCall, Told); 16] = [
+pub(crate) const A_GATE_WAKES: [(GateCall, Told); 16] = [
     (GateCall::Ask(First), Nothing),
     (GateCall::Ask(Second), Nothing),
     (GateCall::Poll(First, First), Passage(None)),
     (GateCall::Poll(Second, Second), Passage(None)),
-    (GateCall::Permit, Moved(Ok(2))),
+    (GateCall::Make(Move::Permit), Moved(Ok(2))),
     (GateCall::IsWoken(First), Is(true)),
     (GateCall::IsWoken(Second), Is(true)),
     (
@@ -191,24 +214,18 @@ const A_GATE_WAKES: [(GateCall, Told); 16] = [
     ),
     (GateCall::Ask(Third), Nothing),
     (GateCall::Poll(First, Third), Passage(None)),
-    (GateCall::Reject, Moved(Ok(1))),
+    (GateCall::Make(Move::Reject), Moved(Ok(1))),
     (GateCall::IsWoken(First), Is(true)),
     (
         GateCall::Poll(First, Third),
         Passage(Some(Ok(Err(Error::Rejected)))),
     ),
-    (GateCall::Open, Was((State::Controlled, 0))),
+    (GateCall::Make(Move::Open), Was((State::Controlled, 0))),
     (GateCall::Await, Passage(Some(Ok(Ok(State::Open))))),
 ];
 
-#[test]
-fn a_gate_wakes_its_tasks(rt: HostRuntime) -> io::Result<()> {
-    same!(rt; gate_stories::played(&rt, rt.alloc(), 4, &A_GATE_WAKES)?, None);
-    Ok(())
-}
-
 // The third task arrives last.
-const THE_LAST_ARRIVAL: [(BarrierCall, Told); 14] = [
+pub(crate) const THE_LAST_ARRIVAL: [(BarrierCall, Told); 14] = [
     (BarrierCall::Ask(First), Nothing),
     (BarrierCall::Ask(Second), Nothing),
     (BarrierCall::Ask(Third), Nothing),
@@ -224,9 +241,3 @@ const THE_LAST_ARRIVAL: [(BarrierCall, Told); 14] = [
     (BarrierCall::Poll(Second, Second), Answer(Some(Ok(false)))),
     (BarrierCall::Missing, Count(3)),
 ];
-
-#[test]
-fn the_last_arrival_wakes_the_round(rt: HostRuntime) -> io::Result<()> {
-    same!(rt; barrier_stories::played(&rt, rt.alloc(), 3, 4, &THE_LAST_ARRIVAL)?, None);
-    Ok(())
-}
