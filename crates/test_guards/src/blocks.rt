@@ -1,15 +1,13 @@
 //! Every call that waits really waits: it is held back while somebody has what it asks, is let in once that
 //! one goes, and sees what that one wrote. No refusal is passed over.
 
-use futures::executor::block_on;
-use saa_sync::lock_api::{Mutex, RwLock, lock_async, read_async, write_async};
-use std::alloc::AllocGlobal;
+use crate::locks::{By, Locks, Way, locks_of};
+use std::alloc::{AllocError, AllocGlobal};
 use std::random::RandomSource;
 use std::sync::Wait;
 use std::sync::atomic::{AtomicU64, Ordering};
-use std::thread::yield_now;
-use std::{io, thread};
-use test_asserts::{holds, same};
+use std::thread::{self, Threads, yield_now};
+use test_asserts::same;
 
 // How often the main thread gives way to a call that must wait, and how often each way is tried.
 const TURNS: u32 = 2_000;
@@ -31,86 +29,53 @@ const OLD: u64 = 100;
 
 const NEW: u64 = 200;
 
-// How somebody waits for a guard.
-#[derive(Clone, Copy)]
-enum Way {
-    Lock,
-    LockTask,
-    Read,
-    ReadTask,
-    Write,
-    WriteTask,
-}
+// Every way to wait for a guard.
+const WAYS: [(By, Way); 6] = [
+    (By::Thread, Way::Lock),
+    (By::Task, Way::Lock),
+    (By::Thread, Way::Read),
+    (By::Task, Way::Read),
+    (By::Thread, Way::Write),
+    (By::Task, Way::Write),
+];
 
-const LOCKS: [Way; 2] = [Way::Lock, Way::LockTask];
+// What somebody holds that writes if it may, how another waits meanwhile, and what that one sees in the end.
+type Row = (Way, (By, Way), u64);
 
-const READS: [Way; 2] = [Way::Read, Way::ReadTask];
+const LOCKS: [Row; 2] = [
+    (Way::Lock, (By::Thread, Way::Lock), NEW),
+    (Way::Lock, (By::Task, Way::Lock), NEW),
+];
 
-const WRITES: [Way; 2] = [Way::Write, Way::WriteTask];
+const READS: [Row; 2] = [
+    (Way::Write, (By::Thread, Way::Read), NEW),
+    (Way::Write, (By::Task, Way::Read), NEW),
+];
 
-// A mutex and a reader-writer lock, each with room for one.
-#[derive(Drop)]
-struct Both<R: Wait + Drop> {
-    mutex: Mutex<R, u64>,
-    rwlock: RwLock<R, u64>,
-}
+const WRITES: [Row; 2] = [
+    (Way::Write, (By::Thread, Way::Write), NEW),
+    (Way::Write, (By::Task, Way::Write), NEW),
+];
 
-// What a guard shows, or that there is none.
-fn shown(guard: Option<u64>) -> u64 {
-    guard.unwrap_or(REFUSED)
-}
+const WRITES_BEHIND_A_READER: [Row; 2] = [
+    (Way::Read, (By::Thread, Way::Write), OLD),
+    (Way::Read, (By::Task, Way::Write), OLD),
+];
 
-impl<R: Wait + Drop> Both<R> {
-    // Waits in this way, and tells what is seen then.
-    fn wait<H: Wait + RandomSource + AllocGlobal>(&self, rt: &H, way: Way) -> io::Result<u64> {
-        Ok(shown(match way {
-            Way::Lock => self.mutex.lock().map(|guard| *guard).ok(),
-            Way::LockTask => block_on(rt, lock_async(&self.mutex))?
-                .map(|guard| *guard)
-                .ok(),
-            Way::Read => self.rwlock.read().map(|guard| *guard).ok(),
-            Way::ReadTask => block_on(rt, read_async(&self.rwlock))?
-                .map(|guard| *guard)
-                .ok(),
-            Way::Write => self.rwlock.write().map(|guard| *guard).ok(),
-            Way::WriteTask => block_on(rt, write_async(&self.rwlock))?
-                .map(|guard| *guard)
-                .ok(),
-        }))
-    }
-
-    // Holds the lock that this way asks to write while somebody waits; then writes, and goes. What was seen too soon.
-    fn hold_to_write(&self, rt: &impl Wait, way: Way, seen: &AtomicU64) -> u64 {
-        match way {
-            Way::Lock | Way::LockTask => {
-                let Some(mut guard) = self.mutex.try_lock() else {
-                    return REFUSED;
-                };
-                let early = watch(rt, seen);
-                *guard = NEW;
-                early
-            }
-            _ => {
-                let Some(mut guard) = self.rwlock.try_write() else {
-                    return REFUSED;
-                };
-                let early = watch(rt, seen);
-                *guard = NEW;
-                early
-            }
+// Waits until this number is there, or another one than this.
+fn await_number(rt: &impl Wait, seen: &AtomicU64, number: u64, is_wanted: bool) {
+    for _ in rt.forever() {
+        if (seen.load(Ordering::SeqCst) == number) == is_wanted {
+            return;
         }
+        yield_now();
     }
 }
 
 // Lets the other thread call, gives way many times, and tells what that one has seen by then.
 fn watch(rt: &impl Wait, seen: &AtomicU64) -> u64 {
     seen.store(HELD, Ordering::SeqCst);
-    for _ in rt.forever() {
-        if seen.load(Ordering::SeqCst) != HELD {
-            break;
-        }
-        yield_now();
-    }
+    await_number(rt, seen, HELD, false);
     for _turn in 0..TURNS {
         if seen.load(Ordering::SeqCst) != NOTHING {
             break;
@@ -120,122 +85,149 @@ fn watch(rt: &impl Wait, seen: &AtomicU64) -> u64 {
     seen.load(Ordering::SeqCst)
 }
 
+// Holds this while somebody waits; then writes if it may, and goes. What was seen too soon.
+fn hold<R: Wait + Drop>(rt: &impl Wait, locks: &Locks<R>, way: Way, seen: &AtomicU64) -> u64 {
+    let Some(mut held) = locks.attempt(way) else {
+        return REFUSED;
+    };
+    let early = watch(rt, seen);
+    held.put(NEW);
+    early
+}
+
+// Waits in this way, and tells what is seen then.
+fn shown<H: Wait + RandomSource + AllocGlobal, R: Wait + Drop>(
+    rt: &H,
+    locks: &Locks<R>,
+    way: (By, Way),
+) -> u64 {
+    match locks.wait_by(rt, way.0, way.1) {
+        Some(held) => held.shown(),
+        None => REFUSED,
+    }
+}
+
 // Calls once the other thread holds the lock, and tells what is seen then.
 fn wait_once_held<H: Wait + RandomSource + AllocGlobal, R: Wait + Drop>(
     rt: &H,
-    both: &Both<R>,
-    way: Way,
+    locks: &Locks<R>,
+    way: (By, Way),
     seen: &AtomicU64,
 ) {
-    for _ in rt.forever() {
-        if seen.load(Ordering::SeqCst) == HELD {
-            break;
-        }
-        yield_now();
-    }
+    await_number(rt, seen, HELD, true);
     seen.store(NOTHING, Ordering::SeqCst);
-    seen.store(both.wait(rt, way).unwrap_or(REFUSED), Ordering::SeqCst);
+    seen.store(shown(rt, locks, way), Ordering::SeqCst);
 }
 
-// One waits in this way while another writes; what was seen too soon, and what in the end.
-fn seen_behind_a_writer<H, R: Wait + Drop>(rt: &H, both: &Both<R>, way: Way) -> (u64, u64)
+// One waits while another holds; what was seen too soon, and what in the end.
+fn seen_behind<H, R: Wait + Drop>(rt: &H, locks: &Locks<R>, row: Row) -> (u64, u64)
 where
-    H: Wait + RandomSource + AllocGlobal + thread::Threads + Sync,
+    H: Wait + RandomSource + AllocGlobal + Threads + Sync,
     R: Sync,
 {
     let seen = AtomicU64::new(UNBEGUN);
     let ((), early) = thread::join(
         rt,
-        || wait_once_held(rt, both, way, &seen),
-        || both.hold_to_write(rt, way, &seen),
+        || wait_once_held(rt, locks, row.1, &seen),
+        || hold(rt, locks, row.0, &seen),
     );
     (early, seen.load(Ordering::SeqCst))
 }
 
-// A new mutex and a new lock.
-fn make_both<H: Wait + AllocGlobal>(rt: &H) -> io::Result<Both<&H>> {
-    Ok(Both {
-        mutex: Mutex::new(rt, rt.alloc(), OLD, 1)?,
-        rwlock: RwLock::new(rt, rt.alloc(), OLD, 1)?,
-    })
+// The same at new locks.
+fn seen_at_new_locks<H>(rt: &H, row: Row) -> Result<(u64, u64), AllocError>
+where
+    H: Wait + RandomSource + AllocGlobal + Threads + Sync,
+{
+    let locks = locks_of(rt, OLD, 1)?;
+    Ok(seen_behind(rt, &locks, row))
 }
 
-// The first of these ways in which something else is seen than what the other thread wrote, or too soon.
-fn wrongly_seen<H>(rt: &H, ways: &[Way; 2]) -> io::Result<Option<(u64, u64)>>
+// The first of these rows in which something else is seen, or too soon, and what.
+fn first_other<H>(rt: &H, rows: &[Row]) -> Result<Option<(usize, (u64, u64))>, AllocError>
 where
-    H: Wait + RandomSource + AllocGlobal + thread::Threads + Sync,
+    H: Wait + RandomSource + AllocGlobal + Threads + Sync,
+{
+    for (place, row) in rows.iter().enumerate() {
+        let seen = seen_at_new_locks(rt, *row)?;
+        if seen != (NOTHING, row.2) {
+            return Ok(Some((place, seen)));
+        }
+    }
+    Ok(None)
+}
+
+// The first of all rounds in which one of these rows is seen otherwise.
+fn first_in_rounds<H>(rt: &H, rows: &[Row]) -> Result<Option<(usize, (u64, u64))>, AllocError>
+where
+    H: Wait + RandomSource + AllocGlobal + Threads + Sync,
 {
     for _round in 0..ROUNDS {
-        for way in ways {
-            let seen = seen_behind_a_writer(rt, &make_both(rt)?, *way);
-            if seen != (NOTHING, NEW) {
-                return Ok(Some(seen));
-            }
+        let other = first_other(rt, rows)?;
+        if other.is_some() {
+            return Ok(other);
         }
     }
     Ok(None)
 }
 
 #[test]
-fn who_locks_is_held_back(rt: HostRuntime) -> io::Result<()> {
-    same!(rt; wrongly_seen(&rt, &LOCKS)?, None);
-    Ok(())
+fn who_locks_is_held_back(rt: HostRuntime) {
+    same!(rt; first_in_rounds(&rt, &LOCKS), Ok(None));
 }
 
 #[test]
-fn who_reads_is_held_back(rt: HostRuntime) -> io::Result<()> {
-    same!(rt; wrongly_seen(&rt, &READS)?, None);
-    Ok(())
+fn who_reads_is_held_back(rt: HostRuntime) {
+    same!(rt; first_in_rounds(&rt, &READS), Ok(None));
 }
 
 #[test]
-fn who_writes_is_held_back(rt: HostRuntime) -> io::Result<()> {
-    same!(rt; wrongly_seen(&rt, &WRITES)?, None);
-    Ok(())
-}
-
-// Holds a share while somebody waits, and goes; what was seen too soon.
-fn hold_to_read<R: Wait + Drop>(rt: &impl Wait, both: &Both<R>, seen: &AtomicU64) -> u64 {
-    let Some(guard) = both.rwlock.try_read() else {
-        return REFUSED;
-    };
-    let early = watch(rt, seen);
-    drop(guard);
-    early
+fn who_writes_is_held_back(rt: HostRuntime) {
+    same!(rt; first_in_rounds(&rt, &WRITES), Ok(None));
 }
 
 #[test]
-fn who_writes_waits_for_readers_too(rt: HostRuntime) -> io::Result<()> {
-    for way in WRITES {
-        let both = make_both(&rt)?;
-        let seen = AtomicU64::new(UNBEGUN);
-        let ((), early) = thread::join(
-            &rt,
-            || wait_once_held(&rt, &both, way, &seen),
-            || hold_to_read(&rt, &both, &seen),
-        );
-        same!(rt; (early, seen.load(Ordering::SeqCst)), (NOTHING, OLD));
+fn who_writes_waits_for_readers_too(rt: HostRuntime) {
+    same!(rt; first_other(&rt, &WRITES_BEHIND_A_READER), Ok(None));
+}
+
+// What may be had of both locks that nobody holds.
+const AGAIN: [Way; 4] = [Way::Lock, Way::Write, Way::Read, Way::Write];
+
+// Whether this way sees the number that was there, and leaves the locks as they were.
+fn is_given_back<H: Wait + RandomSource + AllocGlobal, R: Wait + Drop>(
+    rt: &H,
+    locks: &Locks<R>,
+    way: (By, Way),
+) -> bool {
+    let is_old = shown(rt, locks, way) == OLD;
+    is_old && AGAIN.iter().all(|way| locks.attempt(*way).is_some())
+}
+
+// The first way that doesn't.
+fn first_kept<H: Wait + RandomSource + AllocGlobal, R: Wait + Drop>(
+    rt: &H,
+    locks: &Locks<R>,
+) -> Option<usize> {
+    for (place, way) in WAYS.iter().enumerate() {
+        if !is_given_back(rt, locks, *way) {
+            return Some(place);
+        }
     }
-    Ok(())
+    None
+}
+
+// The same at locks with this room.
+fn first_left<H: Wait + RandomSource + AllocGlobal>(
+    rt: &H,
+    room: u16,
+) -> Result<Option<usize>, AllocError> {
+    let locks = locks_of(rt, OLD, room)?;
+    Ok(first_kept(rt, &locks))
 }
 
 // Every guard, once it is gone, leaves the lock as it was before: to be had alone, and to be shared.
 #[test]
-fn every_guard_gives_its_turn_back(rt: HostRuntime) -> io::Result<()> {
-    let both = make_both(&rt)?;
-    for way in [
-        Way::Lock,
-        Way::LockTask,
-        Way::Read,
-        Way::ReadTask,
-        Way::Write,
-        Way::WriteTask,
-    ] {
-        same!(rt; both.wait(&rt, way)?, OLD);
-        holds!(rt; both.mutex.try_lock().is_some());
-        holds!(rt; both.rwlock.try_write().is_some());
-        holds!(rt; both.rwlock.try_read().is_some());
-        holds!(rt; both.rwlock.try_write().is_some());
-    }
-    Ok(())
+fn every_guard_gives_its_turn_back(rt: HostRuntime) {
+    same!(rt; [first_left(&rt, 0), first_left(&rt, 1)], [Ok(None), Ok(None)]);
 }

@@ -86,31 +86,46 @@ pub fn put_to_read<R: Wait + Drop>(rwlock: &RwLock<R, u64>, number: u64) -> Resu
 #[cfg(test)]
 mod tests {
     use super::{Pair, load, put, put_to_read, read, store, write};
+    use saa_core::ticket::Full;
     use saa_sync::lock_api::{Mutex, RwLock};
-    use std::io;
+    use std::alloc::{AllocError, AllocGlobal};
+    use std::sync::Wait;
     use test_asserts::same;
 
-    #[test]
-    fn a_pair_behind_each_lock(rt: HostRuntime) -> io::Result<()> {
-        let mutex = Mutex::new(&rt, rt.alloc(), Pair::new(3), 1)?;
-        same!(rt; load(&mutex), Ok((3, 3)));
-        same!(rt; store(&mutex, 7), Ok(()));
-        same!(rt; load(&mutex), Ok((7, 7)));
-        let rwlock = RwLock::new(&rt, rt.alloc(), Pair::new(4), 1)?;
-        same!(rt; read(&rwlock), Ok((4, 4)));
-        same!(rt; write(&rwlock, 8), Ok(()));
-        same!(rt; read(&rwlock), Ok((8, 8)));
-        Ok(())
+    // The pairs behind both locks, before 7 and 8 are written there and afterwards.
+    fn loaded<R: Wait + Drop>(
+        mutex: &Mutex<R, Pair>,
+        rwlock: &RwLock<R, Pair>,
+    ) -> Result<[(u64, u64); 4], Full> {
+        let before = (load(mutex)?, read(rwlock)?);
+        store(mutex, 7)?;
+        write(rwlock, 8)?;
+        Ok([before.0, before.1, load(mutex)?, read(rwlock)?])
+    }
+
+    fn pairs<H: Wait + AllocGlobal>(rt: &H) -> Result<Result<[(u64, u64); 4], Full>, AllocError> {
+        let mutex = Mutex::new(rt, rt.alloc(), Pair::new(3), 1)?;
+        let rwlock = RwLock::new(rt, rt.alloc(), Pair::new(4), 1)?;
+        Ok(loaded(&mutex, &rwlock))
     }
 
     #[test]
-    fn a_number_that_was_put_is_shown(rt: HostRuntime) -> io::Result<()> {
-        let mutex = Mutex::new(&rt, rt.alloc(), 3, 0)?;
-        same!(rt; put(&mutex, 5), Ok(5));
-        same!(rt; mutex.into_inner(), 5);
-        let rwlock = RwLock::new(&rt, rt.alloc(), 3, 0)?;
-        same!(rt; put_to_read(&rwlock, 6), Ok(6));
-        same!(rt; rwlock.into_inner(), 6);
-        Ok(())
+    fn a_pair_behind_each_lock(rt: HostRuntime) {
+        same!(rt; pairs(&rt), Ok(Ok([(3, 3), (4, 4), (7, 7), (8, 8)])));
+    }
+
+    // What is shown once it is put behind both locks, and what stands there in the end.
+    type Shown = ([Result<u64, Full>; 2], [u64; 2]);
+
+    fn shown<H: Wait + AllocGlobal>(rt: &H) -> Result<Shown, AllocError> {
+        let mutex = Mutex::new(rt, rt.alloc(), 3, 0)?;
+        let rwlock = RwLock::new(rt, rt.alloc(), 3, 0)?;
+        let shown = [put(&mutex, 5), put_to_read(&rwlock, 6)];
+        Ok((shown, [mutex.into_inner(), rwlock.into_inner()]))
+    }
+
+    #[test]
+    fn a_number_that_was_put_is_shown(rt: HostRuntime) {
+        same!(rt; shown(&rt), Ok(([Ok(5), Ok(6)], [5, 6])));
     }
 }

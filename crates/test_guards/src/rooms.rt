@@ -1,66 +1,109 @@
 //! Every room of a mutex and of a reader-writer lock is filled to its last place and one more: each place keeps its task's
 //! waker, and who comes then is told that the room is full.
 
-use crate::ready;
-use futures::Future;
-use futures::task::Poll;
-use futures::test::MockTask;
-use saa_core::ticket::Full;
-use saa_sync::lock_api::{Mutex, RwLock, lock_async, read_async, write_async};
-use std::io;
-use test_asserts::holds;
+use crate::locks::Way::{Lock, Read, Write};
+use crate::stories::Act::{Asks, Ends, IsWoken, Tries, Waits};
+use crate::stories::Who::{Crowd, Four, One, Three, Two};
+use crate::stories::{FULL, Row, Story};
 
-const ROOMS: [u16; 4] = [1, 20, 32, 300];
+pub(crate) const STORIES: [Story; 8] = [
+    Story {
+        name: "a mutex with room for 1",
+        number: 0,
+        room: 1,
+        crowd: 0,
+        rows: &MUTEX,
+    },
+    Story {
+        name: "a mutex with room for 20",
+        number: 0,
+        room: 20,
+        crowd: 19,
+        rows: &MUTEX,
+    },
+    Story {
+        name: "a mutex with room for 32",
+        number: 0,
+        room: 32,
+        crowd: 31,
+        rows: &MUTEX,
+    },
+    Story {
+        name: "a mutex with room for 300",
+        number: 0,
+        room: 300,
+        crowd: 299,
+        rows: &MUTEX,
+    },
+    Story {
+        name: "a reader-writer lock with room for 1",
+        number: 0,
+        room: 1,
+        crowd: 0,
+        rows: &ONE_WRITER,
+    },
+    Story {
+        name: "a reader-writer lock with room for 20",
+        number: 0,
+        room: 20,
+        crowd: 18,
+        rows: &READERS_AND_A_WRITER,
+    },
+    Story {
+        name: "a reader-writer lock with room for 32",
+        number: 0,
+        room: 32,
+        crowd: 30,
+        rows: &READERS_AND_A_WRITER,
+    },
+    Story {
+        name: "a reader-writer lock with room for 300",
+        number: 0,
+        room: 300,
+        crowd: 298,
+        rows: &READERS_AND_A_WRITER,
+    },
+];
 
-// Whether a future waits, and isn't polled again before somebody wakes it.
-fn waits<F: Future>(task: &MockTask, future: &mut F) -> bool
-where
-    F::Output: Drop,
-    requires { F.can_poll future.old }
-{
-    let is_pending = matches!(task.poll(future), Poll::Pending);
-    is_pending && !task.is_woken()
-}
+// The second and the crowd fill the room, the third comes then, and the second is woken alone.
+const MUTEX: [Row; 10] = [
+    (One, Tries(Lock, Some(Ok(0)))),
+    (Two, Asks(Lock, None)),
+    (Two, IsWoken(false)),
+    (Crowd, Asks(Lock, None)),
+    (Crowd, IsWoken(false)),
+    (Three, Waits(Lock, FULL)),
+    (Three, Asks(Lock, FULL)),
+    (One, Ends),
+    (Two, IsWoken(true)),
+    (Crowd, IsWoken(false)),
+];
 
-#[test]
-fn every_room_of_a_mutex_is_filled(rt: HostRuntime) -> io::Result<()> {
-    let task = MockTask::new(&rt)?;
-    for room in ROOMS {
-        let mutex = Mutex::new(&rt, rt.alloc(), 0u64, room)?;
-        let held = mutex.try_lock();
-        let mut futures = Vec::with_capacity(rt.alloc(), usize::from(room))?;
-        for _place in 0..room {
-            let mut future = lock_async(&mutex);
-            holds!(rt; waits(&task, &mut future));
-            futures.push(future)?;
-        }
-        holds!(rt; matches!(mutex.lock(), Err(Full)));
-        holds!(rt; matches!(ready(task.poll(&mut lock_async(&mutex))), Some(Err(Full))));
-        drop(held);
-        holds!(rt; task.is_woken());
-    }
-    Ok(())
-}
+// The fourth alone fills the room.
+const ONE_WRITER: [Row; 8] = [
+    (One, Tries(Write, Some(Ok(0)))),
+    (Four, Asks(Write, None)),
+    (Four, IsWoken(false)),
+    (Three, Waits(Read, FULL)),
+    (Three, Waits(Write, FULL)),
+    (Three, Asks(Read, FULL)),
+    (One, Ends),
+    (Four, IsWoken(true)),
+];
 
-#[test]
-fn every_room_of_a_reader_writer_lock_is_filled(rt: HostRuntime) -> io::Result<()> {
-    let task = MockTask::new(&rt)?;
-    for room in ROOMS {
-        let rwlock = RwLock::new(&rt, rt.alloc(), 0u64, room)?;
-        let held = rwlock.try_write();
-        let mut readers = Vec::with_capacity(rt.alloc(), usize::from(room))?;
-        for _place in 1..room {
-            let mut reader = read_async(&rwlock);
-            holds!(rt; waits(&task, &mut reader));
-            readers.push(reader)?;
-        }
-        let mut last = write_async(&rwlock);
-        holds!(rt; waits(&task, &mut last));
-        holds!(rt; matches!(rwlock.read(), Err(Full)));
-        holds!(rt; matches!(rwlock.write(), Err(Full)));
-        holds!(rt; matches!(ready(task.poll(&mut read_async(&rwlock))), Some(Err(Full))));
-        drop(held);
-        holds!(rt; task.is_woken());
-    }
-    Ok(())
-}
+// The second and the crowd wait to read, and the fourth to write behind them.
+const READERS_AND_A_WRITER: [Row; 13] = [
+    (One, Tries(Write, Some(Ok(0)))),
+    (Two, Asks(Read, None)),
+    (Two, IsWoken(false)),
+    (Crowd, Asks(Read, None)),
+    (Crowd, IsWoken(false)),
+    (Four, Asks(Write, None)),
+    (Four, IsWoken(false)),
+    (Three, Waits(Read, FULL)),
+    (Three, Waits(Write, FULL)),
+    (Three, Asks(Read, FULL)),
+    (One, Ends),
+    (Two, IsWoken(true)),
+    (Four, IsWoken(false)),
+];

@@ -1,187 +1,191 @@
 //! Guards in several threads: they keep each other out, and sleepers are served in the order in which they joined.
 
-use crate::ready;
-use futures::executor::block_on;
-use futures::test::MockTask;
-use saa_core::ticket::Full;
-use saa_sync::lock_api::{Mutex, RwLock, RwLockWriteGuard, lock_async};
-use std::alloc::AllocGlobal;
+use crate::locks::Way::Lock;
+use crate::locks::{By, Locks, Way, locks_of};
+use crate::stories::Act::{Asks, Ends, Leaves, Puts, Waits};
+use crate::stories::Who::{One, Three, Two};
+use crate::stories::{FULL, Row, Stage, Told};
+use saa_sync::lock_api::{RwLock, RwLockWriteGuard};
+use std::alloc::{AllocError, AllocGlobal};
 use std::random::RandomSource;
 use std::sync::Wait;
-use std::thread::yield_now;
-use std::{io, thread};
-use test_asserts::{holds, same};
+use std::thread::{self, Threads, yield_now};
+use test_asserts::same;
 
-// How often each thread adds 1.
+// How often each thread does its work.
 const ROUNDS: u64 = 100;
 
-// Adds 1 so often, and tells how often it did.
-fn add<R: Wait + Drop>(mutex: &Mutex<R, u64>) -> u64 {
-    let mut added = 0u64;
-    for _round in 0..ROUNDS {
-        if let Ok(mut guard) = mutex.lock() {
-            let seen = *guard;
-            yield_now();
-            *guard = seen.saturating_add(1);
-            added = added.saturating_add(1);
-        }
-    }
-    added
+// What a thread does again and again.
+#[derive(Clone, Copy)]
+enum Work {
+    // Adds 1 behind the mutex, and counts it.
+    Add(By),
+    // Turns a page and then reads, and counts whether the two numbers were seen to differ.
+    TurnPages,
+    // Turns a page and reads through the guard that it downgrades to, and counts whether it isn't what it wrote.
+    TurnPagesAndRead,
 }
 
-// The same as a task.
-fn add_as_task<H: Wait + RandomSource + AllocGlobal, R: Wait + Drop>(
+// A number behind a mutex, and two numbers that are written one after the other.
+#[derive(Drop)]
+struct Shared<R: Wait + Drop> {
+    locks: Locks<R>,
+    pages: RwLock<R, (u64, u64)>,
+}
+
+// Adds 1; whether it did.
+fn add<H: Wait + RandomSource + AllocGlobal, R: Wait + Drop>(
     rt: &H,
-    mutex: &Mutex<R, u64>,
-) -> u64 {
-    let mut added = 0u64;
-    for _round in 0..ROUNDS {
-        if let Ok(Ok(mut guard)) = block_on(rt, lock_async(mutex)) {
-            let seen = *guard;
-            yield_now();
-            *guard = seen.saturating_add(1);
-            added = added.saturating_add(1);
-        }
-    }
-    added
-}
-
-#[test]
-fn four_threads_that_add_lose_nothing(rt: HostRuntime) -> io::Result<()> {
-    let mutex = Mutex::new(&rt, rt.alloc(), 0u64, 4)?;
-    let ((one, two), (three, four)) = thread::join(
-        &rt,
-        || thread::join(&rt, || add(&mutex), || add(&mutex)),
-        || thread::join(&rt, || add(&mutex), || add(&mutex)),
-    );
-    same!(rt; [one, two, three, four], [100, 100, 100, 100]);
-    same!(rt; mutex.into_inner(), 400);
-    Ok(())
-}
-
-#[test]
-fn threads_and_tasks_that_add_lose_nothing(rt: HostRuntime) -> io::Result<()> {
-    let mutex = Mutex::new(&rt, rt.alloc(), 0u64, 4)?;
-    let ((one, two), (three, four)) = thread::join(
-        &rt,
-        || thread::join(&rt, || add(&mutex), || add_as_task(&rt, &mutex)),
-        || thread::join(&rt, || add_as_task(&rt, &mutex), || add(&mutex)),
-    );
-    same!(rt; [one, two, three, four], [100, 100, 100, 100]);
-    same!(rt; mutex.into_inner(), 400);
-    Ok(())
-}
-
-// Writes both numbers so often, one after the other, and then reads so often; how often the two were seen to differ.
-fn turn_pages<R: Wait + Drop>(rwlock: &RwLock<R, (u64, u64)>) -> u64 {
-    let mut torn = 0u64;
-    for _round in 0..ROUNDS {
-        if let Ok(mut guard) = rwlock.write() {
-            let next = guard.0.saturating_add(1);
-            *guard = (next, guard.1);
-            yield_now();
-            *guard = (next, next);
-        }
-        if let Ok(guard) = rwlock.read() {
-            let (first, second) = *guard;
-            torn = torn.saturating_add(u64::from(first != second));
-        }
-    }
-    torn
-}
-
-#[test]
-fn no_reader_sees_half_a_write(rt: HostRuntime) -> io::Result<()> {
-    let rwlock = RwLock::new(&rt, rt.alloc(), (0u64, 0u64), 4)?;
-    let ((one, two), (three, four)) = thread::join(
-        &rt,
-        || thread::join(&rt, || turn_pages(&rwlock), || turn_pages(&rwlock)),
-        || thread::join(&rt, || turn_pages(&rwlock), || turn_pages(&rwlock)),
-    );
-    same!(rt; [one, two, three, four], [0, 0, 0, 0]);
-    same!(rt; rwlock.into_inner(), (400, 400));
-    Ok(())
-}
-
-// Writes both numbers so often, and reads them through the guard that it downgrades to, while the others wait to write; how
-// often those weren't what it wrote.
-fn turn_pages_and_read<R: Wait + Drop>(rwlock: &RwLock<R, (u64, u64)>) -> u64 {
-    let mut others = 0u64;
-    for _round in 0..ROUNDS {
-        if let Ok(mut guard) = rwlock.write() {
-            let next = guard.0.saturating_add(1);
-            *guard = (next, guard.1);
-            yield_now();
-            *guard = (next, next);
-            let guard = RwLockWriteGuard::downgrade(guard);
-            yield_now();
-            others = others.saturating_add(u64::from(*guard != (next, next)));
-        }
-    }
-    others
-}
-
-#[test]
-fn nobody_writes_between_a_write_and_the_reading_behind_it(rt: HostRuntime) -> io::Result<()> {
-    let rwlock = RwLock::new(&rt, rt.alloc(), (0u64, 0u64), 4)?;
-    let ((one, two), (three, four)) = thread::join(
-        &rt,
-        || thread::join(&rt, || turn_pages_and_read(&rwlock), || turn_pages(&rwlock)),
-        || thread::join(&rt, || turn_pages_and_read(&rwlock), || turn_pages(&rwlock)),
-    );
-    same!(rt; [one, two, three, four], [0, 0, 0, 0]);
-    same!(rt; rwlock.into_inner(), (400, 400));
-    Ok(())
-}
-
-// Writes a digit behind the others once the mutex is had.
-fn write_digit<R: Wait + Drop>(mutex: &Mutex<R, u64>, digit: u64) -> bool {
-    match mutex.lock() {
-        Ok(mut guard) => {
-            *guard = guard.saturating_mul(10).saturating_add(digit);
-            true
-        }
-        Err(Full) => false,
-    }
-}
-
-// Whether somebody waits for a mutex of room 2 that is held: then a second future finds the room full.
-fn is_waited_for<R: Wait + Drop>(mutex: &Mutex<R, u64>, task: &MockTask) -> bool {
-    let mut one = lock_async(mutex);
-    let mut two = lock_async(mutex);
-    let has_joined = ready(task.poll(&mut one)).is_none();
-    has_joined && matches!(ready(task.poll(&mut two)), Some(Err(Full)))
-}
-
-// Holds the mutex until a thread waits, then asks for it as a task, and lets it go; whether the task got it.
-fn ask_behind<R: Wait + Drop>(rt: &impl Wait, mutex: &Mutex<R, u64>, task: &MockTask) -> bool {
-    let Ok(held) = mutex.lock() else {
+    locks: &Locks<R>,
+    by: By,
+) -> bool {
+    let Some(mut held) = locks.wait_by(rt, by, Lock) else {
         return false;
     };
-    for _ in rt.forever() {
-        if is_waited_for(mutex, task) {
-            break;
-        }
-        yield_now();
+    let seen = held.shown();
+    yield_now();
+    held.put(seen.saturating_add(1))
+}
+
+// Writes the next number, first the one and then the other.
+fn turn<R: Wait + Drop>(guard: &mut RwLockWriteGuard<'_, R, (u64, u64)>) -> u64 {
+    let next = guard.0.saturating_add(1);
+    **guard = (next, guard.1);
+    yield_now();
+    **guard = (next, next);
+    next
+}
+
+// Turns a page.
+fn turn_page<R: Wait + Drop>(pages: &RwLock<R, (u64, u64)>) {
+    if let Ok(mut guard) = pages.write() {
+        turn(&mut guard);
     }
-    let mut behind = lock_async(mutex);
-    let is_early = ready(task.poll(&mut behind)).is_some();
-    drop(held);
-    for _ in rt.forever() {
-        if let Some(Ok(mut guard)) = ready(task.poll(&mut behind)) {
-            *guard = guard.saturating_mul(10).saturating_add(2);
-            return !is_early;
-        }
-        yield_now();
+}
+
+// Whether the two numbers differ.
+fn is_torn<R: Wait + Drop>(pages: &RwLock<R, (u64, u64)>) -> bool {
+    match pages.read() {
+        Ok(guard) => guard.0 != guard.1,
+        Err(_full) => false,
     }
-    unreachable!()
+}
+
+// Turns a page and reads it while the others wait to write; whether it isn't what it wrote.
+fn is_overwritten<R: Wait + Drop>(pages: &RwLock<R, (u64, u64)>) -> bool {
+    let Ok(mut guard) = pages.write() else {
+        return false;
+    };
+    let next = turn(&mut guard);
+    let guard = RwLockWriteGuard::downgrade(guard);
+    yield_now();
+    *guard != (next, next)
+}
+
+impl<R: Wait + Drop> Shared<R> {
+    // Does this once; whether it counts.
+    fn does<H: Wait + RandomSource + AllocGlobal>(&self, rt: &H, work: Work) -> bool {
+        match work {
+            Work::Add(by) => add(rt, &self.locks, by),
+            Work::TurnPages => {
+                turn_page(&self.pages);
+                is_torn(&self.pages)
+            }
+            Work::TurnPagesAndRead => is_overwritten(&self.pages),
+        }
+    }
+
+    // Does this so often; how often it counted.
+    fn count<H: Wait + RandomSource + AllocGlobal>(&self, rt: &H, work: Work) -> u64 {
+        let mut counted = 0u64;
+        for _round in 0..ROUNDS {
+            counted = counted.saturating_add(u64::from(self.does(rt, work)));
+        }
+        counted
+    }
+
+    // Two threads at once: what each counted.
+    fn two<H>(&self, rt: &H, works: (Work, Work)) -> (u64, u64)
+    where
+        H: Wait + RandomSource + AllocGlobal + Threads + Sync,
+        R: Sync,
+    {
+        thread::join(rt, || self.count(rt, works.0), || self.count(rt, works.1))
+    }
+}
+
+// What four threads counted that did two kinds of work, each kind twice, and what stands behind the locks in the end.
+type Counted = (((u64, u64), (u64, u64)), u64, (u64, u64));
+
+fn counted<H>(rt: &H, works: (Work, Work)) -> Result<Counted, AllocError>
+where
+    H: Wait + RandomSource + AllocGlobal + Threads + Sync,
+{
+    let shared = Shared {
+        locks: locks_of(rt, 0, 4)?,
+        pages: RwLock::new(rt, rt.alloc(), (0, 0), 4)?,
+    };
+    let counts = thread::join(rt, || shared.two(rt, works), || shared.two(rt, works));
+    let Shared { locks, pages } = shared;
+    Ok((counts, locks.into_inner().0, pages.into_inner()))
+}
+
+// Both kinds of work, what a thread of each must count, and what stands behind the mutex and the pages in the end.
+const ROWS: [((Work, Work), Counted); 4] = [
+    // Nothing that is added is lost.
+    (
+        (Work::Add(By::Thread), Work::Add(By::Thread)),
+        (((100, 100), (100, 100)), 400, (0, 0)),
+    ),
+    (
+        (Work::Add(By::Thread), Work::Add(By::Task)),
+        (((100, 100), (100, 100)), 400, (0, 0)),
+    ),
+    // No reader sees half a write.
+    (
+        (Work::TurnPages, Work::TurnPages),
+        (((0, 0), (0, 0)), 0, (400, 400)),
+    ),
+    // Nobody writes between a write and the reading behind it.
+    (
+        (Work::TurnPagesAndRead, Work::TurnPages),
+        (((0, 0), (0, 0)), 0, (400, 400)),
+    ),
+];
+
+// The first row that was counted otherwise, and how.
+fn first_other<H>(rt: &H) -> Result<Option<(usize, Counted)>, AllocError>
+where
+    H: Wait + RandomSource + AllocGlobal + Threads + Sync,
+{
+    for (place, (works, wanted)) in ROWS.iter().enumerate() {
+        let counted = counted(rt, *works)?;
+        if counted != *wanted {
+            return Ok(Some((place, counted)));
+        }
+    }
+    Ok(None)
+}
+
+#[test]
+fn four_threads_keep_each_other_out(rt: HostRuntime) {
+    same!(rt; first_other(&rt), Ok(None));
+}
+
+// Writes a digit behind the others, once the mutex is had; whether it was.
+fn write_digit<R: Wait + Drop>(locks: &Locks<R>, digit: u64) -> bool {
+    let Ok(mut held) = locks.wait(Lock) else {
+        return false;
+    };
+    let shown = held.shown();
+    held.put(shown.saturating_mul(10).saturating_add(digit))
 }
 
 // Waits until the mutex is held, and then writes a digit. Who looks whether somebody waits fills the room for a moment, so who
 // finds it full asks again.
-fn write_once_held<R: Wait + Drop>(rt: &impl Wait, mutex: &Mutex<R, u64>, digit: u64) -> bool {
+fn write_once_held<R: Wait + Drop>(rt: &impl Wait, locks: &Locks<R>, digit: u64) -> bool {
     for _ in rt.forever() {
-        if mutex.try_lock().is_none() && write_digit(mutex, digit) {
+        if locks.attempt(Lock).is_none() && write_digit(locks, digit) {
             return true;
         }
         yield_now();
@@ -189,16 +193,77 @@ fn write_once_held<R: Wait + Drop>(rt: &impl Wait, mutex: &Mutex<R, u64>, digit:
     unreachable!()
 }
 
-#[test]
-fn a_sleeper_is_served_before_the_task_behind_it(rt: HostRuntime) -> io::Result<()> {
-    let mutex = Mutex::new(&rt, rt.alloc(), 0u64, 2)?;
-    let task = MockTask::new(&rt)?;
-    let (is_written, is_granted) = thread::join(
-        &rt,
-        || write_once_held(&rt, &mutex, 1),
-        || ask_behind(&rt, &mutex, &task),
+// The task holds the mutex; somebody waits for it, since of room 2 a second future finds no place; both futures go again.
+const HELD: Row = (One, Waits(Lock, Some(Ok(0))));
+
+const WAITED_FOR: [Row; 2] = [(Two, Asks(Lock, None)), (Three, Asks(Lock, FULL))];
+
+const GONE: [Row; 2] = [(Two, Leaves), (Three, Leaves)];
+
+// It asks behind whoever waits, and lets the mutex go.
+const BEHIND: [Row; 2] = [(Two, Asks(Lock, None)), (One, Ends)];
+
+// Waits until somebody waits for the mutex.
+fn await_waiter<R: Wait + Drop>(rt: &impl Wait, stage: &mut Stage<'_, R>) {
+    for _ in rt.forever() {
+        let is_waited_for = stage.first_other(&WAITED_FOR).is_none();
+        stage.first_other(&GONE);
+        if is_waited_for {
+            return;
+        }
+        yield_now();
+    }
+}
+
+// Polls the future that asks behind until it is told something.
+fn await_turn<R: Wait + Drop>(rt: &impl Wait, stage: &mut Stage<'_, R>) -> Told {
+    for _ in rt.forever() {
+        let told = stage.poll(Two);
+        if told.is_some() {
+            return told;
+        }
+        yield_now();
+    }
+    unreachable!()
+}
+
+// Asks behind a thread that waits; whether it got the mutex behind that one's digit.
+fn is_behind<R: Wait + Drop>(rt: &impl Wait, stage: &mut Stage<'_, R>) -> bool {
+    if !stage.plays(HELD) {
+        return false;
+    }
+    await_waiter(rt, stage);
+    stage.first_other(&BEHIND).is_none()
+        && await_turn(rt, stage) == Some(Ok(1))
+        && stage.plays((Two, Puts(12)))
+}
+
+// The same as a task at these locks.
+fn ask_behind<H: Wait + RandomSource + AllocGlobal, R: Wait + Drop>(
+    rt: &H,
+    locks: &Locks<R>,
+) -> bool {
+    match Stage::new(rt, locks, 0) {
+        Ok(mut stage) => is_behind(rt, &mut stage),
+        Err(_) => false,
+    }
+}
+
+// Whether a thread wrote 1, a task behind it wrote 2, and what stands there in the end.
+fn written<H>(rt: &H) -> Result<((bool, bool), u64), AllocError>
+where
+    H: Wait + RandomSource + AllocGlobal + Threads + Sync,
+{
+    let locks = locks_of(rt, 0, 2)?;
+    let told = thread::join(
+        rt,
+        || write_once_held(rt, &locks, 1),
+        || ask_behind(rt, &locks),
     );
-    holds!(rt; is_written && is_granted);
-    same!(rt; mutex.into_inner(), 12);
-    Ok(())
+    Ok((told, locks.into_inner().0))
+}
+
+#[test]
+fn a_sleeper_is_served_before_the_task_behind_it(rt: HostRuntime) {
+    same!(rt; written(&rt), Ok(((true, true), 12)));
 }

@@ -1,0 +1,303 @@
+//! Stories of both locks as tables: what each task does, row by row, and what it must be told.
+//!
+//! A call that stands in a test's text is proved there anew; one that stands in a row of a table is data, and costs no proof.
+
+use crate::locks::{Asked, Held, Locks, Way, locks_of};
+use crate::{mutexes, rooms, rwlocks, tasks};
+use futures::test::MockTask;
+use saa_core::ticket::Full;
+use std::alloc::AllocGlobal;
+use std::io;
+use std::random::RandomSource;
+use std::sync::Wait;
+use test_asserts::same;
+
+// What somebody is told who asks for a guard: nothing yet, or the number that the guard shows, or that there is no room.
+pub(crate) type Told = Option<Result<u64, Full>>;
+
+// Nobody may wait any more.
+pub(crate) const FULL: Told = Some(Err(Full));
+
+// A number that nobody writes: there is no future to poll.
+const NOTHING: u64 = u64::MAX;
+
+// What a task does, and what it is told. A guard that it is given stays with it.
+#[derive(Clone, Copy)]
+pub(crate) enum Act {
+    // Takes a guard by the call that waits, or by the one that never does.
+    Waits(Way, Told),
+    Tries(Way, Told),
+    // Makes a future of a guard and polls it, or polls the one that it made.
+    Asks(Way, Told),
+    Polls(Told),
+    // Whether it was woken since its last poll.
+    IsWoken(bool),
+    // Its guard shows this number, writes this one, becomes a reader's, or is given up by the call for that.
+    Shows(u64),
+    Puts(u64),
+    Lowers,
+    UnlocksFairly,
+    // Drops its guard, or its future.
+    Ends,
+    Leaves,
+}
+
+// Who does it: one task, or each of the story's crowd in turn.
+#[derive(Clone, Copy)]
+pub(crate) enum Who {
+    One,
+    Two,
+    Three,
+    Four,
+    Crowd,
+}
+
+// How many tasks there are beside the crowd.
+const FEW: usize = 4;
+
+// A row of a story.
+pub(crate) type Row = (Who, Act);
+
+// What happens at two new locks.
+pub(crate) struct Story {
+    pub(crate) name: &'static str,
+    // The number that stands behind each lock at first, for how many waiters it has room, and how many the crowd are.
+    pub(crate) number: u64,
+    pub(crate) room: u16,
+    pub(crate) crowd: u16,
+    pub(crate) rows: &'static [Row],
+}
+
+// A task, its future and its guard.
+#[derive(Drop)]
+struct Place<'s, R: Wait + Drop> {
+    task: MockTask,
+    asked: Option<Asked<'s, R>>,
+    held: Option<Held<'s, R>>,
+}
+
+impl<'s, R: Wait + Drop> Place<'s, R> {
+    fn new<H: RandomSource + AllocGlobal>(rt: &H) -> io::Result<Self> {
+        Ok(Place {
+            task: MockTask::new(rt)?,
+            asked: None,
+            held: None,
+        })
+    }
+
+    // Keeps the guard that was given; what was told.
+    fn keep(&mut self, told: Option<Result<Held<'s, R>, Full>>) -> Told {
+        match told? {
+            Ok(held) => {
+                let shown = held.shown();
+                self.held = Some(held);
+                Some(Ok(shown))
+            }
+            Err(full) => Some(Err(full)),
+        }
+    }
+
+    fn try_it(&mut self, told: Option<Held<'s, R>>) -> Told {
+        self.keep(Some(Ok(told?)))
+    }
+
+    fn ask(&mut self, asked: Asked<'s, R>) -> Told {
+        self.asked = Some(asked);
+        self.poll()
+    }
+
+    fn poll(&mut self) -> Told {
+        match &mut self.asked {
+            Some(asked) => {
+                let told = asked.poll(&self.task);
+                self.keep(told)
+            }
+            None => Some(Ok(NOTHING)),
+        }
+    }
+
+    fn shows(&self, number: u64) -> bool {
+        match &self.held {
+            Some(held) => held.shown() == number,
+            None => false,
+        }
+    }
+
+    fn put(&mut self, number: u64) -> bool {
+        match &mut self.held {
+            Some(held) => held.put(number),
+            None => false,
+        }
+    }
+
+    fn lower(&mut self) -> bool {
+        self.held = match self.held.take() {
+            Some(held) => held.lowered(),
+            None => None,
+        };
+        self.held.is_some()
+    }
+
+    fn unlock(&mut self) -> bool {
+        match self.held.take() {
+            Some(held) => {
+                held.unlock_fair();
+                true
+            }
+            None => false,
+        }
+    }
+
+    fn end(&mut self) -> bool {
+        self.held.take().is_some()
+    }
+
+    fn leave(&mut self) -> bool {
+        self.asked.take().is_some()
+    }
+
+    // Does this; whether it is told what it must be.
+    fn does(&mut self, locks: &'s Locks<R>, act: Act) -> bool {
+        match act {
+            Act::Waits(way, wanted) => self.keep(Some(locks.wait(way))) == wanted,
+            Act::Tries(way, wanted) => self.try_it(locks.attempt(way)) == wanted,
+            Act::Asks(way, wanted) => self.ask(locks.ask(way)) == wanted,
+            Act::Polls(wanted) => self.poll() == wanted,
+            Act::IsWoken(wanted) => self.task.is_woken() == wanted,
+            Act::Shows(number) => self.shows(number),
+            Act::Puts(number) => self.put(number),
+            Act::Lowers => self.lower(),
+            Act::UnlocksFairly => self.unlock(),
+            Act::Ends => self.end(),
+            Act::Leaves => self.leave(),
+        }
+    }
+}
+
+// Both locks, and the tasks that use them.
+#[derive(Drop)]
+pub(crate) struct Stage<'s, R: Wait + Drop> {
+    locks: &'s Locks<R>,
+    places: Vec<Place<'s, R>>,
+}
+
+impl<'s, R: Wait + Drop> Stage<'s, R> {
+    // The tasks of a story with so large a crowd.
+    pub(crate) fn new<H: RandomSource + AllocGlobal>(
+        rt: &H,
+        locks: &'s Locks<R>,
+        crowd: u16,
+    ) -> io::Result<Self> {
+        let mut places = Vec::new(rt.alloc());
+        for _place in 0..FEW + usize::from(crowd) {
+            places.push(Place::new(rt)?)?;
+        }
+        Ok(Stage { locks, places })
+    }
+
+    // The places of these tasks, from one up to another.
+    fn places_of(&self, who: Who) -> (usize, usize) {
+        match who {
+            Who::One => (0, 1),
+            Who::Two => (1, 2),
+            Who::Three => (2, 3),
+            Who::Four => (3, 4),
+            Who::Crowd => (FEW, self.places.len()),
+        }
+    }
+
+    // Has the task at this place do this; whether it is told what it must be.
+    fn does(&mut self, place: usize, act: Act) -> bool {
+        match self.places.get_mut(place) {
+            Some(place) => place.does(self.locks, act),
+            None => false,
+        }
+    }
+
+    // What the task here is told whose future is polled.
+    pub(crate) fn poll(&mut self, who: Who) -> Told {
+        let (first, _) = self.places_of(who);
+        match self.places.get_mut(first) {
+            Some(place) => place.poll(),
+            None => Some(Ok(NOTHING)),
+        }
+    }
+
+    // Plays a row; whether all is told as it must be.
+    pub(crate) fn plays(&mut self, row: Row) -> bool {
+        let (from, to) = self.places_of(row.0);
+        for place in from..to {
+            if !self.does(place, row.1) {
+                return false;
+            }
+        }
+        true
+    }
+
+    // Plays these rows; the first that was told otherwise, counted from 0.
+    pub(crate) fn first_other(&mut self, rows: &[Row]) -> Option<usize> {
+        for (place, row) in rows.iter().enumerate() {
+            if !self.plays(*row) {
+                return Some(place);
+            }
+        }
+        None
+    }
+}
+
+// The first of these rows that was told otherwise at these locks.
+fn first_at<H: RandomSource + AllocGlobal, R: Wait + Drop>(
+    rt: &H,
+    locks: &Locks<R>,
+    story: &Story,
+) -> io::Result<Option<usize>> {
+    let mut stage = Stage::new(rt, locks, story.crowd)?;
+    Ok(stage.first_other(story.rows))
+}
+
+// The first row of a story that was told otherwise.
+fn first_row<H: Wait + RandomSource + AllocGlobal>(
+    rt: &H,
+    story: &Story,
+) -> io::Result<Option<usize>> {
+    let locks = locks_of(rt, story.number, story.room)?;
+    first_at(rt, &locks, story)
+}
+
+// The first of these stories in which a row was told otherwise, and that row.
+fn first_story<H: Wait + RandomSource + AllocGlobal>(
+    rt: &H,
+    stories: &[Story],
+) -> io::Result<Option<(&'static str, usize)>> {
+    for story in stories {
+        if let Some(row) = first_row(rt, story)? {
+            return Ok(Some((story.name, row)));
+        }
+    }
+    Ok(None)
+}
+
+const ALL: [&[Story]; 4] = [
+    &mutexes::STORIES,
+    &rwlocks::STORIES,
+    &tasks::STORIES,
+    &rooms::STORIES,
+];
+
+// The same of all stories.
+fn first_of_all<H: Wait + RandomSource + AllocGlobal>(
+    rt: &H,
+) -> io::Result<Option<(&'static str, usize)>> {
+    for stories in ALL {
+        let first = first_story(rt, stories)?;
+        if first.is_some() {
+            return Ok(first);
+        }
+    }
+    Ok(None)
+}
+
+#[test]
+fn stories_are_told(rt: HostRuntime) {
+    same!(rt; first_of_all(&rt).ok(), Some(None));
+}
