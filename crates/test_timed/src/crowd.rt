@@ -1,20 +1,25 @@
 //! Sleepers of whom some are out of time: those behind them are granted at once, and no permit is lost.
 
+use crate::calls::ALONE;
 use crate::clock::OnClock;
-use saa_core::gate::GateCore;
+use crate::forms::Time::{Ever, Long, Zero};
+use crate::forms::{Form, Made};
+use crate::stories::Act::{
+    AcquireLate, Asleep, Available, Count, EnterLate, ReleaseLate, ReleaseMany,
+};
+use crate::stories::Ask::{Acquire, AcquireMany, Arrive, Enter};
+use crate::stories::Row::{Does, Has, In};
+use crate::stories::{LATE, Row, Sign, Story};
 use saa_core::semaphore::SemaphoreCore;
-use saa_sync::barrier::Barrier;
-use saa_sync::gate::{Error, Gate};
 use saa_sync::semaphore::Semaphore;
-use saa_sync::testing::{Patience, Shell, call_untold};
+use saa_sync::testing::{Patience, Shell};
 use saa_sync::tries::Tries;
+use std::alloc::{AllocError, AllocGlobal};
 use std::sync::Wait;
 use std::sync::atomic::{AtomicU64, Ordering};
-use std::test::Fail;
-use std::thread::{Threads, yield_now};
+use std::thread::{self, Threads, yield_now};
 use std::time::{Clock, Duration};
-use std::{io, thread};
-use test_asserts::{holds, same};
+use test_asserts::same;
 
 // Waiters sleep at once.
 const ASLEEP: Patience = Patience {
@@ -22,11 +27,63 @@ const ASLEEP: Patience = Patience {
     yields: 0,
 };
 
-// How long a wait is by the test's clock, in milliseconds, and how late that clock is set for its time to be up. A sleeper looks at
-// the clock so often, since it really sleeps so long.
-const WHILE: u64 = 10;
+// With room for two, and a barrier of three.
+const MADE: Made = Made {
+    permits: 0,
+    count: 3,
+    room: 2,
+    patience: Some(ASLEEP),
+};
 
-const LATE: u64 = 1_000_000;
+// A clock that stands still until it is set.
+const SLEEPING: Story = Story {
+    step: 0,
+    made: MADE,
+    ..ALONE
+};
+
+pub(crate) const STORIES: [Story; 4] = [
+    Story {
+        name: "who is behind is granted at once",
+        made: Made {
+            permits: 20,
+            ..MADE
+        },
+        rows: &[Has(Sign::Asleep(Form::Semaphore, 1)), Does(AcquireLate)],
+        beside: &[In(Long, AcquireMany(40, Ok(None)))],
+        after: &[Does(Available(19))],
+        ..SLEEPING
+    },
+    // Time is up as the permit comes, and nobody rings: the call looks once more, and takes it.
+    Story {
+        name: "an answer that is there is taken",
+        made: Made { room: 1, ..MADE },
+        rows: &[Has(Sign::Asleep(Form::Semaphore, 1)), Does(ReleaseLate)],
+        beside: &[In(Long, Acquire(Ok(Some(()))))],
+        after: &[Does(Available(0))],
+        ..SLEEPING
+    },
+    // The longest wait there is ends by its answer, and so does one of a clock that stands still.
+    Story {
+        name: "the longest wait waits",
+        rows: &[Has(Sign::Asleep(Form::Semaphore, 2)), Does(ReleaseMany(2))],
+        beside: &[In(Ever, Acquire(Ok(Some(()))))],
+        third: &[In(Long, Acquire(Ok(Some(()))))],
+        after: &[Does(Available(0)), Does(Asleep(0))],
+        ..SLEEPING
+    },
+    // A wait at a gate whose time is up tells all others so, and one at a barrier takes its arrival back.
+    Story {
+        name: "a gate tells others and a barrier forgets",
+        rows: &[Has(Sign::Asleep(Form::Gate, 1)), Does(EnterLate)],
+        beside: &[In(Long, Enter(Ok(None)))],
+        after: &[In(Zero, Arrive(Ok(None))), Does(Count(3))],
+        ..SLEEPING
+    },
+];
+
+// How long a wait is by the test's clock, in milliseconds. A sleeper looks at the clock so often, since it really sleeps so long.
+const WHILE: u64 = 10;
 
 // How many sleep, every other one with a time.
 const SLEEPERS: u64 = 48;
@@ -38,8 +95,8 @@ struct Told {
     late: AtomicU64,
 }
 
-/// Waits until so many sleep.
-pub fn await_asleep<R: Wait + Drop, P: Tries>(rt: &impl Wait, shell: &Shell<R, P>, count: usize) {
+// Waits until so many sleep.
+fn await_asleep<R: Wait + Drop, P: Tries>(rt: &impl Wait, shell: &Shell<R, P>, count: usize) {
     for _ in rt.forever() {
         if shell.asleep() == count {
             return;
@@ -98,114 +155,27 @@ fn half_are_late<R: Wait + Threads + Sync>(
     })
 }
 
-#[test]
-fn every_other_sleeper_is_out_of_time(rt: HostRuntime) -> io::Result<()> {
-    let clock = OnClock::new(&rt, 0);
+// How many were late, how many granted, how many permits there are and how many sleep in the end.
+fn counted<H: Wait + Threads + Sync + AllocGlobal>(
+    rt: &H,
+) -> Result<(u64, u64, usize, usize), AllocError> {
+    let clock = OnClock::new(rt, 0);
     let core = SemaphoreCore::with_permits(rt.alloc(), 0, 48)?;
-    let shell = Shell::new(&clock, rt.alloc(), core, 48, ASLEEP)?;
-    let semaphore = Semaphore::on_shell(shell);
+    let semaphore = Semaphore::on_shell(Shell::new(&clock, rt.alloc(), core, 48, ASLEEP)?);
     let told = Told {
         granted: AtomicU64::new(0),
         late: AtomicU64::new(0),
     };
-    same!(rt; half_are_late(&rt, &clock, &semaphore, &told), SLEEPERS / 2);
-    same!(rt; told.granted.load(Ordering::SeqCst), SLEEPERS / 2);
-    same!(rt; semaphore.available_permits(Ordering::SeqCst), 0);
-    same!(rt; semaphore.shell().asleep(), 0);
-    Ok(())
+    let late = half_are_late(rt, &clock, &semaphore, &told);
+    Ok((
+        late,
+        told.granted.load(Ordering::SeqCst),
+        semaphore.available_permits(Ordering::SeqCst),
+        semaphore.shell().asleep(),
+    ))
 }
 
-// A waiter behind one whose time is up waits for no more than that.
 #[test]
-fn who_is_behind_is_granted_at_once(rt: HostRuntime) -> Result<(), Fail> {
-    let clock = OnClock::new(&rt, 0);
-    let core = SemaphoreCore::with_permits(rt.alloc(), 20, 2)?;
-    let shell = Shell::new(&clock, rt.alloc(), core, 2, ASLEEP)?;
-    let semaphore = Semaphore::on_shell(shell);
-    let (large, small) = thread::join(
-        &rt,
-        || semaphore.acquire_many_sync_for(40, Duration::from_millis(WHILE)),
-        || {
-            await_asleep(&rt, semaphore.shell(), 1);
-            let small = semaphore.acquire_sync_with(|| clock.set(LATE));
-            small.is_ok()
-        },
-    );
-    same!(rt; large, Ok(None));
-    holds!(rt; small);
-    same!(rt; semaphore.available_permits(Ordering::SeqCst), 19);
-    Ok(())
-}
-
-// Time is up as the permit comes, and nobody rings: the call looks once more, and takes it.
-#[test]
-fn an_answer_that_is_there_is_taken(rt: HostRuntime) -> Result<(), Fail> {
-    let clock = OnClock::new(&rt, 0);
-    let core = SemaphoreCore::with_permits(rt.alloc(), 0, 1)?;
-    let shell = Shell::new(&clock, rt.alloc(), core, 1, ASLEEP)?;
-    let semaphore = Semaphore::on_shell(shell);
-    let (told, is_given) = thread::join(
-        &rt,
-        || semaphore.acquire_sync_for(Duration::from_millis(WHILE)),
-        || {
-            await_asleep(&rt, semaphore.shell(), 1);
-            call_untold(semaphore.shell(), |core| {
-                clock.set(LATE);
-                core.release()
-            })
-        },
-    );
-    holds!(rt; is_given);
-    same!(rt; told, Ok(Some(())));
-    same!(rt; semaphore.available_permits(Ordering::SeqCst), 0);
-    Ok(())
-}
-
-// The longest wait there is ends by its answer, and so does one of a clock that stands still.
-#[test]
-fn the_longest_wait_waits(rt: HostRuntime) -> Result<(), Fail> {
-    let clock = OnClock::new(&rt, 0);
-    let core = SemaphoreCore::with_permits(rt.alloc(), 0, 2)?;
-    let shell = Shell::new(&clock, rt.alloc(), core, 2, ASLEEP)?;
-    let semaphore = Semaphore::on_shell(shell);
-    let ((longest, still), is_released) = thread::join(
-        &rt,
-        || {
-            thread::join(
-                &rt,
-                || semaphore.acquire_sync_for(Duration::MAX),
-                || semaphore.acquire_sync_for(Duration::from_millis(WHILE)),
-            )
-        },
-        || {
-            await_asleep(&rt, semaphore.shell(), 2);
-            semaphore.release_many(2)
-        },
-    );
-    holds!(rt; is_released);
-    same!(rt; [longest, still], [Ok(Some(())), Ok(Some(()))]);
-    same!(rt; semaphore.available_permits(Ordering::SeqCst), 0);
-    Ok(())
-}
-
-// A wait at a gate whose time is up tells all others so, and one at a barrier takes its arrival back.
-#[test]
-fn a_gate_tells_others_and_a_barrier_forgets(rt: HostRuntime) -> Result<(), Fail> {
-    let clock = OnClock::new(&rt, 0);
-    let shell = Shell::new(&clock, rt.alloc(), GateCore::new(rt.alloc(), 2)?, 2, ASLEEP)?;
-    let gate = Gate::on_shell(shell);
-    let barrier = Barrier::with_count(&clock, rt.alloc(), 3, 2)?;
-    let (late, told) = thread::join(
-        &rt,
-        || gate.enter_sync_for(Duration::from_millis(WHILE)),
-        || {
-            await_asleep(&rt, gate.shell(), 1);
-            gate.enter_sync_with(|| clock.set(LATE))
-        },
-    );
-    same!(rt; late, Ok(None));
-    same!(rt; told, Ok(Err(Error::SpuriousFailure)));
-    same!(rt; barrier.wait_sync_for(Duration::ZERO), Ok(None));
-    same!(rt; barrier.count(Ordering::SeqCst), 3);
-    Ok(())
+fn every_other_sleeper_is_out_of_time(rt: HostRuntime) {
+    same!(rt; counted(&rt), Ok((SLEEPERS / 2, SLEEPERS / 2, 0, 0)));
 }

@@ -1,196 +1,139 @@
 //! Waits that are answered before their time is up: each really waits, sleeps, and is woken.
+//!
+//! The clock stands still, so no time is ever up.
 
-use crate::clock::OnClock;
-use crate::crowd::await_asleep;
-use saa_sync::barrier::Barrier;
-use saa_sync::gate::{Gate, State};
-use saa_sync::lock::Lock;
-use saa_sync::lock_api::{Mutex, RwLock};
-use saa_sync::pager::Pager;
-use saa_sync::semaphore::Semaphore;
-use saa_sync::timed::Timed;
-use std::io;
-use std::sync::Wait;
-use std::sync::atomic::{AtomicBool, Ordering};
-use std::thread::{self, yield_now};
-use std::time::{Clock, Duration};
-use test_asserts::{holds, same};
+use crate::calls::ALONE;
+use crate::forms::Time::Long;
+use crate::forms::{Form, Way};
+use crate::stories::Act::{
+    ArriveLast, DropGuards, Hold, IsLocked, LetPass, PoisonLock, Register, Release, ReleaseLock,
+    TryLock,
+};
+use crate::stories::Ask::{Arrive, Enter, Lock, PollPermit, Share, Take};
+use crate::stories::Row::{Does, Has, In};
+use crate::stories::Sign::{Asleep, Awaited, NotPast, Reached};
+use crate::stories::{Row, Story};
+use saa_sync::gate::State;
 
-// How often is looked whether a call has returned that must wait.
-const TURNS: u32 = 10_000;
+// With room for one.
+const GRANTED: Story = Story { step: 0, ..ALONE };
 
-// A time that never comes, since the clock stands still.
-fn long() -> Duration {
-    Duration::from_millis(10)
-}
+pub(crate) const STORIES: [Story; 4] = [
+    Story {
+        name: "locks are granted in time",
+        rows: &GIVES_TURNS,
+        beside: &WAITS_FOR_TURNS,
+        ..GRANTED
+    },
+    Story {
+        name: "gates and barriers answer in time",
+        rows: &LETS_PASS,
+        beside: &GATHERS,
+        ..GRANTED
+    },
+    Story {
+        name: "a pager is answered in time",
+        rows: &RELEASES,
+        beside: &POLLS,
+        ..GRANTED
+    },
+    Story {
+        name: "a mutex is granted in time",
+        rows: &HOLDS,
+        beside: &LOCKS,
+        ..GRANTED
+    },
+];
 
-#[test]
-fn locks_are_granted_in_time(rt: HostRuntime) -> io::Result<()> {
-    let clock = OnClock::new(&rt, 0);
-    let lock = Lock::new(&clock, rt.alloc(), 1)?;
-    same!(rt; lock.try_lock(), Ok(()));
-    let (alone, is_released) = thread::join(
-        &rt,
-        || lock.lock_sync_for(long()),
-        || {
-            await_asleep(&rt, lock.shell(), 1);
-            lock.release_lock()
-        },
-    );
-    same!(rt; (alone, is_released), (Ok(Some(true)), true));
-    holds!(rt; lock.is_locked(Ordering::SeqCst));
-    let (shared, is_poisoned) = thread::join(
-        &rt,
-        || lock.share_sync_for(long()),
-        || {
-            await_asleep(&rt, lock.shell(), 1);
-            lock.poison_lock()
-        },
-    );
-    same!(rt; (shared, is_poisoned), (Ok(Some(false)), true));
-    Ok(())
-}
+// A reader behind a writer, and a writer behind a reader.
+pub(crate) const SHARED: [Story; 2] = [
+    Story {
+        name: "a reader is granted in time",
+        rows: &HOLDS_TO_WRITE,
+        beside: &READS,
+        ..GRANTED
+    },
+    Story {
+        name: "a writer is granted in time",
+        rows: &HOLDS_TO_READ,
+        beside: &WRITES,
+        ..GRANTED
+    },
+];
 
-#[test]
-fn gates_and_barriers_answer_in_time(rt: HostRuntime) -> io::Result<()> {
-    let clock = OnClock::new(&rt, 0);
-    let gate = Gate::new(&clock, rt.alloc(), 1)?;
-    let (told, how_many) = thread::join(
-        &rt,
-        || gate.enter_sync_for(long()),
-        || {
-            await_asleep(&rt, gate.shell(), 1);
-            gate.permit()
-        },
-    );
-    same!(rt; (told, how_many), (Ok(Some(Ok(State::Controlled))), Ok(1)));
-    let barrier = Barrier::with_count(&clock, rt.alloc(), 2, 1)?;
-    let (first, last) = thread::join(
-        &rt,
-        || barrier.wait_sync_for(long()),
-        || {
-            await_asleep(&rt, barrier.shell(), 1);
-            barrier.wait_sync()
-        },
-    );
-    same!(rt; (first, last), (Ok(Some(false)), Ok(true)));
-    Ok(())
-}
+const GIVES_TURNS: [Row; 8] = [
+    Does(TryLock),
+    Has(Reached(1)),
+    Has(Asleep(Form::Lock, 1)),
+    Does(ReleaseLock),
+    Has(Awaited(2)),
+    Does(IsLocked),
+    Has(Asleep(Form::Lock, 1)),
+    Does(PoisonLock),
+];
 
-// What a pager is told in time.
-fn polled_in_time<S: Timed>(pager: Pager<'_, S>) -> Option<S::Result> {
-    let mut pager = pager;
-    pager.poll_sync_for(long())
-}
+const WAITS_FOR_TURNS: [Row; 4] = [
+    Has(Awaited(1)),
+    In(Long, Lock(Ok(Some(true)))),
+    Has(Reached(2)),
+    In(Long, Share(Ok(Some(false)))),
+];
 
-#[test]
-fn a_pager_is_answered_in_time(rt: HostRuntime) -> io::Result<()> {
-    let clock = OnClock::new(&rt, 0);
-    let semaphore = Semaphore::with_permits(&clock, rt.alloc(), 0, 1)?;
-    let mut pager = Pager::new();
-    same!(rt; semaphore.register_pager(&mut pager, 1, true), Ok(true));
-    let (told, is_released) = thread::join(
-        &rt,
-        || polled_in_time(pager),
-        || {
-            await_asleep(&rt, semaphore.shell(), 1);
-            semaphore.release()
-        },
-    );
-    same!(rt; (told, is_released), (Some(Ok(())), true));
-    Ok(())
-}
+const LETS_PASS: [Row; 4] = [
+    Has(Asleep(Form::Gate, 1)),
+    Does(LetPass(1)),
+    Has(Asleep(Form::Barrier, 1)),
+    Does(ArriveLast),
+];
 
-// Whether a call has returned that must wait, and is looked at for a while.
-fn has_returned(has_ended: &AtomicBool) -> bool {
-    for _turn in 0..TURNS {
-        if has_ended.load(Ordering::SeqCst) {
-            return true;
-        }
-        yield_now();
-    }
-    false
-}
+const GATHERS: [Row; 2] = [
+    In(Long, Enter(Ok(Some(Ok(State::Controlled))))),
+    In(Long, Arrive(Ok(Some(false)))),
+];
 
-// The value of a mutex in time, and that the call has returned.
-fn locked_in_time<R: Wait + Clock + Drop>(mutex: &Mutex<R, u32>, has_ended: &AtomicBool) -> u32 {
-    let value = match mutex.lock_for(long()) {
-        Ok(Some(guard)) => *guard,
-        _ => 0,
-    };
-    has_ended.store(true, Ordering::SeqCst);
-    value
-}
+const RELEASES: [Row; 2] = [Has(Asleep(Form::Semaphore, 1)), Does(Release)];
 
-#[test]
-fn a_mutex_is_granted_in_time(rt: HostRuntime) -> io::Result<()> {
-    let clock = OnClock::new(&rt, 0);
-    let mutex = Mutex::new(&clock, rt.alloc(), 5, 1)?;
-    let has_ended = AtomicBool::new(false);
-    let guard = mutex.lock();
-    holds!(rt; guard.is_ok());
-    let (value, is_early) = thread::join(
-        &rt,
-        || locked_in_time(&mutex, &has_ended),
-        || {
-            let is_early = has_returned(&has_ended);
-            drop(guard);
-            is_early
-        },
-    );
-    same!(rt; (value, is_early), (5, false));
-    Ok(())
-}
+const POLLS: [Row; 2] = [
+    Does(Register(Form::Semaphore, true)),
+    In(Long, PollPermit(Some(Ok(())))),
+];
 
-// The value that a reader finds in time.
-fn read_in_time<R: Wait + Clock + Drop>(lock: &RwLock<R, u32>, has_ended: &AtomicBool) -> u32 {
-    let value = match lock.read_for(long()) {
-        Ok(Some(guard)) => *guard,
-        _ => 0,
-    };
-    has_ended.store(true, Ordering::SeqCst);
-    value
-}
+// The guard is held while the other waits for it, and that one hasn't returned for a while.
+const HOLDS: [Row; 4] = [
+    Does(Hold(Way::Lock, 5)),
+    Has(Reached(1)),
+    Has(NotPast(1)),
+    Does(DropGuards),
+];
 
-// The value that a writer finds in time.
-fn written_in_time<R: Wait + Clock + Drop>(lock: &RwLock<R, u32>, has_ended: &AtomicBool) -> u32 {
-    let value = match lock.write_for(long()) {
-        Ok(Some(guard)) => *guard,
-        _ => 0,
-    };
-    has_ended.store(true, Ordering::SeqCst);
-    value
-}
+const LOCKS: [Row; 3] = [
+    Has(Awaited(1)),
+    In(Long, Take(Way::Lock, Ok(Some(5)))),
+    Has(Reached(2)),
+];
 
-#[test]
-fn readers_and_writers_are_granted_in_time(rt: HostRuntime) -> io::Result<()> {
-    let clock = OnClock::new(&rt, 0);
-    let lock = RwLock::new(&clock, rt.alloc(), 5, 1)?;
-    let has_read = AtomicBool::new(false);
-    let writer = lock.write();
-    holds!(rt; writer.is_ok());
-    let (read, is_early) = thread::join(
-        &rt,
-        || read_in_time(&lock, &has_read),
-        || {
-            let is_early = has_returned(&has_read);
-            drop(writer);
-            is_early
-        },
-    );
-    same!(rt; (read, is_early), (5, false));
-    let has_written = AtomicBool::new(false);
-    let reader = lock.read();
-    holds!(rt; reader.is_ok());
-    let (written, is_early) = thread::join(
-        &rt,
-        || written_in_time(&lock, &has_written),
-        || {
-            let is_early = has_returned(&has_written);
-            drop(reader);
-            is_early
-        },
-    );
-    same!(rt; (written, is_early), (5, false));
-    Ok(())
-}
+const HOLDS_TO_WRITE: [Row; 4] = [
+    Does(Hold(Way::Write, 5)),
+    Has(Reached(1)),
+    Has(NotPast(1)),
+    Does(DropGuards),
+];
+
+const READS: [Row; 3] = [
+    Has(Awaited(1)),
+    In(Long, Take(Way::Read, Ok(Some(5)))),
+    Has(Reached(2)),
+];
+
+const HOLDS_TO_READ: [Row; 4] = [
+    Does(Hold(Way::Read, 5)),
+    Has(Reached(1)),
+    Has(NotPast(1)),
+    Does(DropGuards),
+];
+
+const WRITES: [Row; 3] = [
+    Has(Awaited(1)),
+    In(Long, Take(Way::Write, Ok(Some(5)))),
+    Has(Reached(2)),
+];

@@ -1,55 +1,56 @@
 //! Guards that are waited for in time.
 
-use crate::clock::OnClock;
+use crate::calls::{ALONE, MADE};
+use crate::forms::Made;
+use crate::forms::Time::{Ever, Past, Short, Zero};
+use crate::forms::Way::{Lock, Read, Write};
+use crate::stories::Act::{DropGuards, Hold, Put};
+use crate::stories::Ask::Take;
+use crate::stories::Row::{Does, In};
+use crate::stories::{Row, Story};
 use saa_core::ticket::Full;
-use saa_sync::lock_api::{Mutex, RwLock};
-use std::io;
-use std::time::{Duration, Instant};
-use test_asserts::{holds, same};
 
-#[test]
-fn a_mutex_in_time(rt: HostRuntime) -> io::Result<()> {
-    let clock = OnClock::new(&rt, 1);
-    let now = Instant::now(&clock)?;
-    let mutex = Mutex::new(&clock, rt.alloc(), 5, 1)?;
-    if let Ok(Some(mut guard)) = mutex.lock_for(Duration::ZERO) {
-        *guard = 6;
-        holds!(rt; matches!(mutex.lock_for(Duration::from_micros(9)), Ok(None)));
-        holds!(rt; matches!(mutex.lock_until(now), Ok(None)));
-    }
-    let last = match mutex.lock_until(now) {
-        Ok(Some(guard)) => *guard,
-        _ => 0,
-    };
-    same!(rt; last, 6);
-    Ok(())
-}
+pub(crate) const STORIES: [Story; 3] = [
+    Story {
+        name: "a mutex in time",
+        rows: &MUTEX,
+        ..ALONE
+    },
+    Story {
+        name: "readers and writers in time",
+        rows: &READERS_AND_WRITERS,
+        ..ALONE
+    },
+    Story {
+        name: "a mutex of no room",
+        made: Made { room: 0, ..MADE },
+        rows: &NO_ROOM,
+        ..ALONE
+    },
+];
 
-#[test]
-fn readers_and_writers_in_time(rt: HostRuntime) -> io::Result<()> {
-    let clock = OnClock::new(&rt, 1);
-    let now = Instant::now(&clock)?;
-    let lock = RwLock::new(&clock, rt.alloc(), 5, 1)?;
-    if let Ok(Some(mut writer)) = lock.write_for(Duration::ZERO) {
-        *writer = 6;
-        holds!(rt; matches!(lock.read_for(Duration::from_micros(9)), Ok(None)));
-        holds!(rt; matches!(lock.read_until(now), Ok(None)));
-        holds!(rt; matches!(lock.write_for(Duration::ZERO), Ok(None)));
-    }
-    let mut seen = (0, 0);
-    if let (Ok(Some(one)), Ok(Some(other))) = (
-        lock.read_until(now),
-        lock.read_for(Duration::ZERO),
-    ) {
-        holds!(rt; matches!(lock.write_until(now), Ok(None)));
-        seen = (*one, *other);
-    }
-    same!(rt; seen, (6, 6));
-    holds!(rt; matches!(lock.write_until(now), Ok(Some(_))));
+const MUTEX: [Row; 6] = [
+    In(Zero, Take(Lock, Ok(Some(5)))),
+    Does(Put(6)),
+    In(Short, Take(Lock, Ok(None))),
+    In(Past, Take(Lock, Ok(None))),
+    Does(DropGuards),
+    In(Past, Take(Lock, Ok(Some(6)))),
+];
 
-    // No room to wait in.
-    let alone = Mutex::new(&rt, rt.alloc(), 5, 0)?;
-    let guard = alone.lock();
-    holds!(rt; guard.is_ok() && matches!(alone.lock_for(Duration::MAX), Err(Full)));
-    Ok(())
-}
+const READERS_AND_WRITERS: [Row; 11] = [
+    In(Zero, Take(Write, Ok(Some(5)))),
+    Does(Put(6)),
+    In(Short, Take(Read, Ok(None))),
+    In(Past, Take(Read, Ok(None))),
+    In(Zero, Take(Write, Ok(None))),
+    Does(DropGuards),
+    // Two readers at the same time.
+    In(Past, Take(Read, Ok(Some(6)))),
+    In(Zero, Take(Read, Ok(Some(6)))),
+    In(Past, Take(Write, Ok(None))),
+    Does(DropGuards),
+    In(Past, Take(Write, Ok(Some(6)))),
+];
+
+const NO_ROOM: [Row; 2] = [Does(Hold(Lock, 5)), In(Ever, Take(Lock, Err(Full)))];

@@ -2,6 +2,8 @@
 //!
 //! Where time decides, the clock is a test's own: it moves when the test says so, or by a step at each reading. So no test depends
 //! on how fast the machine is.
+//!
+//! What is told is in tables of rows (`calls`, `pagers`, `guards`, `granted`, `crowd`), which `stories` plays.
 #![tactic(auto)]
 
 #[cfg(test)]
@@ -11,6 +13,8 @@ mod clock;
 #[cfg(test)]
 mod crowd;
 #[cfg(test)]
+mod forms;
+#[cfg(test)]
 mod granted;
 #[cfg(test)]
 mod guards;
@@ -18,3 +22,7 @@ mod guards;
 mod pagers;
 #[cfg(test)]
 mod races;
+#[cfg(test)]
+mod stories;
+#[cfg(test)]
+mod whole;

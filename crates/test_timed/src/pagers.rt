@@ -1,66 +1,81 @@
 //! Pagers that are waited for in time.
 
-use crate::clock::OnClock;
-use saa_sync::barrier::Barrier;
-use saa_sync::gate::{Error as GateError, Gate, State};
-use saa_sync::lock::{Lock, Mode};
-use saa_sync::pager::{Error, Pager};
-use saa_sync::semaphore::Semaphore;
-use std::io;
-use std::sync::atomic::Ordering;
-use std::time::{Duration, Instant};
-use test_asserts::{holds, same};
+use crate::calls::ALONE;
+use crate::forms::Form::{Barrier, Gate, Lock, Semaphore};
+use crate::forms::Made;
+use crate::forms::Time::{Ever, Past, Short, Zero};
+use crate::stories::Act::{
+    ArriveLast, Available, IsRegistered, Open, PoisonLock, Register, Reject, Release, TryLock,
+};
+use crate::stories::Ask::{PollArrival, PollPassing, PollPermit, PollTurn};
+use crate::stories::Row::{Does, In};
+use crate::stories::{Row, Story};
+use saa_sync::gate::{Error as GateError, State};
+use saa_sync::pager::Error;
 
-#[test]
-fn a_pager_whose_time_is_up_stays_registered(rt: HostRuntime) -> io::Result<()> {
-    let clock = OnClock::new(&rt, 1);
-    let now = Instant::now(&clock)?;
-    let semaphore = Semaphore::with_permits(&clock, rt.alloc(), 0, 2)?;
-    let mut pager = Pager::new();
-    same!(rt; pager.poll_sync_for(Duration::MAX), Some(Err(Error::NotRegistered)));
-    same!(rt; semaphore.register_pager(&mut pager, 1, true), Ok(true));
-    same!(rt; pager.poll_sync_for(Duration::from_micros(9)), None);
-    same!(rt; pager.poll_sync_until(now), None);
-    holds!(rt; pager.is_registered());
-    holds!(rt; semaphore.release());
+// With room for two.
+const MADE: Made = Made {
+    permits: 0,
+    count: 2,
+    room: 2,
+    patience: None,
+};
 
+pub(crate) const STORIES: [Story; 3] = [
+    Story {
+        name: "a pager whose time is up stays registered",
+        made: MADE,
+        rows: &PERMITS,
+        ..ALONE
+    },
+    Story {
+        name: "pagers of a lock and of a gate",
+        made: Made { room: 1, ..MADE },
+        rows: &TURNS_AND_PASSINGS,
+        ..ALONE
+    },
+    Story {
+        name: "a pager of a barrier",
+        made: MADE,
+        rows: &ARRIVALS,
+        ..ALONE
+    },
+];
+
+const PERMITS: [Row; 12] = [
+    In(Ever, PollPermit(Some(Err(Error::NotRegistered)))),
+    Does(Register(Semaphore, true)),
+    In(Short, PollPermit(None)),
+    In(Past, PollPermit(None)),
+    Does(IsRegistered(true)),
+    Does(Release),
     // The answer is there, and is taken whatever the time.
-    same!(rt; pager.poll_sync_until(now), Some(Ok(())));
-    holds!(rt; !pager.is_registered());
-    same!(rt; pager.poll_sync_until(now), Some(Err(Error::NotRegistered)));
-    same!(rt; semaphore.register_pager(&mut pager, 1, false), Ok(true));
-    same!(rt; pager.poll_sync_for(Duration::MAX), Some(Err(Error::WrongMode)));
-    same!(rt; semaphore.available_permits(Ordering::SeqCst), 0);
-    Ok(())
-}
+    In(Past, PollPermit(Some(Ok(())))),
+    Does(IsRegistered(false)),
+    In(Past, PollPermit(Some(Err(Error::NotRegistered)))),
+    Does(Register(Semaphore, false)),
+    In(Ever, PollPermit(Some(Err(Error::WrongMode)))),
+    Does(Available(0)),
+];
 
-#[test]
-fn pagers_of_the_other_forms(rt: HostRuntime) -> io::Result<()> {
-    let clock = OnClock::new(&rt, 1);
-    let now = Instant::now(&clock)?;
-    let lock = Lock::new(&clock, rt.alloc(), 1)?;
-    let mut reader = Pager::new();
-    same!(rt; lock.try_lock(), Ok(()));
-    same!(rt; lock.register_pager(&mut reader, Mode::Shared, true), Ok(true));
-    same!(rt; reader.poll_sync_for(Duration::ZERO), None);
-    holds!(rt; lock.poison_lock());
-    same!(rt; reader.poll_sync_until(now), Some(Ok(false)));
+const TURNS_AND_PASSINGS: [Row; 12] = [
+    Does(TryLock),
+    Does(Register(Lock, true)),
+    In(Zero, PollTurn(None)),
+    Does(PoisonLock),
+    In(Past, PollTurn(Some(Ok(false)))),
+    Does(Register(Gate, true)),
+    In(Zero, PollPassing(None)),
+    Does(Reject(1)),
+    In(Zero, PollPassing(Some(Err(GateError::Rejected)))),
+    Does(Open(State::Controlled)),
+    Does(Register(Gate, true)),
+    In(Past, PollPassing(Some(Ok(State::Open)))),
+];
 
-    let gate = Gate::new(&clock, rt.alloc(), 1)?;
-    let mut guest = Pager::new();
-    same!(rt; gate.register_pager(&mut guest, true), Ok(true));
-    same!(rt; guest.poll_sync_for(Duration::ZERO), None);
-    same!(rt; gate.reject(), Ok(1));
-    same!(rt; guest.poll_sync_for(Duration::ZERO), Some(Err(GateError::Rejected)));
-    same!(rt; gate.open(), (State::Controlled, 0));
-    same!(rt; gate.register_pager(&mut guest, true), Ok(true));
-    same!(rt; guest.poll_sync_until(now), Some(Ok(State::Open)));
-
-    let barrier = Barrier::with_count(&clock, rt.alloc(), 2, 2)?;
-    let mut first = Pager::new();
-    same!(rt; barrier.register_pager(&mut first, true), Ok(true));
-    same!(rt; first.poll_sync_until(now), None);
-    same!(rt; barrier.wait_sync(), Ok(true));
-    same!(rt; first.poll_sync_for(Duration::ZERO), Some(Ok(false)));
-    Ok(())
-}
+const ARRIVALS: [Row; 4] = [
+    Does(Register(Barrier, true)),
+    In(Past, PollArrival(None)),
+    Does(ArriveLast),
+    In(Zero, PollArrival(Some(Ok(false)))),
+];
