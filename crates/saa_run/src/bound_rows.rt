@@ -4,7 +4,7 @@
 use crate::tests::Row;
 
 /// Each script, what is written of it, and the status.
-pub(crate) const BOUND_ROWS: [Row; 10] = [
+pub(crate) static BOUND_ROWS: [Row; 10] = [
     // 1000 permits: one more is never granted or given back, and a waiter for 300 is granted once they are available.
     Row {
         input: "bounded 1000 1000 4\ntry 1001\ntry 1000\nreg 1 300 sync\nrelease 299\navailable\nrelease 1\navailable\npoll_sync 1\nrelease 1001\nrelease 1000\navailable\n",
@@ -64,7 +64,7 @@ pub(crate) const BOUND_ROWS: [Row; 10] = [
 ];
 
 /// Each schedule, what is written of it, and the status.
-pub(crate) const BOUND_SCHEDULES: [Row; 7] = [
+pub(crate) static BOUND_SCHEDULES: [Row; 7] = [
     // 1000 permits: 299 are too few for the waiter, and with one more it is granted.
     Row {
         input: "bounded 1000 0 3\nstart 1 try 1001\nstart 1 try 1000\nend 1\nword\nstart 0 reg 300\nend 0\nword\nstart 1 release 299\nend 1\nword\nstart 2 available\nend 2\nstart 1 release 1\nend 1\nword\nstart 0 try_poll\nend 0\n",

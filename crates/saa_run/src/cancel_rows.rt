@@ -3,7 +3,7 @@
 use crate::tests::Row;
 
 /// Each schedule, what is written of it, and the status.
-pub(crate) const CANCEL_ROWS: [Row; 12] = [
+pub(crate) static CANCEL_ROWS: [Row; 12] = [
     // Of a place that is not registered, and of one that is no longer.
     Row {
         input: "semaphore 0 2\nstart 0 cancel\nword\nstart 0 reg 5\nend 0\nstart 0 poll\nstart 0 cancel\nword\nstart 1 cancel\ngo 0\n",

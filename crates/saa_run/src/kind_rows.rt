@@ -4,7 +4,7 @@
 use crate::tests::Row;
 
 /// Each story, what is written of it, and the status.
-pub(crate) const KIND_ROWS: [Row; 36] = [
+pub(crate) static KIND_ROWS: [Row; 36] = [
     // A reader, one who only waits and a writer pass in the order of asking, and poison ends a wait:
     // examples/readers_and_a_writer.script.
     Row {

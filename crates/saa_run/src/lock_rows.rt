@@ -3,7 +3,7 @@
 use crate::tests::Row;
 
 /// Each schedule, what is written of it, and the status.
-pub(crate) const LOCK_ROWS: [Row; 15] = [
+pub(crate) static LOCK_ROWS: [Row; 15] = [
     // Each call of a lock that one owner has, and that nobody has.
     Row {
         input: "lock 2\nword\nstart 0 is_free\nend 0\nstart 0 try_lock\nend 0\nword\nstart 0 is_free\nend 0\nstart 0 is_locked\nend 0\nstart 0 is_shared\nend 0\nstart 0 is_poisoned\nend 0\nstart 1 try_lock\nend 1\nstart 1 try_share\nend 1\nstart 1 release_share\nend 1\nstart 1 clear_poison\nend 1\nword\nstart 0 release_lock\nend 0\nstart 0 release_lock\nend 0\nstart 0 release_share\nend 0\nstart 0 poison_lock\nend 0\nstart 0 is_locked\nend 0\nword\n",

@@ -3,19 +3,18 @@
 //! The reader is written apart from the definitions and from the program's own. It knows only how lines are spelled, so a run is compared by
 //! its status, by how many lines it answered, and by the line that it calls bad.
 
-use crate::schedule_tests::played;
 use crate::spelling::{Language, first_bad_line};
-use crate::tests::{Written, run_over_memory};
+use crate::tests::runs::run_over_memory;
 use std::alloc::{AllocError, Global};
-use std::test::Fail;
+use std::process::Abort;
 
 // How many scripts and schedules are changed.
 const MUTANTS: u32 = 50_000;
 
 // What a byte is changed to: what good lines are made of, and what they aren't.
-const BYTES: [u8; 24] = *b" 0123456789 aeirst_\n\n\r-A";
+static BYTES: [u8; 24] = *b" 0123456789 aeirst_\n\n\r-A";
 
-const SCRIPTS: [&str; 5] = [
+static SCRIPTS: [&str; 5] = [
     "semaphore 63 1\ntry 63\nreg 1 1 sync\nreg 2 1 async\nrelease 1\navailable\npoll_sync 1\npoll_async 2\ntry_poll 99\nis_open\nis_closed\nregistered 1\ndrop 2\n",
     "bounded 1000 20 65535\ntry 999999\nreg 10 12 sync\nregistered 10\ndrop 10\nrelease 100\navailable\n",
     "lock 4\ntry_lock\ntry_share\nreg 1 shared sync\nreg 2 wait_exclusive async\nreg 3 exclusive sync\ndowngrade\nrelease_share\nrelease_lock\npoison_lock\nclear_poison\nis_free\nis_locked\nis_shared\nis_poisoned\nreg 4 wait_shared sync\npoll_sync 1\n",
@@ -23,7 +22,7 @@ const SCRIPTS: [&str; 5] = [
     "barrier 2 4\ncount\nreg 1 sync\nreg 2 async\npoll_sync 1\ntry_poll 2\ndrop 3\ncount\n",
 ];
 
-const SCHEDULES: [&str; 3] = [
+static SCHEDULES: [&str; 3] = [
     "semaphore 0 3\nstart 1 try 63\nend 1\nstart 0 reg 10\nend 0\nstart 1 release 5\nuntil 1 publish\nword\ngo 2\nstart 2 available\nend 2\nend 1\nstart 0 try_poll\ngo 0\nstart 0 poll\nstart 0 cancel\n",
     "bounded 1000 7 100\nstart 99 try 9\nuntil 99 ask\nend 99\nword\nstart 12 reg 1000\nuntil 12 prepare\nuntil 12 join\ngo 12\nstart 1 release 0\n",
     "lock 10\nstart 0 try_lock\nend 0\nstart 1 reg wait_shared\nend 1\nstart 2 reg exclusive\nend 2\nstart 0 downgrade\nuntil 0 walk\nend 0\nstart 0 release_share\nuntil 0 show\nend 0\nstart 9 is_poisoned\nend 9\nstart 2 poison_lock\nuntil 2 poison\nstart 3 clear_poison\nuntil 3 clear\nstart 4 cancel\n",
@@ -73,71 +72,43 @@ fn change(bytes: &mut Vec<u8>, random: &mut Random) -> Result<(), AllocError> {
     Ok(())
 }
 
-// What a run wrote: how many lines but for the last where that tells of a bad one, and the number of the bad line.
-fn told(output: &[u8]) -> (usize, Option<u64>) {
+// What a run wrote: how many lines but for those that tell of a bad one, and the number of the bad line.
+fn told(output: &str) -> (usize, Option<usize>) {
     let mut lines = 0usize;
     let mut bad = None;
-    for line in output.split(|byte| *byte == b'\n') {
-        match line.strip_prefix(b"bad line ") {
-            Some(digits) => bad = number_in(digits),
+    for line in output.lines() {
+        match line.strip_prefix("bad line ") {
+            Some(digits) => bad = digits.parse::<usize>().ok(),
             None => lines = lines.saturating_add(1),
         }
     }
-    // (behind the last newline there is an empty piece)
-    (lines.saturating_sub(1), bad)
+    (lines, bad)
 }
 
-// The number that digits are.
-fn number_in(digits: &[u8]) -> Option<u64> {
-    let mut number = 0u64;
-    for digit in digits {
-        let value = digit.checked_sub(b'0')?;
-        number = number.checked_mul(10)?.checked_add(u64::from(value))?;
-    }
-    Some(number)
-}
-
-// Runs a text in its language: what was written, and the status.
-fn run_in(alloc: Global, language: Language, text: &[u8]) -> Written {
-    match language {
-        Language::Script => run_over_memory(alloc, text),
-        Language::Schedule => played(alloc, text),
-    }
-}
-
-// Whether a run of this text did what the plain reader says of it.
+// Whether a run of this text did what the plain reader says of it. All that is read and written is plain text.
 fn is_as_spelled(alloc: Global, language: Language, text: &[u8]) -> bool {
-    let (output, status) = run_in(alloc, language, text);
-    let (good, bad) = first_bad_line(language, text);
+    let (output, status) = run_over_memory(alloc, language, text);
+    let (good, bad) = first_bad_line(language, str::from_utf8(text).unwrap_or(""));
     let wanted_status = if bad.is_some() { 2 } else { 0 };
-    status == wanted_status && told(output.as_slice()) == (good.saturating_sub(1), bad)
+    let told = told(str::from_utf8(output.as_slice()).unwrap_or(""));
+    status == wanted_status && told == (good.saturating_sub(1), bad)
 }
 
-// The first of the changed texts that isn't treated as the plain reader says.
-fn first_wrong(
-    alloc: Global,
-    language: Language,
-    texts: &[&str],
-    seed: u64,
-) -> Result<Option<Vec<u8>>, AllocError> {
+// Changes texts, and fails the test where one of them isn't treated as the plain reader says.
+fn compare_changed<R: Abort>(rt: &R, alloc: Global, language: Language, texts: &[&str], seed: u64) {
     let mut random = Random { state: seed };
     for turn in 0..MUTANTS {
-        let text = texts
-            .get(turn as usize % texts.len().max(1))
-            .copied()
-            .unwrap_or("");
-        let bytes = mutant(alloc, text, &mut random)?;
-        if !is_as_spelled(alloc, language, bytes.as_slice()) {
-            return Ok(Some(bytes));
-        }
+        let text = texts.get(turn as usize % texts.len().max(1)).copied();
+        let bytes = mutant(alloc, text.unwrap_or(""), &mut random).expect(rt, "no memory");
+        assert!(rt;
+            is_as_spelled(alloc, language, bytes.as_slice()),
+            "of {bytes:?}"
+        );
     }
-    Ok(None)
 }
 
 #[test]
-fn changed_scripts_are_bad_where_they_are(rt: HostRuntime) -> Result<(), Fail> {
-    let script = first_wrong(rt.alloc(), Language::Script, &SCRIPTS, 1)?;
-    let schedule = first_wrong(rt.alloc(), Language::Schedule, &SCHEDULES, 2)?;
-    assert_eq!(rt; (script, schedule), (None, None));
-    Ok(())
+fn changed_scripts_are_bad_where_they_are(rt: HostRuntime) {
+    compare_changed(&rt, rt.alloc(), Language::Script, &SCRIPTS, 1);
+    compare_changed(&rt, rt.alloc(), Language::Schedule, &SCHEDULES, 2);
 }

@@ -3,16 +3,15 @@
 use crate::bound_rows::BOUND_SCHEDULES;
 use crate::cancel_rows::CANCEL_ROWS;
 use crate::lock_rows::LOCK_ROWS;
-use crate::run::machine;
 use crate::schedule::end;
-use crate::tests::{BreakingReader, Row, Written, and_often, other, with_room};
+use crate::spelling::Language;
+use crate::tests::{Repeated, Row, compare_repeated, compare_rows};
 use saa_word::machine::{Machine, Move, Step, WordCall};
-use std::alloc::{AllocError, Global};
-use std::io::ErrorKind;
-use std::test::Fail;
+use std::alloc::Global;
+use std::process::Abort;
 
 /// Good lines of each kind, each reply, and numbers at their limits.
-const SCHEDULES: [Row; 20] = [
+static SCHEDULES: [Row; 20] = [
     // Two give something back while a third waits: the one who walks grants for both.
     Row {
         input: "semaphore 0 3\nstart 1 try 63\nend 1\nstart 0 reg 10\nend 0\nstart 1 release 5\nuntil 1 publish\nword\nstart 2 release 5\nend 2\nword\nend 1\nword\nstart 0 try_poll\nend 0\n",
@@ -304,161 +303,88 @@ const BAD_AT_A_LOCK: [&str; 40] = [
     "lock 2",
 ];
 
-// Runs a schedule over memory.
-pub(crate) fn played(alloc: Global, input: &[u8]) -> Written {
-    let mut reader = input;
-    let mut writer = Vec::new(alloc);
-    let status = machine(alloc, &mut reader, &mut writer);
-    (writer, status)
-}
-
 #[test]
 fn schedules(rt: HostRuntime) {
-    for row in SCHEDULES
-        .iter()
-        .chain(&CANCEL_ROWS)
-        .chain(&LOCK_ROWS)
-        .chain(&BOUND_SCHEDULES)
-    {
-        let written = played(rt.alloc(), row.input.as_bytes());
-        assert_eq!(rt;
-            other(written, row.output.as_bytes(), row.status),
-            None,
-            "of {:?}",
-            row.input
-        );
-    }
+    compare_rows(&rt, rt.alloc(), Language::Schedule, &SCHEDULES);
+    compare_rows(&rt, rt.alloc(), Language::Schedule, &CANCEL_ROWS);
+    compare_rows(&rt, rt.alloc(), Language::Schedule, &LOCK_ROWS);
+    compare_rows(&rt, rt.alloc(), Language::Schedule, &BOUND_SCHEDULES);
 }
 
-#[test]
-fn bad_first_lines(rt: HostRuntime) {
-    for input in &BAD_FIRST {
-        let written = played(rt.alloc(), input.as_bytes());
-        assert_eq!(rt; other(written, b"bad line 1\n", 2), None, "of {input:?}");
-    }
-}
-
-// A line behind two good ones, the second of which starts a call, and in front of a third.
-fn between(alloc: Global, front: &str, line: &str) -> Result<Vec<u8>, AllocError> {
-    let mut input = Vec::new(alloc);
-    input.extend_from_slice(front.as_bytes())?;
-    input.extend_from_slice(line.as_bytes())?;
-    input.extend_from_slice(b"\nword\n")?;
-    Ok(input)
-}
-
-// The first of these lines that doesn't end the run as a bad one behind two good ones.
-fn accepted<'l>(
-    alloc: Global,
-    front: &str,
-    lines: &[&'l str],
-) -> Result<Option<&'l str>, AllocError> {
-    for line in lines {
-        let input = between(alloc, front, line)?;
-        let written = played(alloc, input.as_slice());
-        if other(written, b"going\nbad line 3\n", 2).is_some() {
-            return Ok(Some(line));
-        }
-    }
-    Ok(None)
+/// Bad lines behind a front whose second line starts a call, what stands behind each, and what is written.
+struct BadLines {
+    front: &'static str,
+    lines: &'static [&'static str],
+    end: &'static str,
+    output: &'static str,
 }
 
 /// Each bad line ends the run: the good line in front of it is answered, and the one behind it isn't carried out.
+static BAD: [BadLines; 3] = [
+    BadLines {
+        front: "",
+        lines: &BAD_FIRST,
+        end: "",
+        output: "bad line 1\n",
+    },
+    BadLines {
+        front: "semaphore 0 2\nstart 0 try 1\n",
+        lines: &BAD_LINES,
+        end: "\nword\n",
+        output: "going\nbad line 3\n",
+    },
+    BadLines {
+        front: "lock 2\nstart 0 try_lock\n",
+        lines: &BAD_AT_A_LOCK,
+        end: "\nword\n",
+        output: "going\nbad line 3\n",
+    },
+];
+
 #[test]
-fn bad_lines(rt: HostRuntime) -> Result<(), Fail> {
-    let front = "semaphore 0 2\nstart 0 try 1\n";
-    assert_eq!(rt; accepted(rt.alloc(), front, &BAD_LINES)?, None);
-    Ok(())
-}
-
-/// The same at a lock.
-#[test]
-fn bad_lines_at_a_lock(rt: HostRuntime) -> Result<(), Fail> {
-    let front = "lock 2\nstart 0 try_lock\n";
-    assert_eq!(rt; accepted(rt.alloc(), front, &BAD_AT_A_LOCK)?, None);
-    Ok(())
-}
-
-// What is written of a line of 81 bytes between two good ones.
-fn written_of_long_line(alloc: Global) -> Result<Written, AllocError> {
-    let mut input = and_often(alloc, b"semaphore 0 2\nword\n", b"0", 81)?;
-    input.extend_from_slice(b"\nword\n")?;
-    Ok(played(alloc, input.as_slice()))
-}
-
-/// A line of 81 bytes is bad, whatever its first 80 bytes are.
-#[test]
-fn a_long_line_is_bad(rt: HostRuntime) -> Result<(), Fail> {
-    let written = written_of_long_line(rt.alloc())?;
-    assert_eq!(rt; other(written, b"0 0 0 0\nbad line 3\n", 2), None);
-    Ok(())
-}
-
-// What a schedule writes whose input is interrupted behind these bytes, and its status.
-fn read_to(alloc: Global, left: &[u8]) -> Written {
-    let mut reader = BreakingReader {
-        left,
-        kind: ErrorKind::Interrupted,
-    };
-    let mut writer = Vec::new(alloc);
-    let status = machine(alloc, &mut reader, &mut writer);
-    (writer, status)
-}
-
-/// A read that fails, here one that a signal interrupted, ends the run with status 4, and what went out is a beginning of the text.
-#[test]
-fn a_read_fails(rt: HostRuntime) {
-    let row = &SCHEDULES[0];
-    for count in 0..row.input.len() + 1 {
-        let (output, status) = read_to(rt.alloc(), &row.input.as_bytes()[..count]);
-        let is_beginning = row.output.as_bytes().starts_with(output.as_slice());
-        let is_whole = output.len() == row.output.len() || count < row.input.len();
-        assert_eq!(rt;
-            (status, is_beginning, is_whole),
-            (4, true, true),
-            "behind {count} bytes"
-        );
+fn bad_lines(rt: HostRuntime) {
+    for table in &BAD {
+        compare_bad(&rt, rt.alloc(), table);
     }
 }
 
-// What a writer with this much room takes of a schedule, and the schedule's status.
-fn written_to(alloc: Global, input: &str, room: usize) -> Written {
-    let mut reader = input.as_bytes();
-    let mut writer = with_room(alloc, room);
-    let status = machine(alloc, &mut reader, &mut writer);
-    (writer.taken, status)
-}
-
-/// A write that fails ends the run with status 4, and what went out is a beginning of the text.
-#[test]
-fn a_write_fails(rt: HostRuntime) {
-    let row = &SCHEDULES[0];
-    for room in 0..row.output.len() {
-        let taken = written_to(rt.alloc(), row.input, room);
-        assert_eq!(rt;
-            other(taken, &row.output.as_bytes()[..room], 4),
-            None,
-            "behind {room} bytes"
-        );
+// Runs each bad line of a table.
+fn compare_bad<R: Abort>(rt: &R, alloc: Global, table: &BadLines) {
+    for line in table.lines {
+        let row = Repeated {
+            language: Language::Schedule,
+            front: table.front,
+            piece: *line,
+            times: 1,
+            end: table.end,
+            answer: table.output,
+            answers: 1,
+            status: 2,
+        };
+        compare_repeated(rt, alloc, &row);
     }
 }
 
-// A machine at which so many wait, the oldest for a permit and the others for none, and the last place is about to give that permit
-// back. It makes 2 steps to take the flag, 3 for each who waits, and then publishes.
-fn about_to_walk(alloc: Global, waiting: u16) -> Result<Machine, AllocError> {
-    let mut machine = Machine::semaphore(alloc, 63, waiting.saturating_add(1))?;
+// Starts a call at a place of a machine that has it.
+fn start(machine: &mut Machine, place: u16, call: WordCall) {
+    if place < machine.places() && machine.takes(call) {
+        let _started = machine.go(Move::Start(place, call));
+    }
+}
+
+// Whether the call of a place isn't over behind `end`.
+fn is_going(machine: &mut Machine, place: u16) -> bool {
+    place < machine.places() && end(machine, place) == Step::Going
+}
+
+// Lets so many wait at a machine, the oldest for a permit and the others for none, and the place behind them give that permit back. It
+// makes 2 steps to take the flag, 3 for each who waits, and then publishes.
+fn begin_walk(machine: &mut Machine, waiting: u16) {
     for place in 0..waiting {
-        let asks = WordCall::Register(usize::from(place == 0));
-        if place < machine.places() && machine.takes(asks) {
-            let _started = machine.go(Move::Start(place, asks));
-            let _waits = end(&mut machine, place);
-        }
+        start(machine, place, WordCall::Register(usize::from(place == 0)));
+        let _waits = is_going(machine, place);
     }
-    let gives = WordCall::Release(1);
-    if waiting < machine.places() && machine.takes(gives) {
-        let _started = machine.go(Move::Start(waiting, gives));
-    }
-    Ok(machine)
+    start(machine, waiting, WordCall::Release(1));
 }
 
 // How many steps a place makes until its call is done, itself counted.
@@ -471,17 +397,25 @@ fn steps_left(machine: &mut Machine, place: u16) -> u16 {
     0
 }
 
+// How many steps such a place makes, from the start or behind `end`; 0 where `end` is done with it.
+fn steps_behind(machine: &mut Machine, is_ended: bool) -> u16 {
+    begin_walk(machine, 300);
+    if is_ended && !is_going(machine, 300) {
+        return 0;
+    }
+    steps_left(machine, 300)
+}
+
+// The same at a machine of its own.
+fn steps_of<R: Abort>(rt: &R, alloc: Global, is_ended: bool) -> u16 {
+    let mut machine = Machine::semaphore(alloc, 63, 301).expect(rt, "no memory");
+    steps_behind(&mut machine, is_ended)
+}
+
 /// `end` makes 1000 steps and no more.
 #[test]
-fn end_makes_a_thousand_steps(rt: HostRuntime) -> Result<(), Fail> {
-    let mut whole = about_to_walk(rt.alloc(), 300)?;
-    let all = steps_left(&mut whole, 300);
-    assert_eq!(rt; all, 2 + 900 + 1 + 600);
-    let mut machine = about_to_walk(rt.alloc(), 300)?;
-    assert!(rt; 300 < machine.places());
-    if 300 < machine.places() {
-        assert_eq!(rt; end(&mut machine, 300), Step::Going);
-        assert_eq!(rt; steps_left(&mut machine, 300), all - 1_000);
-    }
-    Ok(())
+fn end_makes_a_thousand_steps(rt: HostRuntime) {
+    let all = steps_of(&rt, rt.alloc(), false);
+    let left = steps_of(&rt, rt.alloc(), true);
+    assert_eq!(rt; [all, left], [2 + 900 + 1 + 600, 503]);
 }

@@ -1,280 +1,226 @@
-//! How the lines of both languages are spelled, in plain code: which line of a text is the first bad one.
+//! How the lines of both languages are spelled, as tables: which line of a text is the first bad one.
 //!
-//! Written apart from the definitions, from what `docs/LANGUAGES.md` says, and only for tests.
+//! Written apart from the definitions and from the program, from what `docs/LANGUAGES.md` says, and only for tests. A field in a table
+//! is one of the words between its bars, or a name that docs/LANGUAGES.md gives a number: `N`, `P`, `ROOM`, `MAX` or `PLACES`.
 
 /// Which language a text is read in.
-#[derive(Clone, Copy, Debug)]
-pub enum Language {
+#[derive(Clone, Copy)]
+pub(crate) enum Language {
     Script,
     Schedule,
 }
 
-// What the first line made, and so which lines may stand behind it.
+// A first line, and the lines that may stand behind it.
+struct First {
+    line: &'static str,
+    behind: &'static [&'static str],
+}
+
+// The first lines of scripts.
+static SCRIPTS: [First; 5] = [
+    First {
+        line: "semaphore N ROOM",
+        behind: &OF_A_SEMAPHORE,
+    },
+    First {
+        line: "bounded 1|1000|65535 N ROOM",
+        behind: &OF_A_SEMAPHORE,
+    },
+    First {
+        line: "lock ROOM",
+        behind: &OF_A_LOCK,
+    },
+    First {
+        line: "gate ROOM",
+        behind: &OF_A_GATE,
+    },
+    First {
+        line: "barrier N ROOM",
+        behind: &OF_A_BARRIER,
+    },
+];
+
+const OF_A_SEMAPHORE: [&str; 4] = [
+    "try_poll|poll_sync|poll_async|registered|drop P",
+    "available|is_open|is_closed",
+    "try|release N",
+    "reg P N sync|async",
+];
+
+const OF_A_LOCK: [&str; 4] = [
+    "try_poll|poll_sync|poll_async|registered|drop P",
+    "try_lock|try_share|release_lock|release_share|downgrade|poison_lock|clear_poison",
+    "is_free|is_locked|is_shared|is_poisoned",
+    "reg P exclusive|shared|wait_exclusive|wait_shared sync|async",
+];
+
+const OF_A_GATE: [&str; 3] = [
+    "try_poll|poll_sync|poll_async|registered|drop P",
+    "state|permit|reject|open|seal|reset",
+    "reg P sync|async",
+];
+
+const OF_A_BARRIER: [&str; 3] = [
+    "try_poll|poll_sync|poll_async|registered|drop P",
+    "count",
+    "reg P sync|async",
+];
+
+// The first lines of schedules.
+static SCHEDULES: [First; 3] = [
+    First {
+        line: "semaphore N PLACES",
+        behind: &OF_PERMITS,
+    },
+    First {
+        line: "bounded MAX N PLACES",
+        behind: &OF_PERMITS,
+    },
+    First {
+        line: "lock PLACES",
+        behind: &OF_MODES,
+    },
+];
+
+// The lines of a machine that is a semaphore, and of one that is a lock.
+const OF_PERMITS: [&str; 5] = [
+    "word",
+    "go|end P",
+    "until P ask|prepare|join|release|walk|publish|show|take|flag|unlink|tail|poison|clear",
+    "start P try_poll|poll|cancel|available",
+    "start P try|reg|release N",
+];
+
+const OF_MODES: [&str; 6] = [
+    "word",
+    "go|end P",
+    "until P ask|prepare|join|release|walk|publish|show|take|flag|unlink|tail|poison|clear",
+    "start P try_poll|poll|cancel",
+    "start P try_lock|try_share|release_lock|release_share|downgrade|poison_lock|clear_poison|is_free|is_locked|is_shared|is_poisoned",
+    "start P reg exclusive|shared|wait_exclusive|wait_shared",
+];
+
+// What the first line made: which lines may stand behind it, and how many pagers or places they can name.
 #[derive(Clone, Copy)]
-enum Made {
-    Semaphore,
-    Lock,
-    Gate,
-    Barrier,
-    // A machine of a semaphore or a lock, with so many places.
-    Permits(u32),
-    Modes(u32),
+struct Made {
+    behind: &'static [&'static str],
+    names: u32,
 }
 
 /// How many good lines stand in front, and the number of the bad line behind them, if there is one.
-pub fn first_bad_line(language: Language, text: &[u8]) -> (usize, Option<u64>) {
+pub(crate) fn first_bad_line(language: Language, text: &str) -> (usize, Option<usize>) {
+    let lines = text.strip_suffix('\n').unwrap_or(text);
     let mut made = None;
     let mut good = 0usize;
-    let mut rest = text;
-    for _line in 0..text.len().saturating_add(1) {
-        let (line, behind) = first_line(rest);
-        if behind.is_none() && line.is_empty() && good > 0 {
-            return (good, None);
-        }
-        let (words, count) = words_of(line);
-        let fields = words.get(..count).unwrap_or(&[]);
+    for line in lines.split('\n') {
         let is_good = match made {
             None => {
-                made = opened(language, fields);
+                made = opened(language, line);
                 made.is_some()
             }
-            Some(made) => is_spelled(made, fields),
+            Some(made) => is_one_of(made, line),
         };
-        if !is_good || line.len() > 80 {
-            return (good, Some((good as u64).saturating_add(1)));
+        let next = good.saturating_add(1);
+        if !is_good {
+            return (good, Some(next));
         }
-        good = good.saturating_add(1);
-        match behind {
-            None => return (good, None),
-            Some(more) => rest = more,
-        }
+        good = next;
     }
     (good, None)
 }
 
-// The bytes up to the first newline, and those behind it where there is one.
-fn first_line(text: &[u8]) -> (&[u8], Option<&[u8]>) {
-    match text.iter().position(|byte| *byte == b'\n') {
-        Some(at) => (&text[..at], Some(&text[at + 1..])),
-        None => (text, None),
-    }
-}
-
-// The fields of a line, up to one more than any good line has, and how many; none where it is no text.
-fn words_of(line: &[u8]) -> ([&str; 5], usize) {
-    let mut words = [""; 5];
-    let mut count = 0usize;
-    if let Ok(text) = str::from_utf8(line) {
-        for word in text.split(' ').take(5) {
-            if let Some(place) = words.get_mut(count) {
-                *place = word;
-            }
-            count = count.saturating_add(1);
-        }
-    }
-    (words, count)
-}
-
-// A number: up to six digits, without a leading zero.
-fn number(field: &str) -> Option<u32> {
-    let digits = field.as_bytes();
-    let is_short = !digits.is_empty() && digits.len() <= 6;
-    let is_padded = digits.len() > 1 && digits.first() == Some(&b'0');
-    if !is_short || is_padded || !digits.iter().all(|digit| digit.is_ascii_digit()) {
-        return None;
-    }
-    field.parse::<u32>().ok()
-}
-
-fn is_number(field: &str) -> bool {
-    number(field).is_some()
-}
-
-fn is_below(field: &str, bound: u32) -> bool {
-    number(field).is_some_and(|number| number < bound)
-}
-
-// What the fields of a first line make.
-fn opened(language: Language, fields: &[&str]) -> Option<Made> {
-    match language {
-        Language::Script => primitive(fields),
-        Language::Schedule => machine(fields),
-    }
-}
-
-fn primitive(fields: &[&str]) -> Option<Made> {
-    let (made, room, is_good) = match fields {
-        ["semaphore", permits, room] => (Made::Semaphore, room, is_number(permits)),
-        ["bounded", bound, permits, room] => {
-            let is_bound = *bound == "1" || *bound == "1000" || *bound == "65535";
-            (Made::Semaphore, room, is_bound && is_number(permits))
-        }
-        ["lock", room] => (Made::Lock, room, true),
-        ["gate", room] => (Made::Gate, room, true),
-        ["barrier", size, room] => (Made::Barrier, room, is_number(size)),
-        _ => return None,
+// What a first line makes, if it is one. A script can name 100 pagers, and a schedule as many places as its first line says.
+fn opened(language: Language, line: &str) -> Option<Made> {
+    let (firsts, names) = match language {
+        Language::Script => (SCRIPTS.as_slice(), 100),
+        Language::Schedule => (SCHEDULES.as_slice(), last_number(line)),
     };
-    if is_good && is_below(room, 65_536) {
-        Some(made)
-    } else {
-        None
+    for first in firsts {
+        if is_spelled(first.line, names, line) {
+            return Some(Made {
+                behind: first.behind,
+                names,
+            });
+        }
     }
+    None
 }
 
-fn machine(fields: &[&str]) -> Option<Made> {
-    let (is_lock, places, is_good) = match fields {
-        ["semaphore", withheld, places] => (false, number(places)?, is_number(withheld)),
-        ["bounded", bound, withheld, places] => {
-            let is_bound = is_below(bound, 65_536) && *bound != "0";
-            (false, number(places)?, is_bound && is_number(withheld))
-        }
-        ["lock", places] => (true, number(places)?, true),
-        _ => return None,
-    };
-    if !is_good || places == 0 || places > 100 {
-        return None;
+// The number at the end of a line, or 0.
+fn last_number(line: &str) -> u32 {
+    match line.rsplit(' ').next() {
+        Some(field) => number(field).unwrap_or(0),
+        None => 0,
     }
-    Some(if is_lock {
-        Made::Modes(places)
-    } else {
-        Made::Permits(places)
-    })
 }
 
 // Whether a line may stand behind the first.
-fn is_spelled(made: Made, fields: &[&str]) -> bool {
-    match made {
-        Made::Permits(places) | Made::Modes(places) => is_move(made, places, fields),
-        Made::Semaphore => is_of_all(fields) || is_of_a_semaphore(fields),
-        Made::Lock => is_of_all(fields) || is_of_the_lock(fields),
-        Made::Gate => is_of_all(fields) || is_of_a_gate(fields),
-        Made::Barrier => is_of_all(fields) || is_of_a_barrier(fields),
-    }
-}
-
-// The lines that go behind every first line of a script.
-fn is_of_all(fields: &[&str]) -> bool {
-    match fields {
-        [word, pager] => {
-            is_below(pager, 100)
-                && matches!(
-                    *word,
-                    "try_poll" | "poll_sync" | "poll_async" | "registered" | "drop"
-                )
+fn is_one_of(made: Made, line: &str) -> bool {
+    for spelling in made.behind {
+        if is_spelled(spelling, made.names, line) {
+            return true;
         }
-        _ => false,
+    }
+    false
+}
+
+// Whether a line is spelled so, where so many pagers or places can be named.
+fn is_spelled(spelling: &str, names: u32, line: &str) -> bool {
+    let mut fields = line.split(' ');
+    for wanted in spelling.split(' ') {
+        let Some(field) = fields.next() else {
+            return false;
+        };
+        if !is_field(wanted, names, field) {
+            return false;
+        }
+    }
+    fields.next().is_none() && line.len() <= 80
+}
+
+// Whether a field is one of the words between bars, or a number that one of them stands for.
+fn is_field(wanted: &str, names: u32, field: &str) -> bool {
+    for word in wanted.split('|') {
+        if is_word(word, names, field) {
+            return true;
+        }
+    }
+    false
+}
+
+// What stands for a number, the least and the first behind the greatest; `P` is below what the first line says.
+static NUMBERS: [(&str, u32, u32); 4] = [
+    ("N", 0, 1_000_000),
+    ("ROOM", 0, 65_536),
+    ("MAX", 1, 65_536),
+    ("PLACES", 1, 101),
+];
+
+fn is_word(word: &str, names: u32, field: &str) -> bool {
+    if word == "P" {
+        return is_between(field, 0, names);
+    }
+    for (name, least, end) in &NUMBERS {
+        if *name == word {
+            return is_between(field, *least, *end);
+        }
+    }
+    field == word
+}
+
+// Whether a field is a number from the one on and below the other.
+fn is_between(field: &str, least: u32, end: u32) -> bool {
+    match number(field) {
+        Some(number) => least <= number && number < end,
+        None => false,
     }
 }
 
-// The lines of one primitive each.
-fn is_of_a_semaphore(fields: &[&str]) -> bool {
-    match fields {
-        [word] => matches!(*word, "available" | "is_open" | "is_closed"),
-        [word, count] => is_number(count) && matches!(*word, "try" | "release"),
-        ["reg", pager, count, how] => is_below(pager, 100) && is_number(count) && is_how(how),
-        _ => false,
+// A number: up to six digits, without a sign or a leading zero.
+fn number(field: &str) -> Option<u32> {
+    let is_padded = field.len() > 1 && field.starts_with('0');
+    if field.len() > 6 || is_padded || field.starts_with('+') {
+        return None;
     }
-}
-
-fn is_of_the_lock(fields: &[&str]) -> bool {
-    match fields {
-        [word] => is_of_a_lock(word),
-        ["reg", pager, mode, how] => is_below(pager, 100) && is_mode(mode) && is_how(how),
-        _ => false,
-    }
-}
-
-fn is_of_a_gate(fields: &[&str]) -> bool {
-    match fields {
-        [word] => matches!(
-            *word,
-            "state" | "permit" | "reject" | "open" | "seal" | "reset"
-        ),
-        ["reg", pager, how] => is_below(pager, 100) && is_how(how),
-        _ => false,
-    }
-}
-
-fn is_of_a_barrier(fields: &[&str]) -> bool {
-    match fields {
-        ["count"] => true,
-        ["reg", pager, how] => is_below(pager, 100) && is_how(how),
-        _ => false,
-    }
-}
-
-fn is_how(word: &str) -> bool {
-    matches!(word, "sync" | "async")
-}
-
-// A word that is a line of a lock, and a call of a lock's machine.
-fn is_of_a_lock(word: &str) -> bool {
-    matches!(
-        word,
-        "try_lock"
-            | "try_share"
-            | "release_lock"
-            | "release_share"
-            | "downgrade"
-            | "poison_lock"
-            | "clear_poison"
-            | "is_free"
-            | "is_locked"
-            | "is_shared"
-            | "is_poisoned"
-    )
-}
-
-fn is_mode(word: &str) -> bool {
-    matches!(
-        word,
-        "exclusive" | "shared" | "wait_exclusive" | "wait_shared"
-    )
-}
-
-// A line behind the first of a schedule.
-fn is_move(made: Made, places: u32, fields: &[&str]) -> bool {
-    match fields {
-        ["word"] => true,
-        ["until", place, kind] => is_below(place, places) && is_kind(kind),
-        ["start", place, word] => is_below(place, places) && is_call(made, word),
-        ["start", place, word, asked] => is_below(place, places) && asks(made, word, asked),
-        [word, place] => is_below(place, places) && matches!(*word, "go" | "end"),
-        _ => false,
-    }
-}
-
-// A call that asks nothing, and one that asks something.
-fn is_call(made: Made, word: &str) -> bool {
-    let is_shared = matches!(word, "try_poll" | "poll" | "cancel");
-    match made {
-        Made::Modes(_) => is_shared || is_of_a_lock(word),
-        _ => is_shared || word == "available",
-    }
-}
-
-fn asks(made: Made, word: &str, asked: &str) -> bool {
-    match made {
-        Made::Modes(_) => word == "reg" && is_mode(asked),
-        _ => is_number(asked) && matches!(word, "try" | "reg" | "release"),
-    }
-}
-
-fn is_kind(word: &str) -> bool {
-    matches!(
-        word,
-        "ask"
-            | "prepare"
-            | "join"
-            | "release"
-            | "walk"
-            | "publish"
-            | "show"
-            | "take"
-            | "flag"
-            | "unlink"
-            | "tail"
-            | "poison"
-            | "clear"
-    )
+    field.parse::<u32>().ok()
 }

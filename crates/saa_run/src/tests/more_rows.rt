@@ -3,7 +3,7 @@
 use crate::tests::Row;
 
 /// Each script, what is written of it, and the status.
-pub(crate) const MORE_ROWS: [Row; 28] = [
+pub(crate) static MORE_ROWS: [Row; 28] = [
     // A pager that is registered is not registered again.
     Row {
         input: "semaphore 0 2\nreg 0 1 sync\nreg 0 1 sync\nregistered 0\n",

@@ -1,14 +1,14 @@
 //! That the workers run at the same time, what each of them does, and what they count.
 
-use crate::workers::{Counts, Watch, run, run_with};
+use crate::workers::{Counts, Watch, run_with};
 use saa::bench::{CommandOf, ReplyOf};
 use saa::journal::{Journal, Journalled};
 use saa::semaphore::{Semaphore, SemaphoreAnswer, SemaphoreCall, SemaphoreCore};
-use std::io;
+use std::alloc::Global;
 use std::process::Abort;
 use std::sync::Wait;
 use std::sync::atomic::{AtomicBool, AtomicU64, Ordering};
-use std::thread::yield_now;
+use std::thread::{Threads, yield_now};
 
 // For how many turns worker 0 waits for worker 1, and how often it gives way in each: seconds in all, since a thread that was
 // just started may take milliseconds to come.
@@ -26,85 +26,211 @@ fn turn() {
     }
 }
 
-// Holds worker 0 until worker 1 has begun, and fails where it doesn't in time.
-#[derive(Drop)]
-struct Pair<'r, R: Abort> {
-    rt: &'r R,
-    has_one_begun: AtomicBool,
-}
-
-impl<R: Abort> Watch for Pair<'_, R> {
-    fn may_start(&self, _worker: u8) -> bool {
-        true
-    }
-
-    fn begin(&self, worker: u8) {
-        match worker {
-            0 => {
-                for _turn in 0..PATIENCE {
-                    if self.has_one_begun.load(Ordering::SeqCst) {
-                        return;
-                    }
-                    turn();
-                }
-                panic!(self.rt; "worker 1 has not begun beside worker 0");
-            }
-            1 => self.has_one_begun.store(true, Ordering::SeqCst),
-            _ => {}
-        }
-    }
-
-    fn hold<S: Wait + Drop>(&self, _permits: &Semaphore<S>) {}
-
-    fn read<J: Journal>(&self, _journal: &Journalled<SemaphoreCore, J>) {}
-}
-
-// Which workers have begun, each by a bit of its own; how often one has held permits, and how often those were two of 63 at
-// that; and which calls of the journal were as they must be.
-#[derive(Drop)]
-struct Tally {
+// What workers are to do beside their work, and what is counted of it.
+struct Row {
+    story: &'static str,
+    workers: u8,
     // The number of workers that can be started.
     allowed: u8,
+    // Whether worker 0 doesn't go on until worker 1 has begun, which it must in time.
+    meets: bool,
+    // Whether somebody keeps all permits for a while.
+    keeps: bool,
+    // How many permits are taken for good, one at a time, while a worker holds some.
+    steals: u64,
+    // What the workers count; nothing where one can't be started.
+    counts: Option<Counts>,
+    // Which workers have begun, each by a bit of its own: no two have the same, or the sum is another.
+    begun: u64,
+    // How often one has held permits, and how often at least those were two of 63 at that.
+    holds: u64,
+    alone: u64,
+    // How many calls the journal has, each to take a permit, and how many of them were granted.
+    tries: u64,
+    granted: u64,
+}
+
+static ROWS: [Row; 8] = [
+    Row {
+        story: "two run at once",
+        workers: 2,
+        allowed: 2,
+        meets: true,
+        keeps: false,
+        steals: 0,
+        counts: Some(Counts {
+            leaders: 4,
+            available: 63,
+            journal: 100,
+        }),
+        begun: 3,
+        holds: 200,
+        alone: 0,
+        tries: 100,
+        granted: 63,
+    },
+    Row {
+        story: "one has always two of all permits, and each of its journalled calls is granted",
+        workers: 1,
+        allowed: 1,
+        meets: false,
+        keeps: false,
+        steals: 0,
+        counts: Some(Counts {
+            leaders: 4,
+            available: 63,
+            journal: 50,
+        }),
+        begun: 1,
+        holds: 100,
+        alone: 100,
+        tries: 50,
+        granted: 50,
+    },
+    Row {
+        story: "one keeps all permits for a while: the other waits for them, and misses none of its turns",
+        workers: 2,
+        allowed: 2,
+        meets: false,
+        keeps: true,
+        steals: 0,
+        counts: Some(Counts {
+            leaders: 4,
+            available: 63,
+            journal: 100,
+        }),
+        begun: 3,
+        holds: 200,
+        alone: 0,
+        tries: 100,
+        granted: 63,
+    },
+    Row {
+        story: "each of 32 has a number of its own, and together they take all 63 permits of the journal's semaphore",
+        workers: 32,
+        allowed: 32,
+        meets: false,
+        keeps: true,
+        steals: 0,
+        counts: Some(Counts {
+            leaders: 4,
+            available: 63,
+            journal: 1600,
+        }),
+        begun: 0xffff_ffff,
+        holds: 3_200,
+        alone: 0,
+        tries: 1_600,
+        granted: 63,
+    },
+    Row {
+        story: "permits are counted when all are done: those that were taken for good meanwhile are missing",
+        workers: 1,
+        allowed: 1,
+        meets: false,
+        keeps: false,
+        steals: 3,
+        counts: Some(Counts {
+            leaders: 4,
+            available: 60,
+            journal: 50,
+        }),
+        begun: 1,
+        holds: 100,
+        alone: 0,
+        tries: 50,
+        granted: 50,
+    },
+    Row {
+        story: "none of three can be started, and nothing is done",
+        workers: 3,
+        allowed: 0,
+        meets: false,
+        keeps: false,
+        steals: 0,
+        counts: None,
+        begun: 0,
+        holds: 0,
+        alone: 0,
+        tries: 0,
+        granted: 0,
+    },
+    Row {
+        story: "one of three can be started: it ends at the sealed gate, and does nothing else",
+        workers: 3,
+        allowed: 1,
+        meets: false,
+        keeps: false,
+        steals: 0,
+        counts: None,
+        begun: 1,
+        holds: 0,
+        alone: 0,
+        tries: 0,
+        granted: 0,
+    },
+    Row {
+        story: "two of three can be started: each ends at the sealed gate, and does nothing else",
+        workers: 3,
+        allowed: 2,
+        meets: false,
+        keeps: false,
+        steals: 0,
+        counts: None,
+        begun: 3,
+        holds: 0,
+        alone: 0,
+        tries: 0,
+        granted: 0,
+    },
+];
+
+// What has been counted.
+#[derive(Drop)]
+struct Tally<'t> {
+    row: &'t Row,
+    // Whether worker 0 saw worker 1 begin.
+    has_met: AtomicBool,
     begun: AtomicU64,
     holds: AtomicU64,
     alone: AtomicU64,
     tries: AtomicU64,
     granted: AtomicU64,
-    // Whether somebody has kept all permits once.
+    stolen: AtomicU64,
+    // Whether somebody has kept all permits once, or nobody is to.
     has_kept: AtomicBool,
 }
 
-// The numbers of a tally.
-#[derive(Clone, Copy)]
-struct Seen {
-    begun: u64,
-    holds: u64,
-    alone: u64,
-    tries: u64,
-    granted: u64,
-}
-
-impl Tally {
-    fn new(allowed: u8, keeps: bool) -> Tally {
+impl<'t> Tally<'t> {
+    fn new(row: &'t Row) -> Tally<'t> {
         Tally {
-            allowed,
+            row,
+            has_met: AtomicBool::new(!row.meets),
             begun: AtomicU64::new(0),
             holds: AtomicU64::new(0),
             alone: AtomicU64::new(0),
             tries: AtomicU64::new(0),
             granted: AtomicU64::new(0),
-            has_kept: AtomicBool::new(!keeps),
+            stolen: AtomicU64::new(0),
+            has_kept: AtomicBool::new(!row.keeps),
         }
     }
 
-    // What has been counted up to now.
-    fn seen(&self) -> Seen {
-        Seen {
-            begun: self.begun.load(Ordering::SeqCst),
-            holds: self.holds.load(Ordering::SeqCst),
-            alone: self.alone.load(Ordering::SeqCst),
-            tries: self.tries.load(Ordering::SeqCst),
-            granted: self.granted.load(Ordering::SeqCst),
+    // Holds worker 0 until worker 1 has begun, or for so long that it surely would have.
+    fn meet(&self) {
+        for _turn in 0..PATIENCE {
+            if self.begun.load(Ordering::SeqCst) == 3 {
+                self.has_met.store(true, Ordering::SeqCst);
+                return;
+            }
+            turn();
+        }
+    }
+
+    // Takes permits for good, one at a time.
+    fn steal<S: Wait + Drop>(&self, permits: &Semaphore<S>) {
+        if self.stolen.load(Ordering::SeqCst) < self.row.steals && permits.try_acquire() {
+            let _ = self.stolen.fetch_add(1, Ordering::SeqCst);
         }
     }
 }
@@ -123,16 +249,17 @@ fn keep_all<S: Wait + Drop>(permits: &Semaphore<S>) {
     permits.release_many(61);
 }
 
-impl Watch for Tally {
+impl Watch for Tally<'_> {
     fn may_start(&self, worker: u8) -> bool {
-        worker < self.allowed
+        worker < self.row.allowed
     }
 
-    // No two workers have the same bit, or the sum isn't that of all bits.
     fn begin(&self, worker: u8) {
-        let _ = self
-            .begun
-            .fetch_add(1u64.wrapping_shl(u32::from(worker)), Ordering::SeqCst);
+        let bit = 1u64.wrapping_shl(u32::from(worker));
+        let _ = self.begun.fetch_add(bit, Ordering::SeqCst);
+        if worker == 0 && self.row.meets {
+            self.meet();
+        }
     }
 
     fn hold<S: Wait + Drop>(&self, permits: &Semaphore<S>) {
@@ -143,6 +270,7 @@ impl Watch for Tally {
         if !self.has_kept.swap(true, Ordering::SeqCst) {
             keep_all(permits);
         }
+        self.steal(permits);
     }
 
     fn read<J: Journal>(&self, journal: &Journalled<SemaphoreCore, J>) {
@@ -157,109 +285,48 @@ impl Watch for Tally {
     }
 }
 
-// What so many workers count.
-fn counted(workers: usize) -> Counts {
-    Counts {
-        leaders: 4,
-        available: 63,
-        journal: workers.saturating_mul(50),
+#[test]
+fn workers_are_watched(rt: HostRuntime) {
+    for row in &ROWS {
+        let tally = Tally::new(row);
+        let counts = run_tallied(&rt, rt.alloc(), &tally);
+        assert_eq!(rt; counts, row.counts, "where {}", row.story);
+        compare_tally(&rt, &tally);
     }
 }
 
-#[test]
-fn two_at_once(rt: HostRuntime) -> io::Result<()> {
-    let pair = Pair {
-        rt: &rt,
-        has_one_begun: AtomicBool::new(false),
-    };
-    let counts = run_with(&rt, rt.alloc(), 2, &pair)?;
-    let has_begun = pair.has_one_begun.load(Ordering::SeqCst);
-    assert_eq!(rt; (has_begun, counts), (true, counted(2)));
-    Ok(())
-}
-
-// Alone it has always two of all permits, and each of its journalled calls is granted.
-#[test]
-fn one_alone(rt: HostRuntime) -> io::Result<()> {
-    let tally = Tally::new(1, false);
-    let counts = run_with(&rt, rt.alloc(), 1, &tally)?;
-    let seen = tally.seen();
-    assert_eq!(rt; counts, counted(1));
-    assert_eq!(rt; (seen.begun, seen.holds, seen.alone), (1, 100, 100));
-    assert_eq!(rt; (seen.tries, seen.granted), (50, 50));
-    Ok(())
-}
-
-// One keeps all permits for a while: the other waits for them, and misses none of its turns.
-#[test]
-fn who_finds_no_permits_waits(rt: HostRuntime) -> io::Result<()> {
-    let tally = Tally::new(2, true);
-    let counts = run_with(&rt, rt.alloc(), 2, &tally)?;
-    let seen = tally.seen();
-    assert_eq!(rt; (counts, seen.begun, seen.holds), (counted(2), 3, 200));
-    Ok(())
-}
-
-// Each has a number of its own, and together they take all 63 permits of the journal's semaphore.
-#[test]
-fn thirty_two(rt: HostRuntime) -> io::Result<()> {
-    let unwatched = run(&rt, rt.alloc(), 32)?;
-    let tally = Tally::new(32, true);
-    let counts = run_with(&rt, rt.alloc(), 32, &tally)?;
-    let seen = tally.seen();
-    assert_eq!(rt; (unwatched, counts), (counted(32), counted(32)));
-    assert_eq!(rt; (seen.begun, seen.holds), (u64::from(u32::MAX), 3_200));
-    assert_eq!(rt; (seen.tries, seen.granted), (1_600, 63));
-    Ok(())
-}
-
-// Where one can't be started, those that were have begun, end at the sealed gate, and do nothing else.
-#[test]
-fn one_that_cannot_be_started_ends_all(rt: HostRuntime) -> io::Result<()> {
-    for allowed in [0, 1, 2] {
-        let tally = Tally::new(allowed, false);
-        let is_refused = run_with(&rt, rt.alloc(), 3, &tally).is_err();
-        let bits = 1u64.wrapping_shl(u32::from(allowed)).saturating_sub(1);
-        let seen = tally.seen();
-        assert_eq!(rt;
-            (is_refused, seen.begun, seen.holds, seen.tries),
-            (true, bits, 0, 0),
-            "where {allowed} were started"
-        );
+// Runs the workers of a row.
+fn run_tallied<R: Threads + Wait + Sync>(
+    rt: &R,
+    alloc: Global,
+    tally: &Tally<'_>,
+) -> Option<Counts> {
+    match tally.row.workers {
+        0 => None,
+        workers => run_with(rt, alloc, workers, tally).ok(),
     }
-    Ok(())
 }
 
-// Takes three permits for good, one at a time, while a worker holds some.
-#[derive(Drop)]
-struct Thief {
-    stolen: AtomicU64,
+// Fails the test where something else was counted than the row says.
+fn compare_tally<R: Abort>(rt: &R, tally: &Tally<'_>) {
+    let row = tally.row;
+    assert!(rt;
+        tally.has_met.load(Ordering::SeqCst),
+        "worker 1 has not begun beside worker 0"
+    );
+    compare(rt, row, "begun", &tally.begun, row.begun);
+    compare(rt, row, "holds", &tally.holds, row.holds);
+    assert!(rt;
+        tally.alone.load(Ordering::SeqCst) >= row.alone,
+        "too few had two of 63"
+    );
+    compare(rt, row, "tries", &tally.tries, row.tries);
+    compare(rt, row, "granted", &tally.granted, row.granted);
+    compare(rt, row, "stolen", &tally.stolen, row.steals);
 }
 
-impl Watch for Thief {
-    fn may_start(&self, _worker: u8) -> bool {
-        true
-    }
-
-    fn begin(&self, _worker: u8) {}
-
-    fn hold<S: Wait + Drop>(&self, permits: &Semaphore<S>) {
-        if self.stolen.load(Ordering::SeqCst) < 3 && permits.try_acquire() {
-            let _ = self.stolen.fetch_add(1, Ordering::SeqCst);
-        }
-    }
-
-    fn read<J: Journal>(&self, _journal: &Journalled<SemaphoreCore, J>) {}
-}
-
-// The permits are counted when all are done: those that were taken for good meanwhile are missing.
-#[test]
-fn permits_are_counted_in_the_end(rt: HostRuntime) -> io::Result<()> {
-    let thief = Thief {
-        stolen: AtomicU64::new(0),
-    };
-    let counts = run_with(&rt, rt.alloc(), 1, &thief)?;
-    let stolen = thief.stolen.load(Ordering::SeqCst);
-    assert_eq!(rt; (stolen, counts.available), (3, 60));
-    Ok(())
+// Fails the test where something was counted otherwise than so.
+fn compare<R: Abort>(rt: &R, row: &Row, what: &str, counted: &AtomicU64, wanted: u64) {
+    let counted = counted.load(Ordering::SeqCst);
+    assert!(rt; counted == wanted, "where {}: {what} {counted}", row.story);
 }
