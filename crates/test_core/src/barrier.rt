@@ -83,7 +83,7 @@ fn tell_at(rt: &(impl Abort + AllocGlobal), (count, room): (usize, u16), story: 
     tell(rt, &mut core, story);
 }
 
-const A_DROPPED_ARRIVAL: [Row; 13] = [
+static A_DROPPED_ARRIVAL: [Row; 13] = [
     (Call::Of(0, ARRIVE), JOINED),
     (Call::Of(1, ARRIVE), JOINED),
     (Call::Count, Answer::Count(1)),
@@ -104,7 +104,7 @@ fn a_dropped_arrival_is_taken_back(rt: HostRuntime) {
     tell_at(&rt, (3, 4), &A_DROPPED_ARRIVAL);
 }
 
-const SIZE_0: [Row; 4] = [
+static SIZE_0: [Row; 4] = [
     (Call::Count, Answer::Count(0)),
     (Call::Of(0, ARRIVE), JOINED),
     (Call::Of(0, SYNC), Answer::Polled(Err(Error::NotReady))),
@@ -116,13 +116,13 @@ fn a_barrier_of_size_0_lets_nobody_pass(rt: HostRuntime) {
     tell_at(&rt, (0, 2), &SIZE_0);
 }
 
-const ALONE: [Row; 3] = [
+static ALONE: [Row; 3] = [
     (Call::Of(0, ARRIVE), JOINED),
     (Call::Of(0, SYNC), LEADS),
     (Call::Count, Answer::Count(1)),
 ];
 
-const TWO: [Row; 9] = [
+static TWO: [Row; 9] = [
     (Call::Of(0, ARRIVE), JOINED),
     (Call::Of(1, ARRIVE), JOINED),
     (Call::Of(2, ARRIVE), FULL),
@@ -140,7 +140,7 @@ fn the_last_arrival_needs_no_slot(rt: HostRuntime) {
     tell_at(&rt, (2, 1), &TWO);
 }
 
-const A_DROPPED_ANSWER: [Row; 7] = [
+static A_DROPPED_ANSWER: [Row; 7] = [
     (Call::Of(0, ARRIVE), JOINED),
     (Call::Of(1, ARRIVE), JOINED),
     (Call::Of(1, Asked::Cancel), Answer::Nothing),
@@ -164,7 +164,7 @@ fn prints_at(rt: &(impl Abort + AllocGlobal), story: &[Row], text: &str) {
     prints(rt, rt.alloc(), &mut core, (story, text));
 }
 
-const OF_THE_MOST: [Row; 1] = [(Call::Count, Answer::Count(63))];
+static OF_THE_MOST: [Row; 1] = [(Call::Count, Answer::Count(63))];
 
 #[test]
 fn a_core_prints_its_counts(rt: HostRuntime) {
@@ -173,12 +173,12 @@ fn a_core_prints_its_counts(rt: HostRuntime) {
     prints_at(&rt, &[], "BarrierCore { count: 3, waiting: 0 }");
 }
 
-const TWO_ARRIVE: [Row; 2] = [
+static TWO_ARRIVE: [Row; 2] = [
     (Call::Of(0, ARRIVE), JOINED),
     (Call::Of(1, Asked::Arrive(false)), JOINED),
 ];
 
-const ALL_ARRIVE: [Row; 3] = [
+static ALL_ARRIVE: [Row; 3] = [
     (Call::Of(0, ARRIVE), JOINED),
     (Call::Of(1, Asked::Arrive(false)), JOINED),
     (Call::Of(2, ARRIVE), JOINED),
@@ -191,7 +191,7 @@ fn a_core_prints_who_waits_and_not_who_was_answered(rt: HostRuntime) {
     prints_at(&rt, &ALL_ARRIVE, "BarrierCore { count: 3, waiting: 0 }");
 }
 
-const COMMANDS: [Command<BarrierCore>; 11] = [
+static COMMANDS: [Command<BarrierCore>; 11] = [
     CommandOf::Register(0, (), true),
     CommandOf::TryPoll(0),
     CommandOf::Register(1, (), false),
@@ -205,7 +205,7 @@ const COMMANDS: [Command<BarrierCore>; 11] = [
     CommandOf::Call(BarrierCall::Count),
 ];
 
-const REPLIES: [Reply<BarrierCore>; 11] = [
+static REPLIES: [Reply<BarrierCore>; 11] = [
     ReplyOf::Registered(Ok(true)),
     ReplyOf::Polled(Err(Error::NotReady)),
     ReplyOf::Registered(Ok(true)),

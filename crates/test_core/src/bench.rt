@@ -18,7 +18,7 @@ fn use_core(core: &mut SemaphoreCore) -> (bool, [Result<bool, Full>; 2], bool) {
     (is_taken, joined, core.release())
 }
 
-const COMMANDS: [Command<SemaphoreCore>; 10] = [
+static COMMANDS: [Command<SemaphoreCore>; 10] = [
     CommandOf::Call(SemaphoreCall::AvailablePermits),
     CommandOf::Register(0, 1, true),
     CommandOf::Register(1, 0, false),
@@ -31,7 +31,7 @@ const COMMANDS: [Command<SemaphoreCore>; 10] = [
     CommandOf::Drop(0),
 ];
 
-const REPLIES: [Reply<SemaphoreCore>; 10] = [
+static REPLIES: [Reply<SemaphoreCore>; 10] = [
     ReplyOf::Answered(SemaphoreAnswer::Number(0)),
     ReplyOf::Registered(Ok(true)),
     ReplyOf::Registered(Ok(true)),

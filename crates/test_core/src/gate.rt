@@ -102,7 +102,7 @@ fn tell_at(rt: &(impl Abort + AllocGlobal), room: u16, story: &[Row]) {
     tell(rt, &mut core, story);
 }
 
-const A_RESET: [Row; 4] = [
+static A_RESET: [Row; 4] = [
     (Call::Seal, Answer::Was(State::Controlled, 0)),
     (Call::Reset, Answer::Reset(Some(State::Sealed))),
     (Call::State, Answer::In(State::Controlled)),
@@ -115,7 +115,7 @@ fn a_reset_makes_a_sealed_gate_controlled(rt: HostRuntime) {
 }
 
 // The first of two is dropped. Then, of three, the second is dropped first, so the first is answered before it is dropped.
-const DROPPED_WAITERS: [Row; 16] = [
+static DROPPED_WAITERS: [Row; 16] = [
     (Call::Of(0, REGISTER), JOINED),
     (Call::Of(1, REGISTER), JOINED),
     (Call::Of(0, Asked::Cancel), Answer::Nothing),
@@ -145,7 +145,7 @@ fn a_dropped_waiter_wakes_the_others(rt: HostRuntime) {
     tell_at(&rt, 4, &DROPPED_WAITERS);
 }
 
-const NO_SLOT: [Row; 7] = [
+static NO_SLOT: [Row; 7] = [
     (Call::Of(0, REGISTER), FULL),
     (Call::Open, Answer::Was(State::Controlled, 0)),
     (Call::Of(0, REGISTER), JOINED),
@@ -160,7 +160,7 @@ fn an_open_gate_needs_no_slot(rt: HostRuntime) {
     tell_at(&rt, 0, &NO_SLOT);
 }
 
-const MODES: [Row; 9] = [
+static MODES: [Row; 9] = [
     (Call::Of(0, REGISTER), JOINED),
     (Call::Of(0, SYNC), Answer::Passed(Err(Error::NotReady))),
     (Call::Open, Answer::Was(State::Controlled, 1)),
@@ -180,7 +180,7 @@ fn an_answer_is_consumed_in_the_right_mode(rt: HostRuntime) {
     tell_at(&rt, 1, &MODES);
 }
 
-const A_PERMIT: [Row; 10] = [
+static A_PERMIT: [Row; 10] = [
     (Call::Of(0, REGISTER), JOINED),
     (Call::Of(1, REGISTER), JOINED),
     (Call::Of(2, REGISTER), JOINED),
@@ -198,7 +198,7 @@ fn a_permit_lets_all_pass_who_wait(rt: HostRuntime) {
     tell_at(&rt, 4, &A_PERMIT);
 }
 
-const A_REJECT: [Row; 8] = [
+static A_REJECT: [Row; 8] = [
     (Call::Of(0, REGISTER), JOINED),
     (Call::Of(1, Asked::Register(false)), JOINED),
     (Call::Of(2, REGISTER), JOINED),
@@ -221,7 +221,7 @@ fn a_core_prints_its_state(rt: HostRuntime) {
     prints(&rt, rt.alloc(), &mut core, (&[], text));
 }
 
-const COMMANDS: [Command<GateCore>; 13] = [
+static COMMANDS: [Command<GateCore>; 13] = [
     CommandOf::Call(GateCall::State),
     CommandOf::Register(0, (), true),
     CommandOf::Register(1, (), false),
@@ -237,7 +237,7 @@ const COMMANDS: [Command<GateCore>; 13] = [
     CommandOf::Call(GateCall::Reset),
 ];
 
-const REPLIES: [Reply<GateCore>; 13] = [
+static REPLIES: [Reply<GateCore>; 13] = [
     ReplyOf::Answered(GateAnswer::State(State::Controlled)),
     ReplyOf::Registered(Ok(true)),
     ReplyOf::Registered(Ok(true)),

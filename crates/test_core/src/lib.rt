@@ -1,4 +1,5 @@
-//! Worked rows of each core, of the line under them, and of words, beside what the contracts say of every run.
+//! Worked rows of each core, of the line under them, and of words, beside what the contracts say of every run; and what threads made
+//! together under a journal.
 #![tactic(auto)]
 
 #[cfg(test)]
@@ -7,6 +8,8 @@ mod barrier;
 mod bench;
 #[cfg(test)]
 mod gate;
+#[cfg(test)]
+mod journal;
 #[cfg(test)]
 mod line;
 #[cfg(test)]

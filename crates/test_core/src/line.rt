@@ -184,7 +184,7 @@ fn tell<O: Ordered>(rt: &impl Abort, made: Result<LineOf<O>, AllocError>, story:
     same!(rt; Desk { line, slots }.first_other(story), None);
 }
 
-const EVERY_CALL: [(Call, Told); 28] = [
+static EVERY_CALL: [(Call, Told); 28] = [
     (Call::Room, Told::Count(2)),
     (Call::Used, Told::Count(0)),
     (Call::Waiting, Told::Count(0)),
@@ -222,7 +222,7 @@ fn every_call_answers_as_it_says(rt: HostRuntime) {
 
 // The second slot is taken, held anew and answered anew, while its wake is owed still. Once it was told, its next answer
 // is told again.
-const TOLD_ONCE: [(Call, Told); 18] = [
+static TOLD_ONCE: [(Call, Told); 18] = [
     (Call::NextAnswered, Told::Slot(None)),
     (Call::Join(Request::Enter), Told::Slot(Some(0))),
     (Call::Join(Request::Enter), Told::Slot(Some(1))),
@@ -248,7 +248,7 @@ fn each_answered_slot_is_told_once(rt: HostRuntime) {
     tell(&rt, Line::with_room(rt.alloc(), 2), &TOLD_ONCE);
 }
 
-const WHEREVER_IT_STANDS: [(Call, Told); 25] = [
+static WHEREVER_IT_STANDS: [(Call, Told); 25] = [
     (Call::Join(Request::Permits(1)), Told::Slot(Some(0))),
     (Call::Join(Request::Permits(2)), Told::Slot(Some(1))),
     (Call::Join(Request::Permits(3)), Told::Slot(Some(2))),

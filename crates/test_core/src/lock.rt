@@ -131,7 +131,7 @@ fn tell_at(rt: &(impl Abort + AllocGlobal), room: u16, story: &[Row]) {
     tell(rt, &mut core, story);
 }
 
-const IN_ORDER: [Row; 19] = [
+static IN_ORDER: [Row; 19] = [
     (TRY_LOCK, OWNED),
     (Call::Of(0, Asked::Register(Mode::Shared, false)), JOINED),
     (
@@ -164,7 +164,7 @@ fn readers_and_a_writer_pass_in_order_and_poison_ends_all(rt: HostRuntime) {
     tell_at(&rt, 4, &IN_ORDER);
 }
 
-const LOWERED: [Row; 21] = [
+static LOWERED: [Row; 21] = [
     (DOWNGRADE, NO),
     (TRY_LOCK, OWNED),
     (Call::Of(0, Asked::Register(Mode::Shared, true)), JOINED),
@@ -193,7 +193,7 @@ fn an_owner_becomes_a_sharer_and_those_in_front_share_beside_it(rt: HostRuntime)
     tell_at(&rt, 4, &LOWERED);
 }
 
-const LOWERED_POISON: [Row; 5] = [
+static LOWERED_POISON: [Row; 5] = [
     (TRY_LOCK, OWNED),
     (POISON, YES),
     (DOWNGRADE, NO),
@@ -272,7 +272,7 @@ fn sixty_one_of_seventy_share_with_the_owner_that_was(rt: HostRuntime) {
     same!(rt; lowered, (70, SIXTY_ONE_SHARE));
 }
 
-const NO_MORE: [Row; 5] = [
+static NO_MORE: [Row; 5] = [
     (TRY_SHARE, BLOCKED),
     (Call::Of(0, Asked::Register(Mode::WaitShared, true)), JOINED),
     (RELEASE_SHARE, YES),
@@ -297,7 +297,7 @@ fn sixty_two_share_and_no_more(rt: HostRuntime) {
     tell(&rt, &mut core, &NO_MORE);
 }
 
-const A_POISONED_ANSWER: [Row; 7] = [
+static A_POISONED_ANSWER: [Row; 7] = [
     (TRY_LOCK, OWNED),
     (Call::Of(0, EXCLUSIVE), JOINED),
     (POISON, YES),
@@ -312,7 +312,7 @@ fn a_poisoned_answer_gives_nothing_back(rt: HostRuntime) {
     tell_at(&rt, 4, &A_POISONED_ANSWER);
 }
 
-const A_DROPPED_WAITER: [Row; 8] = [
+static A_DROPPED_WAITER: [Row; 8] = [
     (TRY_SHARE, OWNED),
     (Call::Of(0, EXCLUSIVE), JOINED),
     (Call::Of(1, Asked::Register(Mode::Shared, true)), JOINED),
@@ -328,7 +328,7 @@ fn a_dropped_waiter_lets_those_behind_it_pass(rt: HostRuntime) {
     tell_at(&rt, 4, &A_DROPPED_WAITER);
 }
 
-const A_DROPPED_GRANT: [Row; 7] = [
+static A_DROPPED_GRANT: [Row; 7] = [
     (TRY_LOCK, OWNED),
     (Call::Of(0, EXCLUSIVE), JOINED),
     (Call::Of(1, EXCLUSIVE), JOINED),
@@ -343,7 +343,7 @@ fn a_dropped_grant_passes_the_lock_on(rt: HostRuntime) {
     tell_at(&rt, 4, &A_DROPPED_GRANT);
 }
 
-const POISONED_MEANWHILE: [Row; 4] = [
+static POISONED_MEANWHILE: [Row; 4] = [
     (Call::Of(0, EXCLUSIVE), JOINED),
     (POISON, YES),
     (Call::Of(0, Asked::Cancel), Answer::Nothing),
@@ -355,7 +355,7 @@ fn a_grant_that_is_dropped_at_a_poisoned_lock_gives_nothing_back(rt: HostRuntime
     tell_at(&rt, 4, &POISONED_MEANWHILE);
 }
 
-const WHOEVER_RELEASES: [Row; 6] = [
+static WHOEVER_RELEASES: [Row; 6] = [
     (Call::Of(0, EXCLUSIVE), JOINED),
     (POISON, YES),
     (CLEAR, YES),
@@ -369,7 +369,7 @@ fn whoever_releases_releases(rt: HostRuntime) {
     tell_at(&rt, 4, &WHOEVER_RELEASES);
 }
 
-const WRONG_MODES: [Row; 7] = [
+static WRONG_MODES: [Row; 7] = [
     (TRY_LOCK, OWNED),
     (Call::Of(0, Asked::Register(Mode::Shared, false)), JOINED),
     (Call::Of(0, SYNC), WRONG_MODE),
@@ -384,7 +384,7 @@ fn a_poll_in_the_wrong_mode_leaves_the_answer(rt: HostRuntime) {
     tell_at(&rt, 4, &WRONG_MODES);
 }
 
-const WORDS: [Row; 14] = [
+static WORDS: [Row; 14] = [
     (TRY_SHARE, OWNED),
     (TRY_SHARE, OWNED),
     (Call::Word, Answer::Word(2)),
@@ -412,9 +412,9 @@ fn prints_at(rt: &(impl Abort + AllocGlobal), story: &[Row], text: &str) {
     prints(rt, rt.alloc(), &mut core, (story, text));
 }
 
-const A_SHARER: [Row; 1] = [(TRY_SHARE, OWNED)];
+static A_SHARER: [Row; 1] = [(TRY_SHARE, OWNED)];
 
-const A_SHARER_AND_A_WAITER: [Row; 2] = [(TRY_SHARE, OWNED), (Call::Of(0, EXCLUSIVE), JOINED)];
+static A_SHARER_AND_A_WAITER: [Row; 2] = [(TRY_SHARE, OWNED), (Call::Of(0, EXCLUSIVE), JOINED)];
 
 #[test]
 fn a_lock_shows_its_state(rt: HostRuntime) {
@@ -430,7 +430,7 @@ fn a_lock_shows_its_state(rt: HostRuntime) {
     );
 }
 
-const COMMANDS: [Command<LockCore>; 12] = [
+static COMMANDS: [Command<LockCore>; 12] = [
     CommandOf::Call(LockCall::TryLock),
     CommandOf::Register(0, Mode::Shared, true),
     CommandOf::Register(1, Mode::Shared, true),
@@ -445,7 +445,7 @@ const COMMANDS: [Command<LockCore>; 12] = [
     CommandOf::Call(LockCall::Downgrade),
 ];
 
-const REPLIES: [Reply<LockCore>; 12] = [
+static REPLIES: [Reply<LockCore>; 12] = [
     ReplyOf::Answered(LockAnswer::Tried(Ok(()))),
     ReplyOf::Registered(Ok(true)),
     ReplyOf::Registered(Err(Full)),

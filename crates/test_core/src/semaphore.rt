@@ -114,7 +114,7 @@ fn tell_at(rt: &(impl Abort + AllocGlobal), room: u16, story: &[Row]) {
     tell(rt, &mut core, story);
 }
 
-const A_RELEASE: [Row; 15] = [
+static A_RELEASE: [Row; 15] = [
     (Call::TryAcquireMany(60), YES),
     (Call::Of(0, Asked::Register(5, true)), JOINED),
     (Call::Of(1, Asked::Register(1, true)), JOINED),
@@ -137,7 +137,7 @@ fn a_release_grants_the_line_in_order(rt: HostRuntime) {
     tell_at(&rt, 4, &A_RELEASE);
 }
 
-const A_WAITER_LEAVES: [Row; 9] = [
+static A_WAITER_LEAVES: [Row; 9] = [
     (Call::TryAcquireMany(63), YES),
     (Call::Of(0, Asked::Register(11, true)), JOINED),
     (Call::Of(1, Asked::Register(9, true)), JOINED),
@@ -154,7 +154,7 @@ fn a_waiter_that_leaves_lets_the_next_in(rt: HostRuntime) {
     tell_at(&rt, 4, &A_WAITER_LEAVES);
 }
 
-const AN_ANSWERED_SLOT: [Row; 9] = [
+static AN_ANSWERED_SLOT: [Row; 9] = [
     (Call::TryAcquireMany(63), YES),
     (Call::Of(0, Asked::Register(1, true)), JOINED),
     (Call::Of(1, Asked::Register(1, true)), FULL),
@@ -174,7 +174,7 @@ fn an_answered_slot_is_still_held(rt: HostRuntime) {
     tell_at(&rt, 1, &AN_ANSWERED_SLOT);
 }
 
-const NO_PERMITS: [Row; 10] = [
+static NO_PERMITS: [Row; 10] = [
     (Call::TryAcquireMany(63), YES),
     (Call::Of(0, Asked::Register(1, true)), JOINED),
     (Call::TryAcquireMany(0), NO),
@@ -192,7 +192,7 @@ fn no_permits_wait_in_turn(rt: HostRuntime) {
     tell_at(&rt, 4, &NO_PERMITS);
 }
 
-const WORDS: [Row; 9] = [
+static WORDS: [Row; 9] = [
     (Call::Word, Answer::Word(0)),
     (Call::TryAcquireMany(63), YES),
     (Call::Word, Answer::Word(63)),
@@ -215,7 +215,7 @@ fn tell_with(rt: &(impl Abort + AllocGlobal), permits: usize, story: &[Row]) {
     tell(rt, &mut core, story);
 }
 
-const ODD_COUNTS: [Row; 14] = [
+static ODD_COUNTS: [Row; 14] = [
     (Call::Available, Answer::Count(63)),
     (Call::TryAcquireMany(64), NO),
     (Call::Of(0, Asked::Register(64, true)), REFUSED),
@@ -238,7 +238,7 @@ fn odd_counts_change_nothing(rt: HostRuntime) {
     tell_with(&rt, 100, &ODD_COUNTS);
 }
 
-const WITHHELD: [Row; 5] = [
+static WITHHELD: [Row; 5] = [
     (Call::Release, YES),
     (Call::Available, Answer::Count(1)),
     (Call::TryAcquire, YES),
@@ -251,7 +251,7 @@ fn withheld_permits_may_be_released(rt: HostRuntime) {
     tell_with(&rt, 0, &WITHHELD);
 }
 
-const A_DROPPED_GRANT: [Row; 5] = [
+static A_DROPPED_GRANT: [Row; 5] = [
     (Call::TryAcquireMany(60), YES),
     (Call::Of(0, Asked::Register(3, true)), JOINED),
     (Call::Available, Answer::Count(0)),
@@ -264,7 +264,7 @@ fn a_dropped_grant_goes_back(rt: HostRuntime) {
     tell_at(&rt, 4, &A_DROPPED_GRANT);
 }
 
-const OF_A_THOUSAND: [Row; 11] = [
+static OF_A_THOUSAND: [Row; 11] = [
     (Call::TryAcquireMany(1_001), NO),
     (Call::TryAcquireMany(1_000), YES),
     (Call::Of(1, Asked::Register(300, true)), JOINED),
@@ -278,7 +278,7 @@ const OF_A_THOUSAND: [Row; 11] = [
     (Call::Available, Answer::Count(1_000)),
 ];
 
-const A_WORD_OF_A_THOUSAND: [Row; 3] = [
+static A_WORD_OF_A_THOUSAND: [Row; 3] = [
     (Call::TryAcquireMany(1_000), YES),
     (Call::Of(0, Asked::Register(1, true)), JOINED),
     (Call::Word, Answer::Word(1_000 + 262_144)),
@@ -297,7 +297,7 @@ fn a_thousand_permits(rt: HostRuntime) {
     tell_at_a_thousand(&rt, 1, &A_WORD_OF_A_THOUSAND);
 }
 
-const OF_THE_MOST: [Row; 5] = [
+static OF_THE_MOST: [Row; 5] = [
     (Call::Available, Answer::Count(65_535)),
     (Call::TryAcquireMany(65_535), YES),
     (Call::Word, Answer::Word(65_535)),
@@ -311,7 +311,7 @@ fn the_most_permits(rt: HostRuntime) {
     tell(&rt, &mut core, &OF_THE_MOST);
 }
 
-const OF_ONE: [Row; 8] = [
+static OF_ONE: [Row; 8] = [
     (Call::TryAcquireMany(1), YES),
     (Call::Of(1, Asked::Register(1, true)), JOINED),
     (Call::Of(2, Asked::Register(1, true)), JOINED),
@@ -362,7 +362,7 @@ impl Told for Two {
     }
 }
 
-const ANOTHER_CORE: [((At, Call), Answer); 10] = [
+static ANOTHER_CORE: [((At, Call), Answer); 10] = [
     ((At::Own, Call::TryAcquireMany(63)), YES),
     ((At::Own, Call::Of(0, Asked::Register(1, true))), JOINED),
     (
@@ -387,7 +387,7 @@ fn a_ticket_is_nothing_to_another_core(rt: HostRuntime) {
     tell(&rt, &mut two, &ANOTHER_CORE);
 }
 
-const TWO_ASK: [Row; 2] = [
+static TWO_ASK: [Row; 2] = [
     (Call::Of(0, Asked::Register(5, true)), JOINED),
     (Call::Of(1, Asked::Register(5, false)), JOINED),
 ];

@@ -21,7 +21,7 @@ fn word((count, is_flagged, is_poisoned, tail): (u16, bool, bool, u16)) -> Word 
 }
 
 // The parts of main words, and their bits.
-const MAIN_WORDS: [((u16, bool, bool, u16), u64); 8] = [
+static MAIN_WORDS: [((u16, bool, bool, u16), u64); 8] = [
     ((0, false, false, 0), 0),
     ((63, false, false, 0), 63),
     ((63, false, false, 1), 262_207),
@@ -40,7 +40,7 @@ fn a_main_word_is_its_bits(rt: HostRuntime) {
 }
 
 // Bits, and the parts of the main word that is read from them.
-const MAIN_BITS: [(u64, (u16, bool, bool, u16)); 4] = [
+static MAIN_BITS: [(u64, (u16, bool, bool, u16)); 4] = [
     (327_738, (58, true, false, 1)),
     (131_072, (0, false, true, 0)),
     (262_207, (63, false, false, 1)),
@@ -68,7 +68,7 @@ fn a_line_word_is_its_bits(rt: HostRuntime) {
 }
 
 // Answers, and their words.
-const ANSWERS: [(Option<u8>, u16); 3] = [(None, 0), (Some(0), 1), (Some(2), 3)];
+static ANSWERS: [(Option<u8>, u16); 3] = [(None, 0), (Some(0), 1), (Some(2), 3)];
 
 #[test]
 fn an_answer_word_is_its_value_and_one(rt: HostRuntime) {
@@ -117,7 +117,7 @@ const EMPTY: Seen = (0, 0, None);
 
 // With nobody and with three; then without the one between, without the oldest, with one more, without that newest, and
 // without the last of all.
-const JOINED_AND_LEFT: [Seen; 7] = [
+static JOINED_AND_LEFT: [Seen; 7] = [
     EMPTY,
     (3, 2, OLDEST),
     (2, 2, OLDEST),

@@ -202,7 +202,7 @@ fn play_both<R: Wait + RandomSource + AllocGlobal, const MAX: usize>(
 }
 
 // The one who asks asks for 300.
-const OF_A_THOUSAND: [Row; 12] = [
+static OF_A_THOUSAND: [Row; 12] = [
     (Call::Try(1_001), Answer::No),
     (Call::Try(1_000), Answer::Yes),
     (Call::Ask(1), Answer::Waits),
@@ -218,7 +218,7 @@ const OF_A_THOUSAND: [Row; 12] = [
 ];
 
 // Nobody asks.
-const OF_THE_MOST: [Row; 4] = [
+static OF_THE_MOST: [Row; 4] = [
     (Call::Available, Answer::Left(65_535)),
     (Call::Try(65_535), Answer::Yes),
     (Call::Release(65_536), Answer::No),
@@ -226,7 +226,7 @@ const OF_THE_MOST: [Row; 4] = [
 ];
 
 // Both ask for one.
-const OF_ONE: [Row; 8] = [
+static OF_ONE: [Row; 8] = [
     (Call::Try(1), Answer::Yes),
     (Call::Ask(0), Answer::Waits),
     (Call::Ask(1), Answer::Waits),
@@ -238,7 +238,7 @@ const OF_ONE: [Row; 8] = [
 ];
 
 // The greatest number is more than there are.
-const OPENINGS: [Opening; 3] = [
+static OPENINGS: [Opening; 3] = [
     Opening {
         permits: 1_000,
         room: 4,

@@ -1,11 +1,12 @@
-//! Tests of the threaded semaphore and lock: they answer as their cores do, all who sleep are woken,
-//! and permits give themselves back.
+//! Tests of the threaded forms: they answer as their cores do, all who sleep are woken, and permits give themselves back.
 //!
 //! Every test joins its threads, ends by itself, and rests nothing on timing.
 #![tactic(auto)]
 
 #[cfg(test)]
 mod bounds;
+#[cfg(test)]
+mod gatherings;
 #[cfg(test)]
 mod locks;
 #[cfg(test)]

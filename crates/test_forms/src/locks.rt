@@ -133,14 +133,14 @@ impl<R: Wait + Drop + Copy> Form for Tried<R> {
     }
 }
 
-const MODES: [Mode; 4] = [
+static MODES: [Mode; 4] = [
     Mode::Exclusive,
     Mode::Shared,
     Mode::WaitExclusive,
     Mode::WaitShared,
 ];
 
-const CALLS: [LockCall; 11] = [
+static CALLS: [LockCall; 11] = [
     LockCall::TryLock,
     LockCall::TryShare,
     LockCall::ReleaseLock,
@@ -154,7 +154,7 @@ const CALLS: [LockCall; 11] = [
     LockCall::IsPoisoned,
 ];
 
-const WAITS: [(Mode, Way); 4] = [
+static WAITS: [(Mode, Way); 4] = [
     (Mode::Exclusive, Way::Plain),
     (Mode::Shared, Way::Plain),
     (Mode::Exclusive, Way::With),

@@ -190,7 +190,7 @@ fn played<R: Wait + Drop>(
 }
 
 // With both permits out nothing is available, and there is no room to wait.
-const IT_IS_GIVEN_BACK: [(Call, Told); 11] = [
+static IT_IS_GIVEN_BACK: [(Call, Told); 11] = [
     (TryAcquire(First), Is(true)),
     (Left, Count(1)),
     (Acquire(Second), Taken(Ok(()))),
@@ -211,7 +211,7 @@ fn a_permit_is_given_back_when_it_goes(rt: HostRuntime) -> Result<(), Fail> {
 }
 
 // There is room to wait, and a try doesn't.
-const FORGOTTEN: [(Call, Told); 12] = [
+static FORGOTTEN: [(Call, Told); 12] = [
     (Acquire(First), Taken(Ok(()))),
     (TryAcquire(Second), Is(true)),
     (TryAcquire(Third), Is(false)),
@@ -232,7 +232,7 @@ fn a_forgotten_permit_stays_out(rt: HostRuntime) -> Result<(), Fail> {
     Ok(())
 }
 
-const BEHIND_A_WAITER: [(Call, Told); 8] = [
+static BEHIND_A_WAITER: [(Call, Told); 8] = [
     (Register(3, false), Asked(Ok(true))),
     (TryAcquire(First), Is(false)),
     (Acquire(First), Taken(Err(Full))),

@@ -215,15 +215,15 @@ struct Trial<'a> {
     sizes: &'a [usize],
 }
 
-const SHORT: [SemaphoreCall; 2] = [
+static SHORT: [SemaphoreCall; 2] = [
     SemaphoreCall::TryAcquireMany(1),
     SemaphoreCall::ReleaseMany(1),
 ];
 
-const COUNTS: [usize; 7] = [0, 1, 2, 62, 63, 64, 300];
+static COUNTS: [usize; 7] = [0, 1, 2, 62, 63, 64, 300];
 
 // A try and a release of each of these counts, and the rest.
-const CALLS: [SemaphoreCall; 17] = [
+static CALLS: [SemaphoreCall; 17] = [
     SemaphoreCall::TryAcquireMany(0),
     SemaphoreCall::ReleaseMany(0),
     SemaphoreCall::TryAcquireMany(1),
@@ -243,7 +243,7 @@ const CALLS: [SemaphoreCall; 17] = [
     SemaphoreCall::IsClosed,
 ];
 
-const WAITS: [(usize, Way); 10] = [
+static WAITS: [(usize, Way); 10] = [
     (1, Way::Short),
     (1, Way::ShortWith),
     (0, Way::Plain),
@@ -257,9 +257,9 @@ const WAITS: [(usize, Way); 10] = [
 ];
 
 // The same of few counts: many are available, or none.
-const MANY: [usize; 3] = [0, 1, 63];
+static MANY: [usize; 3] = [0, 1, 63];
 
-const MANY_CALLS: [SemaphoreCall; 9] = [
+static MANY_CALLS: [SemaphoreCall; 9] = [
     SemaphoreCall::TryAcquireMany(0),
     SemaphoreCall::ReleaseMany(0),
     SemaphoreCall::TryAcquireMany(1),
@@ -271,9 +271,9 @@ const MANY_CALLS: [SemaphoreCall; 9] = [
     SemaphoreCall::IsClosed,
 ];
 
-const FEW: [usize; 3] = [0, 1, 2];
+static FEW: [usize; 3] = [0, 1, 2];
 
-const FEW_CALLS: [SemaphoreCall; 9] = [
+static FEW_CALLS: [SemaphoreCall; 9] = [
     SemaphoreCall::TryAcquireMany(0),
     SemaphoreCall::ReleaseMany(0),
     SemaphoreCall::TryAcquireMany(1),

@@ -1,7 +1,7 @@
 //! Tests of the named futures: on a core under the mutex, and in tasks, which are polled by hand or by an executor.
 //!
 //! A contract says what a poll does to the core and answers. That a poll reaches the core under the mutex, and that an answer
-//! wakes exactly the tasks that it concerns, is shown here; what becomes of wakers is shown by `test_wakers`.
+//! wakes exactly the tasks that it concerns, is shown here; what becomes of wakers is shown by `wakers`.
 #![tactic(auto)]
 
 #[cfg(test)]
@@ -28,6 +28,8 @@ mod semaphore_stories;
 mod stories;
 #[cfg(test)]
 mod values;
+#[cfg(test)]
+mod wakers;
 #[cfg(test)]
 mod wakes;
 

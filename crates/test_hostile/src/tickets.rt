@@ -181,7 +181,7 @@ fn tell_barriers(
     tell(rt, (own, other), story);
 }
 
-const A_CLEARED_LOCK: [Row<LockCore>; 6] = [
+static A_CLEARED_LOCK: [Row<LockCore>; 6] = [
     (
         Step::Own(CommandOf::Register(0, Mode::Exclusive, true)),
         Told::Reply(ReplyOf::Registered(Ok(true))),
@@ -211,7 +211,7 @@ fn a_dropped_grant_of_a_cleared_lock_ends_another_s(rt: HostRuntime) {
     tell_locks(&rt, 4, &A_CLEARED_LOCK);
 }
 
-const THE_WRONG_MODE: [Row<LockCore>; 7] = [
+static THE_WRONG_MODE: [Row<LockCore>; 7] = [
     (
         Step::Own(CommandOf::Call(LockCall::TryLock)),
         Told::Reply(ReplyOf::Answered(LockAnswer::Tried(Ok(())))),
@@ -244,7 +244,7 @@ fn the_wrong_mode_of_a_lock_consumes_nothing(rt: HostRuntime) {
     tell_locks(&rt, 4, &THE_WRONG_MODE);
 }
 
-const A_WAITER_FOR_NOTHING: [Row<SemaphoreCore>; 4] = [
+static A_WAITER_FOR_NOTHING: [Row<SemaphoreCore>; 4] = [
     (
         Step::Own(CommandOf::Call(SemaphoreCall::TryAcquireMany(63))),
         Told::Reply(ReplyOf::Answered(SemaphoreAnswer::Bool(true))),
@@ -265,7 +265,7 @@ fn a_dropped_waiter_for_nothing_gives_nothing_back(rt: HostRuntime) {
     tell_semaphores(&rt, 4, &A_WAITER_FOR_NOTHING);
 }
 
-const GIVEN_UP: [Row<GateCore>; 7] = [
+static GIVEN_UP: [Row<GateCore>; 7] = [
     (
         Step::Own(CommandOf::Register(0, (), true)),
         Told::Reply(ReplyOf::Registered(Ok(true))),
@@ -295,7 +295,7 @@ fn whoever_gives_up_at_a_gate_answers_all_others(rt: HostRuntime) {
     tell_gates(&rt, 4, &GIVEN_UP);
 }
 
-const A_DROPPED_LEADER: [Row<BarrierCore>; 5] = [
+static A_DROPPED_LEADER: [Row<BarrierCore>; 5] = [
     (
         Step::Own(CommandOf::Register(0, (), true)),
         Told::Reply(ReplyOf::Registered(Ok(true))),
@@ -321,7 +321,7 @@ fn the_dropped_leader_of_a_round_was_its_leader(rt: HostRuntime) {
 }
 
 // The slot is held for ever, and so is the permit that it was granted.
-const ANOTHER_SEMAPHORE: [Row<SemaphoreCore>; 11] = [
+static ANOTHER_SEMAPHORE: [Row<SemaphoreCore>; 11] = [
     (
         Step::Own(CommandOf::Call(SemaphoreCall::TryAcquireMany(63))),
         Told::Reply(ReplyOf::Answered(SemaphoreAnswer::Bool(true))),
@@ -367,7 +367,7 @@ fn a_ticket_in_another_semaphore(rt: HostRuntime) {
     tell_semaphores(&rt, 1, &ANOTHER_SEMAPHORE);
 }
 
-const ANOTHER_LOCK: [Row<LockCore>; 11] = [
+static ANOTHER_LOCK: [Row<LockCore>; 11] = [
     (
         Step::Own(CommandOf::Call(LockCall::TryLock)),
         Told::Reply(ReplyOf::Answered(LockAnswer::Tried(Ok(())))),
@@ -416,7 +416,7 @@ fn a_ticket_in_another_lock(rt: HostRuntime) {
     tell_locks(&rt, 1, &ANOTHER_LOCK);
 }
 
-const ANOTHER_GATE: [Row<GateCore>; 7] = [
+static ANOTHER_GATE: [Row<GateCore>; 7] = [
     (
         Step::Own(CommandOf::Register(0, (), true)),
         Told::Reply(ReplyOf::Registered(Ok(true))),
@@ -449,7 +449,7 @@ fn a_ticket_in_another_gate(rt: HostRuntime) {
     tell_gates(&rt, 1, &ANOTHER_GATE);
 }
 
-const ANOTHER_BARRIER: [Row<BarrierCore>; 8] = [
+static ANOTHER_BARRIER: [Row<BarrierCore>; 8] = [
     (
         Step::Own(CommandOf::Register(0, (), true)),
         Told::Reply(ReplyOf::Registered(Ok(true))),

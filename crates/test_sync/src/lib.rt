@@ -1,4 +1,4 @@
-//! Tests of what no contract says: that a threaded call reaches its core, that a wait waits, and that it is woken.
+//! Tests of what no contract says: that a threaded call reaches its core, that a wait waits, spins for a while, is woken, and ends in time.
 //!
 //! Every test joins its threads, ends by itself, and rests nothing on timing.
 #![tactic(auto)]
@@ -16,9 +16,13 @@ mod orderings;
 #[cfg(test)]
 mod pagers;
 #[cfg(test)]
+mod patience;
+#[cfg(test)]
 mod permits;
 #[cfg(test)]
 mod prints;
+#[cfg(test)]
+mod races;
 #[cfg(test)]
 mod seats;
 #[cfg(test)]
@@ -27,5 +31,7 @@ mod semaphores;
 mod stories;
 #[cfg(test)]
 mod threads;
+#[cfg(test)]
+mod timed;
 #[cfg(test)]
 mod waits;

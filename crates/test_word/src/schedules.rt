@@ -156,7 +156,7 @@ fn play_calls(rt: &impl Abort, played: &mut Played, calls: &[(u16, WordCall, Ste
 
 // Permits 63 out, place 0 waits for 10, place 1 gives 5 back and is about to publish; then place 2 gives 5 back in place.
 // A main word is 63 more than 262,144 where place 0 waits, 5 less with each release, and 65,536 more with the flag set.
-const RELEASE_MOVES: [Moved; 27] = [
+static RELEASE_MOVES: [Moved; 27] = [
     (Move::Start(1, WordCall::Try(63)), GOING, ASK, 0),
     (Move::Go(1), GOING, ASK, 0),
     (Move::Go(1), YES, None, 63),
@@ -222,7 +222,7 @@ fn who_waits_is_as_it_was(rt: HostRuntime) -> Result<(), Fail> {
 }
 
 // A place in a call is busy, and one in none is idle: neither is changed, nor is the word.
-const BUSY_MOVES: [Moved; 16] = [
+static BUSY_MOVES: [Moved; 16] = [
     (Move::Go(0), IDLE, None, 3),
     (Move::Go(1), IDLE, None, 3),
     (Move::Start(0, WordCall::Try(60)), GOING, ASK, 3),
@@ -249,7 +249,7 @@ fn busy_and_idle_change_nothing(rt: HostRuntime) -> Result<(), Fail> {
 }
 
 // What is answered as a call starts, and that a release of nothing doesn't look at the word.
-const AT_ONCE: [Moved; 7] = [
+static AT_ONCE: [Moved; 7] = [
     (Move::Start(0, WordCall::Try(64)), NO, None, 0),
     (Move::Start(0, WordCall::Try(usize::MAX)), NO, None, 0),
     (Move::Start(0, WordCall::Register(64)), NO, None, 0),
@@ -259,13 +259,13 @@ const AT_ONCE: [Moved; 7] = [
     (Move::Start(0, WordCall::Poll), NOT_REGISTERED, None, 0),
 ];
 
-const REGISTERED_AT_ONCE: [Moved; 3] = [
+static REGISTERED_AT_ONCE: [Moved; 3] = [
     (Move::Start(0, WordCall::Register(1)), NO, None, 63),
     (Move::Start(0, WordCall::Poll), TAKEN, None, 63),
     (Move::Start(0, WordCall::TryPoll), NOT_REGISTERED, None, 63),
 ];
 
-const RELEASED_ALL: [(u16, WordCall, Step); 4] = [
+static RELEASED_ALL: [(u16, WordCall, Step); 4] = [
     (0, WordCall::Release(63), YES),
     (0, WordCall::Release(1), NO),
     (0, WordCall::Register(0), YES),
@@ -283,7 +283,7 @@ fn what_needs_no_word_is_done_as_it_starts(rt: HostRuntime) -> Result<(), Fail> 
 }
 
 // Each call, and whether a semaphore and a lock take it.
-const TAKES: [(WordCall, bool, bool); 20] = [
+static TAKES: [(WordCall, bool, bool); 20] = [
     (WordCall::Try(usize::MAX), true, false),
     (WordCall::Register(0), true, false),
     (WordCall::Release(1), true, false),
@@ -319,7 +319,7 @@ fn what_each_machine_takes(rt: HostRuntime) -> Result<(), Fail> {
 
 // Each call of a lock that two places make in turn: the kind of its first step, how many steps it makes, its answer, and the main word
 // behind it. Place 1 in line adds 524,288, and poison is 131,072.
-const LOCK_CALLS: [Counted; 45] = [
+static LOCK_CALLS: [Counted; 45] = [
     (0, WordCall::IsFree, ASK, 1, YES, 0),
     (0, WordCall::TryLock, ASK, 2, OWNED, 63),
     (1, WordCall::TryLock, ASK, 1, BLOCKED, 63),
@@ -417,7 +417,7 @@ fn the_calls_of_a_lock(rt: HostRuntime) -> Result<(), Fail> {
 // and place 2, whose answer is due by then, gives it up once it is shown. Each move with what it did, the kind of the step that is
 // next at its place, and the main word behind it: 786,495 where one owner has the lock and the tail is place 2, 65,536 more with the flag
 // set.
-const POISON_MOVES: [Moved; 21] = [
+static POISON_MOVES: [Moved; 21] = [
     (Move::Start(1, WordCall::Cancel), GOING, FLAG, 786_495),
     (Move::Go(1), GOING, FLAG, 786_495),
     (Move::Go(1), GOING, UNLINK, 852_031),
@@ -441,7 +441,7 @@ const POISON_MOVES: [Moved; 21] = [
     (Move::Go(2), UNIT, None, 131_072),
 ];
 
-const TWO_WAIT: [(u16, WordCall, Step); 3] = [
+static TWO_WAIT: [(u16, WordCall, Step); 3] = [
     (0, WordCall::TryLock, OWNED),
     (1, WordCall::RegisterMode(Mode::Shared), YES),
     (2, WordCall::RegisterMode(Mode::WaitExclusive), YES),
@@ -458,7 +458,7 @@ fn poison_and_cancels_wait_for_who_leaves(rt: HostRuntime) -> Result<(), Fail> {
 // Permits 60 out; places 0, 1 and 2 wait for 10, 2 and 1. Place 2 leaves the line as its tail. Then place 0 leaves, by which place 1 is
 // granted; place 1 gives that up, waits until it is shown, and gives 2 back. A main word is 786,492 with the tail at place 2, 524,348 at
 // place 1, and 65,536 more with the flag set.
-const LEAVING_MOVES: [Moved; 29] = [
+static LEAVING_MOVES: [Moved; 29] = [
     (Move::Start(2, WordCall::Cancel), GOING, FLAG, 786_492),
     (Move::Go(2), GOING, FLAG, 786_492),
     (Move::Go(2), GOING, UNLINK, 852_028),
@@ -495,7 +495,7 @@ const LEAVING_MOVES: [Moved; 29] = [
     (Move::Go(1), UNIT, None, 60),
 ];
 
-const THREE_WAIT: [(u16, WordCall, Step); 3] = [
+static THREE_WAIT: [(u16, WordCall, Step); 3] = [
     (0, WordCall::Register(10), YES),
     (1, WordCall::Register(2), YES),
     (2, WordCall::Register(1), YES),
@@ -510,7 +510,7 @@ fn who_leaves_lets_the_next_one_in(rt: HostRuntime) -> Result<(), Fail> {
 }
 
 // How many are withheld, and the main word of that.
-const WITHHELD: [(usize, u64); 6] = [
+static WITHHELD: [(usize, u64); 6] = [
     (0, 0),
     (1, 1),
     (62, 62),
@@ -648,7 +648,7 @@ fn a_downgrade_in_place_while_a_cancel_holds_the_flag(rt: HostRuntime) -> Result
 }
 
 // Downgrades of a lock by place 0 where nobody waits, of one owner and else. A start of it is never done at once.
-const DOWNGRADES: [Counted; 12] = [
+static DOWNGRADES: [Counted; 12] = [
     (0, WordCall::Downgrade, RELEASE, 1, NO, 0),
     (0, WordCall::TryLock, ASK, 2, OWNED, 63),
     (0, WordCall::Downgrade, RELEASE, 2, YES, 1),
@@ -670,7 +670,7 @@ fn only_one_owner_is_downgraded(rt: HostRuntime) -> Result<(), Fail> {
     Ok(())
 }
 
-const MOVES: [Move; 21] = [
+static MOVES: [Move; 21] = [
     Move::Start(0, WordCall::Register(3)),
     Move::Start(1, WordCall::Release(3)),
     Move::Go(0),

@@ -1,4 +1,5 @@
-//! Tests of the word's semaphore and lock on threads: that their calls do on shared words what their contracts say, wait, and are woken.
+//! Tests of the word's semaphore and lock on threads: that their calls do on shared words what their contracts say, wait, and are woken;
+//! and of the mutex and the reader-writer lock on it.
 //!
 //! Every test joins its threads, ends by itself, and rests nothing on timing.
 #![tactic(auto)]
@@ -9,6 +10,8 @@ mod abstract_state;
 mod compared;
 #[cfg(test)]
 mod crowd;
+#[cfg(test)]
+mod exclusion;
 #[cfg(test)]
 mod linearized;
 #[cfg(test)]

@@ -1,8 +1,0 @@
-//! Tests of races: a try never waits beside one who takes what it tries for, and no wake is lost between a poll's look for its
-//! answer and the keeping of its waker.
-#![tactic(auto)]
-
-#[cfg(test)]
-mod polls;
-#[cfg(test)]
-mod tries;
