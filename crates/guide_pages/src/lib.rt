@@ -1,7 +1,7 @@
 //! Programs that the guide's pages show, a module each: a test is the `main` of its page.
 //!
 //! Each module is the whole program of its page, but for the word `#[test]` above its `main`; `printed/` has what it prints. They stand in one
-//! crate because each program takes the gate some hundred processor seconds before its first function: the proofs of what it links.
+//! crate because each program takes the gate some 50 processor seconds before its first function: the proofs of what it links.
 #![tactic(auto)]
 
 #[cfg(test)]
