@@ -14,8 +14,8 @@ pub trait Core {
     /// Tries to take so many permits, and gives back what the turn before took; whether they were taken.
     fn try_turn(&mut self, count: usize, taken: usize) -> bool;
 
-    /// Gives back what is waited for, takes note of whom the release answered, as a form does before it wakes them, has the ticket take its
-    /// answer, and has it wait for so many.
+    /// Gives back the permits that the ticket waits for, takes the pending wakes, as a form does before it wakes the waiters, has the ticket
+    /// take its answer, and has it wait for so many.
     fn wait_turn(&mut self, ticket: &mut Ticket, asked: usize, count: usize);
 }
 
@@ -86,8 +86,8 @@ fn take_tries<C: Core>(core: &mut C, turns: u64) -> usize {
     taken
 }
 
-// Takes all permits. Then grants who waits alone what it asked for, has it take its answer, and has it join anew, in each turn but the
-// first, in which it only joins; returns what it asked for at last. It isn't always as many, so that to join isn't compiled for one number.
+// Takes all permits. Then each turn grants the only waiter its permits, has it take its answer, and has it join anew; the first turn
+// only joins. Returns the count of the last request. Counts differ by turn, so that joining isn't compiled for one number.
 #[inline(never)]
 fn wait_turns<C: Core>(core: &mut C, turns: u64) -> usize {
     let mut ticket = Ticket::new();

@@ -27,7 +27,7 @@ pub enum Action {
 }
 
 impl Action {
-    // The place among those who joined of whom it happens to, at a turn.
+    // The place in the queue of the waiter that a turn is about.
     fn place(self, turn: u64, waiting: u64) -> usize {
         let half = waiting / 2;
         let place = match self {

@@ -1,4 +1,4 @@
-//! Rounds that are measured: a barrier's, and a gate that lets all who wait pass; and each by a counter under std's
+//! Rounds that are measured: a barrier's, and a gate that lets all waiters pass; and each by a counter under std's
 //! `Mutex` and `Condvar`.
 
 use crate::times::{Case, nanos_since};
@@ -78,9 +78,9 @@ impl Turn for Rounds {
     }
 }
 
-/// A gate that is measured: a turn enters, and waits until it may pass; and one lets all pass who wait.
+/// A gate that is measured: a turn enters, and waits until it may pass; another thread lets all waiters pass.
 pub trait Passage: Turn {
-    /// Lets all pass who wait; how many those were.
+    /// Lets all waiters pass; how many there were.
     fn let_through<R: Wait>(&self, rt: &R) -> usize;
 }
 
@@ -132,7 +132,7 @@ pub fn passings_nanos<R: Clock + Threads + Wait + Sync, G: Passage>(
     nanos_since(rt, start)
 }
 
-// Lets through who waits, until so many have passed.
+// Lets waiters pass until so many have passed.
 fn let_all_through<R: Wait, G: Passage>(rt: &R, gate: &G, all: u64) {
     let mut awaited = all;
     for _ in rt.forever() {

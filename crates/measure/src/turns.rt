@@ -83,7 +83,7 @@ impl Counter {
         *left -= TAKEN;
     }
 
-    // Gives them back, and wakes one who waits.
+    // Gives them back, and wakes one waiter.
     fn give<R: Wait>(&self, rt: &R) {
         {
             let mut left = self.left.lock(rt);

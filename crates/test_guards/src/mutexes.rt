@@ -21,7 +21,7 @@ pub(crate) const STORIES: [Story; 3] = [
         rows: &NO_ROOM,
     },
     Story {
-        name: "who unlocks fairly lets the next in",
+        name: "a fair unlock lets the next waiter in",
         number: 5,
         room: 0,
         crowd: 0,

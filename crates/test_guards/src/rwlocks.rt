@@ -35,7 +35,7 @@ pub(crate) const STORIES: [Story; 5] = [
         rows: &LOWERED,
     },
     Story {
-        name: "who unlocks fairly lets the next in",
+        name: "a fair unlock lets the next waiter in",
         number: 5,
         room: 0,
         crowd: 0,

@@ -181,8 +181,8 @@ fn write_digit<R: Wait + Drop>(locks: &Locks<R>, digit: u64) -> bool {
     held.put(shown.saturating_mul(10).saturating_add(digit))
 }
 
-// Waits until the mutex is held, and then writes a digit. Who looks whether somebody waits fills the room for a moment, so who
-// finds it full asks again.
+// Waits until the mutex is held, and then writes a digit. A look at the waiters fills the room for a moment, so a call that finds the
+// room full is made again.
 fn write_once_held<R: Wait + Drop>(rt: &impl Wait, locks: &Locks<R>, digit: u64) -> bool {
     for _ in rt.forever() {
         if locks.attempt(Lock).is_none() && write_digit(locks, digit) {
@@ -200,7 +200,7 @@ const WAITED_FOR: [Row; 2] = [(Two, Asks(Lock, None)), (Three, Asks(Lock, FULL))
 
 const GONE: [Row; 2] = [(Two, Leaves), (Three, Leaves)];
 
-// It asks behind whoever waits, and lets the mutex go.
+// It asks behind the waiters, and lets the mutex go.
 const BEHIND: [Row; 2] = [(Two, Asks(Lock, None)), (One, Ends)];
 
 // Waits until somebody waits for the mutex.
