@@ -15,6 +15,7 @@ pub mod semaphore;
 mod step;
 mod straight;
 mod table;
+pub mod testing;
 mod waiting;
 mod watch;
 pub mod words;

@@ -12,9 +12,6 @@ ghost use Rattle.saa_word_steps.specs.Steps.{mode_number};
 ghost use Rattle.saa_word_threads.specs.Dealt.{IsLedTo, numbers};
 ghost use Rattle.saa_word_threads.specs.Public.{is_yes, polled_lock, tried};
 
-#[cfg(test)]
-mod tests;
-
 use crate::form::Form;
 use crate::looking::{NONE, Patience, WAITING};
 use crate::place::{Left as FormLeft, Place as FormPlace};

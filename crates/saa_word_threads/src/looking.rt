@@ -14,9 +14,6 @@ ghost use Rattle.saa_word_proofs.specs.Registering.{IsReadyNext};
 ghost use Rattle.saa_word_threads.specs.Called.{Midway, MidwayNext};
 ghost use Rattle.saa_word_threads.specs.Told.{Begins, IsNext, IsSought, MovesOrStays, prepares, unless_joining};
 
-#[cfg(test)]
-mod tests;
-
 use crate::call::Begun;
 use crate::form::Form;
 use crate::table::{Mover, Sought, View};
@@ -29,10 +26,12 @@ use std::snapshot::Snapshot;
 use std::thread::yield_now;
 
 /// How often a call looks, and then yields, before it joins the waiters.
-#[derive(Clone, Copy, Debug, Eq, PartialEq)]
-pub(crate) struct Patience {
-    looks: u32,
-    yields: u32,
+#[derive(Clone, Copy)]
+pub struct Patience {
+    /// How often it looks, with longer and longer rests.
+    pub looks: u32,
+    /// How often it yields then, and looks.
+    pub yields: u32,
 }
 
 /// The patience of a call that may wait. The looks last some 50 microseconds; where turns take a microsecond or less, mostly no place joins.
@@ -42,7 +41,7 @@ pub(crate) const WAITING: Patience = Patience {
 };
 
 /// Joins at once.
-pub(crate) const NONE: Patience = Patience {
+pub const NONE: Patience = Patience {
     looks: 0,
     yields: 0,
 };
@@ -105,7 +104,7 @@ impl Form {
     }
 
     // Whether a look may let a place get on that stands at this stage. An exchange that must fail would take the main word's cache line.
-    fn may_get_on(&self, stage: Stage) -> bool {
+    pub(crate) fn may_get_on(&self, stage: Stage) -> bool {
         if let Stage::AskExchange { ask, .. } = stage {
             let seen = Word::unpack(self.table.shared.peek(0));
             return seen.is_poisoned || self.grants(seen, ask);

@@ -13,9 +13,6 @@ ghost use Rattle.saa_word_steps.specs.declared.rules.Rules.TheVariants.{Permits}
 ghost use Rattle.saa_word_threads.specs.Dealt.{AreNew, IsLedTo, numbers};
 ghost use Rattle.saa_word_threads.specs.Public.{HasLeft, IsMade, IsWaited, is_yes, polled, view_left};
 
-#[cfg(test)]
-mod tests;
-
 use crate::form::Form;
 use crate::looking::{NONE, Patience, WAITING};
 pub use crate::place::{Left, Place};
@@ -36,7 +33,7 @@ use std::sync::Wait;
 /// takes a lock or memory but `new`: while one thread is stopped in the middle of a call, the others still take and give back permits.
 #[derive(Drop)]
 pub struct SemaphoreOf<const MAX: usize> {
-    form: Form,
+    pub(crate) form: Form,
     ghost permits: { form.rules ≡ Permits MAX },
     ghost narrow: { MAX < 65536 },
 }

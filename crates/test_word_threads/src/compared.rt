@@ -1,29 +1,22 @@
 //! Random calls of several places, one after another, beside a semaphore whose waiters stand in a list.
 
 ghost use Rattle.std.specs.Prelude.{◌<◌};
+ghost use Rattle.saa_word_threads.specs.Dealt.{AreNew};
+ghost use Rattle.saa_word_threads.specs.Semaphores.{table_of};
 
 use crate::queue::Queue;
-use crate::worker::{Call, Told, Worker, last_of, workers_of};
+use crate::worker::{Call, Worker, all_leave, last_of, main_of, workers_of};
 use rand_core::utils::NextWord;
 use rand_pcg::Pcg32;
-use saa_word_threads::semaphore::SemaphoreOf;
-use std::alloc::AllocError;
+use saa_word_threads::semaphore::{Place, SemaphoreOf};
+use std::alloc::{AllocError, AllocGlobal, Global};
 use std::sync::Wait;
-use std::test::Fail;
 use test_asserts::same;
 
 // How many places make calls, and how many calls they make together.
 const PLACES: u16 = 6;
 
 const TURNS: u32 = 3_000;
-
-// A call whose answer, or the permits that are available behind it, isn't what the list says.
-#[derive(Clone, Copy, Debug, Eq, PartialEq)]
-struct Difference {
-    turn: u32,
-    told: (Told, Told),
-    wanted: (Told, Told),
-}
 
 // The call of a random word: of half of them the count is small, so that many wait.
 fn call_of(word: u32, bound: usize) -> Call {
@@ -40,73 +33,89 @@ fn call_of(word: u32, bound: usize) -> Call {
     }
 }
 
-// Random calls, none of which waits; the first difference.
+// Random calls, none of which waits; the first turn whose answer, or the permits that are available behind it, isn't what the list says.
 fn first_difference<const MAX: usize>(
     rt: &impl Wait,
     workers: &mut Vec<Worker<'_, MAX>>,
     queue: &mut Queue,
     seed: u16,
-) -> Result<Option<Difference>, AllocError> {
+) -> Option<u32> {
     let mut random = Pcg32::new(u64::from(seed), 54);
     for turn in 0..TURNS {
         let me = random.next_word() as usize % usize::from(PLACES);
-        let mut call = call_of(random.next_word(), MAX);
-        if queue.waits_in(me, call) {
-            call = Call::TryPoll;
-        }
+        let call = call_of(random.next_word(), MAX);
         if let Some(worker) = workers.get_mut(me) {
-            let told = (worker.make(rt, call), worker.make(rt, Call::Available));
-            let wanted = (queue.make(me, call)?, queue.make(me, Call::Available)?);
-            if told != wanted {
-                return Ok(Some(Difference { turn, told, wanted }));
+            if !is_same(rt, worker, queue, me, call) {
+                return Some(turn);
             }
         }
     }
-    Ok(None)
+    None
 }
 
-// All places leave, and so each cancels.
-fn all_leave<const MAX: usize>(rt: &impl Wait, workers: Vec<Worker<'_, MAX>>) {
-    for worker in workers {
-        worker.leave(rt);
-    }
+// Makes a call of a place on both, or a poll where it would have to wait; whether both tell the same, and which permits are available then.
+fn is_same<const MAX: usize>(
+    rt: &impl Wait,
+    worker: &mut Worker<'_, MAX>,
+    queue: &mut Queue,
+    me: usize,
+    call: Call,
+) -> bool {
+    let call = if queue.waits_in(me, call) {
+        Call::TryPoll
+    } else {
+        call
+    };
+    let is_answer = worker.make(rt, call) == queue.make(me, call);
+    is_answer && worker.make(rt, Call::Available) == queue.make(me, Call::Available)
 }
 
-// All places of the list cancel, in the same order.
-fn all_cancel(queue: &mut Queue) -> Result<(), AllocError> {
+// All places of the list cancel, in the order in which the workers leave.
+fn all_cancel(queue: &mut Queue) {
     for place in 0..usize::from(PLACES) {
-        queue.make(place, Call::Cancel)?;
+        queue.make(place, Call::Cancel);
     }
-    Ok(())
 }
 
-// Random calls, and all places leave: the first difference, and the main word at the end beside how many permits the list says are taken.
-fn compare<R: Wait + AllocGlobal, const MAX: usize>(
+// Random calls of these places, which leave then; the first difference.
+fn compare<const MAX: usize>(
+    rt: &impl Wait,
+    alloc: Global,
+    semaphore: &SemaphoreOf<MAX>,
+    places: Vec<Place>,
+    queue: &mut Queue,
+    seed: u16,
+) -> Result<Option<u32>, AllocError>
+    requires { AreNew (table_of semaphore.now) 0 places.items }
+{
+    let mut workers = workers_of(alloc, semaphore, places)?;
+    let first = first_difference(rt, &mut workers, queue, seed);
+    all_leave(rt, workers);
+    all_cancel(queue);
+    Ok(first)
+}
+
+// The same at a new semaphore, beside this list: the first difference, and the main word at the end.
+fn compare_new<R: Wait + AllocGlobal, const MAX: usize>(
     rt: &R,
     withheld: usize,
+    queue: &mut Queue,
     seed: u16,
-) -> Result<(Option<Difference>, Option<u64>, usize), AllocError>
+) -> Result<(Option<u32>, Option<u64>), AllocError>
     requires bound { 0 < MAX }
     requires narrow { MAX < 65536 }
 {
     let (semaphore, mut places) = SemaphoreOf::<MAX>::new(rt.alloc(), withheld, PLACES + 1)?;
     let witness = last_of(&semaphore, &mut places);
-    let mut workers = workers_of(rt.alloc(), &semaphore, places)?;
-    let mut queue = Queue::new(rt.alloc(), MAX, withheld.min(MAX), PLACES)?;
-    let first = first_difference(rt, &mut workers, &mut queue, seed)?;
-    all_leave(rt, workers);
-    all_cancel(&mut queue)?;
-    let Some(place) = witness else {
-        return Ok((first, None, queue.taken()));
-    };
-    let left = semaphore.leave(rt, place);
-    Ok((first, Some(semaphore.close(left).main()), queue.taken()))
+    let first = compare(rt, rt.alloc(), &semaphore, places, queue, seed)?;
+    Ok((first, main_of(rt, semaphore, witness)))
 }
 
+// A run with a difference: its seed, the turn of the difference, and the main word at the end beside how many permits the list says are taken.
+type Fault = (u16, Option<u32>, Option<u64>, usize);
+
 // Compares a semaphore of so many permits, of which none, one and all are withheld, at some seeds; the first run with a difference.
-fn first_fault<R: Wait + AllocGlobal, const MAX: usize>(
-    rt: &R,
-) -> Result<Option<(u16, Option<Difference>, Option<u64>, usize)>, AllocError>
+fn first_fault<R: Wait + AllocGlobal, const MAX: usize>(rt: &R) -> Result<Option<Fault>, AllocError>
     requires bound { 0 < MAX }
     requires narrow { MAX < 65536 }
 {
@@ -116,18 +125,25 @@ fn first_fault<R: Wait + AllocGlobal, const MAX: usize>(
             1 => 1,
             _ => MAX,
         };
-        let (first, main, taken) = compare::<R, MAX>(rt, withheld, seed)?;
-        if first.is_some() || main != Some(taken as u64) {
-            return Ok(Some((seed, first, main, taken)));
+        let mut queue = Queue::new(rt.alloc(), MAX, withheld.min(MAX), PLACES)?;
+        let (first, main) = compare_new::<R, MAX>(rt, withheld, &mut queue, seed)?;
+        if first.is_some() || main != Some(queue.taken() as u64) {
+            return Ok(Some((seed, first, main, queue.taken())));
         }
     }
     Ok(None)
 }
 
+// The same of three semaphores.
+fn faults<R: Wait + AllocGlobal>(rt: &R) -> Result<[Option<Fault>; 3], AllocError> {
+    Ok([
+        first_fault::<R, 1>(rt)?,
+        first_fault::<R, 63>(rt)?,
+        first_fault::<R, 1_000>(rt)?,
+    ])
+}
+
 #[test]
-fn random_calls_answer_as_a_list_of_waiters(rt: HostRuntime) -> Result<(), Fail> {
-    same!(rt; first_fault::<_, 1>(&rt)?, None);
-    same!(rt; first_fault::<_, 63>(&rt)?, None);
-    same!(rt; first_fault::<_, 1_000>(&rt)?, None);
-    Ok(())
+fn random_calls_answer_as_a_list_of_waiters(rt: HostRuntime) {
+    same!(rt; faults(&rt).ok(), Some([None; 3]));
 }

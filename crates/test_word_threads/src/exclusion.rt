@@ -6,7 +6,6 @@
 
 mod crowd;
 mod inside;
-mod owner;
 mod owners;
 mod poisoned;
 mod rows;

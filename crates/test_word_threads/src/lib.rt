@@ -7,6 +7,10 @@
 #[cfg(test)]
 mod abstract_state;
 #[cfg(test)]
+mod beside;
+#[cfg(test)]
+mod bounds;
+#[cfg(test)]
 mod compared;
 #[cfg(test)]
 mod crowd;
@@ -16,6 +20,10 @@ mod exclusion;
 mod linearized;
 #[cfg(test)]
 mod locks;
+#[cfg(test)]
+mod looking;
+#[cfg(test)]
+mod owner;
 #[cfg(test)]
 mod queue;
 #[cfg(test)]

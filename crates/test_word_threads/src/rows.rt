@@ -1,198 +1,261 @@
-//! Worked rows: what calls answer, and which words they leave.
+//! Worked rows of the word's semaphore as tables: what calls answer, and which words they leave.
 
-ghost use Rattle.saa_word_threads.specs.Semaphores.{IsDealtBy, IsLeftOf};
 ghost use Rattle.std.specs.Prelude.{◌<◌};
+ghost use Rattle.saa_word_threads.specs.Dealt.{AreNew};
+ghost use Rattle.saa_word_threads.specs.Semaphores.{table_of};
 
-use crate::worker::{Call, Told, Worker, last_of, make};
-use saa_word_threads::semaphore::{Error, Left, Place, Semaphore, SemaphoreOf, Words};
-use std::alloc::{AllocError, AllocGlobal};
-use std::process::Abort;
+use crate::bounds;
+use crate::worker::{Call, Told, Worker, all_leave, last_of, words_of, workers_of};
+use saa_word_threads::semaphore::{Error, Place, SemaphoreOf, Words};
+use std::alloc::{AllocError, AllocGlobal, Global};
 use std::sync::Wait;
-use std::test::Fail;
-use std::thread;
 use test_asserts::same;
 
-// Who makes a call.
+/// The number of a place, its call, and what it must be told.
+pub type Row = (usize, Call, Told);
+
+/// What happens at a new semaphore.
 #[derive(Clone, Copy)]
-enum Who {
-    First,
-    Second,
+pub struct Story {
+    pub name: &'static str,
+    // How many permits are withheld, and how many places make calls; one more leaves at the end.
+    pub withheld: usize,
+    pub places: u16,
+    pub rows: &'static [Row],
+    // Whether the places leave too.
+    pub all_leave: bool,
+    // What words must be then.
+    pub words: &'static [(Word, Option<u64>)],
 }
 
-// Makes calls of two places in order; the first that answers something else, and its answer.
-fn first_other(
-    rt: &impl Wait,
-    semaphore: &Semaphore,
-    first: &mut Place,
-    second: &mut Place,
-    story: &[(Who, Call, Told)],
-) -> Option<(usize, Told)>
-    requires first { IsDealtBy semaphore.now first.old }
-    requires second { IsDealtBy semaphore.now second.old }
-    ensures first { IsDealtBy semaphore.now first.new }
-    ensures second { IsDealtBy semaphore.now second.new }
-{
-    for row in 0..story.len() {
-        let (who, call, wanted) = story[row];
-        let told = match who {
-            Who::First => make(rt, semaphore, first, call),
-            Who::Second => make(rt, semaphore, second, call),
-        };
-        if told != wanted {
-            return Some((row, told));
-        }
-    }
-    None
+/// A word of a semaphore.
+#[derive(Clone, Copy)]
+pub enum Word {
+    Main,
+    // The line word and the answer of a place.
+    Line(u16),
+    Answer(u16),
 }
 
-const FITS_LATER: [(Who, Call, Told); 12] = [
-    (Who::First, Call::Try(63), Told::Bool(true)),
-    (Who::Second, Call::Register(10), Told::Bool(true)),
-    (Who::Second, Call::Register(1), Told::Bool(false)),
-    (Who::Second, Call::Acquire(1), Told::Bool(false)),
-    (
-        Who::Second,
-        Call::TryPoll,
-        Told::Polled(Err(Error::NotReady)),
-    ),
-    (Who::First, Call::Available, Told::Number(0)),
-    (Who::First, Call::Release(5), Told::Bool(true)),
-    (Who::First, Call::Available, Told::Number(5)),
-    (Who::First, Call::Release(5), Told::Bool(true)),
-    (Who::First, Call::Available, Told::Number(0)),
-    (Who::Second, Call::TryPoll, Told::Polled(Ok(()))),
-    (
-        Who::Second,
-        Call::TryPoll,
-        Told::Polled(Err(Error::NotRegistered)),
-    ),
+// What was told otherwise, counted from 0: the first row, and the first word.
+type Other = (Option<usize>, Option<usize>);
+
+const ALL_RIGHT: Other = (None, None);
+
+// Nobody registers: as many permits are available as aren't withheld.
+const WITHHELD: Story = Story {
+    name: "none is withheld",
+    withheld: 0,
+    places: 1,
+    rows: &[(0, Call::Available, Told::Number(63))],
+    all_leave: true,
+    words: &[(Word::Main, Some(0))],
+};
+
+// Two register while none is available, and some permits are released.
+const RELEASED: Story = Story {
+    name: "words of waiters",
+    withheld: 63,
+    places: 3,
+    rows: &[
+        (1, Call::Register(10), Told::Bool(true)),
+        (2, Call::Register(5), Told::Bool(true)),
+        (0, Call::Release(0), Told::Bool(true)),
+    ],
+    all_leave: false,
+    // The tail stands from bit 18 on in the main word, the older neighbour from bit 16 on in a line word, each as its number plus 1, and an
+    // answer that grants is 1.
+    words: &[
+        (Word::Main, Some(63 + (3 << 18))),
+        (Word::Line(2), Some(5 + (2 << 16))),
+        (Word::Answer(0), Some(0)),
+        (Word::Answer(1), Some(0)),
+        (Word::Answer(2), Some(0)),
+    ],
+};
+
+static STORIES: [Story; 8] = [
+    Story {
+        name: "a release that fits later",
+        withheld: 0,
+        places: 2,
+        rows: &[
+            (0, Call::Try(63), Told::Bool(true)),
+            (1, Call::Register(10), Told::Bool(true)),
+            (1, Call::Register(1), Told::Bool(false)),
+            (1, Call::Acquire(1), Told::Bool(false)),
+            (1, Call::TryPoll, Told::Polled(Err(Error::NotReady))),
+            (0, Call::Available, Told::Number(0)),
+            (0, Call::Release(5), Told::Bool(true)),
+            (0, Call::Available, Told::Number(5)),
+            (0, Call::Release(5), Told::Bool(true)),
+            (0, Call::Available, Told::Number(0)),
+            (1, Call::TryPoll, Told::Polled(Ok(()))),
+            (1, Call::TryPoll, Told::Polled(Err(Error::NotRegistered))),
+        ],
+        all_leave: true,
+        words: &[(Word::Main, Some(63))],
+    },
+    WITHHELD,
+    Story {
+        name: "62 are withheld",
+        withheld: 62,
+        rows: &[(0, Call::Available, Told::Number(1))],
+        words: &[(Word::Main, Some(62))],
+        ..WITHHELD
+    },
+    Story {
+        name: "all are withheld",
+        withheld: 63,
+        rows: &[(0, Call::Available, Told::Number(0))],
+        words: &[(Word::Main, Some(63))],
+        ..WITHHELD
+    },
+    Story {
+        name: "no more are withheld than there are",
+        withheld: 64,
+        rows: &[(0, Call::Available, Told::Number(0))],
+        words: &[(Word::Main, Some(63))],
+        ..WITHHELD
+    },
+    Story {
+        name: "no more are withheld than there are, by far",
+        withheld: usize::MAX,
+        rows: &[(0, Call::Available, Told::Number(0))],
+        words: &[(Word::Main, Some(63))],
+        ..WITHHELD
+    },
+    RELEASED,
+    Story {
+        name: "words of a waiter and of one that is answered",
+        rows: &[
+            (1, Call::Register(10), Told::Bool(true)),
+            (2, Call::Register(5), Told::Bool(true)),
+            (0, Call::Release(12), Told::Bool(true)),
+        ],
+        words: &[
+            (Word::Main, Some(61 + (3 << 18))),
+            (Word::Line(2), Some(5)),
+            (Word::Answer(0), Some(0)),
+            (Word::Answer(1), Some(1)),
+            (Word::Answer(2), Some(0)),
+        ],
+        ..RELEASED
+    },
 ];
 
-#[test]
-fn a_release_that_fits_later(rt: HostRuntime) {
-    let (semaphore, mut places) = Semaphore::new(rt.alloc(), 0, 2).expect(&rt, "no memory");
-    let mut second = places.pop().expect(&rt, "place 1");
-    let mut first = places.pop().expect(&rt, "place 0");
-    places.destroy_empty();
-    let other = first_other(&rt, &semaphore, &mut first, &mut second, &FITS_LATER);
-    let left = semaphore.leave(&rt, first);
-    semaphore.leave(&rt, second);
-    same!(rt; (other, semaphore.close(left).main()), (None, 63));
-}
-
-// Takes 40 permits and gives them back, 100 times, and leaves; how often it had them.
-fn take_turns(rt: &impl Wait, semaphore: &Semaphore, mut place: Place) -> (u32, Left)
-    requires { IsDealtBy semaphore.now place }
-    ensures { IsLeftOf semaphore.now result.1 }
-{
-    let mut taken = 0u32;
-    for _turn in 0..100 {
-        if semaphore.acquire_many(rt, &mut place, 40)
-            && semaphore.release_many(rt, &mut place, 40)
-        {
-            taken = taken.saturating_add(1);
-        }
-    }
-    (taken, semaphore.leave(rt, place))
-}
-
-#[test]
-fn two_threads_take_turns(rt: HostRuntime) -> Result<(), Fail> {
-    let (semaphore, mut places) = Semaphore::new(rt.alloc(), 0, 2)?;
-    let second = places.pop().expect(&rt, "place 1");
-    let first = places.pop().expect(&rt, "place 0");
-    places.destroy_empty();
-    let ((one, left), (two, other)) = thread::join(
-        &rt,
-        || take_turns(&rt, &semaphore, first),
-        || take_turns(&rt, &semaphore, second),
-    );
-    same!(rt; [one, two], [100, 100]);
-    same!(rt; [left.place(), other.place()], [0, 1]);
-    same!(rt; semaphore.close(left).main(), 0);
-    Ok(())
-}
-
-// Makes calls in order; the first that answers something else, and its answer.
-fn first_wrong<const MAX: usize>(
+// Makes a call of a place; whether it is told so. The workers are the last first.
+fn is_told<const MAX: usize>(
     rt: &impl Wait,
-    worker: &mut Worker<'_, MAX>,
-    row: &[(Call, Told)],
-) -> Option<(usize, Told)> {
-    for i in 0..row.len() {
-        let (call, wanted) = row[i];
-        let told = worker.make(rt, call);
-        if told != wanted {
-            return Some((i, told));
+    workers: &mut Vec<Worker<'_, MAX>>,
+    place: usize,
+    call: Call,
+    wanted: Told,
+) -> bool {
+    let at = workers.len().wrapping_sub(place).wrapping_sub(1);
+    match workers.get_mut(at) {
+        Some(worker) => worker.is_told(rt, call, wanted),
+        None => false,
+    }
+}
+
+// The first of these rows that was told otherwise, counted from 0.
+fn first_row<const MAX: usize>(
+    rt: &impl Wait,
+    workers: &mut Vec<Worker<'_, MAX>>,
+    rows: &[Row],
+) -> Option<usize> {
+    for (row, (place, call, wanted)) in rows.iter().enumerate() {
+        if !is_told(rt, workers, *place, *call, *wanted) {
+            return Some(row);
         }
     }
     None
 }
 
-// The counts at the bounds, where all permits are there and nobody waits. None: each is answered as it must be.
-fn wrong_at_bounds<R: Wait + AllocGlobal, const MAX: usize>(
+// Plays the rows of a story with a worker for each of these places.
+fn told_of<const MAX: usize>(
+    rt: &impl Wait,
+    alloc: Global,
+    semaphore: &SemaphoreOf<MAX>,
+    places: Vec<Place>,
+    story: &Story,
+) -> Result<Option<usize>, AllocError>
+    requires { AreNew (table_of semaphore.now) 0 places.items }
+{
+    let mut workers = workers_of(alloc, semaphore, places)?;
+    let other = first_row(rt, &mut workers, story.rows);
+    if story.all_leave {
+        all_leave(rt, workers);
+    }
+    Ok(other)
+}
+
+fn number_of(words: &Words, word: Word) -> Option<u64> {
+    match word {
+        Word::Main => Some(words.main()),
+        Word::Line(place) => words.line(place),
+        Word::Answer(place) => words.answer(place),
+    }
+}
+
+// The first of these words that is otherwise, counted from 0.
+fn first_word(words: &Words, wanted: &[(Word, Option<u64>)]) -> Option<usize> {
+    for (place, (name, number)) in wanted.iter().enumerate() {
+        if number_of(words, *name) != *number {
+            return Some(place);
+        }
+    }
+    None
+}
+
+// What a story tells otherwise at a new semaphore.
+fn other_of<R: Wait + AllocGlobal, const MAX: usize>(
     rt: &R,
-) -> Result<Option<(usize, Told)>, AllocError>
+    story: &Story,
+) -> Result<Other, AllocError>
     requires bound { 0 < MAX }
     requires narrow { MAX < 65536 }
 {
-    let row = [
-        (Call::Try(usize::MAX), Told::Bool(false)),
-        (Call::Try(MAX + 1), Told::Bool(false)),
-        (Call::Register(usize::MAX), Told::Bool(false)),
-        (Call::Register(MAX + 1), Told::Bool(false)),
-        (Call::Acquire(usize::MAX), Told::Bool(false)),
-        (Call::Acquire(MAX + 1), Told::Bool(false)),
-        (Call::Release(usize::MAX), Told::Bool(false)),
-        (Call::Release(MAX + 1), Told::Bool(false)),
-        (Call::Release(MAX), Told::Bool(false)),
-        (Call::Release(0), Told::Bool(true)),
-        (Call::Try(0), Told::Bool(true)),
-        (Call::Acquire(0), Told::Bool(true)),
-        (Call::Available, Told::Number(MAX as u16)),
-        (Call::Register(0), Told::Bool(true)),
-        (Call::TryPoll, Told::Polled(Ok(()))),
-        (Call::Poll, Told::Polled(Err(Error::NotRegistered))),
-        (Call::Register(MAX), Told::Bool(true)),
-        (Call::Available, Told::Number(0)),
-        (Call::Try(1), Told::Bool(false)),
-        (Call::Try(0), Told::Bool(true)),
-        (Call::Cancel, Told::Nothing),
-        (Call::Acquire(MAX), Told::Bool(true)),
-        (Call::Release(MAX), Told::Bool(true)),
-        (Call::Available, Told::Number(MAX as u16)),
-    ];
-    let (semaphore, mut places) = SemaphoreOf::<MAX>::new(rt.alloc(), 0, 1)?;
-    let Some(place) = last_of(&semaphore, &mut places) else {
-        return Ok(Some((0, Told::Nothing)));
-    };
-    Ok(first_wrong(rt, &mut Worker::new(&semaphore, place), &row))
-}
-
-#[test]
-fn counts_at_the_bounds(rt: HostRuntime) -> Result<(), Fail> {
-    same!(rt; wrong_at_bounds::<_, 1>(&rt)?, None);
-    same!(rt; wrong_at_bounds::<_, 1_000>(&rt)?, None);
-    same!(rt; wrong_at_bounds::<_, 65_535>(&rt)?, None);
-    same!(rt; SemaphoreOf::<1_000>::MAX_PERMITS, 1_000);
-    Ok(())
-}
-
-// How many permits are available where so many are withheld, and the main word at the end.
-fn withheld<R: Wait + Abort + AllocGlobal>(rt: &R, permits: usize) -> (u16, u64) {
-    let (semaphore, mut places) = Semaphore::new(rt.alloc(), permits, 1).expect(rt, "no memory");
-    let mut place = places.pop().expect(rt, "the place");
-    places.destroy_empty();
-    let available = semaphore.available_permits(&mut place);
-    let left = semaphore.leave(rt, place);
-    (available, semaphore.close(left).main())
-}
-
-#[test]
-fn no_more_are_withheld_than_there_are(rt: HostRuntime) {
-    for (permits, held) in [(0, 0), (62, 62), (63, 63), (64, 63), (usize::MAX, 63)] {
-        same!(rt; (permits, withheld(&rt, permits)), (permits, (63 - held, u64::from(held))));
+    let count = story.places.saturating_add(1);
+    let (semaphore, mut places) = SemaphoreOf::<MAX>::new(rt.alloc(), story.withheld, count)?;
+    let witness = last_of(&semaphore, &mut places);
+    let row = told_of(rt, rt.alloc(), &semaphore, places, story)?;
+    match words_of(rt, semaphore, witness) {
+        Some(words) => Ok((row, first_word(&words, story.words))),
+        None => Ok((row, Some(story.words.len()))),
     }
+}
+
+// The first of some stories in which something was told otherwise, and what.
+type First = Option<(&'static str, Other)>;
+
+fn first_story<R: Wait + AllocGlobal, const MAX: usize>(
+    rt: &R,
+    stories: &[Story],
+) -> Result<First, AllocError>
+    requires bound { 0 < MAX }
+    requires narrow { MAX < 65536 }
+{
+    for story in stories {
+        let other = other_of::<R, MAX>(rt, story)?;
+        if other != ALL_RIGHT {
+            return Ok(Some((story.name, other)));
+        }
+    }
+    Ok(None)
+}
+
+// The same at each number of permits.
+fn first_stories<R: Wait + AllocGlobal>(
+    rt: &R,
+) -> Result<(First, First, First, First), AllocError> {
+    Ok((
+        first_story::<R, 63>(rt, &STORIES)?,
+        first_story::<R, 1>(rt, &bounds::OF_ONE)?,
+        first_story::<R, 1_000>(rt, &bounds::OF_A_THOUSAND)?,
+        first_story::<R, 65_535>(rt, &bounds::OF_THE_MOST)?,
+    ))
 }
 
 // The main word; and the line words and the answers of the first place and of the last, and where there is no place.
@@ -216,68 +279,42 @@ fn shown(words: &Words, last: u16, beyond: u16) -> Shown {
     )
 }
 
-// How many places a semaphore has of which so many are wanted, whether the last may register, its number, and the words.
-fn wanted<R: Wait + Abort + AllocGlobal>(rt: &R, count: u16) -> (usize, bool, u16, Shown) {
-    let (semaphore, mut places) = Semaphore::new(rt.alloc(), 5, count).expect(rt, "no memory");
+// How many places a semaphore has of which so many are wanted, and if there is one, whether the last may register, its number, and the
+// words once it has left.
+type Dealt = (usize, Option<(bool, u16, Shown)>);
+
+fn dealt<R: Wait + AllocGlobal>(rt: &R, count: u16) -> Result<Dealt, AllocError> {
+    let (semaphore, mut places) = SemaphoreOf::<63>::new(rt.alloc(), 5, count)?;
     let dealt = places.len();
-    let mut place = last_of(&semaphore, &mut places).expect(rt, "the last place");
+    let Some(mut place) = last_of(&semaphore, &mut places) else {
+        return Ok((dealt, None));
+    };
     let is_made = semaphore.register(rt, &mut place, 58);
     let left = semaphore.leave(rt, place);
     let number = left.place();
-    (
-        dealt,
-        is_made,
-        number,
-        shown(&semaphore.close(left), number, count),
-    )
+    let words = semaphore.close(left);
+    Ok((dealt, Some((is_made, number, shown(&words, number, count)))))
+}
+
+// None, one and the most.
+fn all_dealt<R: Wait + AllocGlobal>(rt: &R) -> Result<[Dealt; 3], AllocError> {
+    Ok([dealt(rt, 0)?, dealt(rt, 1)?, dealt(rt, 65_535)?])
+}
+
+#[test]
+fn rows_are_told(rt: HostRuntime) {
+    same!(rt; first_stories(&rt).ok(), Some((None, None, None, None)));
+    same!(rt; SemaphoreOf::<1_000>::MAX_PERMITS, 1_000);
 }
 
 #[test]
 fn as_many_places_as_were_wanted(rt: HostRuntime) {
-    let (_nobodys, places) = Semaphore::new(rt.alloc(), 5, 0).expect(&rt, "no memory");
-    same!(rt; places.len(), 0);
     let words = [Some(0), Some(0), None, None];
-    for count in [1u16, 65_535] {
-        same!(rt; wanted(&rt, count), (usize::from(count), true, count - 1, (5, words, words)));
-    }
-}
-
-// Two register while none is available, and so many are released: whether that may be, the main word, the line word of the newest,
-// and all answers.
-fn released<R: Wait + Abort + AllocGlobal>(
-    rt: &R,
-    permits: usize,
-) -> ([bool; 3], u64, Option<u64>, [Option<u64>; 3]) {
-    let (semaphore, mut places) = Semaphore::new(rt.alloc(), 63, 3).expect(rt, "no memory");
-    let mut third = places.pop().expect(rt, "place 2");
-    let mut second = places.pop().expect(rt, "place 1");
-    let mut first = places.pop().expect(rt, "place 0");
-    places.destroy_empty();
-    let made = [
-        semaphore.register(rt, &mut second, 10),
-        semaphore.register(rt, &mut third, 5),
-        semaphore.release_many(rt, &mut first, permits),
+    let shown = (5, words, words);
+    let wanted = [
+        (0, None),
+        (1, Some((true, 0, shown))),
+        (65_535, Some((true, 65_534, shown))),
     ];
-    let left = semaphore.leave(rt, first);
-    let words = semaphore.close(left);
-    let answers = [words.answer(0), words.answer(1), words.answer(2)];
-    (made, words.main(), words.line(2), answers)
-}
-
-// What the words are while two still wait: the tail stands from bit 18 on in the main word, the older neighbour from bit 16 on in a line
-// word, each as its number plus 1, and an answer that grants is 1.
-#[test]
-fn words_of_who_waits_and_of_who_is_answered(rt: HostRuntime) {
-    for (permits, main, older, answer) in [
-        (0, 63 + (3 << 18), 2 << 16, 0),
-        (12, 61 + (3 << 18), 0, 1),
-    ] {
-        let wanted = (
-            [true; 3],
-            main,
-            Some(5 + older),
-            [Some(0), Some(answer), Some(0)],
-        );
-        same!(rt; released(&rt, permits), wanted);
-    }
+    same!(rt; all_dealt(&rt).ok(), Some(wanted));
 }

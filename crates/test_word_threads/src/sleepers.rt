@@ -4,14 +4,13 @@
 
 ghost use Rattle.std.specs.Prelude.{◌<◌};
 
-use crate::worker::{Call, Told, Worker, last_of, workers_of};
+use crate::worker::{Call, Told, Worker, last_of, main_of, workers_of};
 use saa_word_threads::semaphore::Semaphore;
-use std::alloc::AllocError;
+use std::alloc::{AllocError, AllocGlobal};
 use std::sync::Wait;
 use std::sync::atomic::{AtomicU64, Ordering};
-use std::test::Fail;
 use std::thread;
-use std::thread::{Threads, yield_now};
+use std::thread::{Scope, Threads, yield_now};
 use test_asserts::same;
 
 // How many wait for a permit each.
@@ -98,8 +97,52 @@ fn cancel_before(rt: &impl Wait, giver: &mut Worker<'_, 63>, watched: &Watched) 
     early
 }
 
-// The last worker gives; each other one registers, and waits in a thread of its own until it is answered. How many ended before.
+// Each worker registers, and waits in a thread of its own until it is answered.
+fn start<'s, R: Wait + Sync, E>(
+    scope: &Scope<'s, E>,
+    rt: &'s R,
+    workers: Vec<Worker<'s, 63>>,
+    way: Way,
+    watched: &'s Watched,
+) {
+    let mut before = 0u64;
+    for mut worker in workers {
+        worker.make(rt, Call::Register(1));
+        let turn = before / together(way);
+        if scope
+            .spawn(move || sleep(rt, worker, turn, way, watched))
+            .is_err()
+        {
+            watched.ended.fetch_add(1, Ordering::SeqCst);
+        }
+        before = before.saturating_add(1);
+    }
+}
+
+// Answers the sleepers; how many ended before.
+fn answer(rt: &impl Wait, giver: &mut Worker<'_, 63>, way: Way, watched: &Watched) -> u64 {
+    match way {
+        Way::Releases(count) => release_some(rt, giver, count, watched),
+        Way::Cancel => cancel_before(rt, giver, watched),
+    }
+}
+
+// The workers sleep until the giver answers them; how many ended before.
 fn answer_sleepers<R: Wait + Threads + Sync>(
+    rt: &R,
+    giver: &mut Worker<'_, 63>,
+    workers: Vec<Worker<'_, 63>>,
+    way: Way,
+    watched: &Watched,
+) -> u64 {
+    thread::scope(thread::scope_env(), rt, |scope| {
+        start(scope, rt, workers, way, watched);
+        answer(rt, giver, way, watched)
+    })
+}
+
+// The last worker gives, and all others sleep until it does; how many ended before.
+fn early_of<R: Wait + Threads + Sync>(
     rt: &R,
     mut workers: Vec<Worker<'_, 63>>,
     way: Way,
@@ -111,59 +154,56 @@ fn answer_sleepers<R: Wait + Threads + Sync>(
     if matches!(way, Way::Cancel) {
         giver.make(rt, Call::Register(40));
     }
-    let early = thread::scope(thread::scope_env(), rt, |scope| {
-        let mut before = 0u64;
-        for mut worker in workers {
-            worker.make(rt, Call::Register(1));
-            let turn = before / together(way);
-            if scope
-                .spawn(move || sleep(rt, worker, turn, way, watched))
-                .is_err()
-            {
-                watched.ended.fetch_add(1, Ordering::SeqCst);
-            }
-            before = before.saturating_add(1);
-        }
-        match way {
-            Way::Releases(count) => release_some(rt, &mut giver, count, watched),
-            Way::Cancel => cancel_before(rt, &mut giver, watched),
-        }
-    });
+    let early = answer_sleepers(rt, &mut giver, workers, way, watched);
     giver.leave(rt);
     early
 }
 
 // How many sleepers ended before they were answered, how many as their turn came, and the main word once all have left.
+type Ended = (u64, u64, Option<u64>);
+
 fn run<R: Wait + Threads + Sync + AllocGlobal>(
     rt: &R,
     way: Way,
-) -> Result<(u64, u64, Option<u64>), AllocError> {
-    let watched = Watched {
-        ended: AtomicU64::new(0),
-        in_turn: AtomicU64::new(0),
-    };
+    watched: &Watched,
+) -> Result<Ended, AllocError> {
     let (semaphore, mut places) = Semaphore::new(rt.alloc(), 63, SLEEPERS as u16 + 2)?;
     let witness = last_of(&semaphore, &mut places);
-    let workers = workers_of(rt.alloc(), &semaphore, places)?;
-    let early = answer_sleepers(rt, workers, way, &watched);
+    let early = early_of(
+        rt,
+        workers_of(rt.alloc(), &semaphore, places)?,
+        way,
+        watched,
+    );
     let in_turn = watched.in_turn.load(Ordering::SeqCst);
-    let Some(place) = witness else {
-        return Ok((early, in_turn, None));
-    };
-    let left = semaphore.leave(rt, place);
-    Ok((early, in_turn, Some(semaphore.close(left).main())))
+    Ok((early, in_turn, main_of(rt, semaphore, witness)))
 }
 
-#[test]
-fn each_sleeper_is_woken_by_its_own_answer(rt: HostRuntime) -> Result<(), Fail> {
-    for count in [1, 4, SLEEPERS] {
-        same!(rt; run(&rt, Way::Releases(count))?, (0, SLEEPERS, Some(63)));
+static WAYS: [Way; 4] = [
+    Way::Releases(1),
+    Way::Releases(4),
+    Way::Releases(SLEEPERS),
+    Way::Cancel,
+];
+
+// The first way in which not each sleeper is woken by its own answer, counted from 0, and how that ended.
+fn first_other<R: Wait + Threads + Sync + AllocGlobal>(
+    rt: &R,
+) -> Result<Option<(usize, Ended)>, AllocError> {
+    for (place, way) in WAYS.iter().enumerate() {
+        let watched = Watched {
+            ended: AtomicU64::new(0),
+            in_turn: AtomicU64::new(0),
+        };
+        let ended = run(rt, *way, &watched)?;
+        if ended != (0, SLEEPERS, Some(63)) {
+            return Ok(Some((place, ended)));
+        }
     }
-    Ok(())
+    Ok(None)
 }
 
 #[test]
-fn who_cancels_wakes_those_behind(rt: HostRuntime) -> Result<(), Fail> {
-    same!(rt; run(&rt, Way::Cancel)?, (0, SLEEPERS, Some(63)));
-    Ok(())
+fn each_sleeper_is_woken_by_its_own_answer(rt: HostRuntime) {
+    same!(rt; first_other(&rt).ok(), Some(None));
 }

@@ -4,7 +4,7 @@ ghost use Rattle.std.specs.Prelude.{IfSome};
 ghost use Rattle.saa_word_threads.specs.Dealt.{AreNew};
 ghost use Rattle.saa_word_threads.specs.Semaphores.{IsDealtBy, IsLeftOf, table_of};
 
-use saa_word_threads::semaphore::{Error, Left, Place, SemaphoreOf};
+use saa_word_threads::semaphore::{Error, Left, Place, SemaphoreOf, Words};
 use std::alloc::{AllocError, Global};
 use std::sync::Wait;
 
@@ -17,7 +17,7 @@ pub struct Worker<'s, const MAX: usize> {
 }
 
 /// A call of a place.
-#[derive(Clone, Copy, Debug, Eq, PartialEq)]
+#[derive(Clone, Copy)]
 pub enum Call {
     Try(usize),
     Register(usize),
@@ -30,7 +30,7 @@ pub enum Call {
 }
 
 /// What a call answers.
-#[derive(Clone, Copy, Debug, Eq, PartialEq)]
+#[derive(Clone, Copy, PartialEq)]
 pub enum Told {
     Bool(bool),
     Polled(Result<(), Error>),
@@ -38,8 +38,8 @@ pub enum Told {
     Nothing,
 }
 
-/// Makes a call of a place that the semaphore dealt.
-pub fn make<const MAX: usize>(
+// Makes a call of a place that the semaphore dealt.
+fn make<const MAX: usize>(
     rt: &impl Wait,
     semaphore: &SemaphoreOf<MAX>,
     place: &mut Place,
@@ -76,6 +76,11 @@ impl<'s, const MAX: usize> Worker<'s, MAX> {
         make(rt, self.semaphore, &mut self.place, call)
     }
 
+    /// Makes a call; whether it is told so.
+    pub fn is_told(&mut self, rt: &impl Wait, call: Call, wanted: Told) -> bool {
+        self.make(rt, call) == wanted
+    }
+
     /// Leaves the semaphore.
     pub fn leave(self, rt: &impl Wait) -> Left {
         let Worker { semaphore, place } = self;
@@ -94,6 +99,37 @@ pub fn last_of<const MAX: usize>(
 {
     let _shared = semaphore;
     places.pop()
+}
+
+/// The words once all have ended, and the witness leaves too.
+pub fn words_of<const MAX: usize>(
+    rt: &impl Wait,
+    semaphore: SemaphoreOf<MAX>,
+    witness: Option<Place>,
+) -> Option<Words>
+    requires { IfSome witness (λ place. IsDealtBy semaphore place) }
+{
+    let left = semaphore.leave(rt, witness?);
+    Some(semaphore.close(left))
+}
+
+/// The main word of these.
+pub fn main_of<const MAX: usize>(
+    rt: &impl Wait,
+    semaphore: SemaphoreOf<MAX>,
+    witness: Option<Place>,
+) -> Option<u64>
+    requires { IfSome witness (λ place. IsDealtBy semaphore place) }
+{
+    let left = semaphore.leave(rt, witness?);
+    Some(semaphore.close(left).main())
+}
+
+/// All workers leave, and so each cancels.
+pub fn all_leave<const MAX: usize>(rt: &impl Wait, workers: Vec<Worker<'_, MAX>>) {
+    for worker in workers {
+        worker.leave(rt);
+    }
 }
 
 /// A worker of each of the places that a semaphore dealt, the last first.

@@ -1,14 +1,14 @@
 //! Threads with a worker each at a reader-writer lock: a writer is alone while readers share, and what one wrote the next one finds.
 
-ghost use Rattle.std.specs.Prelude.{◌<◌};
+ghost use Rattle.std.specs.Prelude.{All};
 ghost use Rattle.saa_word_threads.specs.Locks.{IsDealtBy};
 
 use crate::exclusion::inside::Inside;
 use saa_word_guards::rw_lock::{RwLock, RwLockWorker, RwLockWriteGuard};
-use std::alloc::AllocError;
+use saa_word_threads::lock::Place;
+use std::alloc::{AllocError, AllocGlobal};
 use std::sync::Wait;
 use std::sync::atomic::{AtomicU64, Ordering};
-use std::test::Fail;
 use std::thread;
 use std::thread::{Threads, yield_now};
 use test_asserts::same;
@@ -63,108 +63,136 @@ fn try_one(rt: &impl Wait, worker: &mut RwLockWorker<'_, u64>, inside: &Inside) 
     added
 }
 
-// Takes so many turns. How much was added.
-fn take_turns(
-    rt: &impl Wait,
-    mut worker: RwLockWorker<'_, u64>,
-    inside: &Inside,
-    turns: u32,
-) -> u64 {
-    let mut added = 0u64;
-    for turn in 0..turns {
-        let more = match turn % 4 {
-            0 => write_one(rt, &mut worker, inside, false),
-            1 => write_one(rt, &mut worker, inside, true),
-            2 => {
-                read_twice(rt, &mut worker, inside);
-                0
-            }
-            _ => try_one(rt, &mut worker, inside),
-        };
-        added = added.saturating_add(more);
-    }
-    added
-}
-
-// How it ended: faults, the number behind the lock beside how much was added, and the main word once all have left.
-#[derive(Clone, Copy, Debug, Eq, PartialEq)]
-struct Ended {
-    faults: u64,
-    value: u64,
-    added: u64,
-    main: u64,
-}
-
-// As many threads take so many turns each. How it ended, where that isn't as it has to be.
-fn wrong_end<R: Wait + Threads + Sync + AllocGlobal>(
-    rt: &R,
+// A crowd: who is inside, how many readers have met, and how many threads there are, each of which takes so many turns.
+#[derive(Drop)]
+struct Crowd {
+    inside: Inside,
+    met: AtomicU64,
     threads: u16,
     turns: u32,
-) -> Result<Option<Ended>, AllocError>
-    requires { threads < 65535 }
-{
-    let inside = Inside::new();
-    let (rwlock, mut places) = RwLock::new(rt.alloc(), 0u64, threads + 1)?;
-    let Some(witness) = places.pop() else {
-        unreachable!()
-    };
-    let more = thread::map_vec(
-        rt,
-        places,
-        &|place|
-            requires { IsDealtBy rwlock place }
-        { take_turns(rt, rwlock.worker(place), &inside, turns) },
-    )?;
-    let mut added = 0u64;
-    for one in more {
-        added = added.saturating_add(one);
-    }
-    let left = rwlock.worker(witness).leave(rt);
-    let (value, words) = rwlock.close(left);
-    let ended = Ended {
-        faults: inside.ended().0,
-        value,
-        added,
-        main: words.main(),
-    };
-    let is_right = ended.faults == 0 && value == added && ended.main == 0;
-    Ok(if is_right { None } else { Some(ended) })
 }
 
-// Stays inside until all of them are there at once: it ends only where readers share.
-fn meet(rt: &impl Wait, mut worker: RwLockWorker<'_, u64>, inside: &AtomicU64, all: u64) {
-    let _guard = worker.read(rt);
-    inside.fetch_add(1, Ordering::SeqCst);
+// Waits until all readers are inside.
+fn await_all(rt: &impl Wait, crowd: &Crowd) {
     for _turn in rt.forever() {
-        if inside.load(Ordering::SeqCst) == all {
+        if crowd.met.load(Ordering::SeqCst) == u64::from(crowd.threads) {
             return;
         }
         yield_now();
     }
 }
 
-// As many readers meet inside.
-fn all_meet<R: Wait + Threads + Sync + AllocGlobal>(
+// Stays inside until all of them are there at once: it ends only where readers share.
+fn meet(rt: &impl Wait, worker: &mut RwLockWorker<'_, u64>, crowd: &Crowd) {
+    let _guard = worker.read(rt);
+    crowd.met.fetch_add(1, Ordering::SeqCst);
+    await_all(rt, crowd);
+}
+
+// Takes a turn. How much was added.
+fn take_turn(
+    rt: &impl Wait,
+    worker: &mut RwLockWorker<'_, u64>,
+    inside: &Inside,
+    turn: u32,
+) -> u64 {
+    match turn % 4 {
+        0 => write_one(rt, worker, inside, false),
+        1 => write_one(rt, worker, inside, true),
+        2 => {
+            read_twice(rt, worker, inside);
+            0
+        }
+        _ => try_one(rt, worker, inside),
+    }
+}
+
+// Meets the others, and takes its turns. How much was added.
+fn take_turns(rt: &impl Wait, mut worker: RwLockWorker<'_, u64>, crowd: &Crowd) -> u64 {
+    meet(rt, &mut worker, crowd);
+    let mut added = 0u64;
+    for turn in 0..crowd.turns {
+        added = added.saturating_add(take_turn(rt, &mut worker, &crowd.inside, turn));
+    }
+    added
+}
+
+// A thread with a worker of each of these places takes its turns. How much was added.
+fn take_all_turns<R: Wait + Threads + Sync>(
     rt: &R,
-    readers: u16,
-) -> Result<u64, AllocError> {
-    let inside = AtomicU64::new(0);
-    let (rwlock, places) = RwLock::new(rt.alloc(), 0u64, readers)?;
-    let _met = thread::map_vec(
+    rwlock: &RwLock<u64>,
+    places: Vec<Place>,
+    crowd: &Crowd,
+) -> Result<u64, AllocError>
+    requires { All (IsDealtBy rwlock.now) places.items }
+{
+    let more = thread::map_vec(
         rt,
         places,
         &|place|
-            requires { IsDealtBy rwlock place }
-        { meet(rt, rwlock.worker(place), &inside, u64::from(readers)) },
+            requires { IsDealtBy rwlock.now place }
+        { take_turns(rt, rwlock.worker(place), crowd) },
     )?;
-    Ok(inside.load(Ordering::SeqCst))
+    let mut added = 0u64;
+    for one in more {
+        added = added.saturating_add(one);
+    }
+    Ok(added)
+}
+
+// How a crowd ended: the number behind the lock, how much was added, and the main word once all have left.
+fn end_of<R: Wait + Threads + Sync + AllocGlobal>(
+    rt: &R,
+    crowd: &Crowd,
+) -> Result<[u64; 3], AllocError> {
+    let (rwlock, mut places) = RwLock::new(rt.alloc(), 0u64, crowd.threads.saturating_add(1))?;
+    let Some(witness) = places.pop() else {
+        unreachable!()
+    };
+    let added = take_all_turns(rt, &rwlock, places, crowd)?;
+    let left = rwlock.worker(witness).leave(rt);
+    let (value, words) = rwlock.close(left);
+    Ok([value, added, words.main()])
+}
+
+// The same of so many threads, and how many faults there were and how many readers met, where that isn't as it has to be.
+fn wrong_end<R: Wait + Threads + Sync + AllocGlobal>(
+    rt: &R,
+    threads: u16,
+    turns: u32,
+) -> Result<Option<[u64; 5]>, AllocError> {
+    let crowd = Crowd {
+        inside: Inside::new(),
+        met: AtomicU64::new(0),
+        threads,
+        turns,
+    };
+    let [value, added, main] = end_of(rt, &crowd)?;
+    let (faults, met) = (crowd.inside.ended().0, crowd.met.load(Ordering::SeqCst));
+    let is_right = value == added && main == 0 && faults == 0 && met == u64::from(threads);
+    Ok(if is_right {
+        None
+    } else {
+        Some([value, added, main, faults, met])
+    })
+}
+
+// How many threads there are, and how many turns each takes.
+static CROWDS: [(u16, u32); 4] = [(2, 40_000), (4, 10_000), (8, 2_000), (32, 200)];
+
+// The first crowd that doesn't end as it has to: how many threads there are, and how it ended.
+fn first_wrong<R: Wait + Threads + Sync + AllocGlobal>(
+    rt: &R,
+) -> Result<Option<(u16, [u64; 5])>, AllocError> {
+    for (threads, turns) in &CROWDS {
+        if let Some(ended) = wrong_end(rt, *threads, *turns)? {
+            return Ok(Some((*threads, ended)));
+        }
+    }
+    Ok(None)
 }
 
 #[test]
-fn a_writer_is_alone_and_readers_share(rt: HostRuntime) -> Result<(), Fail> {
-    for (threads, turns) in [(2, 40_000), (4, 10_000), (8, 2_000), (32, 200)] {
-        same!(rt; wrong_end(&rt, threads, turns)?, None);
-        same!(rt; all_meet(&rt, threads)?, u64::from(threads));
-    }
-    Ok(())
+fn a_writer_is_alone_and_readers_share(rt: HostRuntime) {
+    same!(rt; first_wrong(&rt).ok(), Some(None));
 }

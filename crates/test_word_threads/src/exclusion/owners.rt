@@ -1,14 +1,14 @@
 //! Threads with a place each at the word's lock: a writer is alone while sharers share, with cancels, tries and downgrades among their turns.
 
-ghost use Rattle.std.specs.Prelude.{◌<◌};
+ghost use Rattle.std.specs.Prelude.{All};
 ghost use Rattle.saa_word_threads.specs.Locks.{IsDealtBy};
 
 use crate::exclusion::inside::Inside;
-use crate::exclusion::owner::Owner;
-use saa_word_threads::lock::{Lock, Mode};
-use std::alloc::AllocError;
+use crate::exclusion::poisoned::{SLEEPERS, Watched, take_part};
+use crate::owner::{Call, Owner};
+use saa_word_threads::lock::{Lock, Mode, Place};
+use std::alloc::{AllocError, AllocGlobal};
 use std::sync::Wait;
-use std::test::Fail;
 use std::thread;
 use std::thread::Threads;
 use test_asserts::same;
@@ -23,13 +23,13 @@ fn write_one(rt: &impl Wait, owner: &mut Owner<'_>, inside: &Inside, turn: u32) 
     inside.write();
     if turn % 2 == 0 {
         inside.leave_alone();
-        inside.check(owner.release_lock(rt));
+        inside.check(owner.is(rt, Call::ReleaseLock));
     } else {
         inside.lower();
-        inside.check(owner.downgrade(rt));
+        inside.check(owner.is(rt, Call::Downgrade));
         inside.read();
         inside.leave_shared();
-        inside.check(owner.release_share(rt));
+        inside.check(owner.is(rt, Call::ReleaseShare));
     }
     1
 }
@@ -43,7 +43,7 @@ fn read_one(rt: &impl Wait, owner: &mut Owner<'_>, inside: &Inside, turn: u32) {
     inside.enter_shared();
     inside.read();
     inside.leave_shared();
-    inside.check(owner.release_share(rt));
+    inside.check(owner.is(rt, Call::ReleaseShare));
 }
 
 // Asks in one of the four modes, and cancels.
@@ -57,75 +57,187 @@ fn cancel_one(rt: &impl Wait, owner: &mut Owner<'_>, inside: &Inside, turn: u32)
     inside.check(owner.cancels(rt, mode));
 }
 
-// Takes so many turns, and leaves. How much was written.
-fn take_turns(rt: &impl Wait, mut owner: Owner<'_>, inside: &Inside, turns: u32) -> u64 {
-    let mut written = 0u64;
-    for turn in 0..turns {
-        match turn % 5 {
-            0 | 1 => {
-                let more = write_one(rt, &mut owner, inside, turn);
-                written = written.saturating_add(more);
-            }
-            2 | 3 => read_one(rt, &mut owner, inside, turn),
-            _ => cancel_one(rt, &mut owner, inside, turn),
-        }
-    }
-    owner.leave(rt);
-    written
+// What an owner does at its turns.
+#[derive(Clone, Copy)]
+enum Kind {
+    // It takes the lock and gives it back.
+    Lock,
+    // It takes the lock or a share in each way, or cancels.
+    EachWay,
+    // One poisons the lock, and all others sleep until then.
+    Poison,
 }
 
-// How it ended: the faults, the number that was written beside how often it was, and the main word once all have left.
-#[derive(Clone, Copy, Debug, Eq, PartialEq)]
-struct Ended {
-    faults: u64,
-    value: u64,
-    written: u64,
-    main: u64,
-}
-
-// As many threads take so many turns each. How it ended, where that isn't as it has to be.
-fn wrong_end<R: Wait + Threads + Sync + AllocGlobal>(
-    rt: &R,
+// As many threads take so many turns each, and what must come of it: the sum of all turns, if it is known before (else it is what was
+// written), whether the lock is poisoned then, and what poisoner and sleepers told.
+#[derive(Clone, Copy)]
+struct Crowd {
     threads: u16,
     turns: u32,
-) -> Result<Option<Ended>, AllocError>
-    requires { threads < 65535 }
+    kind: Kind,
+    all: Option<u64>,
+    is_poisoned: bool,
+    watched: [u64; 3],
+}
+
+const EACH_WAY: Crowd = Crowd {
+    threads: 2,
+    turns: 100_000,
+    kind: Kind::EachWay,
+    all: None,
+    is_poisoned: false,
+    watched: [0, 0, 0],
+};
+
+static CROWDS: [Crowd; 6] = [
+    Crowd {
+        threads: 4,
+        turns: 100,
+        kind: Kind::Lock,
+        all: Some(400),
+        ..EACH_WAY
+    },
+    EACH_WAY,
+    Crowd {
+        threads: 4,
+        turns: 20_000,
+        ..EACH_WAY
+    },
+    Crowd {
+        threads: 8,
+        turns: 5_000,
+        ..EACH_WAY
+    },
+    Crowd {
+        threads: 32,
+        turns: 500,
+        ..EACH_WAY
+    },
+    Crowd {
+        threads: SLEEPERS + 1,
+        turns: 1,
+        kind: Kind::Poison,
+        all: Some(0),
+        is_poisoned: true,
+        watched: [1, 0, 32],
+    },
+];
+
+// What a crowd shares: its plan, who is inside the lock, and who sleeps.
+#[derive(Drop)]
+struct Scene {
+    crowd: Crowd,
+    inside: Inside,
+    watched: Watched,
+}
+
+// Takes a turn in one way or another. How much was written.
+fn take_one(rt: &impl Wait, owner: &mut Owner<'_>, inside: &Inside, turn: u32) -> u64 {
+    match turn % 5 {
+        0 | 1 => return write_one(rt, owner, inside, turn),
+        2 | 3 => read_one(rt, owner, inside, turn),
+        _ => cancel_one(rt, owner, inside, turn),
+    }
+    0
+}
+
+// Takes a turn. How much was written, or whether it had the lock.
+fn take_turn(rt: &impl Wait, owner: &mut Owner<'_>, scene: &Scene, turn: u32) -> u64 {
+    match scene.crowd.kind {
+        Kind::Lock => u64::from(owner.is(rt, Call::Lock) && owner.is(rt, Call::ReleaseLock)),
+        Kind::EachWay => take_one(rt, owner, &scene.inside, turn),
+        Kind::Poison => {
+            take_part(rt, owner, &scene.watched);
+            0
+        }
+    }
+}
+
+// Takes its turns, and leaves. How much came of them.
+fn take_turns(rt: &impl Wait, mut owner: Owner<'_>, scene: &Scene) -> u64 {
+    let mut all = 0u64;
+    for turn in 0..scene.crowd.turns {
+        all = all.saturating_add(take_turn(rt, &mut owner, scene, turn));
+    }
+    owner.leave(rt);
+    all
+}
+
+// A thread with each of these places takes its turns. How much came of all turns.
+fn take_all_turns<R: Wait + Threads + Sync>(
+    rt: &R,
+    lock: &Lock,
+    places: Vec<Place>,
+    scene: &Scene,
+) -> Result<u64, AllocError>
+    requires { All (IsDealtBy lock.now) places.items }
 {
-    let inside = Inside::new();
-    let (lock, mut places) = Lock::new(rt.alloc(), threads + 1)?;
-    let Some(witness) = places.pop() else {
-        unreachable!()
-    };
     let more = thread::map_vec(
         rt,
         places,
         &|place|
-            requires { IsDealtBy lock place }
-        { take_turns(rt, Owner::new(&lock, place), &inside, turns) },
+            requires { IsDealtBy lock.now place }
+        { take_turns(rt, Owner::new(lock, place), scene) },
     )?;
-    let mut written = 0u64;
+    let mut all = 0u64;
     for one in more {
-        written = written.saturating_add(one);
+        all = all.saturating_add(one);
     }
+    Ok(all)
+}
+
+// How a crowd ends: how much came of all turns, whether the lock was poisoned then, and the main word once all have left.
+fn end_of<R: Wait + Threads + Sync + AllocGlobal>(
+    rt: &R,
+    scene: &Scene,
+) -> Result<(u64, bool, u64), AllocError> {
+    let (lock, mut places) = Lock::new(rt.alloc(), scene.crowd.threads.saturating_add(1))?;
+    let Some(mut witness) = places.pop() else {
+        unreachable!()
+    };
+    let all = take_all_turns(rt, &lock, places, scene)?;
+    let was_poisoned = lock.clear_poison(rt, &mut witness);
     let left = lock.leave(rt, witness);
-    let main = lock.close(left).main();
-    let (faults, value) = inside.ended();
-    if faults == 0 && value == written && main == 0 {
-        return Ok(None);
+    Ok((all, was_poisoned, lock.close(left).main()))
+}
+
+// The same, the faults and the number that was written, and what was told of poison, where this isn't as it has to be.
+type Wrong = ((u64, bool, u64), (u64, u64), [u64; 3]);
+
+fn wrong_end<R: Wait + Threads + Sync + AllocGlobal>(
+    rt: &R,
+    crowd: Crowd,
+) -> Result<Option<Wrong>, AllocError> {
+    let scene = Scene {
+        crowd,
+        inside: Inside::new(),
+        watched: Watched::new(),
+    };
+    let end = end_of(rt, &scene)?;
+    let (faults, written) = scene.inside.ended();
+    let watched = scene.watched.told();
+    let all = crowd.all.unwrap_or(written);
+    let is_right = end == (all, crowd.is_poisoned, 0) && faults == 0 && watched == crowd.watched;
+    Ok(if is_right {
+        None
+    } else {
+        Some((end, (faults, written), watched))
+    })
+}
+
+// The first crowd that doesn't end as it has to, counted from 0, and how it ends.
+fn first_wrong<R: Wait + Threads + Sync + AllocGlobal>(
+    rt: &R,
+) -> Result<Option<(usize, Wrong)>, AllocError> {
+    for (number, crowd) in CROWDS.iter().enumerate() {
+        if let Some(wrong) = wrong_end(rt, *crowd)? {
+            return Ok(Some((number, wrong)));
+        }
     }
-    Ok(Some(Ended {
-        faults,
-        value,
-        written,
-        main,
-    }))
+    Ok(None)
 }
 
 #[test]
-fn an_owner_is_alone_and_sharers_share(rt: HostRuntime) -> Result<(), Fail> {
-    same!(rt; wrong_end(&rt, 2, 100_000)?, None);
-    same!(rt; wrong_end(&rt, 4, 20_000)?, None);
-    same!(rt; wrong_end(&rt, 8, 5_000)?, None);
-    same!(rt; wrong_end(&rt, 32, 500)?, None);
-    Ok(())
+fn owners_are_alone_and_sharers_share_and_all_hear_of_poison(rt: HostRuntime) {
+    same!(rt; first_wrong(&rt).ok(), Some(None));
 }
