@@ -30,7 +30,7 @@ enum Call {
 }
 
 // What a call tells.
-#[derive(Clone, Copy, Debug, PartialEq)]
+#[derive(Clone, Copy, PartialEq)]
 enum Told {
     Nothing,
     Count(u16),
@@ -166,12 +166,11 @@ impl<O: Ordered> Desk<O> {
         }
     }
 
-    // The first row that was told otherwise, counted from 0, and what it was told.
-    fn first_other(&mut self, story: &[(Call, Told)]) -> Option<(usize, Told)> {
+    // The first row that was told otherwise, counted from 0.
+    fn first_other(&mut self, story: &[(Call, Told)]) -> Option<usize> {
         for (row, (call, wanted)) in story.iter().enumerate() {
-            let told = self.answer(*call);
-            if told != *wanted {
-                return Some((row, told));
+            if self.answer(*call) != *wanted {
+                return Some(row);
             }
         }
         None

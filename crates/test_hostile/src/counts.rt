@@ -63,18 +63,50 @@ fn core_grants<const MAX: usize>(asked: &mut SemaphoreCoreOf<MAX>, count: usize)
         && asked.poll(&mut ticket, How::Sync).is_ok() == is_had
 }
 
+// The same of new cores.
+fn at_a_full_core<const MAX: usize>(alloc: Global, count: usize) -> Result<bool, AllocError>
+    requires bound { 0 < MAX }
+    requires narrow { MAX < 65536 }
+{
+    let mut full = SemaphoreCoreOf::<MAX>::new(alloc, 1)?;
+    Ok(core_takes(&mut full, count))
+}
+
+fn at_an_empty_core<const MAX: usize>(alloc: Global, count: usize) -> Result<bool, AllocError>
+    requires bound { 0 < MAX }
+    requires narrow { MAX < 65536 }
+{
+    let mut empty = SemaphoreCoreOf::<MAX>::with_permits(alloc, 0, 1)?;
+    Ok(core_releases(&mut empty, count))
+}
+
+fn at_an_asked_core<const MAX: usize>(alloc: Global, count: usize) -> Result<bool, AllocError>
+    requires bound { 0 < MAX }
+    requires narrow { MAX < 65536 }
+{
+    let mut asked = SemaphoreCoreOf::<MAX>::new(alloc, 1)?;
+    Ok(core_grants(&mut asked, count))
+}
+
+// Whether a core that is made of so many permits has no more than it may.
+fn is_cut<const MAX: usize>(alloc: Global, count: usize) -> Result<bool, AllocError>
+    requires bound { 0 < MAX }
+    requires narrow { MAX < 65536 }
+{
+    let made = SemaphoreCoreOf::<MAX>::with_permits(alloc, count, 1)?;
+    Ok(made.available_permits() == count.min(MAX))
+}
+
 fn at_a_core<const MAX: usize>(alloc: Global, count: usize) -> Result<bool, AllocError>
     requires bound { 0 < MAX }
     requires narrow { MAX < 65536 }
 {
-    let is_taken = core_takes(&mut SemaphoreCoreOf::<MAX>::new(alloc, 1)?, count);
-    let is_released = core_releases(
-        &mut SemaphoreCoreOf::<MAX>::with_permits(alloc, 0, 1)?,
-        count,
-    );
-    let is_granted = core_grants(&mut SemaphoreCoreOf::<MAX>::new(alloc, 1)?, count);
-    let made = SemaphoreCoreOf::<MAX>::with_permits(alloc, count, 1)?.available_permits();
-    Ok(is_taken && is_released && is_granted && made == count.min(MAX))
+    Ok(
+        at_a_full_core::<MAX>(alloc, count)?
+            && at_an_empty_core::<MAX>(alloc, count)?
+            && at_an_asked_core::<MAX>(alloc, count)?
+            && is_cut::<MAX>(alloc, count)?,
+    )
 }
 
 // How many permits are available.
@@ -243,17 +275,35 @@ fn waits_to_meet<R: Wait + Drop>(barrier: &Barrier<R>) -> bool {
     barrier.register_pager(&mut pager, true).is_ok()
 }
 
-// Whether there is room to wait at a form of each kind, and the lock is had.
+// Whether there is room to wait at a semaphore, at a lock, which is had, at a gate, and at a barrier.
+fn of_permits(rt: &impl Wait, alloc: Global, room: u16) -> Result<bool, AllocError> {
+    Ok(waits_for_a_permit(&Semaphore::with_permits(rt, alloc, 0, room)?))
+}
+
+fn of_shares(rt: &impl Wait, alloc: Global, room: u16) -> Result<(bool, bool), AllocError> {
+    Ok(waits_for_a_share(&Lock::new(rt, alloc, room)?))
+}
+
+fn of_passing(rt: &impl Wait, alloc: Global, room: u16) -> Result<bool, AllocError> {
+    Ok(waits_to_pass(&Gate::new(rt, alloc, room)?))
+}
+
+fn of_meeting(rt: &impl Wait, alloc: Global, room: u16) -> Result<bool, AllocError> {
+    Ok(waits_to_meet(&Barrier::with_count(rt, alloc, 2, room)?))
+}
+
+// The same of all four.
 fn may_wait(
     rt: &impl Wait,
     alloc: Global,
     room: u16,
 ) -> Result<(bool, (bool, bool), bool, bool), AllocError> {
-    let of_permits = waits_for_a_permit(&Semaphore::with_permits(rt, alloc, 0, room)?);
-    let of_shares = waits_for_a_share(&Lock::new(rt, alloc, room)?);
-    let of_passing = waits_to_pass(&Gate::new(rt, alloc, room)?);
-    let of_meeting = waits_to_meet(&Barrier::with_count(rt, alloc, 2, room)?);
-    Ok((of_permits, of_shares, of_passing, of_meeting))
+    Ok((
+        of_permits(rt, alloc, room)?,
+        of_shares(rt, alloc, room)?,
+        of_passing(rt, alloc, room)?,
+        of_meeting(rt, alloc, room)?,
+    ))
 }
 
 #[test]

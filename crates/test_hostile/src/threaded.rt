@@ -11,7 +11,7 @@ use crate::lists::{
 };
 use crate::model::Model;
 use saa::barrier::{Barrier, BarrierAnswer, BarrierCall, BarrierCore};
-use saa::bench::{Command, CommandOf, Primitive, ReplyOf};
+use saa::bench::{Command, CommandOf, Primitive, Reply, ReplyOf};
 use saa::gate::{self, Gate, GateAnswer, GateCall, GateCore, State};
 use saa::lock::{Lock, LockAnswer, LockCall, LockCore, Mode};
 use saa::pager::{Pager, SyncResult};
@@ -72,30 +72,32 @@ where
 {
     // Does a command at both; whether they reply the same.
     fn agree(&mut self, command: &Command<F::Core>) -> bool {
-        let Pair {
-            form,
-            zero,
-            one,
-            model,
-        } = self;
-        let pager = pick(zero, one, is_for_one(command));
-        if let CommandOf::PollSync(name) = *command {
-            if model.would_wait(name) {
-                return true;
-            }
+        if let CommandOf::PollSync(name) = *command
+            && self.model.would_wait(name)
+        {
+            return true;
         }
-        let expected = reply::<F::Core>(model, command);
+        let expected = reply::<F::Core>(&mut self.model, command);
+        match self.reply(command) {
+            Some(told) => told == expected,
+            None => false,
+        }
+    }
+
+    // What the form replies to a command. None to a poll as async, which is a future's.
+    fn reply(&mut self, command: &Command<F::Core>) -> Option<Reply<F::Core>> {
+        let pager = pick(&mut self.zero, &mut self.one, is_for_one(command));
         match *command {
-            CommandOf::Call(call) => ReplyOf::Answered(form.call(call)) == expected,
+            CommandOf::Call(call) => Some(ReplyOf::Answered(self.form.call(call))),
             CommandOf::Register(_, ask, is_sync) => {
-                ReplyOf::Registered(form.register(pager, ask, is_sync)) == expected
+                Some(ReplyOf::Registered(self.form.register(pager, ask, is_sync)))
             }
-            CommandOf::TryPoll(_) => ReplyOf::Polled(F::value(pager.try_poll())) == expected,
-            CommandOf::PollSync(_) => ReplyOf::Polled(F::value(pager.poll_sync())) == expected,
-            CommandOf::PollAsync(_) => false,
+            CommandOf::TryPoll(_) => Some(ReplyOf::Polled(F::value(pager.try_poll()))),
+            CommandOf::PollSync(_) => Some(ReplyOf::Polled(F::value(pager.poll_sync()))),
+            CommandOf::PollAsync(_) => None,
             CommandOf::Drop(_) => {
                 pager.cancel();
-                ReplyOf::Dropped == expected
+                Some(ReplyOf::Dropped)
             }
         }
     }
