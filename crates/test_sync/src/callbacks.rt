@@ -1,107 +1,81 @@
 //! When the callback of a waiting call runs. It may release what its own call waits for, so one thread is enough.
 
-use crate::semaphores::SemaphoreCall::{AcquireManySyncWith, AcquireSyncWith, Permits, Runs};
-use crate::semaphores::{SemaphoreCall, played_with};
-use crate::stories::Told;
-use crate::stories::Told::{Acquired, Asked, Count};
+use crate::locks::LockCall;
+use crate::locks::LockCall::{IsLocked, IsShared, LockSyncWith, ShareSyncWith, TryShare};
+use crate::locks::LockCallback::{Shares, TriesToShare};
+use crate::semaphores::SemaphoreCall;
+use crate::semaphores::SemaphoreCall::{AcquireManySyncWith, AcquireSyncWith, Permits, Runs, Seen};
+use crate::semaphores::SemaphoreCallback::{Counts, Looks, Releases, Tries};
+use crate::stories::Story;
+use crate::stories::Told::{Acquired, Asked, Count, Is, Tried};
 use saa_core::ticket::Full;
-use saa_sync::lock::{Lock, TryLockError};
-use saa_sync::semaphore::Semaphore;
-use std::io;
-use std::sync::atomic::{AtomicU64, Ordering};
-use test_asserts::{holds, same};
 
-#[test]
-fn a_callback_may_use_its_semaphore(rt: HostRuntime) -> io::Result<()> {
-    let semaphore = Semaphore::with_permits(&rt, rt.alloc(), 2, 4)?;
-    let seen = AtomicU64::new(9);
-    let answer = semaphore.acquire_many_sync_with(3, || {
-        seen.store(
-            semaphore.available_permits(Ordering::SeqCst) as u64,
-            Ordering::SeqCst,
-        );
-        semaphore.release();
-    });
-    same!(rt; answer, Ok(true));
-    same!(rt; seen.load(Ordering::SeqCst), 2);
-    same!(rt; semaphore.available_permits(Ordering::SeqCst), 0);
-    Ok(())
-}
-
-#[test]
-fn a_callback_runs_once_where_the_task_joins(rt: HostRuntime) -> io::Result<()> {
-    let semaphore = Semaphore::with_permits(&rt, rt.alloc(), 0, 1)?;
-    let runs = AtomicU64::new(0);
-    let count_and_release = || {
-        runs.fetch_add(1, Ordering::SeqCst);
-        semaphore.release();
-    };
-    same!(rt; semaphore.acquire_sync_with(count_and_release), Ok(()));
-    same!(rt; runs.load(Ordering::SeqCst), 1);
-    same!(rt; semaphore.acquire_many_sync_with(1, count_and_release), Ok(true));
-    same!(rt; runs.load(Ordering::SeqCst), 2);
-    Ok(())
-}
-
-const NOBODY_WAITS: [(SemaphoreCall, Told); 7] = [
-    (AcquireSyncWith, Acquired(Ok(()))),
-    (AcquireManySyncWith(2), Asked(Ok(true))),
-    // Too many.
-    (AcquireManySyncWith(64), Asked(Ok(false))),
-    (AcquireSyncWith, Acquired(Err(Full))),
-    (AcquireManySyncWith(1), Asked(Err(Full))),
-    (Runs, Count(0)),
-    (Permits, Count(0)),
+pub(crate) static SEMAPHORES: [Story<SemaphoreCall>; 4] = [
+    Story {
+        name: "a callback may use its semaphore",
+        number: Some(2),
+        room: 4,
+        rows: &[
+            (AcquireManySyncWith(3, Looks), Asked(Ok(true))),
+            (Runs, Count(1)),
+            (Seen, Count(2)),
+            (Permits, Count(0)),
+        ],
+    },
+    Story {
+        name: "a callback runs once where the task joins",
+        number: Some(0),
+        room: 1,
+        rows: &[
+            (AcquireSyncWith(Releases), Acquired(Ok(()))),
+            (Runs, Count(1)),
+            (AcquireManySyncWith(1, Releases), Asked(Ok(true))),
+            (Runs, Count(2)),
+        ],
+    },
+    Story {
+        name: "a callback does not run where nobody waits",
+        number: Some(3),
+        room: 0,
+        rows: &[
+            (AcquireSyncWith(Counts), Acquired(Ok(()))),
+            (AcquireManySyncWith(2, Counts), Asked(Ok(true))),
+            // Too many.
+            (AcquireManySyncWith(64, Counts), Asked(Ok(false))),
+            (AcquireSyncWith(Counts), Acquired(Err(Full))),
+            (AcquireManySyncWith(1, Counts), Asked(Err(Full))),
+            (Runs, Count(0)),
+            (Permits, Count(0)),
+        ],
+    },
+    // No try is granted before the task that waits.
+    Story {
+        name: "a callback runs while its task is in the line",
+        number: Some(2),
+        room: 1,
+        rows: &[
+            (AcquireManySyncWith(3, Tries), Asked(Ok(true))),
+            (Runs, Count(1)),
+            (Seen, Count(0)),
+        ],
+    },
 ];
 
-#[test]
-fn a_callback_does_not_run_where_nobody_waits(rt: HostRuntime) -> io::Result<()> {
-    same!(rt; played_with(&rt, rt.alloc(), 3, 0, &NOBODY_WAITS)?, None);
-    Ok(())
-}
-
-#[test]
-fn a_callback_runs_while_its_task_stands_in_the_line(rt: HostRuntime) -> io::Result<()> {
-    let semaphore = Semaphore::with_permits(&rt, rt.alloc(), 2, 1)?;
-    let passed = AtomicU64::new(0);
-    let answer = semaphore.acquire_many_sync_with(3, || {
-        if semaphore.try_acquire() || semaphore.try_acquire_many(0) {
-            passed.fetch_add(1, Ordering::SeqCst);
-        }
-        semaphore.release();
-    });
-    same!(rt; answer, Ok(true));
-    same!(rt; passed.load(Ordering::SeqCst), 0);
-    Ok(())
-}
-
-#[test]
-fn a_callback_of_a_lock_runs_once_while_its_task_stands_in_the_line(
-    rt: HostRuntime,
-) -> io::Result<()> {
-    let lock = Lock::new(&rt, rt.alloc(), 1)?;
-    let runs = AtomicU64::new(0);
-    let refused = AtomicU64::new(0);
-    same!(rt; lock.try_share(), Ok(()));
-    let answer = lock.lock_sync_with(|| {
-        runs.fetch_add(1, Ordering::SeqCst);
-        if lock.try_share() == Err(TryLockError::WouldBlock) {
-            refused.fetch_add(1, Ordering::SeqCst);
-        }
-        lock.release_share();
-    });
-    same!(rt; answer, Ok(true));
-    holds!(rt; lock.is_locked(Ordering::SeqCst));
-    let answer = lock.share_sync_with(|| {
-        runs.fetch_add(1, Ordering::SeqCst);
-        if lock.share_sync().is_err() {
-            refused.fetch_add(1, Ordering::SeqCst);
-        }
-        lock.release_lock();
-    });
-    same!(rt; answer, Ok(true));
-    holds!(rt; lock.is_shared(Ordering::SeqCst));
-    same!(rt; runs.load(Ordering::SeqCst), 2);
-    same!(rt; refused.load(Ordering::SeqCst), 2);
-    Ok(())
-}
+pub(crate) static LOCKS: [Story<LockCall>; 1] = [
+    // The try is told that it would block, and the call that there is no room.
+    Story {
+        name: "a callback of a lock runs once while its task is in the line",
+        number: None,
+        room: 1,
+        rows: &[
+            (TryShare, Tried(Ok(()))),
+            (LockSyncWith(TriesToShare), Asked(Ok(true))),
+            (IsLocked, Is(true)),
+            (LockCall::Seen, Count(1)),
+            (ShareSyncWith(Shares), Asked(Ok(true))),
+            (IsShared, Is(true)),
+            (LockCall::Runs, Count(2)),
+            (LockCall::Seen, Count(2)),
+        ],
+    },
+];

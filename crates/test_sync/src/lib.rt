@@ -8,6 +8,8 @@ mod barriers;
 #[cfg(test)]
 mod callbacks;
 #[cfg(test)]
+mod crowds;
+#[cfg(test)]
 mod gates;
 #[cfg(test)]
 mod locks;

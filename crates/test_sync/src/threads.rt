@@ -1,238 +1,235 @@
 //! The threaded semaphore under several threads: they wait, are woken, and leave the count whole.
 
+use crate::crowds::{Counted, Crowd, gathered};
+use crate::semaphores::SemaphoreCall;
+use crate::semaphores::SemaphoreCall::{
+    AcquireManySyncWith, AcquireSyncWith, LetGo, Register, ReleaseMany, Runs, TryAcquireMany,
+};
+use crate::semaphores::SemaphoreCallback::Counts;
+use crate::stories::Pair;
+use crate::stories::Row::{Does, Stays, Until};
+use crate::stories::Told::{Acquired, Asked, Count, Is, Nothing};
+use crate::stories::Who::One;
 use saa_core::semaphore::SemaphoreCore;
 use saa_sync::pager::Pager;
 use saa_sync::semaphore::Semaphore;
-use std::sync::atomic::{AtomicBool, AtomicU64, Ordering};
+use std::alloc::{AllocError, AllocGlobal};
+use std::sync::atomic::{AtomicU64, Ordering};
 use std::sync::{Mutex, Wait};
 use std::thread::{Threads, yield_now};
-use std::{io, thread};
-use test_asserts::{holds, same};
 
-// How often the main thread looks whether a call that must wait has returned.
-const TURNS: u32 = 10_000;
+pub(crate) static PAIRS: [Pair<SemaphoreCall>; 3] = [
+    Pair {
+        name: "one permit is held back",
+        number: Some(0),
+        room: 4,
+        rows: &[
+            Until(Runs, Count(1)),
+            Stays(Runs, Count(1)),
+            Does(ReleaseMany(1), Is(true)),
+        ],
+        beside: &[Does(AcquireSyncWith(Counts), Acquired(Ok(())))],
+        after: &[],
+    },
+    Pair {
+        name: "two permits are held back",
+        number: Some(1),
+        room: 4,
+        rows: &[
+            Until(Runs, Count(1)),
+            Stays(Runs, Count(1)),
+            Does(ReleaseMany(1), Is(true)),
+        ],
+        beside: &[Does(AcquireManySyncWith(2, Counts), Asked(Ok(true)))],
+        after: &[],
+    },
+    // The pager waits for two permits, and no try is granted behind it.
+    Pair {
+        name: "a dropped pager wakes those behind it",
+        number: Some(1),
+        room: 4,
+        rows: &[
+            Does(Register(One, 2, true), Asked(Ok(true))),
+            Until(Runs, Count(1)),
+            Does(LetGo(One), Nothing),
+        ],
+        beside: &[
+            Until(TryAcquireMany(0), Is(false)),
+            Does(AcquireSyncWith(Counts), Acquired(Ok(()))),
+        ],
+        after: &[],
+    },
+];
+
+// A core behind a mutex, at which each thread tries once.
+#[derive(Drop)]
+struct OneCore {
+    core: Mutex<SemaphoreCore>,
+}
+
+impl Crowd for OneCore {
+    fn works<H: Wait>(&self, rt: &H, _number: u64) {
+        self.core.lock(rt).try_acquire();
+    }
+}
+
+impl OneCore {
+    fn counted<H: Wait>(&self, rt: &H, threads: u64) -> Counted {
+        [threads, self.core.lock(rt).available_permits() as u64, 0, 0]
+    }
+}
+
+// Two threads try at one core: how many permits are left.
+pub(crate) fn one_core<H: Wait + Threads + Sync + AllocGlobal>(
+    rt: &H,
+) -> Result<Counted, AllocError> {
+    let crowd = OneCore {
+        core: Mutex::new(SemaphoreCore::new(rt.alloc(), 4)?),
+    };
+    Ok(crowd.counted(rt, gathered(rt, &crowd, 2)))
+}
 
 // How many tasks sleep at once: more than are woken under one lock.
-const SLEEPERS: u64 = 20;
+const SLEEPERS: u16 = 20;
+
+// Tasks that wait for one permit each: how many joined the line, and how many returned.
+#[derive(Drop)]
+struct Sleepers<R: Wait + Drop> {
+    semaphore: Semaphore<R>,
+    joined: AtomicU64,
+    ended: AtomicU64,
+}
+
+impl<R: Wait + Drop> Sleepers<R> {
+    // Waits until so many have joined.
+    fn await_joined<H: Wait>(&self, rt: &H, wanted: u64) {
+        for _ in rt.forever() {
+            if self.joined.load(Ordering::SeqCst) >= wanted {
+                return;
+            }
+            yield_now();
+        }
+    }
+
+    // How many threads there were, how many returned, and how many permits are left.
+    fn counted(&self, threads: u64) -> Counted {
+        let mo = Ordering::SeqCst;
+        [
+            threads,
+            self.ended.load(mo),
+            self.semaphore.available_permits(mo) as u64,
+            0,
+        ]
+    }
+}
+
+impl<R: Wait + Drop + Sync> Crowd for Sleepers<R> {
+    fn works<H: Wait>(&self, _rt: &H, _number: u64) {
+        let answer = self.semaphore.acquire_sync_with(|| {
+            self.joined.fetch_add(1, Ordering::SeqCst);
+        });
+        if answer.is_ok() {
+            self.ended.fetch_add(1, Ordering::SeqCst);
+        }
+    }
+
+    // One release grants all.
+    fn leads<H: Wait>(&self, rt: &H, started: u64) {
+        self.await_joined(rt, started);
+        self.semaphore.release_many(usize::from(SLEEPERS));
+    }
+}
+
+// One release wakes all whom it grants.
+pub(crate) fn sleepers_granted<H: Wait + Threads + Sync + AllocGlobal>(
+    rt: &H,
+) -> Result<Counted, AllocError> {
+    let crowd = Sleepers {
+        semaphore: Semaphore::with_permits(rt, rt.alloc(), 0, SLEEPERS)?,
+        joined: AtomicU64::new(0),
+        ended: AtomicU64::new(0),
+    };
+    Ok(crowd.counted(gathered(rt, &crowd, u64::from(SLEEPERS))))
+}
 
 // How often each thread of a contention takes and gives back.
 const ROUNDS: u64 = 300;
 
-#[test]
-fn two_threads_one_core(rt: HostRuntime) -> io::Result<()> {
-    let core = Mutex::new(SemaphoreCore::new(rt.alloc(), 4)?);
-    let shared = &core;
-    let handle = &rt;
-    thread::scope(thread::scope_env(), handle, |scope| {
-        for _ in 0..2 {
-            if scope.spawn(move || try_once(handle, shared)).is_err() {
-                try_once(handle, shared);
-            }
-        }
-    });
-    same!(rt; core.lock(&rt).available_permits(), 61);
-    Ok(())
+// Threads that take and give back permits: what those add who take all, and how often somebody took and gave back.
+#[derive(Drop)]
+struct Contention<R: Wait + Drop> {
+    semaphore: Semaphore<R>,
+    total: AtomicU64,
+    done: AtomicU64,
 }
 
-// One try on a core behind a lock.
-fn try_once(rt: &impl Wait, core: &Mutex<SemaphoreCore>) {
-    core.lock(rt).try_acquire();
-}
-
-#[test]
-fn one_permit_is_held_back(rt: HostRuntime) -> io::Result<()> {
-    let semaphore = Semaphore::with_permits(&rt, rt.alloc(), 0, 4)?;
-    let waits = AtomicBool::new(false);
-    let ended = AtomicU64::new(0);
-    let (is_granted, early) = thread::join(
-        &rt,
-        || {
-            let answer = semaphore.acquire_sync_with(|| waits.store(true, Ordering::SeqCst));
-            ended.fetch_add(1, Ordering::SeqCst);
-            answer.is_ok()
-        },
-        || watch_then_release(&rt, &semaphore, &waits, &ended, 1),
-    );
-    holds!(rt; is_granted);
-    same!(rt; early, 0);
-    same!(rt; ended.load(Ordering::SeqCst), 1);
-    Ok(())
-}
-
-#[test]
-fn two_permits_are_held_back(rt: HostRuntime) -> io::Result<()> {
-    let semaphore = Semaphore::with_permits(&rt, rt.alloc(), 1, 4)?;
-    let waits = AtomicBool::new(false);
-    let ended = AtomicU64::new(0);
-    let (answer, early) = thread::join(
-        &rt,
-        || {
-            let answer = semaphore.acquire_many_sync_with(
-                2,
-                || waits.store(true, Ordering::SeqCst),
-            );
-            ended.fetch_add(1, Ordering::SeqCst);
-            answer
-        },
-        || watch_then_release(&rt, &semaphore, &waits, &ended, 1),
-    );
-    same!(rt; answer, Ok(true));
-    same!(rt; early, 0);
-    same!(rt; ended.load(Ordering::SeqCst), 1);
-    Ok(())
-}
-
-// Waits until a call joined, then looks so often whether it has returned, and then releases. Answers how often it had.
-fn watch_then_release<R: Wait + Drop>(
-    rt: &impl Wait,
-    semaphore: &Semaphore<R>,
-    waits: &AtomicBool,
-    ended: &AtomicU64,
-    count: usize,
-) -> u32 {
-    for _ in rt.forever() {
-        if waits.load(Ordering::SeqCst) {
-            break;
-        }
-        yield_now();
+impl<R: Wait + Drop> Contention<R> {
+    // Takes permits by a pager.
+    fn takes_by_pager(&self, count: usize) -> bool {
+        let mut pager = Pager::new();
+        self.semaphore.register_pager(&mut pager, count, true) == Ok(true)
+            && pager.poll_sync().is_ok()
     }
-    let mut early = 0;
-    for turn in 0..TURNS {
-        if ended.load(Ordering::SeqCst) != 0 {
-            early = turn + 1;
+
+    // Takes permits by a waiting call or, every other worker, by a pager.
+    fn takes(&self, worker: u64, count: usize) -> bool {
+        if worker % 2 == 0 {
+            self.semaphore.acquire_many_sync(count) == Ok(true)
+        } else {
+            self.takes_by_pager(count)
         }
     }
-    semaphore.release_many(count);
-    early
-}
 
-#[test]
-fn one_release_wakes_all_whom_it_grants(rt: HostRuntime) -> io::Result<()> {
-    let semaphore = Semaphore::with_permits(&rt, rt.alloc(), 0, SLEEPERS as u16)?;
-    let joined = AtomicU64::new(0);
-    let ended = AtomicU64::new(0);
-    let (handle, shared, joined_by, ended_by) = (&rt, &semaphore, &joined, &ended);
-    thread::scope(thread::scope_env(), handle, |scope| {
-        for _ in 0..SLEEPERS {
-            if scope
-                .spawn(move || sleep_for_one(shared, joined_by, ended_by))
-                .is_err()
-            {
-                joined_by.fetch_add(1, Ordering::SeqCst);
-            }
+    // Adds to the total in two steps, alone.
+    fn adds(&self) {
+        if self.semaphore.is_closed(Ordering::SeqCst) {
+            let seen = self.total.load(Ordering::SeqCst);
+            self.total.store(seen.wrapping_add(1), Ordering::SeqCst);
         }
-        await_count(handle, joined_by, SLEEPERS);
-        shared.release_many(SLEEPERS as usize);
-    });
-    same!(rt; ended.load(Ordering::SeqCst), SLEEPERS);
-    Ok(())
-}
-
-// Waits for one permit, and counts that it joined and that it returned.
-fn sleep_for_one<R: Wait + Drop>(semaphore: &Semaphore<R>, joined: &AtomicU64, ended: &AtomicU64) {
-    let answer = semaphore.acquire_sync_with(|| {
-        joined.fetch_add(1, Ordering::SeqCst);
-    });
-    if answer.is_ok() {
-        ended.fetch_add(1, Ordering::SeqCst);
     }
-}
 
-// Waits until a counter is so large.
-fn await_count(rt: &impl Wait, counter: &AtomicU64, wanted: u64) {
-    for _ in rt.forever() {
-        if counter.load(Ordering::SeqCst) >= wanted {
-            return;
-        }
-        yield_now();
-    }
-}
-
-#[test]
-fn a_dropped_pager_wakes_those_behind_it(rt: HostRuntime) -> io::Result<()> {
-    let semaphore = Semaphore::with_permits(&rt, rt.alloc(), 1, 4)?;
-    let ahead = AtomicU64::new(0);
-    let behind = AtomicU64::new(0);
-    let (answer, was_ahead) = thread::join(
-        &rt,
-        || {
-            await_count(&rt, &ahead, 1);
-            semaphore.acquire_sync_with(|| {
-                behind.fetch_add(1, Ordering::SeqCst);
-            })
-        },
-        || stand_ahead(&rt, &semaphore, &ahead, &behind),
-    );
-    same!(rt; answer, Ok(()));
-    holds!(rt; was_ahead);
-    Ok(())
-}
-
-// Waits in the line with a pager for two permits, and drops it once another task waits behind it.
-fn stand_ahead<R: Wait + Drop>(
-    rt: &impl Wait,
-    semaphore: &Semaphore<R>,
-    ahead: &AtomicU64,
-    behind: &AtomicU64,
-) -> bool {
-    let mut pager = Pager::new();
-    let is_registered = matches!(semaphore.register_pager(&mut pager, 2, true), Ok(true));
-    ahead.fetch_add(1, Ordering::SeqCst);
-    await_count(rt, behind, 1);
-    is_registered
-}
-
-#[test]
-fn contention_leaves_the_count_whole(rt: HostRuntime) -> io::Result<()> {
-    let semaphore = Semaphore::new(&rt, rt.alloc(), 8)?;
-    let total = AtomicU64::new(0);
-    let done = AtomicU64::new(0);
-    let (handle, shared, total_by, done_by) = (&rt, &semaphore, &total, &done);
-    thread::scope(thread::scope_env(), handle, |scope| {
-        for worker in 0..8 {
-            if scope
-                .spawn(move || contend(shared, worker, total_by, done_by))
-                .is_err()
-            {
-                contend(shared, worker, total_by, done_by);
+    // Takes permits once, and gives them back.
+    fn contends(&self, worker: u64, count: usize) {
+        if self.takes(worker, count) {
+            if count == 63 {
+                self.adds();
             }
-        }
-    });
-    same!(rt; semaphore.available_permits(Ordering::SeqCst), 63);
-    same!(rt; done.load(Ordering::SeqCst), 8 * ROUNDS);
-    same!(rt; total.load(Ordering::SeqCst), 2 * ROUNDS);
-    Ok(())
-}
-
-// Takes and gives back permits. The first and the last worker take all, and add to the total in two steps, alone.
-fn contend<R: Wait + Drop>(
-    semaphore: &Semaphore<R>,
-    worker: usize,
-    total: &AtomicU64,
-    done: &AtomicU64,
-) {
-    for _ in 0..ROUNDS {
-        let count = if worker % 7 == 0 { 63 } else { worker % 7 * 9 };
-        if take_permits(semaphore, worker, count) {
-            if count == 63 && semaphore.is_closed(Ordering::SeqCst) {
-                let seen = total.load(Ordering::SeqCst);
-                total.store(seen.wrapping_add(1), Ordering::SeqCst);
-            }
-            if semaphore.release_many(count) {
-                done.fetch_add(1, Ordering::SeqCst);
+            if self.semaphore.release_many(count) {
+                self.done.fetch_add(1, Ordering::SeqCst);
             }
         }
     }
+
+    // How many threads there were, how many permits are left, how often somebody took and gave back, and the total.
+    fn counted(&self, threads: u64) -> Counted {
+        let mo = Ordering::SeqCst;
+        [
+            threads,
+            self.semaphore.available_permits(mo) as u64,
+            self.done.load(mo),
+            self.total.load(mo),
+        ]
+    }
 }
 
-// Takes permits by a waiting call or, every other worker, by a pager.
-fn take_permits<R: Wait + Drop>(semaphore: &Semaphore<R>, worker: usize, count: usize) -> bool {
-    if worker % 2 == 0 {
-        return matches!(semaphore.acquire_many_sync(count), Ok(true));
+impl<R: Wait + Drop + Sync> Crowd for Contention<R> {
+    // The first and the last worker take all.
+    fn works<H: Wait>(&self, _rt: &H, number: u64) {
+        let count = if number % 7 == 0 { 63 } else { number % 7 * 9 };
+        for _round in 0..ROUNDS {
+            self.contends(number, count as usize);
+        }
     }
-    let mut pager = Pager::new();
-    if !matches!(semaphore.register_pager(&mut pager, count, true), Ok(true)) {
-        return false;
-    }
-    pager.poll_sync().is_ok()
+}
+
+// Eight workers leave the count whole.
+pub(crate) fn contended<H: Wait + Threads + Sync + AllocGlobal>(
+    rt: &H,
+) -> Result<Counted, AllocError> {
+    let crowd = Contention {
+        semaphore: Semaphore::new(rt, rt.alloc(), 8)?,
+        total: AtomicU64::new(0),
+        done: AtomicU64::new(0),
+    };
+    Ok(crowd.counted(gathered(rt, &crowd, 8)))
 }

@@ -33,7 +33,7 @@ pub(crate) const ALONE: Story = Story {
     after: &[],
 };
 
-pub(crate) const STORIES: [Story; 6] = [
+pub(crate) static STORIES: [Story; 6] = [
     Story {
         name: "permits in time",
         made: Made { permits: 3, ..MADE },

@@ -42,7 +42,7 @@ const SLEEPING: Story = Story {
     ..ALONE
 };
 
-pub(crate) const STORIES: [Story; 4] = [
+pub(crate) static STORIES: [Story; 4] = [
     Story {
         name: "who is behind is granted at once",
         made: Made {

@@ -18,7 +18,7 @@ use saa_sync::gate::State;
 // With room for one.
 const GRANTED: Story = Story { step: 0, ..ALONE };
 
-pub(crate) const STORIES: [Story; 4] = [
+pub(crate) static STORIES: [Story; 4] = [
     Story {
         name: "locks are granted in time",
         rows: &GIVES_TURNS,
@@ -46,7 +46,7 @@ pub(crate) const STORIES: [Story; 4] = [
 ];
 
 // A reader behind a writer, and a writer behind a reader.
-pub(crate) const SHARED: [Story; 2] = [
+pub(crate) static SHARED: [Story; 2] = [
     Story {
         name: "a reader is granted in time",
         rows: &HOLDS_TO_WRITE,

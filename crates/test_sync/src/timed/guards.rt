@@ -10,7 +10,7 @@ use crate::timed::stories::Row::{Does, In};
 use crate::timed::stories::{Row, Story};
 use saa_core::ticket::Full;
 
-pub(crate) const STORIES: [Story; 3] = [
+pub(crate) static STORIES: [Story; 3] = [
     Story {
         name: "a mutex in time",
         rows: &MUTEX,

@@ -21,7 +21,7 @@ const MADE: Made = Made {
     patience: None,
 };
 
-pub(crate) const STORIES: [Story; 3] = [
+pub(crate) static STORIES: [Story; 3] = [
     Story {
         name: "a pager whose time is up stays registered",
         made: MADE,

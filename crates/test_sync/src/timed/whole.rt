@@ -15,7 +15,7 @@ use test_asserts::same;
 const WHILE: u64 = 3;
 
 // Waiters sleep at once, yield for as long as there is time, or look a million times first.
-const PATIENCES: [Patience; 3] = [
+static PATIENCES: [Patience; 3] = [
     Patience {
         looks: 0,
         yields: 0,
