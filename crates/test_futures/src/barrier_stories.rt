@@ -1,32 +1,34 @@
-//! Stories of a barrier's futures and pagers: its calls, how they are made, and the test that each story is told.
+//! Stories of a barrier's futures and pagers: its calls, how they are made, and what is made for each story.
 
 use crate::barrier_stories::BarrierCall::{
-    Arrive, Ask, IsWoken, LetGo, Missing, OfPager, Poll, Register,
+    Arrive, Ask, IsWoken, LetGo, Missing, OfPager, Poll, PollWith, Register, Rung,
 };
-use crate::drops::AN_ARRIVAL_IS_DROPPED;
-use crate::faults::OF_A_BARRIER;
-use crate::pagers::{A_TASK_AT_A_BARRIER, AT_ONCE_AT_A_BARRIER};
 use crate::stories::Told::{Answer, Asked, Count, Is, Nothing};
-use crate::stories::{Desk, Futures, PagerCall, Pagers, Tasks, Told, Who, played_at};
-use crate::values::{FUTURE_IN_A_PAIR, POLLS_OF_A_LEADER, POLLS_OF_A_ROUND};
-use crate::wakes::THE_LAST_ARRIVAL;
+use crate::stories::{
+    Desk, Futures, Other, PagerCall, Pagers, Story, Tasks, Told, Who, first_of_all, played_at,
+};
+use crate::wakers::slots;
+use crate::{drops, faults, pagers, ready, values, wakes};
+use futures::test::MockTask;
 use saa_sync::barrier::Barrier;
 use saa_sync::future::Arrival;
-use std::alloc::{AllocGlobal, Global};
+use std::alloc::AllocGlobal;
 use std::io;
 use std::random::RandomSource;
 use std::sync::Wait;
 use std::sync::atomic::Ordering;
-use test_asserts::same;
 
 // A call at a barrier, a task, a future or a pager. A poll names its task and then the future.
 #[derive(Clone, Copy)]
 pub(crate) enum BarrierCall {
-    // How many arrivals are missing.
+    // How many arrivals are missing, and how many seats are rung.
     Missing,
+    Rung,
     Ask(Who),
     Poll(Who, Who),
     LetGo(Who),
+    // A future with a callback is made, polled once by this task, and dropped.
+    PollWith(Who),
     // By a call.
     Arrive,
     // A pager is registered, as sync or as async.
@@ -36,24 +38,25 @@ pub(crate) enum BarrierCall {
     IsWoken(Who),
 }
 
-// Each story of a barrier, with its size and its room.
-const STORIES: [(&str, usize, u16, &[(BarrierCall, Told)]); 8] = [
-    ("wakes", 3, 4, &THE_LAST_ARRIVAL),
-    ("a dropped arrival", 2, 2, &AN_ARRIVAL_IS_DROPPED),
-    ("a task that polls", 2, 1, &A_TASK_AT_A_BARRIER),
-    ("an answer at once", 1, 0, &AT_ONCE_AT_A_BARRIER),
-    ("each error", 2, 2, &OF_A_BARRIER),
-    ("a follower by each poll", 5, 4, &POLLS_OF_A_ROUND),
-    ("a leader by each poll", 1, 0, &POLLS_OF_A_LEADER),
-    ("a follower by a future", 2, 1, &FUTURE_IN_A_PAIR),
-];
+// What happens at a new barrier of this size, with room for so many waiters.
+pub(crate) struct BarrierStory {
+    pub(crate) name: &'static str,
+    pub(crate) size: usize,
+    pub(crate) room: u16,
+    pub(crate) rows: &'static [(BarrierCall, Told)],
+}
 
-#[test]
-fn each_story_of_a_barrier_is_told(rt: HostRuntime) {
-    for (name, size, room, story) in &STORIES {
-        let other = played(&rt, rt.alloc(), (*size, *room), story).expect(&rt, "no memory");
-        same!(rt; (*name, other), (*name, None));
-    }
+// The first story in which a row was told otherwise.
+pub(crate) fn first_story<H: Wait + RandomSource + AllocGlobal>(rt: &H) -> io::Result<Other> {
+    let all: [&[BarrierStory]; 6] = [
+        &wakes::AT_A_BARRIER,
+        &drops::AT_A_BARRIER,
+        &pagers::AT_A_BARRIER,
+        &faults::AT_A_BARRIER,
+        &values::AT_A_BARRIER,
+        &slots::AT_A_BARRIER,
+    ];
+    first_of_all(rt, &all)
 }
 
 // A barrier with its tasks, futures and pagers.
@@ -83,34 +86,60 @@ impl<'s, H: Wait + RandomSource + AllocGlobal, R: Wait + Drop> BarrierDesk<'s, &
             None => Nothing,
         }
     }
+
+    fn ask(&mut self, who: Who) -> Told {
+        self.futures.put(who, self.barrier.wait_async())
+    }
+
+    fn register(&mut self, who: Who, is_sync: bool) -> Told {
+        let pager = self.pagers.get(who);
+        Asked(self.barrier.register_pager(pager, is_sync))
+    }
 }
 
 impl<'s, H: Wait + RandomSource + AllocGlobal, R: Wait + Drop> Desk for BarrierDesk<'s, &'s H, R> {
     type Call = BarrierCall;
 
     fn answer(&mut self, call: BarrierCall) -> Told {
-        let barrier = self.barrier;
         match call {
-            Missing => Count(barrier.count(Ordering::SeqCst)),
-            Ask(who) => self.futures.put(who, barrier.wait_async()),
+            Missing => Count(self.barrier.count(Ordering::SeqCst)),
+            Rung => Count(self.barrier.shell().rung()),
+            Ask(who) => self.ask(who),
             Poll(task, who) => self.poll(task, who),
             LetGo(who) => self.futures.let_go(who),
-            Arrive => Answer(Some(barrier.wait_sync())),
-            Register(who, is_sync) => Asked(barrier.register_pager(self.pagers.get(who), is_sync)),
+            PollWith(task) => polled_with(self.tasks.get(task), self.barrier),
+            Arrive => Answer(Some(self.barrier.wait_sync())),
+            Register(who, is_sync) => self.register(who, is_sync),
             OfPager(who, call) => self.pagers.answer(self.rt, &self.tasks, who, call),
-            IsWoken(task) => Is(self.tasks.get(task).is_woken()),
+            IsWoken(task) => self.tasks.is_woken(task),
         }
     }
 }
 
-// Plays a story at a barrier of this size with room for so many waiters; the first row that was told otherwise.
-fn played<H: Wait + RandomSource + AllocGlobal>(
-    rt: &H,
-    alloc: Global,
-    (size, room): (usize, u16),
-    story: &[(BarrierCall, Told)],
+// One poll of a new future with a callback.
+fn polled_with<R: Wait + Drop>(task: &MockTask, barrier: &Barrier<R>) -> Told {
+    Answer(ready(task.poll(&mut barrier.wait_async_with(|| {}))))
+}
+
+impl Story for BarrierStory {
+    fn name(&self) -> &'static str {
+        self.name
+    }
+
+    fn first_other<H: Wait + RandomSource + AllocGlobal>(
+        &self,
+        rt: &H,
+    ) -> io::Result<Option<usize>> {
+        let barrier = Barrier::with_count(rt, rt.alloc(), self.size, self.room)?;
+        played(rt, &barrier, self.rows)
+    }
+}
+
+// Plays a story at a barrier.
+fn played<'s, H: Wait + RandomSource + AllocGlobal, R: Wait + Drop>(
+    rt: &'s H,
+    barrier: &'s Barrier<R>,
+    rows: &[(BarrierCall, Told)],
 ) -> io::Result<Option<usize>> {
-    let barrier = Barrier::with_count(rt, alloc, size, room)?;
-    let desk = BarrierDesk::new(rt, &barrier)?;
-    Ok(played_at(desk, story))
+    Ok(played_at(BarrierDesk::new(rt, barrier)?, rows))
 }

@@ -1,16 +1,17 @@
 //! The callbacks of futures: each runs once where its future joins the line, with the lock free, and never otherwise.
 
 use crate::ready;
+use crate::stories::Polled;
 use futures::test::MockTask;
 use saa_core::ticket::Full;
 use saa_sync::barrier::Barrier;
-use saa_sync::gate::{Error, Gate, State};
+use saa_sync::gate::{Gate, State};
 use saa_sync::lock::Lock;
 use saa_sync::semaphore::Semaphore;
-use std::alloc::{AllocError, Global};
+use std::alloc::AllocGlobal;
+use std::io;
 use std::sync::Wait;
 use std::sync::atomic::{AtomicU64, Ordering};
-use test_asserts::{holds, same};
 
 // Counts one run of a callback, and what it may read meanwhile.
 fn count(runs: &AtomicU64, seen: usize) {
@@ -18,22 +19,17 @@ fn count(runs: &AtomicU64, seen: usize) {
     runs.fetch_add(counted, Ordering::SeqCst);
 }
 
-// What a poll gave, if it was ready.
-type Polled<T> = Option<Result<T, Full>>;
-
 // A future asks for three of two permits, and one more is released: how often its callback ran before the first poll, after
 // it and at the end, what the polls gave, and whether the permit was released, the task woken and the future ended.
-fn at_a_semaphore<R: Wait + Drop>(
-    rt: R,
-    alloc: Global,
+fn many_of<R: Wait + Drop>(
+    semaphore: &Semaphore<R>,
+    runs: &AtomicU64,
     task: &MockTask,
-) -> Result<([u64; 3], [Polled<bool>; 3], [bool; 3]), AllocError> {
+) -> ([u64; 3], [Polled<bool>; 3], [bool; 3]) {
     let mo = Ordering::SeqCst;
-    let semaphore = Semaphore::with_permits(rt, alloc, 2, 1)?;
-    let runs = AtomicU64::new(0);
     let mut many = semaphore.acquire_many_async_with(
         3,
-        || count(&runs, semaphore.available_permits(mo)),
+        || count(runs, semaphore.available_permits(mo)),
     );
     let before = runs.load(mo);
     let first = ready(task.poll(&mut many));
@@ -43,175 +39,225 @@ fn at_a_semaphore<R: Wait + Drop>(
     let is_woken = task.is_woken();
     let third = ready(task.poll(&mut many));
     let facts = [is_released, is_woken, many.has_ended()];
-    Ok((
+    (
         [before, joined, runs.load(mo)],
         [first, second, third],
         facts,
-    ))
+    )
 }
 
-#[test]
-fn a_semaphores_callback_runs_where_it_joins(rt: HostRuntime) {
-    let task = MockTask::new(&rt).expect(&rt, "no memory");
-    let told = at_a_semaphore(&rt, rt.alloc(), &task).expect(&rt, "no memory");
-    same!(rt; told, ([0, 2_001, 2_001], [None, None, Some(Ok(true))], [true, true, true]));
+fn runs_once<R: Wait + Drop>(semaphore: &Semaphore<R>, task: &MockTask) -> bool {
+    let (runs, polls, facts) = many_of(semaphore, &AtomicU64::new(0), task);
+    runs == [0, 2_001, 2_001]
+        && polls == [None, None, Some(Ok(true))]
+        && facts == [true, true, true]
+}
+
+// A semaphore's callback runs where its future joins.
+pub(crate) fn at_a_semaphore<H: Wait + AllocGlobal>(rt: &H, task: &MockTask) -> io::Result<bool> {
+    let semaphore = Semaphore::with_permits(rt, rt.alloc(), 2, 1)?;
+    Ok(runs_once(&semaphore, task))
+}
+
+// A future that asks for one permit.
+fn one_of<R: Wait + Drop>(
+    semaphore: &Semaphore<R>,
+    runs: &AtomicU64,
+    task: &MockTask,
+) -> Polled<()> {
+    let mut one = semaphore.acquire_async_with(|| count(runs, 0));
+    ready(task.poll(&mut one))
+}
+
+// A future that asks for so many permits.
+fn so_many_of<R: Wait + Drop>(
+    semaphore: &Semaphore<R>,
+    permits: usize,
+    runs: &AtomicU64,
+    task: &MockTask,
+) -> Polled<bool> {
+    let mut many = semaphore.acquire_many_async_with(permits, || count(runs, 0));
+    ready(task.poll(&mut many))
 }
 
 // Futures that are answered at once: one permit, more than there are, and as many as there are where the room is full; and
 // how often their callbacks ran.
-fn at_once<R: Wait + Drop>(
-    rt: R,
-    alloc: Global,
+fn all_at_once<R: Wait + Drop>(semaphore: &Semaphore<R>, task: &MockTask) -> bool {
+    let runs = AtomicU64::new(0);
+    let granted = one_of(semaphore, &runs, task);
+    let too_many = so_many_of(semaphore, 64, &runs, task);
+    let refused = so_many_of(semaphore, 63, &runs, task);
+    granted == Some(Ok(()))
+        && [too_many, refused] == [Some(Ok(false)), Some(Err(Full))]
+        && runs.load(Ordering::SeqCst) == 0
+}
+
+// None runs where the answer is there.
+pub(crate) fn at_once<H: Wait + AllocGlobal>(rt: &H, task: &MockTask) -> io::Result<bool> {
+    Ok(all_at_once(&Semaphore::new(rt, rt.alloc(), 0)?, task))
+}
+
+// Two futures are made, one of them is polled, and both are dropped.
+fn drop_two<R: Wait + Drop>(semaphore: &Semaphore<R>, runs: &AtomicU64, task: &MockTask) -> bool {
+    let _never_polled = semaphore.acquire_async_with(|| count(runs, 0));
+    one_of(semaphore, runs, task).is_none()
+}
+
+fn never_again<R: Wait + Drop>(semaphore: &Semaphore<R>, task: &MockTask) -> bool {
+    let runs = AtomicU64::new(0);
+    drop_two(semaphore, &runs, task)
+        && runs.load(Ordering::SeqCst) == 1
+        && semaphore.release()
+        && semaphore.available_permits(Ordering::SeqCst) == 1
+}
+
+// A dropped future's callback never runs again.
+pub(crate) fn after_a_drop<H: Wait + AllocGlobal>(rt: &H, task: &MockTask) -> io::Result<bool> {
+    let semaphore = Semaphore::with_permits(rt, rt.alloc(), 0, 1)?;
+    Ok(never_again(&semaphore, task))
+}
+
+// A reader's callback releases the lock that it waits for: what both polls gave, and whether the reader was woken between them.
+fn reader_of<R: Wait + Drop>(
+    lock: &Lock<R>,
+    runs: &AtomicU64,
     task: &MockTask,
-) -> Result<(Polled<()>, [Polled<bool>; 2], u64), AllocError> {
-    let semaphore = Semaphore::new(rt, alloc, 0)?;
-    let runs = AtomicU64::new(0);
-    let mut one = semaphore.acquire_async_with(|| count(&runs, 0));
-    let granted = ready(task.poll(&mut one));
-    let mut many = semaphore.acquire_many_async_with(64, || count(&runs, 0));
-    let too_many = ready(task.poll(&mut many));
-    let mut full = semaphore.acquire_many_async_with(63, || count(&runs, 0));
-    let refused = ready(task.poll(&mut full));
-    Ok((granted, [too_many, refused], runs.load(Ordering::SeqCst)))
-}
-
-#[test]
-fn none_runs_where_the_answer_is_there(rt: HostRuntime) {
-    let task = MockTask::new(&rt).expect(&rt, "no memory");
-    let told = at_once(&rt, rt.alloc(), &task).expect(&rt, "no memory");
-    same!(rt; told, (Some(Ok(())), [Some(Ok(false)), Some(Err(Full))], 0));
-}
-
-#[test]
-fn a_dropped_futures_callback_never_runs_again(rt: HostRuntime) {
-    let semaphore = Semaphore::with_permits(&rt, rt.alloc(), 0, 1).expect(&rt, "no memory");
-    let task = MockTask::new(&rt).expect(&rt, "no memory");
-    let runs = AtomicU64::new(0);
-    {
-        let _never_polled = semaphore.acquire_async_with(|| count(&runs, 0));
-        let mut one = semaphore.acquire_async_with(|| count(&runs, 0));
-        same!(rt; ready(task.poll(&mut one)), None);
-    }
-    same!(rt; runs.load(Ordering::SeqCst), 1);
-    holds!(rt; semaphore.release());
-    same!(rt; semaphore.available_permits(Ordering::SeqCst), 1);
-}
-
-// A reader's callback releases the lock that it waits for, and then a writer waits for that reader: whether the lock was taken,
-// the reader woken, the writer woken and the share released, what the polls gave, and how often the callbacks ran.
-fn at_a_lock<R: Wait + Drop>(
-    rt: R,
-    alloc: Global,
-    one: &MockTask,
-    two: &MockTask,
-) -> Result<([bool; 4], [Polled<bool>; 4], u64), AllocError> {
-    let mo = Ordering::SeqCst;
-    let lock = Lock::new(rt, alloc, 2)?;
-    let runs = AtomicU64::new(0);
-    let is_taken = lock.try_lock() == Ok(());
+) -> ([Polled<bool>; 2], bool) {
     let mut reader = lock.share_async_with(|| {
-        count(&runs, 0);
+        count(runs, 0);
         lock.release_lock();
     });
-    let first = ready(one.poll(&mut reader));
-    let is_reader_woken = one.is_woken();
-    let second = ready(one.poll(&mut reader));
-    let mut writer = lock.lock_async_with(|| count(&runs, usize::from(lock.is_shared(mo))));
-    let third = ready(two.poll(&mut writer));
-    let is_writer_woken = two.is_woken();
-    let is_released = lock.release_share();
-    let polls = [first, second, third, ready(two.poll(&mut writer))];
-    let facts = [is_taken, is_reader_woken, is_writer_woken, is_released];
-    Ok((facts, polls, runs.load(mo)))
-}
-
-#[test]
-fn a_locks_callbacks_may_use_it(rt: HostRuntime) {
-    let (one, two) = (
-        MockTask::new(&rt).expect(&rt, "no memory"),
-        MockTask::new(&rt).expect(&rt, "no memory"),
-    );
-    let (facts, polls, runs) = at_a_lock(&rt, rt.alloc(), &one, &two).expect(&rt, "no memory");
-    same!(rt; facts, [true, true, false, true]);
-    same!(rt; polls, [None, Some(Ok(true)), None, Some(Ok(true))]);
-    same!(rt; runs, 1_002);
-}
-
-// The callback of who enters a gate permits, and then the gate is opened and another enters: what the polls gave, how often the
-// callbacks ran by then and at the end, whether the task was woken, and what opening told.
-fn at_a_gate<R: Wait + Drop>(
-    rt: R,
-    alloc: Global,
-    task: &MockTask,
-) -> Result<
-    (
-        [Polled<Result<State, Error>>; 3],
-        [u64; 2],
-        bool,
-        (State, usize),
-    ),
-    AllocError,
-> {
-    let mo = Ordering::SeqCst;
-    let gate = Gate::new(rt, alloc, 2)?;
-    let runs = AtomicU64::new(0);
-    let mut enter = gate.enter_async_with(|| count(&runs, gate.permit().unwrap_or(0)));
-    let first = ready(task.poll(&mut enter));
-    let joined = runs.load(mo);
+    let first = ready(task.poll(&mut reader));
     let is_woken = task.is_woken();
-    let second = ready(task.poll(&mut enter));
-    let opened = gate.open();
-    let mut late = gate.enter_async_with(|| count(&runs, 0));
-    let polls = [first, second, ready(task.poll(&mut late))];
-    Ok((polls, [joined, runs.load(mo)], is_woken, opened))
+    ([first, ready(task.poll(&mut reader))], is_woken)
 }
 
-#[test]
-fn a_gates_callback_may_permit(rt: HostRuntime) {
-    let task = MockTask::new(&rt).expect(&rt, "no memory");
-    let (polls, runs, is_woken, opened) = at_a_gate(&rt, rt.alloc(), &task).expect(
-        &rt,
-        "no memory",
-    );
-    same!(rt; polls, [None, Some(Ok(Ok(State::Controlled))), Some(Ok(Ok(State::Open)))]);
-    same!(rt; (runs, is_woken, opened), ([1_001, 1_001], true, (State::Controlled, 0)));
+// Then a writer waits for that reader: what its polls gave, and whether it was woken too soon, and the share released.
+fn writer_of<R: Wait + Drop>(
+    lock: &Lock<R>,
+    runs: &AtomicU64,
+    task: &MockTask,
+) -> ([Polled<bool>; 2], [bool; 2]) {
+    let mut writer = lock.lock_async_with(|| count(
+        runs,
+        usize::from(lock.is_shared(Ordering::SeqCst)),
+    ));
+    let first = ready(task.poll(&mut writer));
+    let is_woken = task.is_woken();
+    let is_released = lock.release_share();
+    (
+        [first, ready(task.poll(&mut writer))],
+        [is_woken, is_released],
+    )
 }
 
-// One task arrives at a barrier of size 0 and is polled twice, and then two at one of size 2: what the polls gave, and how often
-// the callbacks ran after the first barrier, after the first arrival at the second, and at the end.
-fn at_barriers<R: Wait + Drop + Copy>(
-    rt: R,
-    alloc: Global,
+fn both_of<R: Wait + Drop>(lock: &Lock<R>, one: &MockTask, two: &MockTask) -> bool {
+    let runs = AtomicU64::new(0);
+    let taken = lock.try_lock();
+    let reader = reader_of(lock, &runs, one);
+    let writer = writer_of(lock, &runs, two);
+    taken == Ok(())
+        && reader == ([None, Some(Ok(true))], true)
+        && writer == ([None, Some(Ok(true))], [false, true])
+        && runs.load(Ordering::SeqCst) == 1_002
+}
+
+// A lock's callbacks may use it.
+pub(crate) fn at_a_lock<H: Wait + AllocGlobal>(
+    rt: &H,
     one: &MockTask,
     two: &MockTask,
-) -> Result<([Polled<bool>; 5], [u64; 3]), AllocError> {
-    let mo = Ordering::SeqCst;
-    let nobody = Barrier::with_count(rt, alloc, 0, 1)?;
-    let pair = Barrier::with_count(rt, alloc, 2, 1)?;
-    let runs = AtomicU64::new(0);
-    let mut never = nobody.wait_async_with(|| count(&runs, nobody.count(mo)));
-    let waits = ready(one.poll(&mut never));
-    let still = ready(one.poll(&mut never));
-    let alone = runs.load(mo);
-    let mut first = pair.wait_async_with(|| count(&runs, pair.count(mo)));
-    let mut last = pair.wait_async_with(|| count(&runs, 0));
-    let early = ready(one.poll(&mut first));
-    let joined = runs.load(mo);
-    let leads = ready(two.poll(&mut last));
-    let follows = ready(one.poll(&mut first));
-    Ok((
-        [waits, still, early, leads, follows],
-        [alone, joined, runs.load(mo)],
-    ))
+) -> io::Result<bool> {
+    Ok(both_of(&Lock::new(rt, rt.alloc(), 2)?, one, two))
 }
 
-#[test]
-fn an_arrivals_callback_runs_at_a_barrier_of_size_0_too(rt: HostRuntime) {
-    let (one, two) = (
-        MockTask::new(&rt).expect(&rt, "no memory"),
-        MockTask::new(&rt).expect(&rt, "no memory"),
-    );
-    let (polls, runs) = at_barriers(&rt, rt.alloc(), &one, &two).expect(&rt, "no memory");
-    same!(rt; polls, [None, None, None, Some(Ok(true)), Some(Ok(false))]);
-    same!(rt; runs, [1, 1_002, 1_002]);
+// A waiter enters a gate, and its callback permits: whether all is told, and how often it ran behind its first poll.
+fn is_permitted<R: Wait + Drop>(gate: &Gate<R>, runs: &AtomicU64, task: &MockTask) -> (bool, u64) {
+    let mut enter = gate.enter_async_with(|| count(runs, gate.permit().unwrap_or(0)));
+    let first = ready(task.poll(&mut enter));
+    let joined = runs.load(Ordering::SeqCst);
+    let is_woken = task.is_woken();
+    let second = ready(task.poll(&mut enter));
+    let polls = [first, second];
+    (
+        polls == [None, Some(Ok(Ok(State::Controlled)))] && is_woken,
+        joined,
+    )
+}
+
+// Another enters an open gate.
+fn is_open<R: Wait + Drop>(gate: &Gate<R>, runs: &AtomicU64, task: &MockTask) -> bool {
+    let mut late = gate.enter_async_with(|| count(runs, 0));
+    ready(task.poll(&mut late)) == Some(Ok(Ok(State::Open)))
+}
+
+fn both_enter<R: Wait + Drop>(gate: &Gate<R>, task: &MockTask) -> bool {
+    let runs = AtomicU64::new(0);
+    let early = is_permitted(gate, &runs, task);
+    let opened = gate.open();
+    let is_open = is_open(gate, &runs, task);
+    early == (true, 1_001)
+        && opened == (State::Controlled, 0)
+        && is_open
+        && runs.load(Ordering::SeqCst) == 1_001
+}
+
+// A gate's callback may permit.
+pub(crate) fn at_a_gate<H: Wait + AllocGlobal>(rt: &H, task: &MockTask) -> io::Result<bool> {
+    Ok(both_enter(&Gate::new(rt, rt.alloc(), 2)?, task))
+}
+
+// One arrives at a barrier of size 0, is polled twice, and waits still.
+fn waits_at<R: Wait + Drop>(nobody: &Barrier<R>, runs: &AtomicU64, task: &MockTask) -> bool {
+    let mut never = nobody.wait_async_with(|| count(runs, nobody.count(Ordering::SeqCst)));
+    let polls = [ready(task.poll(&mut never)), ready(task.poll(&mut never))];
+    polls == [None, None]
+}
+
+// An arrival at a barrier at which another waits: what its poll gives.
+fn last_at<R: Wait + Drop>(pair: &Barrier<R>, runs: &AtomicU64, task: &MockTask) -> Polled<bool> {
+    let mut last = pair.wait_async_with(|| count(runs, 0));
+    ready(task.poll(&mut last))
+}
+
+// Two arrive at a barrier of size 2: what the polls gave, and how often the callbacks ran behind the first.
+fn meet_at<R: Wait + Drop>(
+    pair: &Barrier<R>,
+    runs: &AtomicU64,
+    one: &MockTask,
+    two: &MockTask,
+) -> ([Polled<bool>; 3], u64) {
+    let mut first = pair.wait_async_with(|| count(runs, pair.count(Ordering::SeqCst)));
+    let early = ready(one.poll(&mut first));
+    let joined = runs.load(Ordering::SeqCst);
+    let leads = last_at(pair, runs, two);
+    ([early, leads, ready(one.poll(&mut first))], joined)
+}
+
+// The same at both barriers, one after the other, and how often the callbacks ran: after the first barrier, after the first arrival at
+// the second, and at the end.
+fn arrivals_at<R: Wait + Drop>(
+    nobody: &Barrier<R>,
+    pair: &Barrier<R>,
+    one: &MockTask,
+    two: &MockTask,
+) -> bool {
+    let runs = AtomicU64::new(0);
+    let waits = waits_at(nobody, &runs, one);
+    let alone = runs.load(Ordering::SeqCst);
+    let (polls, joined) = meet_at(pair, &runs, one, two);
+    waits
+        && polls == [None, Some(Ok(true)), Some(Ok(false))]
+        && [alone, joined, runs.load(Ordering::SeqCst)] == [1, 1_002, 1_002]
+}
+
+// An arrival's callback runs at a barrier of size 0 too.
+pub(crate) fn at_barriers<H: Wait + AllocGlobal>(
+    rt: &H,
+    one: &MockTask,
+    two: &MockTask,
+) -> io::Result<bool> {
+    let nobody = Barrier::with_count(rt, rt.alloc(), 0, 1)?;
+    let pair = Barrier::with_count(rt, rt.alloc(), 2, 1)?;
+    Ok(arrivals_at(&nobody, &pair, one, two))
 }

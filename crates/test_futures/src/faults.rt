@@ -1,9 +1,9 @@
 //! Each error of a poll, told by each way to poll: a pager's own calls and the poll of a task.
 
-use crate::barrier_stories::BarrierCall;
-use crate::gate_stories::GateCall;
-use crate::lock_stories::LockCall;
-use crate::semaphore_stories::SemaphoreCall;
+use crate::barrier_stories::{BarrierCall, BarrierStory};
+use crate::gate_stories::{GateCall, GateStory};
+use crate::lock_stories::{LockCall, LockStory};
+use crate::semaphore_stories::{SemaphoreCall, SemaphoreStory};
 use crate::stories::PagerCall::{IsRegistered, LetGo, Poll, PollAsync, PollSync, TryPoll};
 use crate::stories::Told;
 use crate::stories::Told::{Asked, Granted, Is, Nothing, Passed, Tried, Turned};
@@ -36,41 +36,65 @@ macro_rules! errors {
     };
 }
 
-// The third pager asks first, and wants a permit that isn't there.
-pub(crate) const OF_A_SEMAPHORE: [(SemaphoreCall, Told); 14] = errors!(
-    SemaphoreCall,
-    Granted,
-    Error,
-    (SemaphoreCall::Register(Third, 1, true), Asked(Ok(true))),
-    SemaphoreCall::Register(First, 0, true),
-    SemaphoreCall::Register(Second, 0, false)
-);
+pub(crate) static AT_A_SEMAPHORE: [SemaphoreStory; 1] = [
+    // The third pager asks first, and wants a permit that isn't there.
+    SemaphoreStory {
+        name: "each error",
+        permits: Some(0),
+        room: 2,
+        rows: &errors!(
+            SemaphoreCall,
+            Granted,
+            Error,
+            (SemaphoreCall::Register(Third, 1, true), Asked(Ok(true))),
+            SemaphoreCall::Register(First, 0, true),
+            SemaphoreCall::Register(Second, 0, false)
+        ),
+    },
+];
 
-pub(crate) const OF_A_LOCK: [(LockCall, Told); 14] = errors!(
-    LockCall,
-    Turned,
-    Error,
-    (LockCall::TryLock, Tried(Ok(()))),
-    LockCall::Register(First, Mode::WaitShared, true),
-    LockCall::Register(Second, Mode::WaitShared, false)
-);
+pub(crate) static AT_A_LOCK: [LockStory; 1] = [LockStory {
+    name: "each error",
+    room: 2,
+    rows: &errors!(
+        LockCall,
+        Turned,
+        Error,
+        (LockCall::TryLock, Tried(Ok(()))),
+        LockCall::Register(First, Mode::WaitShared, true),
+        LockCall::Register(Second, Mode::WaitShared, false)
+    ),
+}];
 
-// Of two, of which one arrives at a time.
-pub(crate) const OF_A_BARRIER: [(BarrierCall, Told); 14] = errors!(
-    BarrierCall,
-    Turned,
-    Error,
-    (BarrierCall::OfPager(First, IsRegistered), Is(false)),
-    BarrierCall::Register(First, true),
-    BarrierCall::Register(Second, false)
-);
+pub(crate) static AT_A_BARRIER: [BarrierStory; 1] = [
+    // Of two, of which one arrives at a time.
+    BarrierStory {
+        name: "each error",
+        size: 2,
+        room: 2,
+        rows: &errors!(
+            BarrierCall,
+            Turned,
+            Error,
+            (BarrierCall::OfPager(First, IsRegistered), Is(false)),
+            BarrierCall::Register(First, true),
+            BarrierCall::Register(Second, false)
+        ),
+    },
+];
 
-// A gate's errors are its own.
-pub(crate) const OF_A_GATE: [(GateCall, Told); 14] = errors!(
-    GateCall,
-    Passed,
-    GateError,
-    (GateCall::OfPager(First, IsRegistered), Is(false)),
-    GateCall::Register(First, true),
-    GateCall::Register(Second, false)
-);
+pub(crate) static AT_A_GATE: [GateStory; 1] = [
+    // A gate's errors are its own.
+    GateStory {
+        name: "each error",
+        room: 2,
+        rows: &errors!(
+            GateCall,
+            Passed,
+            GateError,
+            (GateCall::OfPager(First, IsRegistered), Is(false)),
+            GateCall::Register(First, true),
+            GateCall::Register(Second, false)
+        ),
+    },
+];

@@ -1,31 +1,23 @@
-//! Stories of a gate's futures and pagers: its calls, how they are made, and the test that each story is told.
+//! Stories of a gate's futures and pagers: its calls, how they are made, and what is made for each story.
 
-use crate::drops::ONE_GIVES_UP;
-use crate::faults::OF_A_GATE;
 use crate::gate_stories::GateCall::{
     Ask, Await, Enter, EnterBy, EnterWith, IsWoken, LetGo, Make, OfPager, Poll, Register,
 };
-use crate::pagers::{A_TASK_AT_A_GATE, AT_ONCE_AT_A_GATE, IN_ITS_MODE_ALONE};
 use crate::stories::Told::{Asked, Is, Moved, Nothing, Passage, Was};
-use crate::stories::{Desk, Futures, PagerCall, Pagers, Tasks, Told, Who, played_at};
-use crate::values::{
-    ALL_AT_A_SEALED_GATE, ALL_AT_AN_OPEN_GATE, CALL_AT_A_DROP, CALL_AT_A_PERMIT,
-    CALL_AT_A_REJECTION, CALL_AT_A_SEAL, CALL_AT_AN_OPENING, FUTURE_AT_A_DROP, FUTURE_AT_A_PERMIT,
-    FUTURE_AT_A_REJECTION, FUTURE_AT_A_SEAL, FUTURE_AT_AN_OPENING, POLLS_AT_A_DROP,
-    POLLS_AT_A_PERMIT, POLLS_AT_A_REJECTION, POLLS_AT_A_SEAL, POLLS_AT_AN_OPENING,
+use crate::stories::{
+    Desk, Futures, Other, PagerCall, Pagers, Story, Tasks, Told, Who, first_of_all, played_at,
 };
-use crate::wakes::A_GATE_WAKES;
+use crate::{drops, faults, pagers, values, wakes};
 use futures::executor::block_on;
 use saa_sync::future::Passing;
 use saa_sync::gate::Gate;
 use saa_sync::pager::Pager;
-use std::alloc::{AllocGlobal, Global};
+use std::alloc::AllocGlobal;
 use std::io;
 use std::random::RandomSource;
 use std::sync::Wait;
-use test_asserts::same;
 
-// A way to answer all who wait.
+// A way to answer all waiters.
 #[derive(Clone, Copy)]
 pub(crate) enum Move {
     Permit,
@@ -48,7 +40,7 @@ pub(crate) enum GateCall {
     // By a call, without a callback and with one that does nothing.
     Enter,
     EnterWith,
-    // By a call, whose callback answers all who wait, its own task among them.
+    // By a call, whose callback answers all waiters, its own task among them.
     EnterBy(Move),
     // A pager is registered, as sync or as async.
     Register(Who, bool),
@@ -57,39 +49,25 @@ pub(crate) enum GateCall {
     IsWoken(Who),
 }
 
-// Each story of a gate, with its room.
-const STORIES: [(&str, u16, &[(GateCall, Told)]); 23] = [
-    ("wakes", 4, &A_GATE_WAKES),
-    ("who gives up", 4, &ONE_GIVES_UP),
-    ("a pager's mode", 4, &IN_ITS_MODE_ALONE),
-    ("a task that polls", 1, &A_TASK_AT_A_GATE),
-    ("an answer at once", 1, &AT_ONCE_AT_A_GATE),
-    ("each error", 2, &OF_A_GATE),
-    ("a permit by each poll", 6, &POLLS_AT_A_PERMIT),
-    ("a rejection by each poll", 6, &POLLS_AT_A_REJECTION),
-    ("a drop by each poll", 6, &POLLS_AT_A_DROP),
-    ("a seal by each poll", 6, &POLLS_AT_A_SEAL),
-    ("an opening by each poll", 6, &POLLS_AT_AN_OPENING),
-    ("a permit by a future", 6, &FUTURE_AT_A_PERMIT),
-    ("a rejection by a future", 6, &FUTURE_AT_A_REJECTION),
-    ("a drop by a future", 6, &FUTURE_AT_A_DROP),
-    ("a seal by a future", 6, &FUTURE_AT_A_SEAL),
-    ("an opening by a future", 6, &FUTURE_AT_AN_OPENING),
-    ("a permit by a call", 6, &CALL_AT_A_PERMIT),
-    ("a rejection by a call", 6, &CALL_AT_A_REJECTION),
-    ("a drop by a call", 6, &CALL_AT_A_DROP),
-    ("a seal by a call", 6, &CALL_AT_A_SEAL),
-    ("an opening by a call", 6, &CALL_AT_AN_OPENING),
-    ("all at a sealed gate", 0, &ALL_AT_A_SEALED_GATE),
-    ("all at an open gate", 0, &ALL_AT_AN_OPEN_GATE),
-];
+// What happens at a new gate with room for so many waiters.
+pub(crate) struct GateStory {
+    pub(crate) name: &'static str,
+    pub(crate) room: u16,
+    pub(crate) rows: &'static [(GateCall, Told)],
+}
 
-#[test]
-fn each_story_of_a_gate_is_told(rt: HostRuntime) {
-    for (name, room, story) in &STORIES {
-        let other = played(&rt, rt.alloc(), *room, story).expect(&rt, "no memory");
-        same!(rt; (*name, other), (*name, None));
-    }
+// The first story in which a row was told otherwise.
+pub(crate) fn first_story<H: Wait + RandomSource + AllocGlobal>(rt: &H) -> io::Result<Other> {
+    let all: [&[GateStory]; 7] = [
+        &wakes::AT_A_GATE,
+        &drops::AT_A_GATE,
+        &pagers::AT_A_GATE,
+        &faults::AT_A_GATE,
+        &values::POLLS_AT_A_GATE,
+        &values::WAITS_AT_A_GATE,
+        &values::AT_A_DECIDED_GATE,
+    ];
+    first_of_all(rt, &all)
 }
 
 // A gate with its tasks, futures and pagers.
@@ -120,11 +98,36 @@ impl<'s, H: Wait + RandomSource + AllocGlobal, R: Wait + Drop> GateDesk<'s, &'s 
         }
     }
 
-    fn wait(&self) -> Told {
-        match block_on(self.rt, self.gate.enter_async()) {
-            Ok(answer) => Passage(Some(answer)),
-            Err(_) => Nothing,
-        }
+    fn ask(&mut self, who: Who) -> Told {
+        self.futures.put(who, self.gate.enter_async())
+    }
+
+    fn register(&mut self, who: Who, is_sync: bool) -> Told {
+        let pager = self.pagers.get(who);
+        Asked(self.gate.register_pager(pager, is_sync))
+    }
+}
+
+// Makes a call that needs no task, future or pager of the story.
+fn at_a_gate<H: Wait + RandomSource + AllocGlobal, R: Wait + Drop>(
+    rt: &H,
+    gate: &Gate<R>,
+    call: GateCall,
+) -> Told {
+    match call {
+        Make(by) => make(gate, by),
+        Await => wait(rt, gate),
+        Enter => Passage(Some(gate.enter_sync())),
+        EnterWith => Passage(Some(gate.enter_sync_with(|| {}))),
+        EnterBy(by) => enter_by(gate, by),
+        _ => Nothing,
+    }
+}
+
+fn wait<H: Wait + RandomSource + AllocGlobal, R: Wait + Drop>(rt: &H, gate: &Gate<R>) -> Told {
+    match block_on(rt, gate.enter_async()) {
+        Ok(answer) => Passage(Some(answer)),
+        Err(_) => Nothing,
     }
 }
 
@@ -134,7 +137,7 @@ fn give_up<R: Wait + Drop>(gate: &Gate<R>) -> Told {
     Asked(gate.register_pager(&mut pager, true))
 }
 
-// Answers all who wait.
+// Answers all waiters.
 fn make<R: Wait + Drop>(gate: &Gate<R>, by: Move) -> Told {
     match by {
         Move::Permit => Moved(gate.permit()),
@@ -145,7 +148,7 @@ fn make<R: Wait + Drop>(gate: &Gate<R>, by: Move) -> Told {
     }
 }
 
-// Enters by a call whose callback answers all who wait.
+// Enters by a call whose callback answers all waiters.
 fn enter_by<R: Wait + Drop>(gate: &Gate<R>, by: Move) -> Told {
     let answer = gate.enter_sync_with(|| {
         let _told = make(gate, by);
@@ -157,31 +160,36 @@ impl<'s, H: Wait + RandomSource + AllocGlobal, R: Wait + Drop> Desk for GateDesk
     type Call = GateCall;
 
     fn answer(&mut self, call: GateCall) -> Told {
-        let gate = self.gate;
         match call {
-            Make(by) => make(gate, by),
-            Ask(who) => self.futures.put(who, gate.enter_async()),
+            Ask(who) => self.ask(who),
             Poll(task, who) => self.poll(task, who),
             LetGo(who) => self.futures.let_go(who),
-            Await => self.wait(),
-            Enter => Passage(Some(gate.enter_sync())),
-            EnterWith => Passage(Some(gate.enter_sync_with(|| {}))),
-            EnterBy(by) => enter_by(gate, by),
-            Register(who, is_sync) => Asked(gate.register_pager(self.pagers.get(who), is_sync)),
+            Register(who, is_sync) => self.register(who, is_sync),
             OfPager(who, call) => self.pagers.answer(self.rt, &self.tasks, who, call),
-            IsWoken(task) => Is(self.tasks.get(task).is_woken()),
+            IsWoken(task) => self.tasks.is_woken(task),
+            _ => at_a_gate(self.rt, self.gate, call),
         }
     }
 }
 
-// Plays a story at a fresh gate with room for so many waiters; the first row that was told otherwise.
-fn played<H: Wait + RandomSource + AllocGlobal>(
-    rt: &H,
-    alloc: Global,
-    room: u16,
-    story: &[(GateCall, Told)],
+impl Story for GateStory {
+    fn name(&self) -> &'static str {
+        self.name
+    }
+
+    fn first_other<H: Wait + RandomSource + AllocGlobal>(
+        &self,
+        rt: &H,
+    ) -> io::Result<Option<usize>> {
+        played(rt, &Gate::new(rt, rt.alloc(), self.room)?, self.rows)
+    }
+}
+
+// Plays a story at a gate.
+fn played<'s, H: Wait + RandomSource + AllocGlobal, R: Wait + Drop>(
+    rt: &'s H,
+    gate: &'s Gate<R>,
+    rows: &[(GateCall, Told)],
 ) -> io::Result<Option<usize>> {
-    let gate = Gate::new(rt, alloc, room)?;
-    let desk = GateDesk::new(rt, &gate)?;
-    Ok(played_at(desk, story))
+    Ok(played_at(GateDesk::new(rt, gate)?, rows))
 }

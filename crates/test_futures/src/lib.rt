@@ -11,6 +11,8 @@ mod callbacks;
 #[cfg(test)]
 mod drops;
 #[cfg(test)]
+mod facts;
+#[cfg(test)]
 mod faults;
 #[cfg(test)]
 mod gate_stories;

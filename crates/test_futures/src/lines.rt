@@ -10,14 +10,13 @@ use std::alloc::AllocGlobal;
 use std::random::RandomSource;
 use std::sync::Wait;
 use std::sync::atomic::{AtomicU64, Ordering};
-use std::thread;
 use std::thread::{Threads, yield_now};
-use test_asserts::{holds, same};
+use std::{io, thread};
 
 // How often the main thread looks whether a call that must wait has returned.
 const TURNS: u32 = 1_000;
 
-// How often a task and a thread take turns.
+// How many rounds tasks and threads make together.
 const ROUNDS: u64 = 200;
 
 // Waits until a count is there.
@@ -94,25 +93,33 @@ fn sleep_behind<R: Wait + Drop>(
     sleep_for_a_permit(semaphore, joined, ended);
 }
 
-#[test]
-fn a_task_between_two_sleepers_is_served_between_them(rt: HostRuntime) {
-    let semaphore = Semaphore::with_permits(&rt, rt.alloc(), 0, 4).expect(&rt, "no memory");
-    let task = MockTask::new(&rt).expect(&rt, "no memory");
+fn all_are_served<H: Wait + Threads + Sync, R: Wait + Drop + Sync>(
+    rt: &H,
+    semaphore: &Semaphore<R>,
+    task: &MockTask,
+) -> bool {
     let (joined, ended) = (AtomicU64::new(0), AtomicU64::new(0));
     let ((), ((), (wrong, is_granted))) = thread::join(
-        &rt,
-        || sleep_for_a_permit(&semaphore, &joined, &ended),
+        rt,
+        || sleep_for_a_permit(semaphore, &joined, &ended),
         || {
             thread::join(
-                &rt,
-                || sleep_behind(&rt, &semaphore, &joined, &ended),
-                || between_two_sleepers(&rt, &semaphore, &task, &joined, &ended),
+                rt,
+                || sleep_behind(rt, semaphore, &joined, &ended),
+                || between_two_sleepers(rt, semaphore, task, &joined, &ended),
             )
         },
     );
-    same!(rt; wrong, 0);
-    holds!(rt; is_granted);
-    same!(rt; semaphore.available_permits(Ordering::SeqCst), 0);
+    wrong == 0 && is_granted && semaphore.available_permits(Ordering::SeqCst) == 0
+}
+
+// A task between two sleepers is served between them.
+pub(crate) fn between<H: Wait + Threads + Sync + AllocGlobal>(
+    rt: &H,
+    task: &MockTask,
+) -> io::Result<bool> {
+    let semaphore = Semaphore::with_permits(rt, rt.alloc(), 0, 4)?;
+    Ok(all_are_served(rt, &semaphore, task))
 }
 
 // Gives one permit once somebody has joined the line.
@@ -126,22 +133,42 @@ fn give_one<R: Wait + Drop>(
     semaphore.release();
 }
 
-#[test]
-fn a_sleeping_executor_is_woken_from_another_thread(rt: HostRuntime) {
-    let semaphore = Semaphore::with_permits(&rt, rt.alloc(), 0, 1).expect(&rt, "no memory");
+// Whether a sleeping executor is granted what another thread gives.
+fn is_given<H: Wait + Threads + Sync + RandomSource + AllocGlobal, R: Wait + Drop + Sync>(
+    rt: &H,
+    semaphore: &Semaphore<R>,
+    joined: &AtomicU64,
+    round: u64,
+) -> bool {
+    let one = semaphore.acquire_async_with(|| {
+        joined.fetch_add(1, Ordering::SeqCst);
+    });
+    let (answer, ()) = thread::join(
+        rt,
+        || block_on(rt, one),
+        || give_one(rt, semaphore, joined, round),
+    );
+    matches!(answer, Ok(Ok(())))
+}
+
+fn each_is_given<H: Wait + Threads + Sync + RandomSource + AllocGlobal, R: Wait + Drop + Sync>(
+    rt: &H,
+    semaphore: &Semaphore<R>,
+) -> bool {
     let joined = AtomicU64::new(0);
     for round in 0..ROUNDS {
-        let one = semaphore.acquire_async_with(|| {
-            joined.fetch_add(1, Ordering::SeqCst);
-        });
-        let (answer, ()) = thread::join(
-            &rt,
-            || block_on(&rt, one),
-            || give_one(&rt, &semaphore, &joined, round.saturating_add(1)),
-        );
-        same!(rt; answer.expect(&rt, "no memory"), Ok(()));
+        if !is_given(rt, semaphore, &joined, round.saturating_add(1)) {
+            return false;
+        }
     }
-    same!(rt; semaphore.available_permits(Ordering::SeqCst), 0);
+    semaphore.available_permits(Ordering::SeqCst) == 0
+}
+
+// A sleeping executor is woken from another thread.
+pub(crate) fn executor<H: Wait + Threads + Sync + RandomSource + AllocGlobal>(
+    rt: &H,
+) -> io::Result<bool> {
+    Ok(each_is_given(rt, &Semaphore::with_permits(rt, rt.alloc(), 0, 1)?))
 }
 
 // Adds 1 to a plain counter so often, each time with the lock; as a task, or in calls that sleep.
@@ -169,30 +196,38 @@ fn add<H: Wait + RandomSource + AllocGlobal, R: Wait + Drop>(
     granted
 }
 
-#[test]
-fn tasks_and_threads_exclude_each_other(rt: HostRuntime) {
-    let lock = Lock::new(&rt, rt.alloc(), 4).expect(&rt, "no memory");
+fn all_add<H: Wait + Threads + Sync + RandomSource + AllocGlobal, R: Wait + Drop + Sync>(
+    rt: &H,
+    lock: &Lock<R>,
+) -> bool {
     let counter = AtomicU64::new(0);
     let ((one, two), (three, four)) = thread::join(
-        &rt,
+        rt,
         || {
             thread::join(
-                &rt,
-                || add(&rt, &lock, &counter, true),
-                || add(&rt, &lock, &counter, false),
+                rt,
+                || add(rt, lock, &counter, true),
+                || add(rt, lock, &counter, false),
             )
         },
         || {
             thread::join(
-                &rt,
-                || add(&rt, &lock, &counter, true),
-                || add(&rt, &lock, &counter, false),
+                rt,
+                || add(rt, lock, &counter, true),
+                || add(rt, lock, &counter, false),
             )
         },
     );
-    same!(rt; [one, two, three, four], [ROUNDS, ROUNDS, ROUNDS, ROUNDS]);
-    same!(rt; counter.load(Ordering::SeqCst), 4 * ROUNDS);
-    holds!(rt; lock.is_free(Ordering::SeqCst));
+    [one, two, three, four] == [ROUNDS, ROUNDS, ROUNDS, ROUNDS]
+        && counter.load(Ordering::SeqCst) == 4 * ROUNDS
+        && lock.is_free(Ordering::SeqCst)
+}
+
+// Tasks and threads exclude each other.
+pub(crate) fn exclusion<H: Wait + Threads + Sync + RandomSource + AllocGlobal>(
+    rt: &H,
+) -> io::Result<bool> {
+    Ok(all_add(rt, &Lock::new(rt, rt.alloc(), 4)?))
 }
 
 // Passes so many rounds of a barrier; how often as their leader.
@@ -215,20 +250,21 @@ fn pass<H: Wait + RandomSource + AllocGlobal, R: Wait + Drop>(
     led
 }
 
-#[test]
-fn tasks_and_threads_meet_at_a_barrier(rt: HostRuntime) {
-    let barrier = Barrier::with_count(&rt, rt.alloc(), 3, 3).expect(&rt, "no memory");
+fn all_pass<H: Wait + Threads + Sync + RandomSource + AllocGlobal, R: Wait + Drop + Sync>(
+    rt: &H,
+    barrier: &Barrier<R>,
+) -> bool {
     let (one, (two, three)) = thread::join(
-        &rt,
-        || pass(&rt, &barrier, true),
-        || {
-            thread::join(
-                &rt,
-                || pass(&rt, &barrier, false),
-                || pass(&rt, &barrier, true),
-            )
-        },
+        rt,
+        || pass(rt, barrier, true),
+        || { thread::join(rt, || pass(rt, barrier, false), || pass(rt, barrier, true)) },
     );
-    same!(rt; one.saturating_add(two).saturating_add(three), ROUNDS);
-    same!(rt; barrier.count(Ordering::SeqCst), 3);
+    one.saturating_add(two).saturating_add(three) == ROUNDS && barrier.count(Ordering::SeqCst) == 3
+}
+
+// Tasks and threads meet at a barrier.
+pub(crate) fn meeting<H: Wait + Threads + Sync + RandomSource + AllocGlobal>(
+    rt: &H,
+) -> io::Result<bool> {
+    Ok(all_pass(rt, &Barrier::with_count(rt, rt.alloc(), 3, 3)?))
 }

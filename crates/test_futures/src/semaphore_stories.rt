@@ -1,17 +1,16 @@
-//! Stories of a semaphore's futures and pagers: its calls, how they are made, and the test that each story is told.
+//! Stories of a semaphore's futures and pagers: its calls, how they are made, and what is made for each story.
 
-use crate::drops::{A_USED_SLOT, ONE_HAS_ENDED, ONE_WAITS, ONE_WAS_GRANTED};
-use crate::faults::OF_A_SEMAPHORE;
-use crate::pagers::{A_PAGERS_USED_SLOT, A_POLL_IS_DROPPED, IN_THE_WRONG_MODE, THE_NEXT_TASK};
-use crate::ready;
 use crate::semaphore_stories::SemaphoreCall::{
-    AskMany, AskOne, AwaitMany, AwaitOne, Enter, HasEndedOne, IsWoken, LetGoMany, LetGoOne,
-    OfPager, Permits, PollMany, PollOne, PollTwice, Register, Release, ReleaseMany, TryAcquireMany,
+    AnswerUntold, AskMany, AskOne, AwaitMany, AwaitOne, Enter, HasEndedOne, IsWoken, LetGoMany,
+    LetGoOne, MakeTwo, OfPager, Permits, PollMany, PollOne, PollOverARelease, PollTwice, Register,
+    Release, ReleaseMany, Rung, TryAcquireMany,
 };
 use crate::stories::Told::{Answer, Asked, Count, Is, Nothing, Permit, Twice};
-use crate::stories::{Desk, Futures, PagerCall, Pagers, Tasks, Told, Who, played_at};
-use crate::values::AT_A_GRANT;
-use crate::wakes::{AFTER_THE_END, NO_WAKE, THE_NEWEST_TASK, WHOM_IT_GRANTS};
+use crate::stories::{
+    Desk, Futures, Other, PagerCall, Pagers, Story, Tasks, Told, Who, first_of_all, played_at,
+};
+use crate::wakers::{answer_untold, places, slots};
+use crate::{drops, faults, pagers, ready, values, wakes};
 use futures::executor::block_on;
 use futures::test::MockTask;
 use saa_sync::future::{ManyPermits, OnePermit};
@@ -22,7 +21,6 @@ use std::io;
 use std::random::RandomSource;
 use std::sync::Wait;
 use std::sync::atomic::Ordering;
-use test_asserts::same;
 
 // A call at a semaphore, a task, a future or a pager. A poll names its task and then the future; those for one permit and those for
 // many are counted apart.
@@ -32,6 +30,10 @@ pub(crate) enum SemaphoreCall {
     TryAcquireMany(usize),
     Release,
     ReleaseMany(usize),
+    // The waiter is answered, and nobody woken.
+    AnswerUntold,
+    // How many seats are rung.
+    Rung,
     AskOne(Who),
     AskMany(Who, usize),
     PollOne(Who, Who),
@@ -39,11 +41,14 @@ pub(crate) enum SemaphoreCall {
     HasEndedOne(Who),
     LetGoOne(Who),
     LetGoMany(Who),
+    // Two futures, one of them with a callback, are made and dropped.
+    MakeTwo,
     // A pager is registered for so many permits, as sync or as async.
     Register(Who, usize, bool),
     OfPager(Who, PagerCall),
-    // A poll of a pager by this task, twice in one future of the pager.
+    // A poll of a pager by this task, twice in one future of the pager; nothing is done between the polls, or a permit is released.
     PollTwice(Who, Who),
+    PollOverARelease(Who, Who),
     // By an executor, until it is answered.
     AwaitOne,
     AwaitMany(usize),
@@ -53,30 +58,27 @@ pub(crate) enum SemaphoreCall {
     Enter(Who),
 }
 
-// Each story of a semaphore, with the permits that are there from the start, where they aren't all, and with its room.
-const STORIES: [(&str, Option<usize>, u16, &[(SemaphoreCall, Told)]); 14] = [
-    ("an answer at once", None, 0, &NO_WAKE),
-    ("whom a release wakes", Some(0), 4, &WHOM_IT_GRANTS),
-    ("the newest task", Some(0), 4, &THE_NEWEST_TASK),
-    ("polls after the end", None, 1, &AFTER_THE_END),
-    ("a drop while it waits", Some(1), 2, &ONE_WAITS),
-    ("a drop of a grant", Some(0), 2, &ONE_WAS_GRANTED),
-    ("a drop after the end", Some(0), 1, &ONE_HAS_ENDED),
-    ("a used slot", Some(0), 1, &A_USED_SLOT),
-    ("the wrong mode", Some(0), 1, &IN_THE_WRONG_MODE),
-    ("a dropped poll", Some(0), 1, &A_POLL_IS_DROPPED),
-    ("a cancelled pager", Some(1), 2, &THE_NEXT_TASK),
-    ("a pager's used slot", Some(0), 1, &A_PAGERS_USED_SLOT),
-    ("each error", Some(0), 2, &OF_A_SEMAPHORE),
-    ("a grant by each poll", Some(0), 6, &AT_A_GRANT),
-];
+// What happens at a new semaphore.
+pub(crate) struct SemaphoreStory {
+    pub(crate) name: &'static str,
+    // The permits that are there from the start, where they aren't all.
+    pub(crate) permits: Option<usize>,
+    pub(crate) room: u16,
+    pub(crate) rows: &'static [(SemaphoreCall, Told)],
+}
 
-#[test]
-fn each_story_of_a_semaphore_is_told(rt: HostRuntime) {
-    for (name, permits, room, story) in &STORIES {
-        let other = played(&rt, rt.alloc(), (*permits, *room), story).expect(&rt, "no memory");
-        same!(rt; (*name, other), (*name, None));
-    }
+// The first story in which a row was told otherwise.
+pub(crate) fn first_story<H: Wait + RandomSource + AllocGlobal>(rt: &H) -> io::Result<Other> {
+    let all: [&[SemaphoreStory]; 7] = [
+        &wakes::AT_A_SEMAPHORE,
+        &drops::AT_A_SEMAPHORE,
+        &pagers::AT_A_SEMAPHORE,
+        &faults::AT_A_SEMAPHORE,
+        &values::AT_A_SEMAPHORE,
+        &places::AT_A_SEMAPHORE,
+        &slots::AT_A_SEMAPHORE,
+    ];
+    first_of_all(rt, &all)
 }
 
 // A semaphore with all that a story needs beside it.
@@ -116,17 +118,31 @@ impl<'s, H: Wait + RandomSource + AllocGlobal, R: Wait + Drop> SemaphoreDesk<'s,
         }
     }
 
-    fn await_one(&self) -> Told {
-        match block_on(self.rt, self.semaphore.acquire_async()) {
-            Ok(answer) => Permit(Some(answer)),
-            Err(_) => Nothing,
-        }
+    fn ask_one(&mut self, who: Who) -> Told {
+        self.ones.put(who, self.semaphore.acquire_async())
     }
 
-    fn await_many(&self, count: usize) -> Told {
-        match block_on(self.rt, self.semaphore.acquire_many_async(count)) {
-            Ok(answer) => Answer(Some(answer)),
-            Err(_) => Nothing,
+    fn ask_many(&mut self, who: Who, count: usize) -> Told {
+        self.many.put(who, self.semaphore.acquire_many_async(count))
+    }
+
+    fn register(&mut self, who: Who, count: usize, is_sync: bool) -> Told {
+        let pager = self.pagers.get(who);
+        Asked(self.semaphore.register_pager(pager, count, is_sync))
+    }
+
+    // Makes a call that is no future's.
+    fn answer_apart(&mut self, call: SemaphoreCall) -> Told {
+        match call {
+            Register(who, count, is_sync) => self.register(who, count, is_sync),
+            OfPager(who, call) => self.pagers.answer(self.rt, &self.tasks, who, call),
+            PollTwice(task, who) => polled_twice(self.tasks.get(task), self.pagers.get(who)),
+            PollOverARelease(task, who) => {
+                polled_over_a_release(self.semaphore, self.tasks.get(task), self.pagers.get(who))
+            }
+            IsWoken(task) => self.tasks.is_woken(task),
+            Enter(task) => self.tasks.entered(task),
+            _ => at_a_semaphore(self.rt, self.semaphore, call),
         }
     }
 }
@@ -136,29 +152,57 @@ impl<'s, H: Wait + RandomSource + AllocGlobal, R: Wait + Drop> Desk
     type Call = SemaphoreCall;
 
     fn answer(&mut self, call: SemaphoreCall) -> Told {
-        let semaphore = self.semaphore;
         match call {
-            Permits => Count(semaphore.available_permits(Ordering::SeqCst)),
-            TryAcquireMany(count) => Is(semaphore.try_acquire_many(count)),
-            Release => Is(semaphore.release()),
-            ReleaseMany(count) => Is(semaphore.release_many(count)),
-            AskOne(who) => self.ones.put(who, semaphore.acquire_async()),
-            AskMany(who, count) => self.many.put(who, semaphore.acquire_many_async(count)),
+            AskOne(who) => self.ask_one(who),
+            AskMany(who, count) => self.ask_many(who, count),
             PollOne(task, who) => self.poll_one(task, who),
             PollMany(task, who) => self.poll_many(task, who),
             HasEndedOne(who) => self.ones.has_ended(who),
             LetGoOne(who) => self.ones.let_go(who),
             LetGoMany(who) => self.many.let_go(who),
-            Register(who, count, is_sync) => {
-                Asked(semaphore.register_pager(self.pagers.get(who), count, is_sync))
-            }
-            OfPager(who, call) => self.pagers.answer(self.rt, &self.tasks, who, call),
-            PollTwice(task, who) => polled_twice(self.tasks.get(task), self.pagers.get(who)),
-            AwaitOne => self.await_one(),
-            AwaitMany(count) => self.await_many(count),
-            IsWoken(task) => Is(self.tasks.get(task).is_woken()),
-            Enter(task) => self.tasks.entered(task),
+            _ => self.answer_apart(call),
         }
+    }
+}
+
+// Makes a call that needs no task, future or pager of the story.
+fn at_a_semaphore<H: Wait + RandomSource + AllocGlobal, R: Wait + Drop>(
+    rt: &H,
+    semaphore: &Semaphore<R>,
+    call: SemaphoreCall,
+) -> Told {
+    match call {
+        Permits => Count(semaphore.available_permits(Ordering::SeqCst)),
+        TryAcquireMany(count) => Is(semaphore.try_acquire_many(count)),
+        Release => Is(semaphore.release()),
+        ReleaseMany(count) => Is(semaphore.release_many(count)),
+        AnswerUntold => Is(answer_untold(semaphore)),
+        Rung => Count(semaphore.shell().rung()),
+        MakeTwo => make_two(semaphore),
+        AwaitOne => await_one(rt, semaphore),
+        AwaitMany(count) => await_many(rt, semaphore, count),
+        _ => Nothing,
+    }
+}
+
+fn await_one<H: Wait + RandomSource + AllocGlobal, R: Wait + Drop>(
+    rt: &H,
+    semaphore: &Semaphore<R>,
+) -> Told {
+    match block_on(rt, semaphore.acquire_async()) {
+        Ok(answer) => Permit(Some(answer)),
+        Err(_) => Nothing,
+    }
+}
+
+fn await_many<H: Wait + RandomSource + AllocGlobal, R: Wait + Drop>(
+    rt: &H,
+    semaphore: &Semaphore<R>,
+    count: usize,
+) -> Told {
+    match block_on(rt, semaphore.acquire_many_async(count)) {
+        Ok(answer) => Answer(Some(answer)),
+        Err(_) => Nothing,
     }
 }
 
@@ -168,6 +212,30 @@ fn polled_twice<R: Wait + Drop>(task: &MockTask, pager: &mut Pager<'_, Semaphore
     let first = (ready(task.poll(&mut poll)), task.is_woken());
     let second = (ready(task.poll(&mut poll)), task.is_woken());
     Twice(first, second)
+}
+
+// One future of a pager is polled before and after a release: what it gave, whether the task was woken by the release, what it gave
+// then, and whether there was something to release.
+fn polled_over_a_release<R: Wait + Drop>(
+    semaphore: &Semaphore<R>,
+    task: &MockTask,
+    pager: &mut Pager<'_, Semaphore<R>>,
+) -> Told {
+    let mut poll = pager.poll_async();
+    let early = ready(task.poll(&mut poll));
+    let is_released = semaphore.release();
+    let is_woken = task.is_woken();
+    Twice(
+        (early, is_woken),
+        (ready(task.poll(&mut poll)), is_released),
+    )
+}
+
+// Makes two futures that are never polled.
+fn make_two<R: Wait + Drop>(semaphore: &Semaphore<R>) -> Told {
+    drop(semaphore.acquire_many_async(5));
+    drop(semaphore.acquire_async_with(|| {}));
+    Nothing
 }
 
 // A semaphore of so many permits, or of as many as there can be, with room for so many waiters.
@@ -183,14 +251,25 @@ fn made<R: Wait + Drop>(
     }
 }
 
-// Plays a story at a fresh semaphore; the first row that was told otherwise.
-fn played<H: Wait + RandomSource + AllocGlobal>(
-    rt: &H,
-    alloc: Global,
-    (permits, room): (Option<usize>, u16),
-    story: &[(SemaphoreCall, Told)],
+impl Story for SemaphoreStory {
+    fn name(&self) -> &'static str {
+        self.name
+    }
+
+    fn first_other<H: Wait + RandomSource + AllocGlobal>(
+        &self,
+        rt: &H,
+    ) -> io::Result<Option<usize>> {
+        let semaphore = made(rt, rt.alloc(), self.permits, self.room)?;
+        played(rt, &semaphore, self.rows)
+    }
+}
+
+// Plays a story at a semaphore.
+fn played<'s, H: Wait + RandomSource + AllocGlobal, R: Wait + Drop>(
+    rt: &'s H,
+    semaphore: &'s Semaphore<R>,
+    rows: &[(SemaphoreCall, Told)],
 ) -> io::Result<Option<usize>> {
-    let semaphore = made(rt, alloc, permits, room)?;
-    let desk = SemaphoreDesk::new(rt, &semaphore)?;
-    Ok(played_at(desk, story))
+    Ok(played_at(SemaphoreDesk::new(rt, semaphore)?, rows))
 }

@@ -2,7 +2,7 @@
 //!
 //! A call that stands in a test's text is proved there anew; one that stands in a row of a table is data, and costs no proof.
 
-use crate::ready;
+use crate::{barrier_stories, gate_stories, lent, lock_stories, ready, semaphore_stories};
 use futures::executor::block_on;
 use futures::test::MockTask;
 use saa_core::ticket::{Error, Full, How};
@@ -17,6 +17,7 @@ use std::alloc::AllocGlobal;
 use std::io;
 use std::random::RandomSource;
 use std::sync::Wait;
+use test_asserts::same;
 
 // What a poll gave, if it was ready.
 pub(crate) type Polled<T> = Option<Result<T, Full>>;
@@ -37,7 +38,7 @@ pub(crate) enum Told {
     Tried(Result<(), TryLockError>),
     // A poll that asks for one permit.
     Permit(Polled<()>),
-    // A poll or a call that asks for many permits or for a turn at a lock, or arrives at a barrier.
+    // A poll or a call that asks for many permits or for a lock, or arrives at a barrier.
     Answer(Polled<bool>),
     // How many a gate let pass or refused.
     Moved(Result<usize, State>),
@@ -47,7 +48,7 @@ pub(crate) enum Told {
     Passage(Polled<Result<State, GateError>>),
     // A poll on a core that asks for one permit; one of a future that has ended tells `None`.
     PermitOn(Option<Progress<()>>),
-    // A poll on a core that asks for many permits or for a turn at a lock, or arrives at a barrier.
+    // A poll on a core that asks for many permits or for a lock, or arrives at a barrier.
     AnswerOn(Option<Progress<bool>>),
     // A poll on a core that enters a gate.
     PassageOn(Option<Progress<Result<State, GateError>>>),
@@ -96,6 +97,11 @@ impl Tasks {
             Who::Second => &self.second,
             Who::Third | Who::Fourth => &self.third,
         }
+    }
+
+    // Whether this task was woken since its last poll.
+    pub(crate) fn is_woken(&self, who: Who) -> Told {
+        Told::Is(self.get(who).is_woken())
     }
 
     // One poll of this task that polls no future.
@@ -334,4 +340,96 @@ fn first_other<D: Desk>(desk: &mut D, story: &[(D::Call, Told)]) -> Option<usize
         }
     }
     None
+}
+
+// A story, with what a form is made with for it.
+pub(crate) trait Story {
+    fn name(&self) -> &'static str;
+
+    // Plays it at a new form; the first row that was told otherwise.
+    fn first_other<H: Wait + RandomSource + AllocGlobal>(
+        &self,
+        rt: &H,
+    ) -> io::Result<Option<usize>>;
+}
+
+// The first of these stories in which a row was told otherwise, and that row.
+pub(crate) type Other = Option<(&'static str, usize)>;
+
+fn first_story<H: Wait + RandomSource + AllocGlobal, S: Story>(
+    rt: &H,
+    stories: &[S],
+) -> io::Result<Other> {
+    for story in stories {
+        if let Some(row) = story.first_other(rt)? {
+            return Ok(Some((story.name(), row)));
+        }
+    }
+    Ok(None)
+}
+
+// The same of all stories of a form.
+pub(crate) fn first_of_all<H: Wait + RandomSource + AllocGlobal, S: Story>(
+    rt: &H,
+    all: &[&[S]],
+) -> io::Result<Other> {
+    for stories in all {
+        let first = first_story(rt, stories)?;
+        if first.is_some() {
+            return Ok(first);
+        }
+    }
+    Ok(None)
+}
+
+// Stories of a form, at which futures are polled in tasks, or on a core that a test locks itself.
+#[derive(Clone, Copy)]
+enum Kind {
+    Semaphore,
+    Lock,
+    Gate,
+    Barrier,
+    SemaphoreCore,
+    LockCore,
+    GateCore,
+    BarrierCore,
+}
+
+static KINDS: [Kind; 8] = [
+    Kind::Semaphore,
+    Kind::Lock,
+    Kind::Gate,
+    Kind::Barrier,
+    Kind::SemaphoreCore,
+    Kind::LockCore,
+    Kind::GateCore,
+    Kind::BarrierCore,
+];
+
+fn first_of_kind<H: Wait + RandomSource + AllocGlobal>(rt: &H, kind: Kind) -> io::Result<Other> {
+    match kind {
+        Kind::Semaphore => semaphore_stories::first_story(rt),
+        Kind::Lock => lock_stories::first_story(rt),
+        Kind::Gate => gate_stories::first_story(rt),
+        Kind::Barrier => barrier_stories::first_story(rt),
+        Kind::SemaphoreCore => first_story(rt, &lent::SEMAPHORE_STORIES),
+        Kind::LockCore => first_story(rt, &lent::LOCK_STORIES),
+        Kind::GateCore => first_story(rt, &lent::GATE_STORIES),
+        Kind::BarrierCore => first_story(rt, &lent::BARRIER_STORIES),
+    }
+}
+
+fn first_of_each_kind<H: Wait + RandomSource + AllocGlobal>(rt: &H) -> io::Result<Other> {
+    for kind in &KINDS {
+        let first = first_of_kind(rt, *kind)?;
+        if first.is_some() {
+            return Ok(first);
+        }
+    }
+    Ok(None)
+}
+
+#[test]
+fn each_story_is_told(rt: HostRuntime) {
+    same!(rt; first_of_each_kind(&rt).ok(), Some(None));
 }

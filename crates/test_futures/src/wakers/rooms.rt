@@ -1,13 +1,13 @@
 //! Every room is filled to its last slot and one more: each slot has a place for a task's waker and a seat of its own, and
-//! who comes then is told that the room is full.
+//! a waiter that comes then is told that the room is full.
 
-use crate::wakers::ready;
+use crate::ready;
 use futures::test::MockTask;
 use saa_core::ticket::Full;
 use saa_sync::barrier::Barrier;
 use saa_sync::future::AcquireMany;
 use saa_sync::gate::Gate;
-use saa_sync::lock::{Lock, Mode, TryLockError};
+use saa_sync::lock::{Lock, Mode};
 use saa_sync::pager::{Pager, SyncResult};
 use saa_sync::semaphore::Semaphore;
 use std::alloc::{AllocError, AllocGlobal, Global};
@@ -16,7 +16,81 @@ use std::random::RandomSource;
 use std::sync::Wait;
 use test_asserts::same;
 
-const ROOMS: [u16; 5] = [1, 20, 32, 300, u16::MAX];
+// What has a room that is filled.
+#[derive(Clone, Copy)]
+enum Filled {
+    SemaphoreWithout,
+    SemaphoreTaken,
+    Lock,
+    Gate,
+    Barrier,
+    Wakers,
+}
+
+// Each with the sizes of its rooms.
+static ALL: [(&str, Filled, &[u16]); 6] = [
+    (
+        "a semaphore of no permit",
+        Filled::SemaphoreWithout,
+        &[1, 20, 32, 300, u16::MAX],
+    ),
+    (
+        "a semaphore whose permits are taken",
+        Filled::SemaphoreTaken,
+        &[1, 20, 32, 300, u16::MAX],
+    ),
+    ("a lock", Filled::Lock, &[1, 20, 32, 300, u16::MAX]),
+    ("a gate", Filled::Gate, &[1, 20, 32, 300, u16::MAX]),
+    ("a barrier", Filled::Barrier, &[1, 20, 32, 300, u16::MAX]),
+    ("places of wakers", Filled::Wakers, &[1, 20, 32, 300]),
+];
+
+// Fills a room; whether all is as it must be.
+fn is_right<H: Wait + RandomSource + AllocGlobal>(
+    rt: &H,
+    filled: Filled,
+    room: u16,
+) -> io::Result<bool> {
+    match filled {
+        Filled::SemaphoreWithout => fill_without(rt, room),
+        Filled::SemaphoreTaken => fill_taken(rt, room),
+        Filled::Lock => fill_lock(rt, room),
+        Filled::Gate => fill_gate(rt, room),
+        Filled::Barrier => fill_barrier(rt, room),
+        Filled::Wakers => wake_all(rt, room),
+    }
+}
+
+// The first of these rooms that isn't as it must be.
+fn first_room<H: Wait + RandomSource + AllocGlobal>(
+    rt: &H,
+    filled: Filled,
+    rooms: &[u16],
+) -> io::Result<Option<u16>> {
+    for room in rooms {
+        if !is_right(rt, filled, *room)? {
+            return Ok(Some(*room));
+        }
+    }
+    Ok(None)
+}
+
+// The same of all, with its name.
+fn first_of_all<H: Wait + RandomSource + AllocGlobal>(
+    rt: &H,
+) -> io::Result<Option<(&'static str, u16)>> {
+    for (name, filled, rooms) in &ALL {
+        if let Some(room) = first_room(rt, *filled, rooms)? {
+            return Ok(Some((*name, room)));
+        }
+    }
+    Ok(None)
+}
+
+#[test]
+fn every_room_is_filled(rt: HostRuntime) {
+    same!(rt; first_of_all(&rt).ok(), Some(None));
+}
 
 // A form whose room can be filled.
 trait Roomy: SyncResult {
@@ -26,7 +100,7 @@ trait Roomy: SyncResult {
     // Answers the pager of this number, where that is done for each alone.
     fn answer_one(&self);
 
-    // Answers all that wait, where that is done for all together.
+    // Answers all waiters, where that is done for all together.
     fn answer_all(&self);
 
     // How many seats are rung.
@@ -100,28 +174,6 @@ impl<R: Wait + Drop> Roomy for Barrier<R> {
     }
 }
 
-// How many waited, each with a place for its task's waker; whether one more was refused; how many seats were rung; and how
-// many had their answer.
-#[derive(Clone, Copy, Debug, Eq, PartialEq)]
-struct Filled {
-    waited: u16,
-    is_full: bool,
-    rung: usize,
-    answered: u16,
-}
-
-impl Filled {
-    // As many as there is room.
-    fn whole(room: u16) -> Filled {
-        Filled {
-            waited: room,
-            is_full: true,
-            rung: usize::from(room),
-            answered: room,
-        }
-    }
-}
-
 // Registers a pager and polls it as a task; whether it waits then, and the task isn't woken.
 fn join_one<'s, F: Roomy>(
     task: &MockTask,
@@ -167,106 +219,70 @@ fn answered<F: Roomy>(task: &MockTask, pagers: &mut [Pager<'_, F>]) -> u16 {
     answered
 }
 
-// Fills the room of a form, and answers all.
+// Fills the room of a form, and answers all; whether as many waited as there is room, each with a place for its task's waker, one
+// more was refused, as many seats were rung, and as many had their answer.
 fn fill_with<F: Roomy>(
     alloc: Global,
     task: &MockTask,
     form: &F,
     room: u16,
-) -> Result<Filled, AllocError> {
+) -> Result<bool, AllocError> {
     let mut pagers = Vec::with_capacity(alloc, usize::from(room))?;
     let waited = join_all(task, form, &mut pagers, room)?;
     let is_full = is_full(form, room);
     form.answer_all();
     let rung = form.rung();
-    Ok(Filled {
-        waited,
-        is_full,
-        rung,
-        answered: answered(task, &mut pagers),
-    })
+    let answered = answered(task, &mut pagers);
+    Ok((waited, is_full, rung, answered) == (room, true, usize::from(room), room))
 }
 
 // The same with a task.
-fn fill<H: RandomSource + AllocGlobal, F: Roomy>(
-    rt: &H,
-    form: &F,
-    room: u16,
-) -> io::Result<Filled> {
+fn fill<H: RandomSource + AllocGlobal, F: Roomy>(rt: &H, form: &F, room: u16) -> io::Result<bool> {
     let task = MockTask::new(rt)?;
     Ok(fill_with(rt.alloc(), &task, form, room)?)
 }
 
 // Fills the room of a semaphore of no permit.
-fn fill_without<H: Wait + RandomSource + AllocGlobal>(rt: &H, room: u16) -> io::Result<Filled> {
-    let semaphore = Semaphore::with_permits(rt, rt.alloc(), 0, room)?;
-    fill(rt, &semaphore, room)
+fn fill_without<H: Wait + RandomSource + AllocGlobal>(rt: &H, room: u16) -> io::Result<bool> {
+    fill(rt, &Semaphore::with_permits(rt, rt.alloc(), 0, room)?, room)
 }
 
-// Fills the room of a semaphore whose permits are all taken; whether they were.
-fn fill_taken<H: Wait + RandomSource + AllocGlobal>(
+// Fills the room of a semaphore whose permits are all taken.
+fn take_all<H: RandomSource + AllocGlobal, R: Wait + Drop>(
     rt: &H,
+    semaphore: &Semaphore<R>,
     room: u16,
-) -> io::Result<(bool, Filled)> {
-    let semaphore = Semaphore::new(rt, rt.alloc(), room)?;
+) -> io::Result<bool> {
     let is_taken = semaphore.try_acquire_many(63);
-    Ok((is_taken, fill(rt, &semaphore, room)?))
+    Ok(fill(rt, semaphore, room)? && is_taken)
 }
 
-#[test]
-fn every_room_of_a_semaphore_is_filled(rt: HostRuntime) -> io::Result<()> {
-    for room in ROOMS {
-        let told = (fill_without(&rt, room)?, fill_taken(&rt, room)?);
-        let whole = Filled::whole(room);
-        same!(rt; told, (whole, (true, whole)));
-    }
-    Ok(())
+fn fill_taken<H: Wait + RandomSource + AllocGlobal>(rt: &H, room: u16) -> io::Result<bool> {
+    take_all(rt, &Semaphore::new(rt, rt.alloc(), room)?, room)
 }
 
-// Fills the room of a lock that is taken; what taking it told.
-fn fill_lock<H: Wait + RandomSource + AllocGlobal>(
+// Fills the room of a lock that is taken.
+fn take<H: RandomSource + AllocGlobal, R: Wait + Drop>(
     rt: &H,
+    lock: &Lock<R>,
     room: u16,
-) -> io::Result<(Result<(), TryLockError>, Filled)> {
-    let lock = Lock::new(rt, rt.alloc(), room)?;
+) -> io::Result<bool> {
     let taken = lock.try_lock();
-    Ok((taken, fill(rt, &lock, room)?))
+    Ok(fill(rt, lock, room)? && taken == Ok(()))
 }
 
-#[test]
-fn every_room_of_a_lock_is_filled(rt: HostRuntime) -> io::Result<()> {
-    for room in ROOMS {
-        same!(rt; fill_lock(&rt, room)?, (Ok(()), Filled::whole(room)));
-    }
-    Ok(())
+fn fill_lock<H: Wait + RandomSource + AllocGlobal>(rt: &H, room: u16) -> io::Result<bool> {
+    take(rt, &Lock::new(rt, rt.alloc(), room)?, room)
 }
 
 // Fills the room of a gate.
-fn fill_gate<H: Wait + RandomSource + AllocGlobal>(rt: &H, room: u16) -> io::Result<Filled> {
-    let gate = Gate::new(rt, rt.alloc(), room)?;
-    fill(rt, &gate, room)
-}
-
-#[test]
-fn every_room_of_a_gate_is_filled(rt: HostRuntime) -> io::Result<()> {
-    for room in ROOMS {
-        same!(rt; fill_gate(&rt, room)?, Filled::whole(room));
-    }
-    Ok(())
+fn fill_gate<H: Wait + RandomSource + AllocGlobal>(rt: &H, room: u16) -> io::Result<bool> {
+    fill(rt, &Gate::new(rt, rt.alloc(), room)?, room)
 }
 
 // Fills the room of a barrier of two.
-fn fill_barrier<H: Wait + RandomSource + AllocGlobal>(rt: &H, room: u16) -> io::Result<Filled> {
-    let barrier = Barrier::with_count(rt, rt.alloc(), 2, room)?;
-    fill(rt, &barrier, room)
-}
-
-#[test]
-fn every_room_of_a_barrier_is_filled(rt: HostRuntime) -> io::Result<()> {
-    for room in ROOMS {
-        same!(rt; fill_barrier(&rt, room)?, Filled::whole(room));
-    }
-    Ok(())
+fn fill_barrier<H: Wait + RandomSource + AllocGlobal>(rt: &H, room: u16) -> io::Result<bool> {
+    fill(rt, &Barrier::with_count(rt, rt.alloc(), 2, room)?, room)
 }
 
 // A future, and the task that polls it.
@@ -309,26 +325,22 @@ fn woken<R: Wait + Drop>(askers: &[Asker<'_, R>]) -> usize {
     askers.iter().filter(|asker| asker.task.is_woken()).count()
 }
 
-// How many wait in a room of this size, how many tasks are woken then, whether a permit is released, and how many are woken by that.
-fn wake_all<H: Wait + RandomSource + AllocGlobal>(
+// As many wait as there is room, none of their tasks is woken, a permit is released, and each is woken by that.
+fn wake_at<H: RandomSource + AllocGlobal, R: Wait + Drop>(
     rt: &H,
-    alloc: Global,
+    semaphore: &Semaphore<R>,
     room: u16,
-) -> io::Result<(u16, usize, bool, usize)> {
-    let semaphore = Semaphore::with_permits(rt, alloc, 0, room)?;
-    let mut askers = Vec::with_capacity(alloc, usize::from(room))?;
-    let waiting = ask_all(rt, &semaphore, &mut askers, room)?;
+) -> io::Result<bool> {
+    let mut askers = Vec::with_capacity(rt.alloc(), usize::from(room))?;
+    let waiting = ask_all(rt, semaphore, &mut askers, room)?;
     let early = woken(&askers);
     let is_released = semaphore.release();
-    Ok((waiting, early, is_released, woken(&askers)))
+    let late = woken(&askers);
+    Ok((waiting, early, is_released, late) == (room, 0, true, usize::from(room)))
 }
 
 // Each slot has the waker of its own task: of as many tasks as there are slots, each is woken once all are answered, and none
 // before.
-#[test]
-fn every_place_of_a_room_wakes_its_own_task(rt: HostRuntime) -> io::Result<()> {
-    for room in [1, 20, 32, 300u16] {
-        same!(rt; wake_all(&rt, rt.alloc(), room)?, (room, 0, true, usize::from(room)));
-    }
-    Ok(())
+fn wake_all<H: Wait + RandomSource + AllocGlobal>(rt: &H, room: u16) -> io::Result<bool> {
+    wake_at(rt, &Semaphore::with_permits(rt, rt.alloc(), 0, room)?, room)
 }

@@ -1,18 +1,12 @@
-//! What becomes of a waker: it goes out with the lock free, a slot has none once its answer is taken, and who joins next at a
-//! slot finds its seat ready.
+//! Wakers go out with the lock free: a wake lasts until another thread has taken the lock many times.
 
-use crate::wakers::stories::Call::{
-    AnswerUntold, Ask, Enter, IsWoken, LetGo, Poll, PollPager, Register, Release, Rung,
-};
-use crate::wakers::stories::Told::{Asked, Count, Granted, Is, Nothing, Permit};
-use crate::wakers::stories::Who::{First, Second};
-use crate::wakers::stories::{Call, Told, played};
-use crate::wakers::{answer_untold, ready};
+use crate::ready;
+use crate::stories::Told;
+use crate::stories::Told::{Granted, Is, Nothing, Permit};
+use crate::wakers::answer_untold;
 use futures::Future;
 use futures::task::{Doorbell, Poll as Polled, Solo};
 use futures::test::MockTask;
-use saa_core::ticket::Full;
-use saa_sync::barrier::Barrier;
 use saa_sync::future::Acquire;
 use saa_sync::pager::Pager;
 use saa_sync::semaphore::Semaphore;
@@ -25,12 +19,11 @@ use std::sync::Wait;
 use std::sync::atomic::{AtomicBool, Ordering};
 use std::thread::{Threads, yield_now};
 use std::{io, thread};
-use test_asserts::same;
 
 // As many bytes as a pipe takes before a write waits.
 const PIPE: usize = 65_536;
 
-// How often who reads takes the lock before it reads.
+// How often the lock is taken before somebody reads.
 const TURNS: u32 = 2_000;
 
 // A task whose wake writes to a pipe, and both ends of that.
@@ -166,97 +159,59 @@ fn bring_beside<'s, H: Threads + Wait + RandomSource + AllocGlobal + Sync, R: Wa
     )
 }
 
-// Whether the waiter was answered first where that is wanted, and what was told of bringing a waker out; `None` if its task didn't
-// sleep.
-type Brought = Option<(bool, (Told, bool))>;
-
-// What is told where all goes well, of a cause that tells this.
-fn brought(told: Told) -> Brought {
-    Some((true, (told, true)))
-}
-
-// Brings the waker of a slow task out while that sleeps.
+// Brings the waker of a slow task out while that sleeps; whether it slept, the waiter was answered first where that is wanted, this was
+// told, and the other thread has read.
 fn bring_out<'s, H: Threads + Wait + RandomSource + AllocGlobal + Sync, R: Wait + Drop + Sync>(
     rt: &H,
     semaphore: &'s Semaphore<R>,
     slow: &mut Slow,
     cause: Cause<'s, R>,
-) -> io::Result<Brought> {
-    slow.fill()?;
+    wanted: Told,
+) -> bool {
+    if slow.fill().is_err() {
+        return false;
+    }
     let Some(asleep) = slow.task.sleep() else {
-        return Ok(None);
+        return false;
     };
     let is_answered = !cause.is_answered() || answer_untold(semaphore);
-    let told = bring_beside(rt, semaphore, &slow.reader, cause);
+    let (told, has_read) = bring_beside(rt, semaphore, &slow.reader, cause);
     asleep.end();
-    Ok(Some((is_answered, told)))
+    is_answered && told == wanted && has_read
 }
 
-// A future waits that a release answers: whether it is ready before and after that, and what is told.
-fn release_one<H: Threads + Wait + RandomSource + AllocGlobal + Sync, R: Wait + Drop + Sync>(
+// A future waits, and is answered by a release of one permit, or of so many.
+fn release_to<H: Threads + Wait + RandomSource + AllocGlobal + Sync, R: Wait + Drop + Sync>(
     rt: &H,
     semaphore: &Semaphore<R>,
     slow: &mut Slow,
-) -> io::Result<(bool, Brought, bool)> {
+    many: Option<usize>,
+) -> bool {
     let mut one = semaphore.acquire_async();
     let is_early = slow.poll(&mut one);
-    let brought = bring_out(rt, semaphore, slow, Cause::Release)?;
-    Ok((is_early, brought, slow.poll(&mut one)))
+    let cause = match many {
+        Some(count) => Cause::ReleaseMany(count),
+        None => Cause::Release,
+    };
+    let is_brought = bring_out(rt, semaphore, slow, cause, Is(true));
+    let is_late = slow.poll(&mut one);
+    !is_early && is_brought && is_late
 }
 
-// The same with all that it needs.
-fn released_one<H: Files + Threads + Wait + RandomSource + AllocGlobal + Sync>(
-    rt: &H,
-) -> io::Result<(bool, Brought, bool)> {
-    let semaphore = Semaphore::with_permits(rt, rt.alloc(), 0, 1)?;
-    release_one(rt, &semaphore, &mut Slow::new(rt)?)
-}
-
-// The wake of a release lasts until somebody reads from the pipe, and who reads takes the lock first.
-#[test]
-fn a_release_wakes_with_the_lock_free(rt: HostRuntime) -> io::Result<()> {
-    same!(rt; released_one(&rt)?, (false, brought(Is(true)), true));
-    Ok(())
-}
-
-// What the quick task is told before a release of two permits, whether it is woken by that, and what it is told then.
-type Quick = (Option<Result<(), Full>>, bool, Option<Result<(), Full>>);
-
-// The same as of one of a slow task behind a quick one.
+// The same of a slow task behind a quick one, which is woken by the same release.
 fn release_two<H: Threads + Wait + RandomSource + AllocGlobal + Sync, R: Wait + Drop + Sync>(
     rt: &H,
     semaphore: &Semaphore<R>,
     slow: &mut Slow,
     quick: &MockTask,
-) -> io::Result<(Quick, (bool, Brought, bool))> {
+) -> bool {
     let mut one = semaphore.acquire_async();
-    let mut two = semaphore.acquire_async();
     let early = ready(quick.poll(&mut one));
-    let is_early = slow.poll(&mut two);
-    let brought = bring_out(rt, semaphore, slow, Cause::ReleaseMany(2))?;
-    let first = (early, quick.is_woken(), ready(quick.poll(&mut one)));
-    Ok((first, (is_early, brought, slow.poll(&mut two))))
+    let is_behind = release_to(rt, semaphore, slow, Some(2));
+    let is_woken = quick.is_woken();
+    let late = ready(quick.poll(&mut one));
+    [early, late] == [None, Some(Ok(()))] && is_woken && is_behind
 }
-
-// The same with all that it needs.
-fn released_two<H: Files + Threads + Wait + RandomSource + AllocGlobal + Sync>(
-    rt: &H,
-) -> io::Result<(Quick, (bool, Brought, bool))> {
-    let semaphore = Semaphore::with_permits(rt, rt.alloc(), 0, 2)?;
-    let quick = MockTask::new(rt)?;
-    release_two(rt, &semaphore, &mut Slow::new(rt)?, &quick)
-}
-
-// So does the wake of the second whom a call answers, whose waker was taken out together with that of the first.
-#[test]
-fn a_release_wakes_the_second_with_the_lock_free(rt: HostRuntime) -> io::Result<()> {
-    let quick = (None, true, Some(Ok(())));
-    same!(rt; released_two(&rt)?, (quick, (false, brought(Is(true)), true)));
-    Ok(())
-}
-
-// Whether one joined the line, whether it was ready too soon, and what was told of bringing its waker out.
-type Left = (bool, bool, Brought);
 
 // A future waits, and is dropped, or another task takes its answer. It joins by its first poll.
 fn leave_by_future<H: Threads + Wait + RandomSource + AllocGlobal + Sync, R: Wait + Drop + Sync>(
@@ -264,15 +219,16 @@ fn leave_by_future<H: Threads + Wait + RandomSource + AllocGlobal + Sync, R: Wai
     semaphore: &Semaphore<R>,
     slow: &mut Slow,
     is_taken: bool,
-) -> io::Result<Left> {
+) -> bool {
     let mut one = semaphore.acquire_async();
     let is_early = slow.poll(&mut one);
-    let cause = if is_taken {
-        Cause::Take(one)
+    let (cause, told) = if is_taken {
+        (Cause::Take(one), Permit(Some(Ok(()))))
     } else {
-        Cause::LetGo(one)
+        (Cause::LetGo(one), Nothing)
     };
-    Ok((true, is_early, bring_out(rt, semaphore, slow, cause)?))
+    let is_brought = bring_out(rt, semaphore, slow, cause, told);
+    !is_early && is_brought
 }
 
 // A pager waits, and is cancelled, or another task takes its answer.
@@ -281,161 +237,59 @@ fn leave_by_pager<H: Threads + Wait + RandomSource + AllocGlobal + Sync, R: Wait
     semaphore: &Semaphore<R>,
     slow: &mut Slow,
     is_taken: bool,
-) -> io::Result<Left> {
+) -> bool {
     let mut pager = Pager::new();
     let has_joined = semaphore.register_pager(&mut pager, 1, false) == Ok(true);
     let is_early = slow.poll(&mut pager.poll_async());
-    let cause = if is_taken {
-        Cause::TakeByPager(pager)
+    let (cause, told) = if is_taken {
+        (Cause::TakeByPager(pager), Granted(Some(Ok(()))))
     } else {
-        Cause::Cancel(pager)
+        (Cause::Cancel(pager), Nothing)
     };
-    Ok((has_joined, is_early, bring_out(rt, semaphore, slow, cause)?))
+    let is_brought = bring_out(rt, semaphore, slow, cause, told);
+    has_joined && !is_early && is_brought
 }
 
-// One of both with all that it needs.
-fn left<H: Files + Threads + Wait + RandomSource + AllocGlobal + Sync>(
+// What brings out the waker of a slow task: it goes out with the lock free, and so its wake lasts until somebody reads from the pipe.
+#[derive(Clone, Copy)]
+pub(crate) enum Out {
+    Release,
+    // A release answers a quick task too, whose waker is taken out together with that of the slow one, and first.
+    ReleaseOfTwo,
+    // The future or the pager is dropped or cancelled.
+    Future,
+    Pager,
+    // Another task takes the answer of the future or the pager, at whose slot the waker is left.
+    FuturesAnswer,
+    PagersAnswer,
+}
+
+// Whether all is as it must be at a semaphore.
+fn is_out_at<H: Threads + Wait + RandomSource + AllocGlobal + Sync, R: Wait + Drop + Sync>(
     rt: &H,
-    is_pager: bool,
-    is_taken: bool,
-) -> io::Result<Left> {
-    let semaphore = Semaphore::with_permits(rt, rt.alloc(), 0, 1)?;
-    let mut slow = Slow::new(rt)?;
-    if is_pager {
-        leave_by_pager(rt, &semaphore, &mut slow, is_taken)
-    } else {
-        leave_by_future(rt, &semaphore, &mut slow, is_taken)
+    semaphore: &Semaphore<R>,
+    slow: &mut Slow,
+    quick: &MockTask,
+    out: Out,
+) -> bool {
+    match out {
+        Out::Release => release_to(rt, semaphore, slow, None),
+        Out::ReleaseOfTwo => release_two(rt, semaphore, slow, quick),
+        Out::Future => leave_by_future(rt, semaphore, slow, false),
+        Out::Pager => leave_by_pager(rt, semaphore, slow, false),
+        Out::FuturesAnswer => leave_by_future(rt, semaphore, slow, true),
+        Out::PagersAnswer => leave_by_pager(rt, semaphore, slow, true),
     }
 }
 
-// The waker of a future that is dropped goes out with the lock free too.
-#[test]
-fn a_future_drops_its_waker_with_the_lock_free(rt: HostRuntime) -> io::Result<()> {
-    same!(rt; left(&rt, false, false)?, (true, false, brought(Nothing)));
-    Ok(())
-}
-
-// The waker of a pager that is cancelled goes out with the lock free too.
-#[test]
-fn a_cancelled_pager_drops_its_waker_with_the_lock_free(rt: HostRuntime) -> io::Result<()> {
-    same!(rt; left(&rt, true, false)?, (true, false, brought(Nothing)));
-    Ok(())
-}
-
-// So does the waker that is left at a slot whose answer another task takes.
-#[test]
-fn a_ready_poll_drops_the_waker_with_the_lock_free(rt: HostRuntime) -> io::Result<()> {
-    let told = Permit(Some(Ok(())));
-    same!(rt; left(&rt, false, true)?, (true, false, brought(told)));
-    Ok(())
-}
-
-// And the one that is left at the slot of a pager whose answer another task takes.
-#[test]
-fn a_pagers_ready_poll_drops_the_waker_with_the_lock_free(rt: HostRuntime) -> io::Result<()> {
-    let told = Granted(Some(Ok(())));
-    same!(rt; left(&rt, true, true)?, (true, false, brought(told)));
-    Ok(())
-}
-
-// The first task has left its waker at the only slot, and isn't woken by the second, which joins there next.
-const A_FUTURES_ANSWER: [(Call, Told); 8] = [
-    (Ask(First), Nothing),
-    (Poll(First, First), Permit(None)),
-    (AnswerUntold, Is(true)),
-    (Poll(First, First), Permit(Some(Ok(())))),
-    (Enter(First), Nothing),
-    (Ask(Second), Nothing),
-    (Poll(Second, Second), Permit(None)),
-    (IsWoken(First), Is(false)),
-];
-
-#[test]
-fn a_slot_has_no_waker_once_a_futures_answer_is_taken(rt: HostRuntime) -> io::Result<()> {
-    same!(rt; played(&rt, rt.alloc(), 1, &A_FUTURES_ANSWER)?, None);
-    Ok(())
-}
-
-const A_PAGERS_ANSWER: [(Call, Told); 8] = [
-    (Register, Asked(Ok(true))),
-    (PollPager(First), Granted(None)),
-    (AnswerUntold, Is(true)),
-    (PollPager(First), Granted(Some(Ok(())))),
-    (Enter(First), Nothing),
-    (Ask(Second), Nothing),
-    (Poll(Second, Second), Permit(None)),
-    (IsWoken(First), Is(false)),
-];
-
-#[test]
-fn a_slot_has_no_waker_once_a_pagers_answer_is_taken(rt: HostRuntime) -> io::Result<()> {
-    same!(rt; played(&rt, rt.alloc(), 1, &A_PAGERS_ANSWER)?, None);
-    Ok(())
-}
-
-// A release rings the only seat, and the next holder of its slot joins as a task, which looks at its seat no sooner.
-const A_SEAT_IS_RESET: [(Call, Told); 14] = [
-    (Ask(First), Nothing),
-    (Poll(First, First), Permit(None)),
-    (Rung, Count(0)),
-    (Release, Is(true)),
-    (Rung, Count(1)),
-    (Poll(First, First), Permit(Some(Ok(())))),
-    (LetGo(First), Nothing),
-    (Ask(First), Nothing),
-    (Poll(First, First), Permit(None)),
-    (Rung, Count(0)),
-    (Release, Is(true)),
-    (Rung, Count(1)),
-    (Poll(First, First), Permit(Some(Ok(())))),
-    (LetGo(First), Nothing),
-];
-
-#[test]
-fn a_seat_is_reset_for_the_next_future(rt: HostRuntime) -> io::Result<()> {
-    same!(rt; played(&rt, rt.alloc(), 1, &A_SEAT_IS_RESET)?, None);
-    Ok(())
-}
-
-// What a poll of an arrival gave, if it was ready.
-type Arrived = Option<Result<bool, Full>>;
-
-// What the first poll of each of two arrivals gave, whether the task of the first was woken then, how many seats were rung, and what
-// its next poll gave.
-type Met = ([Arrived; 2], bool, usize, Arrived);
-
-// One arrives at a barrier of two, and then another by a future with a callback or without.
-fn meet<R: Wait + Drop>(
-    barrier: &Barrier<R>,
-    one: &MockTask,
-    two: &MockTask,
-    is_with: bool,
-) -> Met {
-    let mut first = barrier.wait_async();
-    let early = ready(one.poll(&mut first));
-    let led = if is_with {
-        ready(two.poll(&mut barrier.wait_async_with(|| {})))
-    } else {
-        ready(two.poll(&mut barrier.wait_async()))
-    };
-    let is_woken = one.is_woken();
-    let rung = barrier.shell().rung();
-    ([early, led], is_woken, rung, ready(one.poll(&mut first)))
-}
-
-// Two meet without a callback, and then with one.
-fn meet_twice<H: Wait + RandomSource + AllocGlobal>(rt: &H) -> io::Result<[Met; 2]> {
-    let barrier = Barrier::with_count(rt, rt.alloc(), 2, 1)?;
-    let one = MockTask::new(rt)?;
-    let two = MockTask::new(rt)?;
-    let without = meet(&barrier, &one, &two, false);
-    Ok([without, meet(&barrier, &one, &two, true)])
-}
-
-// Each that a step answered is woken by that step, by whatever call it was made.
-#[test]
-fn a_first_poll_wakes_whom_it_answers(rt: HostRuntime) -> io::Result<()> {
-    let met = ([None, Some(Ok(true))], true, 1, Some(Ok(false)));
-    same!(rt; meet_twice(&rt)?, [met; 2]);
-    Ok(())
+// The same at a new semaphore of no permit, with room for so many waiters.
+pub(crate) fn is_out<H: Files + Threads + Wait + RandomSource + AllocGlobal + Sync>(
+    rt: &H,
+    quick: &MockTask,
+    room: u16,
+    out: Out,
+) -> io::Result<bool> {
+    let mut slow = Slow::new(rt)?;
+    let semaphore = Semaphore::with_permits(rt, rt.alloc(), 0, room)?;
+    Ok(is_out_at(rt, &semaphore, &mut slow, quick, out))
 }
