@@ -11,8 +11,31 @@ use saa::semaphore::{SemaphoreAnswer, SemaphoreCall, SemaphoreCore, SemaphoreCor
 use saa::ticket::{Error, How, Registration, Ticket};
 use saa::{TryLockError, lock, request, ticket};
 use std::alloc::{AllocError, Global};
-use std::test::Fail;
-use test_asserts::{holds, same};
+
+// What is used here.
+#[derive(Clone, Copy)]
+pub(crate) enum CorePart {
+    Semaphore,
+    Lock,
+    Gate,
+    Barrier,
+    Ticket,
+    Asking,
+    Journal,
+}
+
+// Uses a part; whether all was told as it must be.
+pub(crate) fn is_right(alloc: Global, part: CorePart) -> Result<bool, AllocError> {
+    match part {
+        CorePart::Semaphore => semaphore_replies(alloc),
+        CorePart::Lock => lock_replies(alloc),
+        CorePart::Gate => gate_replies(alloc),
+        CorePart::Barrier => barrier_replies(alloc),
+        CorePart::Ticket => a_ticket_is_polled(alloc),
+        CorePart::Asking => a_registration_is_asked_for(alloc),
+        CorePart::Journal => Ok(a_journal_has_its_names()),
+    }
+}
 
 // What a core replies to a call that needs no pager.
 fn replied<P: Primitive>(alloc: Global, core: P, call: P::Call) -> Result<Reply<P>, AllocError> {
@@ -20,47 +43,71 @@ fn replied<P: Primitive>(alloc: Global, core: P, call: P::Call) -> Result<Reply<
     Ok(Bench::new(alloc, core, 0)?.do_one(&command))
 }
 
-#[test]
-fn each_core_replies_to_a_call(rt: HostRuntime) -> Result<(), Fail> {
-    let semaphore: SemaphoreCoreOf<63> = SemaphoreCore::new(rt.alloc(), 0)?;
-    same!(rt; replied(rt.alloc(), semaphore, SemaphoreCall::AvailablePermits)?, ReplyOf::Answered(SemaphoreAnswer::Number(63)));
-    let lock = LockCore::new(rt.alloc(), 0)?;
-    same!(rt; replied(rt.alloc(), lock, LockCall::TryLock)?, ReplyOf::Answered(LockAnswer::Tried(Ok(()))));
-    let gate = GateCore::new(rt.alloc(), 0)?;
-    same!(rt; replied(rt.alloc(), gate, GateCall::State)?, ReplyOf::Answered(GateAnswer::State(State::Controlled)));
-    let barrier = BarrierCore::with_count(rt.alloc(), 3, 0)?;
-    same!(rt; replied(rt.alloc(), barrier, BarrierCall::Count)?, ReplyOf::Answered(BarrierAnswer::Count(3)));
-    Ok(())
+fn semaphore_replies(alloc: Global) -> Result<bool, AllocError> {
+    let semaphore: SemaphoreCoreOf<63> = SemaphoreCore::new(alloc, 0)?;
+    let reply = replied(alloc, semaphore, SemaphoreCall::AvailablePermits)?;
+    Ok(reply == ReplyOf::Answered(SemaphoreAnswer::Number(63)))
 }
 
-#[test]
-fn a_ticket_is_polled(rt: HostRuntime) -> Result<(), Fail> {
-    let mut lock = LockCore::new(rt.alloc(), 1)?;
+fn lock_replies(alloc: Global) -> Result<bool, AllocError> {
+    let reply = replied(alloc, LockCore::new(alloc, 0)?, LockCall::TryLock)?;
+    Ok(reply == ReplyOf::Answered(LockAnswer::Tried(Ok(()))))
+}
+
+fn gate_replies(alloc: Global) -> Result<bool, AllocError> {
+    let reply = replied(alloc, GateCore::new(alloc, 0)?, GateCall::State)?;
+    Ok(reply == ReplyOf::Answered(GateAnswer::State(State::Controlled)))
+}
+
+fn barrier_replies(alloc: Global) -> Result<bool, AllocError> {
+    let reply = replied(
+        alloc,
+        BarrierCore::with_count(alloc, 3, 0)?,
+        BarrierCall::Count,
+    )?;
+    Ok(reply == ReplyOf::Answered(BarrierAnswer::Count(3)))
+}
+
+// Tries at a lock that is free.
+fn tries(lock: &mut LockCore) -> bool {
     let (shut, held) = (TryLockError::WouldBlock, lock::TryLockError::WouldBlock);
     let tried = [lock.try_lock(), lock.try_share(), lock.try_lock()];
-    same!(rt; tried, [Ok(()), Err(shut), Err(held)]);
-    let mut one = Ticket::new();
-    let joined = lock.register(&mut one, Mode::Shared, true);
-    let refused = lock.register(&mut Ticket::new(), Mode::Shared, true);
-    same!(rt; (joined, refused), (Ok(true), Err(Full)));
-    let early = lock.poll(&mut one, How::Sync);
-    let is_lowered = lock.downgrade();
-    same!(rt; (early, is_lowered), (Err(Error::NotReady), true));
-    same!(rt; lock.poll(&mut one, How::Try), Ok(true));
-    let none = Registration::Unregistered;
-    holds!(rt; matches!(none, Registration::Unregistered));
-    let (full, asks): (request::Full, ticket::Request) = (ticket::Full, Request::Enter);
-    same!(rt; (full, asks), (Full, Request::Enter));
-    Ok(())
+    tried == [Ok(()), Err(shut), Err(held)]
 }
 
-#[test]
-fn a_registration_is_asked_for_by_a_poll(rt: HostRuntime) -> Result<(), Fail> {
-    let mut core = SemaphoreCore::new(rt.alloc(), 0)?;
+// A ticket joins as the only one that there is room for, and is polled.
+fn is_polled(lock: &mut LockCore, one: &mut Ticket) -> bool {
+    let joined = lock.register(one, Mode::Shared, true);
+    let refused = lock.register(&mut Ticket::new(), Mode::Shared, true);
+    let early = lock.poll(one, How::Sync);
+    let is_lowered = lock.downgrade();
+    let polled = lock.poll(one, How::Try);
+    [joined, refused] == [Ok(true), Err(Full)]
+        && [early, polled] == [Err(Error::NotReady), Ok(true)]
+        && is_lowered
+}
+
+fn a_ticket_is_polled(alloc: Global) -> Result<bool, AllocError> {
+    let mut lock = LockCore::new(alloc, 1)?;
+    Ok(tries(&mut lock) && is_polled(&mut lock, &mut Ticket::new()) && have_names())
+}
+
+// What a ticket is while it asks nothing, and what is asked.
+fn have_names() -> bool {
+    let none = Registration::Unregistered;
+    let (full, asks): (request::Full, ticket::Request) = (ticket::Full, Request::Enter);
+    matches!(none, Registration::Unregistered) && full == Full && asks == Request::Enter
+}
+
+// A pure future is done at its first poll.
+fn is_done(core: &mut SemaphoreCore) -> bool {
     let mut asking: Asking<SemaphoreCore> = Asking::new(1);
-    same!(rt; asking.poll_on(&mut core), Progress::Done(Some(0)));
-    holds!(rt; asking.has_ended());
-    Ok(())
+    let polled = asking.poll_on(core);
+    polled == Progress::Done(Some(0)) && asking.has_ended()
+}
+
+fn a_registration_is_asked_for(alloc: Global) -> Result<bool, AllocError> {
+    Ok(is_done(&mut SemaphoreCore::new(alloc, 0)?))
 }
 
 // How many calls a journal has, and that a share was made of it; no program implements a journal.
@@ -68,8 +115,7 @@ fn calls<J: Journal>(journal: &Journalled<LockCore, J>, share: &Share<J>) -> (us
     (journal.history().len(), share.calls())
 }
 
-#[test]
-fn a_journal_has_its_names(rt: HostRuntime) {
+fn a_journal_has_its_names() -> bool {
     let _counts = calls::<std::marker::Brand>;
-    same!(rt; JournalMemory, JournalMemory);
+    JournalMemory == JournalMemory
 }

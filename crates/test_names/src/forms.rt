@@ -1,5 +1,7 @@
 //! The forms that threads share, their pagers, and the locks round a value.
 
+use crate::futures_by_name::{are_had, gives_each_of, is_led, is_sealed};
+use futures::test::MockTask;
 use saa::barrier::Barrier;
 use saa::gate::{Error as GateError, Gate, State};
 use saa::lock::{Lock, Mode};
@@ -13,19 +15,55 @@ use saa::{
     Guard, Lends, Mutex, MutexGuard, PassesOn, RwLock, RwLockReadGuard, RwLockWriteGuard, Shows,
     Writing, lock_api, lock_async, patience, read_async, write_async,
 };
-use std::io;
+use std::alloc::{AllocError, AllocGlobal};
 use std::sync::Wait;
 use std::sync::atomic::Ordering;
-use std::time::Duration;
-use test_asserts::{holds, same};
+use std::time::{Clock, Duration};
 
-#[test]
-fn a_semaphore_gives_permits(rt: HostRuntime) -> io::Result<()> {
-    let semaphore = Semaphore::with_permits(&rt, rt.alloc(), 2, 0)?;
-    let permit: Option<Permit<'_, &HostRuntime>> = semaphore.try_acquire_permit();
-    holds!(rt; permit.is_some());
-    same!(rt; semaphore.available_permits(Ordering::SeqCst), 1);
-    Ok(())
+// What is used here.
+#[derive(Clone, Copy)]
+pub(crate) enum FormPart {
+    Semaphore,
+    SemaphoreOf,
+    Lock,
+    Gate,
+    Barrier,
+    Timed,
+    Pager,
+    Guards,
+    LockApi,
+    GuardFutures,
+}
+
+// Uses a part, and polls its futures in a task; whether all was told as it must be.
+pub(crate) fn is_right<H: Wait + Clock + AllocGlobal>(
+    rt: &H,
+    task: &MockTask,
+    part: FormPart,
+) -> Result<bool, AllocError> {
+    match part {
+        FormPart::Semaphore => a_semaphore(rt),
+        FormPart::SemaphoreOf => a_semaphore_of_any_bound(rt, task),
+        FormPart::Lock => a_lock(rt),
+        FormPart::Gate => a_gate(rt, task),
+        FormPart::Barrier => a_barrier(rt, task),
+        FormPart::Timed => a_pager_in_time(rt),
+        FormPart::Pager => a_pager(rt),
+        FormPart::Guards => guards(rt, task),
+        FormPart::LockApi => a_mutex_of_lock_api(rt),
+        FormPart::GuardFutures => futures_of_guards(rt),
+    }
+}
+
+// A permit is given.
+fn gives<R: Wait + Drop>(semaphore: &Semaphore<R>) -> bool {
+    let permit: Option<Permit<'_, R>> = semaphore.try_acquire_permit();
+    let available = semaphore.available_permits(Ordering::SeqCst);
+    permit.is_some() && available == 1
+}
+
+fn a_semaphore<H: Wait + AllocGlobal>(rt: &H) -> Result<bool, AllocError> {
+    Ok(gives(&Semaphore::with_permits(rt, rt.alloc(), 2, 0)?))
 }
 
 // The most permits of a semaphore, whatever its core.
@@ -39,37 +77,79 @@ fn put_back<S: TakesBack>(permit: PermitFrom<'_, S>, semaphore: &S) {
     semaphore.take_back();
 }
 
-#[test]
-fn a_semaphore_of_any_bound_gives_permits(rt: HostRuntime) -> io::Result<()> {
-    let semaphore: SemaphoreOf<&HostRuntime, 1_000> = SemaphoreOf::new(&rt, rt.alloc(), 0)?;
-    same!(rt; most(&semaphore), 1_000);
-    let permit: Option<PermitOf<'_, &HostRuntime, 1_000>> = semaphore.try_acquire_permit();
-    same!(rt; semaphore.available_permits(Ordering::SeqCst), 999);
+// A permit is given, and put back; how many are available while it is out.
+fn lends<R: Wait + Drop>(semaphore: &SemaphoreOf<R, 1_000>) -> usize {
+    let permit: Option<PermitOf<'_, R, 1_000>> = semaphore.try_acquire_permit();
+    let available = semaphore.available_permits(Ordering::SeqCst);
     if let Some(permit) = permit {
-        put_back(permit, &semaphore);
+        put_back(permit, semaphore);
     }
-    same!(rt; semaphore.available_permits(Ordering::SeqCst), 1_000);
-    same!(rt; Semaphore::<&HostRuntime>::MAX_PERMITS, 63);
-    Ok(())
+    available
 }
 
-#[test]
-fn a_lock_is_taken_and_lowered(rt: HostRuntime) -> io::Result<()> {
-    let lock = Lock::with_patience(&rt, rt.alloc(), 0, patience::NONE)?;
-    same!(rt; lock.try_lock(), Ok(()));
-    holds!(rt; lock.downgrade());
-    holds!(rt; lock.is_shared(Ordering::SeqCst));
-    Ok(())
+fn gives_any<R: Wait + Drop>(task: &MockTask, semaphore: &SemaphoreOf<R, 1_000>) -> bool {
+    let counts = [
+        most(semaphore),
+        lends(semaphore),
+        semaphore.available_permits(Ordering::SeqCst),
+        Semaphore::<R>::MAX_PERMITS,
+    ];
+    counts == [1_000, 999, 1_000, 63] && gives_each_of(task, semaphore)
 }
 
-#[test]
-fn a_gate_and_a_barrier_let_pass(rt: HostRuntime) -> io::Result<()> {
-    let gate = Gate::new(&rt, rt.alloc(), 0)?;
-    same!(rt; gate.seal(), (State::Controlled, 0));
-    same!(rt; gate.enter_sync(), Ok(Err(GateError::Sealed)));
-    let barrier = Barrier::with_count(&rt, rt.alloc(), 1, 0)?;
-    same!(rt; barrier.wait_sync(), Ok(true));
-    Ok(())
+fn a_semaphore_of_any_bound<H: Wait + AllocGlobal>(
+    rt: &H,
+    task: &MockTask,
+) -> Result<bool, AllocError> {
+    Ok(gives_any(task, &SemaphoreOf::new(rt, rt.alloc(), 0)?))
+}
+
+// A lock is taken and lowered.
+fn is_lowered<R: Wait + Drop>(lock: &Lock<R>) -> bool {
+    lock.try_lock() == Ok(()) && lock.downgrade() && lock.is_shared(Ordering::SeqCst)
+}
+
+fn a_lock<H: Wait + AllocGlobal>(rt: &H) -> Result<bool, AllocError> {
+    Ok(is_lowered(&Lock::with_patience(rt, rt.alloc(), 0, patience::NONE)?))
+}
+
+fn refuses<R: Wait + Drop>(task: &MockTask, gate: &Gate<R>) -> bool {
+    gate.seal() == (State::Controlled, 0)
+        && gate.enter_sync() == Ok(Err(GateError::Sealed))
+        && is_sealed(task, gate)
+}
+
+fn a_gate<H: Wait + AllocGlobal>(rt: &H, task: &MockTask) -> Result<bool, AllocError> {
+    Ok(refuses(task, &Gate::new(rt, rt.alloc(), 0)?))
+}
+
+fn leads<R: Wait + Drop>(task: &MockTask, barrier: &Barrier<R>) -> bool {
+    barrier.wait_sync() == Ok(true) && is_led(task, barrier)
+}
+
+fn a_barrier<H: Wait + AllocGlobal>(rt: &H, task: &MockTask) -> Result<bool, AllocError> {
+    Ok(leads(task, &Barrier::with_count(rt, rt.alloc(), 1, 0)?))
+}
+
+// What a pager is told whose time is up, and whether its deadline is an instant.
+fn told_in_time<S: Timed>(pager: &mut Pager<'_, S>, primitive: &S) -> [bool; 2] {
+    let deadline = primitive.after(Duration::ZERO);
+    let told = pager.poll_sync_for(Duration::ZERO);
+    [told.is_none(), matches!(deadline, Deadline::At(_))]
+}
+
+// A pager waits in time at a lock that is taken, and has all of its room.
+fn waits_in_time<R: Wait + Clock + Drop>(lock: &Lock<R>) -> bool {
+    let taken = lock.try_lock();
+    let mut pager = Pager::new();
+    let registered = lock.register_pager(&mut pager, Mode::Shared, true);
+    let told = told_in_time(&mut pager, lock);
+    let refused = lock.lock_sync_for(Duration::ZERO);
+    taken == Ok(()) && registered == Ok(true) && told == [true, true] && refused == Err(Full)
+}
+
+fn a_pager_in_time<H: Wait + Clock + AllocGlobal>(rt: &H) -> Result<bool, AllocError> {
+    Ok(waits_in_time(&Lock::new(rt, rt.alloc(), 1)?))
 }
 
 // What a pager is told that isn't registered.
@@ -77,34 +157,21 @@ fn told<S: SyncResult>(pager: &mut Pager<'_, S>) -> S::Result {
     pager.try_poll()
 }
 
-// What a pager is told whose time is up, and whether its deadline is an instant.
-fn told_in_time<S: Timed>(pager: &mut Pager<'_, S>, primitive: &S) -> (bool, bool) {
-    let deadline = primitive.after(Duration::ZERO);
-    let told = pager.poll_sync_for(Duration::ZERO);
-    (told.is_none(), matches!(deadline, Deadline::At(_)))
+// A pager is told once.
+fn is_told<R: Wait + Drop>(lock: &Lock<R>) -> bool {
+    let mut pager = Pager::new();
+    let registered = lock.register_pager(&mut pager, Mode::Exclusive, true);
+    let told = [told(&mut pager), told(&mut pager)];
+    registered == Ok(true) && told == [Ok(true), Err(Error::NotRegistered)]
 }
 
-#[test]
-fn a_pager_is_told_in_time(rt: HostRuntime) -> io::Result<()> {
-    let lock = Lock::new(&rt, rt.alloc(), 1)?;
-    let mut pager = Pager::new();
-    same!(rt; lock.try_lock(), Ok(()));
-    same!(rt; lock.register_pager(&mut pager, Mode::Shared, true), Ok(true));
-    same!(rt; told_in_time(&mut pager, &lock), (true, true));
-    same!(rt; lock.lock_sync_for(Duration::ZERO), Err(Full));
-    Ok(())
+fn a_pager<H: Wait + AllocGlobal>(rt: &H) -> Result<bool, AllocError> {
+    Ok(is_told(&Lock::new(rt, rt.alloc(), 1)?) && have_names())
 }
 
-#[test]
-fn a_pager_is_told(rt: HostRuntime) -> io::Result<()> {
-    let lock = Lock::new(&rt, rt.alloc(), 1)?;
-    let mut pager = Pager::new();
-    same!(rt; lock.register_pager(&mut pager, Mode::Exclusive, true), Ok(true));
-    same!(rt; told(&mut pager), Ok(true));
-    same!(rt; told(&mut pager), Err(Error::NotRegistered));
-    same!(rt; How::Try, How::Try);
-    holds!(rt; !Ticket::new().is_registered());
-    Ok(())
+// A way to poll, and a ticket that asks for nothing.
+fn have_names() -> bool {
+    How::Try == How::Try && !Ticket::new().is_registered()
 }
 
 // The value of each guard.
@@ -125,7 +192,7 @@ fn put<V: Lends<Value = u32>, U: PassesOn>(guard: &mut Guard<V, U>, number: u32)
     **guard = number;
 }
 
-// Gives up a guard in a writer's turn.
+// Gives up a writer's guard by the call for that.
 fn end<'a, V: Shows, R: Wait + Drop>(guard: Guard<V, Writing<'a, R, u32>>) {
     Guard::unlock_fair(guard);
 }
@@ -147,7 +214,7 @@ fn values_of_both<R: Wait + Drop>(
     Ok(values(alone, shared))
 }
 
-// Puts a value, shows it, and gives up the turn.
+// Puts a value, shows it, and gives up the guard.
 fn put_and_end<R: Wait + Drop>(lock: &RwLock<R, u32>, number: u32) -> Result<u32, Full> {
     let mut guard = lock.write()?;
     put(&mut guard, number);
@@ -156,30 +223,44 @@ fn put_and_end<R: Wait + Drop>(lock: &RwLock<R, u32>, number: u32) -> Result<u32
     Ok(shown)
 }
 
-// What a writer leaves who takes the lock for that.
+// What a writer leaves that takes the lock for that.
 fn written_behind<R: Wait + Drop>(lock: &RwLock<R, u32>) -> Result<u32, Full> {
     Ok(written(lock.write()?))
 }
 
-#[test]
-fn guards_give_their_values(rt: HostRuntime) -> io::Result<()> {
-    let mutex = Mutex::new(&rt, rt.alloc(), 5, 0)?;
-    let lock = RwLock::new(&rt, rt.alloc(), 7, 0)?;
-    same!(rt; values_of_both(&mutex, &lock), Ok((5, 7)));
-    same!(rt; put_and_end(&lock, 6), Ok(6));
-    same!(rt; written_behind(&lock), Ok(8));
-    let other: lock_api::Mutex<&HostRuntime, u32> = lock_api::Mutex::new(&rt, rt.alloc(), 3, 0)?;
-    same!(rt; other.into_inner(), 3);
-    Ok(())
+// Uses the guards of both locks.
+fn are_guarded<R: Wait + Drop>(
+    task: &MockTask,
+    mutex: &Mutex<R, u32>,
+    lock: &RwLock<R, u32>,
+) -> bool {
+    are_had(task, mutex, lock)
+        && values_of_both(mutex, lock) == Ok((5, 7))
+        && put_and_end(lock, 6) == Ok(6)
+        && written_behind(lock) == Ok(8)
 }
 
-#[test]
-fn guards_are_asked_for_by_futures(rt: HostRuntime) -> io::Result<()> {
-    let mutex = Mutex::new(&rt, rt.alloc(), 5, 0)?;
-    let lock = RwLock::new(&rt, rt.alloc(), 7, 0)?;
-    drop(lock_async(&mutex));
-    drop(read_async(&lock));
-    drop(write_async(&lock));
-    same!(rt; (mutex.into_inner(), lock.into_inner()), (5, 7));
-    Ok(())
+fn guards<H: Wait + AllocGlobal>(rt: &H, task: &MockTask) -> Result<bool, AllocError> {
+    let mutex = Mutex::new(rt, rt.alloc(), 5, 0)?;
+    let lock = RwLock::new(rt, rt.alloc(), 7, 0)?;
+    Ok(are_guarded(task, &mutex, &lock))
+}
+
+fn a_mutex_of_lock_api<H: Wait + AllocGlobal>(rt: &H) -> Result<bool, AllocError> {
+    let mutex: lock_api::Mutex<&H, u32> = lock_api::Mutex::new(rt, rt.alloc(), 3, 0)?;
+    Ok(mutex.into_inner() == 3)
+}
+
+// Makes a future of each guard, and polls none.
+fn ask_for_each<R: Wait + Drop>(mutex: &Mutex<R, u32>, lock: &RwLock<R, u32>) {
+    drop(lock_async(mutex));
+    drop(read_async(lock));
+    drop(write_async(lock));
+}
+
+fn futures_of_guards<H: Wait + AllocGlobal>(rt: &H) -> Result<bool, AllocError> {
+    let mutex = Mutex::new(rt, rt.alloc(), 5, 0)?;
+    let lock = RwLock::new(rt, rt.alloc(), 7, 0)?;
+    ask_for_each(&mutex, &lock);
+    Ok([mutex.into_inner(), lock.into_inner()] == [5, 7])
 }

@@ -17,11 +17,8 @@ use saa::pager::Pager;
 use saa::semaphore::{Semaphore, SemaphoreOf};
 use saa::ticket::Full;
 use saa::{Mutex, RwLock, lock_async, read_async, write_async};
-use std::io;
+use std::alloc::{AllocError, AllocGlobal};
 use std::sync::Wait;
-use test_asserts::{holds, same};
-
-type Runtime<'r> = &'r HostRuntime;
 
 // A callback that does nothing, as one type.
 type Callback = fn();
@@ -61,100 +58,121 @@ where
     matches!(polled(task, future), Some(Ok(_)))
 }
 
-#[test]
-fn permits_are_told(rt: HostRuntime) -> io::Result<()> {
-    let task = MockTask::new(&rt)?;
-    let semaphore = Semaphore::new(&rt, rt.alloc(), 0)?;
-    let one: Acquire<'_, Runtime> = semaphore.acquire_async();
-    let many: AcquireMany<'_, Runtime> = semaphore.acquire_many_async(2);
-    same!(rt; (
-            told::<_, OnePermit>(&task, one),
-            told::<_, ManyPermits>(&task, many),
-        ), (Some(()), Some(true)));
-    let one: AcquireWith<'_, Runtime, Callback> = semaphore.acquire_async_with(nothing);
-    let one: AskedWith<'_, Runtime, OnePermit, Callback> = one;
-    same!(rt; polled(&task, one), Some(Ok(())));
-    let many: AcquireManyWith<'_, Runtime, Callback> = semaphore.acquire_many_async_with(
+fn gives<R: Wait + Drop>(task: &MockTask, semaphore: &Semaphore<R>) -> bool {
+    let one: Acquire<'_, R> = semaphore.acquire_async();
+    let one = told::<_, OnePermit>(task, one);
+    let many: AcquireMany<'_, R> = semaphore.acquire_many_async(2);
+    let many = told::<_, ManyPermits>(task, many);
+    one == Some(()) && many == Some(true)
+}
+
+fn gives_with<R: Wait + Drop>(task: &MockTask, semaphore: &Semaphore<R>) -> bool {
+    let one: AcquireWith<'_, R, Callback> = semaphore.acquire_async_with(nothing);
+    let one: AskedWith<'_, R, OnePermit, Callback> = one;
+    let one = polled(task, one);
+    let many: AcquireManyWith<'_, R, Callback> = semaphore.acquire_many_async_with(2, nothing);
+    let many = polled(task, many);
+    one == Some(Ok(())) && many == Some(Ok(true))
+}
+
+fn gives_any<R: Wait + Drop>(task: &MockTask, semaphore: &SemaphoreOf<R, 1_000>) -> bool {
+    let one: AcquireOf<'_, R, 1_000> = semaphore.acquire_async();
+    let one = told::<_, OnePermitOf<1_000>>(task, one);
+    let many: AcquireManyOf<'_, R, 1_000> = semaphore.acquire_many_async(2);
+    let many = told::<_, ManyPermitsOf<1_000>>(task, many);
+    one == Some(()) && many == Some(true)
+}
+
+fn gives_any_with<R: Wait + Drop>(task: &MockTask, semaphore: &SemaphoreOf<R, 1_000>) -> bool {
+    let one: AcquireWithOf<'_, R, Callback, 1_000> = semaphore.acquire_async_with(nothing);
+    let one = polled(task, one);
+    let many: AcquireManyWithOf<'_, R, Callback, 1_000> = semaphore.acquire_many_async_with(
         2, nothing,
     );
-    same!(rt; polled(&task, many), Some(Ok(true)));
-    Ok(())
+    let many = polled(task, many);
+    one == Some(Ok(())) && many == Some(Ok(true))
 }
 
-#[test]
-fn permits_of_any_bound_are_told(rt: HostRuntime) -> io::Result<()> {
-    let task = MockTask::new(&rt)?;
-    let semaphore: SemaphoreOf<Runtime<'_>, 1_000> = SemaphoreOf::new(&rt, rt.alloc(), 0)?;
-    let one: AcquireOf<'_, Runtime, 1_000> = semaphore.acquire_async();
-    let many: AcquireManyOf<'_, Runtime, 1_000> = semaphore.acquire_many_async(2);
-    same!(rt; (
-            told::<_, OnePermitOf<1_000>>(&task, one),
-            told::<_, ManyPermitsOf<1_000>>(&task, many),
-        ), (Some(()), Some(true)));
-    let one: AcquireWithOf<'_, Runtime, Callback, 1_000> = semaphore.acquire_async_with(nothing);
-    same!(rt; polled(&task, one), Some(Ok(())));
-    let many: AcquireManyWithOf<'_, Runtime, Callback, 1_000> = semaphore.acquire_many_async_with(
-        2, nothing,
-    );
-    same!(rt; polled(&task, many), Some(Ok(true)));
-    Ok(())
+fn is_locked<R: Wait + Drop>(task: &MockTask, lock: &Lock<R>) -> bool {
+    let alone: LockFuture<'_, R> = lock.lock_async();
+    told::<_, Turn>(task, alone) == Some(true) && lock.release_lock()
 }
 
-#[test]
-fn turns_are_told(rt: HostRuntime) -> io::Result<()> {
-    let task = MockTask::new(&rt)?;
-    let lock = Lock::new(&rt, rt.alloc(), 0)?;
-    let alone: LockFuture<'_, Runtime> = lock.lock_async();
-    same!(rt; told::<_, Turn>(&task, alone), Some(true));
-    holds!(rt; lock.release_lock());
-    let share: ShareFuture<'_, Runtime> = lock.share_async();
-    same!(rt; told(&task, share), Some(true));
-    let share: ShareFutureWith<'_, Runtime, Callback> = lock.share_async_with(nothing);
-    same!(rt; polled(&task, share), Some(Ok(true)));
-    let other = Lock::new(&rt, rt.alloc(), 0)?;
-    let alone: LockFutureWith<'_, Runtime, Callback> = other.lock_async_with(nothing);
-    same!(rt; polled(&task, alone), Some(Ok(true)));
-    Ok(())
+fn is_shared<R: Wait + Drop>(task: &MockTask, lock: &Lock<R>) -> bool {
+    let share: ShareFuture<'_, R> = lock.share_async();
+    let first = told(task, share);
+    let share: ShareFutureWith<'_, R, Callback> = lock.share_async_with(nothing);
+    let second = polled(task, share);
+    first == Some(true) && second == Some(Ok(true))
 }
 
-#[test]
-fn passings_and_arrivals_are_told(rt: HostRuntime) -> io::Result<()> {
-    let task = MockTask::new(&rt)?;
-    let gate = Gate::new(&rt, rt.alloc(), 0)?;
+// Futures that enter a gate, which is sealed.
+pub(crate) fn is_sealed<R: Wait + Drop>(task: &MockTask, gate: &Gate<R>) -> bool {
     let _sealed = gate.seal();
-    let enter: Enter<'_, Runtime> = gate.enter_async();
-    same!(rt; told::<_, Passing>(&task, enter), Some(Err(GateError::Sealed)));
-    let enter: EnterWith<'_, Runtime, Callback> = gate.enter_async_with(nothing);
-    same!(rt; polled(&task, enter), Some(Ok(Err(GateError::Sealed))));
-    let barrier = Barrier::with_count(&rt, rt.alloc(), 1, 0)?;
-    let arrive: ArriveFuture<'_, Runtime> = barrier.wait_async();
-    same!(rt; told::<_, Arrival>(&task, arrive), Some(true));
-    let arrive: ArriveFutureWith<'_, Runtime, Callback> = barrier.wait_async_with(nothing);
-    same!(rt; polled(&task, arrive), Some(Ok(true)));
-    Ok(())
+    let enter: Enter<'_, R> = gate.enter_async();
+    let first = told::<_, Passing>(task, enter);
+    let enter: EnterWith<'_, R, Callback> = gate.enter_async_with(nothing);
+    let second = polled(task, enter);
+    first == Some(Err(GateError::Sealed)) && second == Some(Ok(Err(GateError::Sealed)))
 }
 
-#[test]
-fn a_pager_is_polled_by_a_future(rt: HostRuntime) -> io::Result<()> {
-    let task = MockTask::new(&rt)?;
-    let semaphore = Semaphore::new(&rt, rt.alloc(), 0)?;
+// Futures that arrive at a barrier of one.
+pub(crate) fn is_led<R: Wait + Drop>(task: &MockTask, barrier: &Barrier<R>) -> bool {
+    let arrive: ArriveFuture<'_, R> = barrier.wait_async();
+    let first = told::<_, Arrival>(task, arrive);
+    let arrive: ArriveFutureWith<'_, R, Callback> = barrier.wait_async_with(nothing);
+    let second = polled(task, arrive);
+    first == Some(true) && second == Some(Ok(true))
+}
+
+fn is_answered<R: Wait + Drop>(task: &MockTask, semaphore: &Semaphore<R>) -> bool {
     let mut pager = Pager::new();
-    same!(rt; semaphore.register_pager(&mut pager, 1, false), Ok(true));
-    let future: PollPager<'_, '_, Semaphore<Runtime>> = pager.poll_async();
-    same!(rt; polled(&task, future), Some(Ok(())));
-    Ok(())
+    let is_registered = semaphore.register_pager(&mut pager, 1, false) == Ok(true);
+    let future: PollPager<'_, '_, Semaphore<R>> = pager.poll_async();
+    polled(task, future) == Some(Ok(())) && is_registered
 }
 
-#[test]
-fn guards_are_told(rt: HostRuntime) -> io::Result<()> {
-    let task = MockTask::new(&rt)?;
-    let mutex = Mutex::new(&rt, rt.alloc(), 5, 0)?;
-    let lock = RwLock::new(&rt, rt.alloc(), 7, 0)?;
-    let alone: MutexFuture<'_, Runtime, u32> = lock_async(&mutex);
-    holds!(rt; is_had(&task, alone));
-    let read: ReadFuture<'_, Runtime, u32> = read_async(&lock);
-    holds!(rt; is_had(&task, read));
-    let write: WriteFuture<'_, Runtime, u32> = write_async(&lock);
-    holds!(rt; is_had(&task, write));
-    Ok(())
+fn gives_each<R: Wait + Drop>(task: &MockTask, semaphore: &Semaphore<R>) -> bool {
+    gives(task, semaphore) && gives_with(task, semaphore) && is_answered(task, semaphore)
+}
+
+// Futures of permits, and of a pager.
+pub(crate) fn permits<H: Wait + AllocGlobal>(rt: &H, task: &MockTask) -> Result<bool, AllocError> {
+    Ok(gives_each(task, &Semaphore::new(rt, rt.alloc(), 0)?))
+}
+
+// Futures of permits of any bound.
+pub(crate) fn gives_each_of<R: Wait + Drop>(
+    task: &MockTask,
+    semaphore: &SemaphoreOf<R, 1_000>,
+) -> bool {
+    gives_any(task, semaphore) && gives_any_with(task, semaphore)
+}
+
+fn is_locked_with<R: Wait + Drop>(task: &MockTask, lock: &Lock<R>) -> bool {
+    let alone: LockFutureWith<'_, R, Callback> = lock.lock_async_with(nothing);
+    polled(task, alone) == Some(Ok(true)) && lock.release_lock()
+}
+
+fn is_taken<R: Wait + Drop>(task: &MockTask, lock: &Lock<R>) -> bool {
+    is_locked_with(task, lock) && is_locked(task, lock) && is_shared(task, lock)
+}
+
+// Futures of a lock.
+pub(crate) fn turns<H: Wait + AllocGlobal>(rt: &H, task: &MockTask) -> Result<bool, AllocError> {
+    Ok(is_taken(task, &Lock::new(rt, rt.alloc(), 0)?))
+}
+
+// Futures of guards.
+pub(crate) fn are_had<R: Wait + Drop>(
+    task: &MockTask,
+    mutex: &Mutex<R, u32>,
+    lock: &RwLock<R, u32>,
+) -> bool {
+    let alone: MutexFuture<'_, R, u32> = lock_async(mutex);
+    let is_locked = is_had(task, alone);
+    let read: ReadFuture<'_, R, u32> = read_async(lock);
+    let is_read = is_had(task, read);
+    let write: WriteFuture<'_, R, u32> = write_async(lock);
+    is_had(task, write) && is_locked && is_read
 }

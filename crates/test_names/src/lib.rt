@@ -10,6 +10,12 @@ mod futures_by_name;
 #[cfg(test)]
 mod laws;
 #[cfg(test)]
+mod parts;
+#[cfg(test)]
 mod word_guards;
+#[cfg(test)]
+mod word_locks;
+#[cfg(test)]
+mod word_semaphores;
 #[cfg(test)]
 mod words;
