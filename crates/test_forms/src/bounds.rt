@@ -2,7 +2,8 @@
 
 ghost use Rattle.std.specs.Prelude.{◌<◌};
 
-use crate::permits::{left, sleepy, somebody_sleeps};
+use crate::permits::{left, somebody_sleeps};
+use crate::semaphores::{NO_PATIENCE, with_patience};
 use futures::task::Poll;
 use futures::test::MockTask;
 use saa_core::ticket::Full;
@@ -13,7 +14,6 @@ use std::alloc::{AllocError, AllocGlobal, Global};
 use std::random::RandomSource;
 use std::sync::Wait;
 use std::sync::atomic::{AtomicBool, Ordering};
-use std::test::Fail;
 use std::thread::Threads;
 use std::{io, thread};
 use test_asserts::same;
@@ -22,6 +22,8 @@ use test_asserts::same;
 #[derive(Clone, Copy)]
 enum Call {
     Try(usize),
+    // It may wait, but never does in these rows.
+    Acquire(usize),
     Release(usize),
     Available,
     Ask(u8),
@@ -29,7 +31,7 @@ enum Call {
 }
 
 // What a call answers.
-#[derive(Clone, Copy, Debug, Eq, PartialEq)]
+#[derive(Clone, Copy, PartialEq)]
 enum Answer {
     Yes,
     No,
@@ -41,16 +43,26 @@ enum Answer {
 
 type Row = (Call, Answer);
 
+// How many permits there are at first, for how many waiters there is room, how many each asks for, and what is called.
+#[derive(Clone, Copy)]
+struct Story {
+    permits: usize,
+    room: u16,
+    count: usize,
+    rows: &'static [Row],
+}
+
 // Yes or no.
 fn said(is_yes: bool) -> Answer {
     if is_yes { Answer::Yes } else { Answer::No }
 }
 
-// What a pager is told that asks.
-fn registered(answer: Result<bool, Full>) -> Answer {
+// What a pager is told that asks, or a call that may wait.
+fn registered(answer: Result<bool, Full>, is_so: Answer) -> Answer {
     match answer {
-        Ok(true) => Answer::Waits,
-        _ => Answer::Wrong,
+        Ok(true) => is_so,
+        Ok(false) => Answer::No,
+        Err(Full) => Answer::Wrong,
     }
 }
 
@@ -66,237 +78,162 @@ fn granted(answer: Result<(), Error>) -> Answer {
 // What a future is told.
 fn polled(answer: Poll<Result<bool, Full>>) -> Answer {
     match answer {
-        Poll::Ready(Ok(true)) => Answer::Granted,
-        Poll::Ready(_) => Answer::Wrong,
+        Poll::Ready(answer) => registered(answer, Answer::Granted),
         Poll::Pending => Answer::Waits,
     }
 }
 
-// Makes a call of a row for which nobody asks.
-fn make<R: Wait + Drop, const MAX: usize>(semaphore: &SemaphoreOf<R, MAX>, call: Call) -> Answer {
-    match call {
-        Call::Try(count) => said(semaphore.try_acquire_many(count)),
-        Call::Release(count) => said(semaphore.release_many(count)),
-        Call::Available => Answer::Left(left(semaphore)),
-        Call::Ask(_) | Call::Poll(_) => Answer::Wrong,
-    }
-}
-
-// Makes a call of a row by two pagers, who ask for so many.
-fn make_by_pagers<'s, R: Wait + Drop, const MAX: usize>(
+// Makes a call of a row by the pager or the future of whoever asks for so many. A future asks at its first poll.
+fn make<'s, R: Wait + Drop, const MAX: usize>(
     semaphore: &'s SemaphoreOf<R, MAX>,
-    zero: &mut Pager<'s, SemaphoreOf<R, MAX>>,
-    one: &mut Pager<'s, SemaphoreOf<R, MAX>>,
+    task: Option<&MockTask>,
+    pager: &mut Pager<'s, SemaphoreOf<R, MAX>>,
+    future: &mut AcquireManyOf<'s, R, MAX>,
     count: usize,
     call: Call,
 ) -> Answer {
-    match call {
-        Call::Ask(0) => registered(semaphore.register_pager(zero, count, true)),
-        Call::Ask(_) => registered(semaphore.register_pager(one, count, true)),
-        Call::Poll(0) => granted(zero.try_poll()),
-        Call::Poll(_) => granted(one.try_poll()),
-        _ => make(semaphore, call),
+    match (call, task) {
+        (Call::Try(count), _) => said(semaphore.try_acquire_many(count)),
+        (Call::Acquire(count), _) => {
+            registered(semaphore.acquire_many_sync(count), Answer::Granted)
+        }
+        (Call::Release(count), _) => said(semaphore.release_many(count)),
+        (Call::Available, _) => Answer::Left(left(semaphore)),
+        (Call::Ask(_) | Call::Poll(_), Some(task)) => polled(task.poll(future)),
+        (Call::Ask(_), None) => {
+            registered(semaphore.register_pager(pager, count, true), Answer::Waits)
+        }
+        (Call::Poll(_), None) => granted(pager.try_poll()),
     }
 }
 
-// Makes the calls of rows in order by two pagers; the first row that was answered otherwise, counted from 0, and what it was
-// answered.
-fn first_other_by_pagers<R: Wait + Drop, const MAX: usize>(
+// Whether a call is one of the second who asks.
+fn is_second(call: Call) -> bool {
+    matches!(call, Call::Ask(1) | Call::Poll(1))
+}
+
+// Makes the calls of rows in order by two pagers, or by two futures of a task; the first row that was answered otherwise, counted from
+// 0.
+fn first_other<R: Wait + Drop, const MAX: usize>(
     semaphore: &SemaphoreOf<R, MAX>,
-    count: usize,
-    rows: &[Row],
-) -> Option<(usize, Answer)> {
+    task: Option<&MockTask>,
+    story: &Story,
+) -> Option<usize> {
+    let count = story.count;
     let (mut zero, mut one) = (Pager::new(), Pager::new());
-    for (row, (call, wanted)) in rows.iter().enumerate() {
-        let told = make_by_pagers(semaphore, &mut zero, &mut one, count, *call);
+    let mut null = semaphore.acquire_many_async(count);
+    let mut unit = semaphore.acquire_many_async(count);
+    for (row, (call, wanted)) in story.rows.iter().enumerate() {
+        let told = if is_second(*call) {
+            make(semaphore, task, &mut one, &mut unit, count, *call)
+        } else {
+            make(semaphore, task, &mut zero, &mut null, count, *call)
+        };
         if told != *wanted {
-            return Some((row, told));
+            return Some(row);
         }
     }
     None
 }
 
-// Makes a call of a row by two futures of a task, which ask at their first poll.
-fn make_by_futures<R: Wait + Drop, const MAX: usize>(
-    semaphore: &SemaphoreOf<R, MAX>,
-    task: &MockTask,
-    zero: &mut AcquireManyOf<'_, R, MAX>,
-    one: &mut AcquireManyOf<'_, R, MAX>,
-    call: Call,
-) -> Answer {
-    match call {
-        Call::Ask(0) | Call::Poll(0) => polled(task.poll(zero)),
-        Call::Ask(_) | Call::Poll(_) => polled(task.poll(one)),
-        _ => make(semaphore, call),
-    }
-}
-
-// The same by two futures, which ask for so many.
-fn first_other_by_futures<R: Wait + Drop, const MAX: usize>(
-    semaphore: &SemaphoreOf<R, MAX>,
-    task: &MockTask,
-    count: usize,
-    rows: &[Row],
-) -> Option<(usize, Answer)> {
-    let mut zero = semaphore.acquire_many_async(count);
-    let mut one = semaphore.acquire_many_async(count);
-    for (row, (call, wanted)) in rows.iter().enumerate() {
-        let told = make_by_futures(semaphore, task, &mut zero, &mut one, *call);
-        if told != *wanted {
-            return Some((row, told));
-        }
-    }
-    None
-}
-
-// How many permits there are at first, for how many who wait there is room, and how many are asked for.
-#[derive(Clone, Copy)]
-struct Opening {
-    permits: usize,
-    room: u16,
-    count: usize,
-}
-
-// Plays rows by two pagers at a semaphore that begins so; the first row that was answered otherwise.
-fn play_by_pagers<R: Wait + Drop, const MAX: usize>(
+// Plays a story at a new semaphore; the first row that was answered otherwise.
+fn play<R: Wait + Drop, const MAX: usize>(
     rt: R,
     alloc: Global,
-    opening: Opening,
-    rows: &[Row],
-) -> Result<Option<(usize, Answer)>, AllocError>
+    task: Option<&MockTask>,
+    story: &Story,
+) -> Result<Option<usize>, AllocError>
     requires bound { 0 < MAX }
     requires narrow { MAX < 65536 }
 {
-    let semaphore = SemaphoreOf::<R, MAX>::with_permits(rt, alloc, opening.permits, opening.room)?;
-    Ok(first_other_by_pagers(&semaphore, opening.count, rows))
+    let semaphore = SemaphoreOf::<R, MAX>::with_permits(rt, alloc, story.permits, story.room)?;
+    Ok(first_other(&semaphore, task, story))
 }
 
-// The same by two futures of a task.
-fn play_by_futures<R: Wait + Drop, const MAX: usize>(
-    rt: R,
-    alloc: Global,
-    task: &MockTask,
-    opening: Opening,
-    rows: &[Row],
-) -> Result<Option<(usize, Answer)>, AllocError>
-    requires bound { 0 < MAX }
-    requires narrow { MAX < 65536 }
-{
-    let semaphore = SemaphoreOf::<R, MAX>::with_permits(rt, alloc, opening.permits, opening.room)?;
-    Ok(first_other_by_futures(&semaphore, task, opening.count, rows))
+// What was told otherwise of each story, by two pagers or by two futures of a task.
+type Others = [Option<usize>; 3];
+
+fn play_all<R: Wait>(rt: &R, alloc: Global, task: Option<&MockTask>) -> Result<Others, AllocError> {
+    Ok([
+        play::<_, 1_000>(rt, alloc, task, &STORIES[0])?,
+        play::<_, 65_535>(rt, alloc, task, &STORIES[1])?,
+        play::<_, 1>(rt, alloc, task, &STORIES[2])?,
+    ])
 }
 
-// Plays rows by two pagers, and again by two futures; what each was answered otherwise first.
-fn play_both<R: Wait + RandomSource + AllocGlobal, const MAX: usize>(
-    rt: &R,
-    opening: Opening,
-    rows: &[Row],
-) -> io::Result<[Option<(usize, Answer)>; 2]>
-    requires bound { 0 < MAX }
-    requires narrow { MAX < 65536 }
-{
+// The same by both.
+fn play_both<R: Wait + RandomSource + AllocGlobal>(rt: &R) -> io::Result<[Others; 2]> {
     let task = MockTask::new(rt)?;
-    let by_pagers = play_by_pagers::<_, MAX>(rt, rt.alloc(), opening, rows)?;
-    let by_futures = play_by_futures::<_, MAX>(rt, rt.alloc(), &task, opening, rows)?;
-    Ok([by_pagers, by_futures])
+    Ok([
+        play_all(rt, rt.alloc(), None)?,
+        play_all(rt, rt.alloc(), Some(&task))?,
+    ])
 }
 
-// The one who asks asks for 300.
-static OF_A_THOUSAND: [Row; 12] = [
-    (Call::Try(1_001), Answer::No),
-    (Call::Try(1_000), Answer::Yes),
-    (Call::Ask(1), Answer::Waits),
-    (Call::Release(299), Answer::Yes),
-    (Call::Available, Answer::Left(299)),
-    (Call::Poll(1), Answer::Waits),
-    (Call::Release(1), Answer::Yes),
-    (Call::Available, Answer::Left(0)),
-    (Call::Poll(1), Answer::Granted),
-    (Call::Release(1_001), Answer::No),
-    (Call::Release(1_000), Answer::Yes),
-    (Call::Available, Answer::Left(1_000)),
-];
-
-// Nobody asks.
-static OF_THE_MOST: [Row; 4] = [
-    (Call::Available, Answer::Left(65_535)),
-    (Call::Try(65_535), Answer::Yes),
-    (Call::Release(65_536), Answer::No),
-    (Call::Release(65_535), Answer::Yes),
-];
-
-// Both ask for one.
-static OF_ONE: [Row; 8] = [
-    (Call::Try(1), Answer::Yes),
-    (Call::Ask(0), Answer::Waits),
-    (Call::Ask(1), Answer::Waits),
-    (Call::Release(1), Answer::Yes),
-    (Call::Poll(0), Answer::Granted),
-    (Call::Poll(1), Answer::Waits),
-    (Call::Release(1), Answer::Yes),
-    (Call::Poll(1), Answer::Granted),
-];
-
-// The greatest number is more than there are.
-static OPENINGS: [Opening; 3] = [
-    Opening {
+static STORIES: [Story; 3] = [
+    // Of a thousand permits: one more is refused at once.
+    Story {
         permits: 1_000,
         room: 4,
         count: 300,
+        rows: &[
+            (Call::Acquire(1_001), Answer::No),
+            (Call::Available, Answer::Left(1_000)),
+            (Call::Try(1_001), Answer::No),
+            (Call::Try(1_000), Answer::Yes),
+            (Call::Ask(1), Answer::Waits),
+            (Call::Release(299), Answer::Yes),
+            (Call::Available, Answer::Left(299)),
+            (Call::Poll(1), Answer::Waits),
+            (Call::Release(1), Answer::Yes),
+            (Call::Available, Answer::Left(0)),
+            (Call::Poll(1), Answer::Granted),
+            (Call::Release(1_001), Answer::No),
+            (Call::Release(1_000), Answer::Yes),
+            (Call::Available, Answer::Left(1_000)),
+        ],
     },
-    Opening {
+    // Of the most: it begins with more than there are. Nobody asks.
+    Story {
         permits: 70_000,
         room: 4,
         count: 1,
+        rows: &[
+            (Call::Acquire(65_536), Answer::No),
+            (Call::Available, Answer::Left(65_535)),
+            (Call::Try(65_535), Answer::Yes),
+            (Call::Release(65_536), Answer::No),
+            (Call::Release(65_535), Answer::Yes),
+        ],
     },
-    Opening {
+    // Of one: both ask for it.
+    Story {
         permits: 1,
         room: 2,
         count: 1,
+        rows: &[
+            (Call::Acquire(2), Answer::No),
+            (Call::Available, Answer::Left(1)),
+            (Call::Try(1), Answer::Yes),
+            (Call::Ask(0), Answer::Waits),
+            (Call::Ask(1), Answer::Waits),
+            (Call::Release(1), Answer::Yes),
+            (Call::Poll(0), Answer::Granted),
+            (Call::Poll(1), Answer::Waits),
+            (Call::Release(1), Answer::Yes),
+            (Call::Poll(1), Answer::Granted),
+        ],
     },
 ];
 
-#[test]
-fn rows_of_each_bound(rt: HostRuntime) -> io::Result<()> {
-    same!(rt; play_both::<_, 1_000>(&rt, OPENINGS[0], &OF_A_THOUSAND)?, [None; 2]);
-    same!(rt; play_both::<_, 65_535>(&rt, OPENINGS[1], &OF_THE_MOST)?, [None; 2]);
-    same!(rt; play_both::<_, 1>(&rt, OPENINGS[2], &OF_ONE)?, [None; 2]);
-    Ok(())
-}
-
-#[test]
-fn each_form_says_its_bound(rt: HostRuntime) {
-    let bounds = [
-        Semaphore::<&HostRuntime>::MAX_PERMITS,
-        SemaphoreOf::<&HostRuntime, 1>::MAX_PERMITS,
-        SemaphoreOf::<&HostRuntime, 1_000>::MAX_PERMITS,
-        SemaphoreOf::<&HostRuntime, 65_535>::MAX_PERMITS,
-    ];
-    same!(rt; bounds, [63, 1, 1_000, 65_535]);
-}
-
-// What a call for so many permits is told at a semaphore that has all of its own, and how many are left.
-fn ask_for<R: Wait + Drop, const MAX: usize>(
-    rt: R,
-    alloc: Global,
-    count: usize,
-) -> Result<(Result<bool, Full>, usize), AllocError>
-    requires bound { 0 < MAX }
-    requires narrow { MAX < 65536 }
-{
-    let semaphore = SemaphoreOf::<R, MAX>::new(rt, alloc, 1)?;
-    let told = semaphore.acquire_many_sync(count);
-    Ok((told, left(&semaphore)))
-}
-
-#[test]
-fn one_more_than_there_are_is_refused_at_once(rt: HostRuntime) -> io::Result<()> {
-    let one = ask_for::<_, 1>(&rt, rt.alloc(), 2)?;
-    let thousand = ask_for::<_, 1_000>(&rt, rt.alloc(), 1_001)?;
-    let most = ask_for::<_, 65_535>(&rt, rt.alloc(), 65_536)?;
-    let wanted = [(Ok(false), 1), (Ok(false), 1_000), (Ok(false), 65_535)];
-    same!(rt; [one, thousand, most], wanted);
-    Ok(())
+// The bounds that the forms have.
+fn bounds<R: Wait>(_rt: &R) -> [usize; 4] {
+    [
+        Semaphore::<&R>::MAX_PERMITS,
+        SemaphoreOf::<&R, 1>::MAX_PERMITS,
+        SemaphoreOf::<&R, 1_000>::MAX_PERMITS,
+        SemaphoreOf::<&R, 65_535>::MAX_PERMITS,
+    ]
 }
 
 // The only permit is taken where there is no room to wait, and given back: whether it was had, how many are left, whether another
@@ -310,11 +247,9 @@ fn take_the_only<R: Wait + Drop>(semaphore: &SemaphoreOf<R, 1>) -> (bool, usize,
     (is_had, beside, is_full, left(semaphore))
 }
 
-#[test]
-fn the_only_permit_is_given_back(rt: HostRuntime) -> io::Result<()> {
-    let semaphore = SemaphoreOf::<_, 1>::new(&rt, rt.alloc(), 0)?;
-    same!(rt; take_the_only(&semaphore), (true, 0, true, 1));
-    Ok(())
+// The same at a new semaphore of one permit.
+fn the_only<R: Wait>(rt: &R, alloc: Global) -> Result<(bool, usize, bool, usize), AllocError> {
+    Ok(take_the_only(&SemaphoreOf::<_, 1>::new(rt, alloc, 0)?))
 }
 
 // Takes 300 permits, and tells that it has ended.
@@ -352,10 +287,20 @@ fn give_beside<H: Wait + Threads + Sync, R: Wait + Drop + Sync>(
     )
 }
 
+// What both tell, and how many permits are left.
+fn granted_300<R: Wait + Threads + Sync>(
+    rt: &R,
+    alloc: Global,
+) -> Result<((Result<bool, Full>, bool), usize), AllocError> {
+    let semaphore = with_patience::<_, 1_000>(rt, alloc, 0, 1, NO_PATIENCE)?;
+    let told = give_beside(rt, &semaphore);
+    Ok((told, left(&semaphore)))
+}
+
 #[test]
-fn a_sleeper_is_granted_300_of_a_thousand(rt: HostRuntime) -> Result<(), Fail> {
-    let semaphore = sleepy::<_, 1_000>(&rt, rt.alloc(), 0)?;
-    same!(rt; give_beside(&rt, &semaphore), (Ok(true), true));
-    same!(rt; left(&semaphore), 0);
-    Ok(())
+fn each_bound_is_kept(rt: HostRuntime) {
+    same!(rt; play_both(&rt).ok(), Some([[None; 3]; 2]));
+    same!(rt; bounds(&rt), [63, 1, 1_000, 65_535]);
+    same!(rt; the_only(&rt, rt.alloc()).ok(), Some((true, 0, true, 1)));
+    same!(rt; granted_300(&rt, rt.alloc()).ok(), Some(((Ok(true), true), 0)));
 }

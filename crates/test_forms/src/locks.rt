@@ -5,22 +5,22 @@ use saa_core::ticket::{Full, Ticket};
 use saa_sync::lock::{Lock, Mode};
 use saa_sync::pager::{Error, Pager};
 use saa_sync::testing::{PATIENCE, Patience, Shell, hold, register};
-use std::alloc::{AllocError, Global};
+use std::alloc::{AllocError, AllocGlobal, Global};
 use std::sync::Wait;
 use std::sync::atomic::{AtomicU64, Ordering};
-use std::test::Fail;
 use std::thread;
 use std::thread::{Threads, yield_now};
 use test_asserts::same;
-use test_support::sleepers::{
-    By, End, Place, Sleepers, a_call_wakes_all_whom_it_answers, each_call_wakes_one,
-};
-use test_support::twins::{Form, Move, Way, every_list, moves};
+use test_support::sleepers::{By, Case, End, Made, Place, Sleepers, Wakes};
+use test_support::twins::{Form, Trial, TrialOf, Way};
+use test_support::{sleepers, twins};
 
 // A lock, for the trials.
 #[derive(Drop)]
 struct Tried<R: Wait + Drop> {
     lock: Lock<R>,
+    // Whether sleepers find it owned alone, and not shared.
+    is_owned: bool,
 }
 
 // A call that finds the room full looks before that, and there are many of these in all lists of moves.
@@ -28,18 +28,6 @@ const LITTLE: Patience = Patience {
     looks: 2,
     yields: 0,
 };
-
-// A free lock whose waiters have this patience.
-fn with_patience<R: Wait + Drop + Copy>(
-    rt: R,
-    alloc: Global,
-    room: u16,
-    patience: Patience,
-) -> Result<Tried<R>, AllocError> {
-    let core = LockCore::new(alloc, room)?;
-    let lock = Lock::on_shell(Shell::new(rt, alloc, core, room, patience)?);
-    Ok(Tried { lock })
-}
 
 // A lock of size 0 is owned alone from the start, so that nothing is available; else it is new.
 impl<R: Wait + Drop + Copy> Form for Tried<R> {
@@ -51,10 +39,11 @@ impl<R: Wait + Drop + Copy> Form for Tried<R> {
 
     fn make(rt: R, alloc: Global, size: usize, room: u16) -> Result<Self, AllocError> {
         let lock = Lock::with_patience(rt, alloc, room, LITTLE)?;
-        if size == 0 {
+        let is_owned = size == 0;
+        if is_owned {
             let _locked = lock.try_lock();
         }
-        Ok(Tried { lock })
+        Ok(Tried { lock, is_owned })
     }
 
     fn make_core(alloc: Global, size: usize, room: u16) -> Result<LockCore, AllocError> {
@@ -133,143 +122,115 @@ impl<R: Wait + Drop + Copy> Form for Tried<R> {
     }
 }
 
-static MODES: [Mode; 4] = [
-    Mode::Exclusive,
-    Mode::Shared,
-    Mode::WaitExclusive,
-    Mode::WaitShared,
+// Every move, at a lock that is owned alone and at a free one.
+const EVERY_MOVE: Trial<'static, LockCore> = TrialOf {
+    calls: &[
+        LockCall::TryLock,
+        LockCall::TryShare,
+        LockCall::ReleaseLock,
+        LockCall::ReleaseShare,
+        LockCall::Downgrade,
+        LockCall::PoisonLock,
+        LockCall::ClearPoison,
+        LockCall::IsFree,
+        LockCall::IsLocked,
+        LockCall::IsShared,
+        LockCall::IsPoisoned,
+    ],
+    short: &[],
+    asks: &[
+        Mode::Exclusive,
+        Mode::Shared,
+        Mode::WaitExclusive,
+        Mode::WaitShared,
+    ],
+    waits: &[
+        (Mode::Exclusive, Way::Plain),
+        (Mode::Shared, Way::Plain),
+        (Mode::Exclusive, Way::With),
+        (Mode::Shared, Way::With),
+    ],
+    sizes: &[0, 1],
+    length: 0,
+    wanted: (41, 6),
+};
+
+// The calls that change a lock, and what an owner asks.
+const OWNERS: Trial<'static, LockCore> = TrialOf {
+    calls: &[
+        LockCall::TryLock,
+        LockCall::TryShare,
+        LockCall::ReleaseLock,
+        LockCall::ReleaseShare,
+        LockCall::Downgrade,
+        LockCall::PoisonLock,
+        LockCall::ClearPoison,
+    ],
+    short: &[],
+    asks: &[Mode::Exclusive, Mode::Shared],
+    waits: &[],
+    sizes: &[1],
+    length: 4,
+    wanted: (25, 3 * 25 * 25 * 25 * 25),
+};
+
+static TRIALS: [Trial<'static, LockCore>; 6] = [
+    EVERY_MOVE,
+    TrialOf {
+        length: 1,
+        wanted: (41, 6 * 41),
+        ..EVERY_MOVE
+    },
+    TrialOf {
+        length: 2,
+        wanted: (41, 6 * 41 * 41),
+        ..EVERY_MOVE
+    },
+    TrialOf {
+        length: 3,
+        wanted: (41, 6 * 41 * 41 * 41),
+        ..EVERY_MOVE
+    },
+    // From a free lock, and from a locked one.
+    OWNERS,
+    TrialOf {
+        sizes: &[0],
+        ..OWNERS
+    },
 ];
 
-static CALLS: [LockCall; 11] = [
-    LockCall::TryLock,
-    LockCall::TryShare,
-    LockCall::ReleaseLock,
-    LockCall::ReleaseShare,
-    LockCall::Downgrade,
-    LockCall::PoisonLock,
-    LockCall::ClearPoison,
-    LockCall::IsFree,
-    LockCall::IsLocked,
-    LockCall::IsShared,
-    LockCall::IsPoisoned,
-];
-
-static WAITS: [(Mode, Way); 4] = [
-    (Mode::Exclusive, Way::Plain),
-    (Mode::Shared, Way::Plain),
-    (Mode::Exclusive, Way::With),
-    (Mode::Shared, Way::With),
-];
-
-// What a trial is made of: the calls that need no pager, the modes that pagers ask for, the calls that may wait, and the sizes of
-// the locks at first.
-#[derive(Clone, Copy)]
-struct Trial<'a> {
-    calls: &'a [LockCall],
-    modes: &'a [Mode],
-    waits: &'a [(Mode, Way)],
-    sizes: &'a [usize],
-}
-
-// How many moves there are, and how many lists of so many agree, from these sizes and with room for 0, 1 and 2, up to the first that
-// doesn't.
-fn agreeing<R: Wait>(
-    rt: &R,
-    alloc: Global,
-    trial: Trial<'_>,
-    length: u32,
-) -> Result<(usize, u64), AllocError> {
-    let Trial {
-        calls,
-        modes,
-        waits,
-        sizes,
-    } = trial;
-    let moves = moves::<LockCore>(alloc, calls, &[], modes, waits)?;
-    Ok((moves.len(), lists(rt, alloc, &moves, sizes, length)?))
-}
-
-fn lists<R: Wait>(
-    rt: &R,
-    alloc: Global,
-    moves: &[Move<LockCore>],
-    sizes: &[usize],
-    length: u32,
-) -> Result<u64, AllocError> {
-    let mut all = 0u64;
-    for size in sizes {
-        for room in 0..3 {
-            match every_list::<Tried<&R>>(rt, alloc, (*size, room), moves, length)? {
-                Ok(lists) => all = all.saturating_add(lists),
-                Err(number) => return Ok(all.saturating_add(number)),
-            }
-        }
-    }
-    Ok(all)
+// The first of these trials that tells otherwise.
+fn first_other<R: Wait + AllocGlobal>(rt: &R) -> Result<Option<(usize, (usize, u64))>, AllocError> {
+    twins::first_other::<Tried<&R>>(rt, rt.alloc(), &TRIALS)
 }
 
 #[test]
-fn short_lists_agree(rt: HostRuntime) -> Result<(), Fail> {
-    let trial = Trial {
-        calls: &CALLS,
-        modes: &MODES,
-        waits: &WAITS,
-        sizes: &[0, 1],
-    };
-    let wanted = [(0, 6), (1, 6 * 41), (2, 6 * 41 * 41), (3, 6 * 41 * 41 * 41)];
-    for (length, lists) in wanted {
-        same!(rt; agreeing(&rt, rt.alloc(), trial, length)?, (41, lists));
-    }
-    Ok(())
+fn every_list_agrees(rt: HostRuntime) {
+    same!(rt; first_other(&rt).ok(), Some(None));
 }
 
-// The calls that change a lock, and what an owner asks, from these sizes.
-fn owners_trial(sizes: &[usize]) -> Trial<'_> {
-    Trial {
-        calls: &CALLS[..7],
-        modes: &MODES[..2],
-        waits: &[],
-        sizes,
-    }
-}
+// A lock of size 0 is owned alone, so that nothing fits: its end answers all who want a share, up to the first who wants the lock alone;
+// and so does its downgrade. Any other is shared by one owner, so that nothing else than a share fits.
+impl<R: Wait + Drop + Copy + Sync> Made for Tried<R> {
+    type Lent = R;
 
-#[test]
-fn lists_of_four_agree_from_a_free_lock(rt: HostRuntime) -> Result<(), Fail> {
-    let told = agreeing(&rt, rt.alloc(), owners_trial(&[1]), 4)?;
-    same!(rt; told, (25, 3 * 25 * 25 * 25 * 25));
-    Ok(())
-}
-
-#[test]
-fn lists_of_four_agree_from_a_locked_lock(rt: HostRuntime) -> Result<(), Fail> {
-    let told = agreeing(&rt, rt.alloc(), owners_trial(&[0]), 4)?;
-    same!(rt; told, (25, 3 * 25 * 25 * 25 * 25));
-    Ok(())
-}
-
-// A lock that one owner shares, so that nothing else than a share fits.
-fn shared_lock<R: Wait + Drop + Copy>(
-    rt: R,
-    alloc: Global,
-    patience: Patience,
-) -> Result<Tried<R>, AllocError> {
-    let form = with_patience(rt, alloc, 104, patience)?;
-    let _shared = form.lock.try_share();
-    Ok(form)
-}
-
-// What is asked where, by a call: the lock alone ahead and as the wall, and a share behind.
-fn mode_at(place: Place) -> Mode {
-    match place {
-        Place::Ahead | Place::Wall => Mode::Exclusive,
-        Place::Behind => Mode::Shared,
+    fn made(
+        rt: R,
+        alloc: Global,
+        size: usize,
+        room: u16,
+        patience: Patience,
+    ) -> Result<Self, AllocError> {
+        let core = LockCore::new(alloc, room)?;
+        let shell = Shell::new(rt, alloc, core, room, patience)?;
+        Ok(Tried::had(Lock::on_shell(shell), size == 0))
     }
 }
 
 impl<R: Wait + Drop + Sync> Sleepers for Tried<R> {
     fn register_at(&self, ticket: &mut Ticket, place: Place) -> bool {
         let shell = self.lock.shell();
-        matches!(register(shell, ticket, mode_at(place), true), Ok(true))
+        matches!(register(shell, ticket, self.mode_at(place), true), Ok(true))
     }
 
     fn give_up(&self, ticket: Ticket, is_cancelled: bool) {
@@ -280,13 +241,15 @@ impl<R: Wait + Drop + Sync> Sleepers for Tried<R> {
         }
     }
 
-    // Whoever has it gives it back.
-    fn answer(&self, _is_short: bool) {
-        if self.lock.is_shared(Ordering::SeqCst) {
-            let _is_released = self.lock.release_share();
+    // Whoever has it gives it back; of a lock that was owned alone the short call is the release, and the long one the downgrade.
+    fn answer(&self, is_short: bool) {
+        let _is_answered = if self.is_owned && !is_short {
+            self.lock.downgrade()
+        } else if self.lock.is_shared(Ordering::SeqCst) {
+            self.lock.release_share()
         } else {
-            let _is_released = self.lock.release_lock();
-        }
+            self.lock.release_lock()
+        };
     }
 
     fn wait_at(&self, place: Place, by: By, joined: &AtomicU64) -> bool {
@@ -300,16 +263,32 @@ impl<R: Wait + Drop + Sync> Sleepers for Tried<R> {
         }
     }
 
-    fn asleep(&self) -> usize {
-        self.lock.shell().asleep()
-    }
-
-    fn rung(&self) -> usize {
-        self.lock.shell().rung()
+    fn seats(&self) -> (usize, usize) {
+        let shell = self.lock.shell();
+        (shell.asleep(), shell.rung())
     }
 }
 
 impl<R: Wait + Drop> Tried<R> {
+    // A free lock that is owned alone from now on, or shared by one.
+    fn had(lock: Lock<R>, is_owned: bool) -> Self {
+        let _is_had = if is_owned {
+            lock.try_lock()
+        } else {
+            lock.try_share()
+        };
+        Tried { lock, is_owned }
+    }
+
+    // What is asked where, by a call: what doesn't fit yet ahead, the lock alone as the wall, and a share behind.
+    fn mode_at(&self, place: Place) -> Mode {
+        match place {
+            Place::Ahead if self.is_owned => Mode::Shared,
+            Place::Ahead | Place::Wall => Mode::Exclusive,
+            Place::Behind => Mode::Shared,
+        }
+    }
+
     // Waits by a pager: behind for what takes nothing, so that any number of them can.
     fn wait_by_pager(&self, place: Place, joined: &AtomicU64) -> bool {
         let mode = match place {
@@ -349,208 +328,102 @@ const NO_PATIENCE: Patience = Patience {
     yields: 0,
 };
 
-// Whether one end wakes so many sleepers.
-fn is_right_at_once<R: Wait + Threads + Sync>(
+// At a lock that is shared: one ahead wants it alone, and all behind a share.
+const AT_ONCE: Case = Case {
+    size: 1,
+    room: 104,
+    patience: NO_PATIENCE,
+    by: By::Call,
+    counts: &[1, 2, 3, 48],
+    wakes: &[Wakes::AtOnce(End::Cancel), Wakes::AtOnce(End::Forget)],
+};
+
+// There each call wakes one that wants it alone.
+const IN_TURN: Case = Case {
+    wakes: &[Wakes::InTurn],
+    ..AT_ONCE
+};
+
+// At a lock that is owned alone, whose end and whose downgrade wake all who want a share.
+const OWNED: Case = Case {
+    size: 0,
+    room: 104,
+    wakes: &[
+        Wakes::AtOnce(End::Call(true)),
+        Wakes::AtOnce(End::Call(false)),
+    ],
+    ..AT_ONCE
+};
+
+static CASES: [Case; 11] = [
+    AT_ONCE,
+    IN_TURN,
+    Case {
+        by: By::Plain,
+        ..AT_ONCE
+    },
+    Case {
+        by: By::Plain,
+        ..IN_TURN
+    },
+    Case {
+        by: By::Poll,
+        counts: &[1, 2, 3, 48, 100],
+        ..AT_ONCE
+    },
+    Case {
+        by: By::Poll,
+        ..IN_TURN
+    },
+    Case {
+        patience: PATIENCE,
+        ..AT_ONCE
+    },
+    Case {
+        patience: PATIENCE,
+        ..IN_TURN
+    },
+    OWNED,
+    Case {
+        by: By::Plain,
+        ..OWNED
+    },
+    Case {
+        by: By::Poll,
+        ..OWNED
+    },
+];
+
+// The first of these cases that goes wrong.
+fn first_wrong<R: Wait + Threads + Sync + AllocGlobal>(
     rt: &R,
-    alloc: Global,
-    patience: Patience,
-    by: By,
-    (count, end): (u64, End),
-) -> Result<bool, AllocError> {
-    let form = shared_lock(rt, alloc, patience)?;
-    let is_patient = patience.looks != 0;
-    Ok(a_call_wakes_all_whom_it_answers(rt, &form, is_patient, count, by, end))
-}
-
-// Whether so many calls wake so many sleepers, one by one.
-fn is_right_in_turn<R: Wait + Threads + Sync>(
-    rt: &R,
-    alloc: Global,
-    patience: Patience,
-    by: By,
-    count: u64,
-) -> Result<bool, AllocError> {
-    let form = shared_lock(rt, alloc, patience)?;
-    let is_patient = patience.looks != 0;
-    Ok(each_call_wakes_one(rt, &form, is_patient, count, by))
-}
-
-// These numbers of sleepers, and each way to answer them; the number where one went wrong, or 0.
-fn wrong_wakes<R: Wait + Threads + Sync>(
-    rt: &R,
-    alloc: Global,
-    patience: Patience,
-    by: By,
-    counts: &[u64],
-) -> Result<u64, AllocError> {
-    for count in counts {
-        for end in [End::Cancel, End::Forget] {
-            if !is_right_at_once(rt, alloc, patience, by, (*count, end))? {
-                return Ok(*count);
-            }
-        }
-    }
-    for count in [1, 2, 3, 48] {
-        if !is_right_in_turn(rt, alloc, patience, by, count)? {
-            return Ok(count);
-        }
-    }
-    Ok(0)
-}
-
-#[test]
-fn sleeping_calls_wake(rt: HostRuntime) -> Result<(), Fail> {
-    same!(rt; wrong_wakes(&rt, rt.alloc(), NO_PATIENCE, By::Call, &[1, 2, 3, 48])?, 0);
-    Ok(())
-}
-
-#[test]
-fn sleeping_plain_calls_wake(rt: HostRuntime) -> Result<(), Fail> {
-    same!(rt; wrong_wakes(&rt, rt.alloc(), NO_PATIENCE, By::Plain, &[1, 2, 3, 48])?, 0);
-    Ok(())
-}
-
-#[test]
-fn sleeping_polls_wake(rt: HostRuntime) -> Result<(), Fail> {
-    same!(rt; wrong_wakes(&rt, rt.alloc(), NO_PATIENCE, By::Poll, &[1, 2, 3, 48, 100])?, 0);
-    Ok(())
-}
-
-#[test]
-fn waiting_calls_wake(rt: HostRuntime) -> Result<(), Fail> {
-    same!(rt; wrong_wakes(&rt, rt.alloc(), PATIENCE, By::Call, &[1, 2, 3, 48])?, 0);
-    Ok(())
-}
-
-// A lock that one owner has. Its end answers all who want a share, up to the first who wants the lock alone; and so does
-// its downgrade.
-#[derive(Drop)]
-struct Owned<R: Wait + Drop> {
-    form: Tried<R>,
-}
-
-// What is asked where, at a lock that one owner has.
-fn owned_mode_at(place: Place) -> Mode {
-    match place {
-        Place::Ahead | Place::Behind => Mode::Shared,
-        Place::Wall => Mode::Exclusive,
-    }
-}
-
-impl<R: Wait + Drop + Sync> Sleepers for Owned<R> {
-    fn register_at(&self, ticket: &mut Ticket, place: Place) -> bool {
-        let mode = owned_mode_at(place);
-        let shell = self.form.lock.shell();
-        matches!(register(shell, ticket, mode, true), Ok(true))
-    }
-
-    fn give_up(&self, ticket: Ticket, is_cancelled: bool) {
-        self.form.give_up(ticket, is_cancelled);
-    }
-
-    // The short call is the release, the long one the downgrade.
-    fn answer(&self, is_short: bool) {
-        if is_short {
-            let _is_released = self.form.lock.release_lock();
-        } else {
-            let _is_lowered = self.form.lock.downgrade();
-        }
-    }
-
-    fn wait_at(&self, _place: Place, by: By, joined: &AtomicU64) -> bool {
-        match by {
-            By::Call => self.form.wait_with(Place::Behind, joined),
-            By::Plain => {
-                joined.fetch_add(1, Ordering::SeqCst);
-                self.form.wait_plainly(Place::Behind)
-            }
-            By::Poll => self.form.wait_by_pager(Place::Behind, joined),
-        }
-    }
-
-    fn asleep(&self) -> usize {
-        self.form.asleep()
-    }
-
-    fn rung(&self) -> usize {
-        self.form.rung()
-    }
-}
-
-// Whether so many sleepers who want a share of a lock that one owner has wake by its release, or its downgrade.
-fn is_shared_at_once<R: Wait + Threads + Sync>(
-    rt: &R,
-    alloc: Global,
-    is_release: bool,
-    count: u64,
-    by: By,
-) -> Result<bool, AllocError> {
-    let form = with_patience(rt, alloc, 104, NO_PATIENCE)?;
-    let _locked = form.lock.try_lock();
-    let owned = Owned { form };
-    let end = End::Call(is_release);
-    Ok(a_call_wakes_all_whom_it_answers(rt, &owned, false, count, by, end))
-}
-
-// These numbers of such sleepers, in each way; the number where one went wrong, or 0.
-fn wrong_shares<R: Wait + Threads + Sync>(
-    rt: &R,
-    alloc: Global,
-    is_release: bool,
-    counts: &[u64],
-) -> Result<u64, AllocError> {
-    for count in counts {
-        for by in [By::Call, By::Plain, By::Poll] {
-            if !is_shared_at_once(rt, alloc, is_release, *count, by)? {
-                return Ok(*count);
-            }
-        }
-    }
-    Ok(0)
-}
-
-#[test]
-fn the_end_of_an_owner_wakes_all_who_share_then(rt: HostRuntime) -> Result<(), Fail> {
-    same!(rt; wrong_shares(&rt, rt.alloc(), true, &[1, 2, 3, 48])?, 0);
-    Ok(())
-}
-
-#[test]
-fn the_downgrade_of_an_owner_wakes_all_who_share_then(rt: HostRuntime) -> Result<(), Fail> {
-    same!(rt; wrong_shares(&rt, rt.alloc(), false, &[1, 2, 3, 48])?, 0);
-    Ok(())
+) -> Result<Option<(usize, u64)>, AllocError> {
+    sleepers::first_wrong::<Tried<&R>, R>(rt, rt, rt.alloc(), &CASES)
 }
 
 // So many sleepers at a lock that one owner has, who wait in every way in turn, and poison: how many were told that it is
 // poisoned.
-fn told_of_poison<R: Wait + Threads + Sync>(
-    rt: &R,
-    alloc: Global,
+fn told_of_poison<H: Wait + Threads + Sync, R: Wait + Drop + Sync>(
+    rt: &H,
+    form: &Tried<R>,
     count: u16,
-) -> Result<u64, AllocError> {
-    let Tried { lock } = with_patience(rt, alloc, count, NO_PATIENCE)?;
-    let _locked = lock.try_lock();
+) -> u64 {
     let told = AtomicU64::new(0);
-    let (shared, told_by) = (&lock, &told);
+    let told_by = &told;
     thread::scope(thread::scope_env(), rt, |scope| {
-        let mut started = 0usize;
+        let mut started = 0u64;
         for way in 0..count {
             if scope
-                .spawn(move || count_poisoned(shared, way, told_by))
+                .spawn(move || count_poisoned(&form.lock, way, told_by))
                 .is_ok()
             {
                 started = started.saturating_add(1);
             }
         }
-        for _ in rt.forever() {
-            if shared.shell().asleep() >= started {
-                break;
-            }
-            yield_now();
-        }
-        let _is_poisoned = shared.poison_lock();
+        sleepers::await_asleep(rt, form, started);
+        let _is_poisoned = form.lock.poison_lock();
     });
-    Ok(told.load(Ordering::SeqCst))
+    told.load(Ordering::SeqCst)
 }
 
 // Waits in a way, and counts where the lock is poisoned meanwhile.
@@ -577,10 +450,22 @@ fn poll_in_mode<R: Wait + Drop>(lock: &Lock<R>, mode: Mode) -> Result<bool, Full
     Ok(true)
 }
 
-#[test]
-fn poison_wakes_all(rt: HostRuntime) -> Result<(), Fail> {
+// The first of these numbers of sleepers at which not all were told of poison, and how many were.
+fn first_untold<R: Wait + Threads + Sync + AllocGlobal>(
+    rt: &R,
+) -> Result<Option<(u16, u64)>, AllocError> {
     for count in [1, 2, 3, 6, 48] {
-        same!(rt; told_of_poison(&rt, rt.alloc(), count)?, u64::from(count));
+        let form = Tried::made(rt, rt.alloc(), 0, count, NO_PATIENCE)?;
+        let told = told_of_poison(rt, &form, count);
+        if told != u64::from(count) {
+            return Ok(Some((count, told)));
+        }
     }
-    Ok(())
+    Ok(None)
+}
+
+#[test]
+fn sleepers_wake(rt: HostRuntime) {
+    same!(rt; first_wrong(&rt).ok(), Some(None));
+    same!(rt; first_untold(&rt).ok(), Some(None));
 }

@@ -2,23 +2,19 @@
 //!
 //! What is called stands in tables, row by row: a call in a test's text is proved there anew, and one in a row costs no proof.
 
-ghost use Rattle.std.specs.Prelude.{◌<◌};
-
 use crate::permits::Call::{
     Acquire, Cancel, Forget, Left, LetGo, Poll, Register, Release, TryAcquire,
 };
 use crate::permits::Told::{Asked, Count, Granted, Is, Nothing, Taken};
 use crate::permits::Who::{First, Second, Third};
-use saa_core::semaphore::SemaphoreCoreOf;
+use crate::semaphores::{NO_PATIENCE, with_patience};
 use saa_core::ticket::Full;
 use saa_sync::pager::{Error, Pager};
 use saa_sync::permit::Permit;
 use saa_sync::semaphore::{Semaphore, SemaphoreOf};
-use saa_sync::testing::{Patience, Shell};
-use std::alloc::{AllocError, Global};
+use std::alloc::{AllocError, AllocGlobal, Global};
 use std::sync::Wait;
 use std::sync::atomic::{AtomicBool, Ordering};
-use std::test::Fail;
 use std::thread;
 use std::thread::{Threads, yield_now};
 use test_asserts::same;
@@ -63,7 +59,7 @@ enum Call {
 }
 
 // What a call tells.
-#[derive(Clone, Copy, Debug, PartialEq)]
+#[derive(Clone, Copy, PartialEq)]
 enum Told {
     // Nothing: what it speaks of went.
     Nothing,
@@ -156,98 +152,105 @@ impl<'s, R: Wait + Drop> Desk<'s, R> {
     }
 }
 
-// Plays a story; the first row that was told otherwise, counted from 0, and what it was told.
-fn first_other<R: Wait + Drop>(
-    desk: &mut Desk<'_, R>,
-    story: &[(Call, Told)],
-) -> Option<(usize, Told)> {
-    for (row, (call, wanted)) in story.iter().enumerate() {
-        let told = desk.answer(*call);
-        if told != *wanted {
-            return Some((row, told));
+// What happens at a new semaphore.
+#[derive(Clone, Copy)]
+struct Story {
+    name: &'static str,
+    // How many permits it has, and for how many waiters it has room.
+    permits: usize,
+    room: u16,
+    rows: &'static [(Call, Told)],
+}
+
+// Plays rows; the first that was told otherwise, counted from 0.
+fn first_other<R: Wait + Drop>(desk: &mut Desk<'_, R>, rows: &[(Call, Told)]) -> Option<usize> {
+    for (row, (call, wanted)) in rows.iter().enumerate() {
+        if desk.answer(*call) != *wanted {
+            return Some(row);
         }
     }
     None
 }
 
-// Plays a story at a fresh semaphore of so many permits, with room for so many waiters; the first row that was told otherwise.
-fn played<R: Wait + Drop>(
-    rt: R,
-    alloc: Global,
-    permits: usize,
-    room: u16,
-    story: &[(Call, Told)],
-) -> Result<Option<(usize, Told)>, AllocError> {
-    let semaphore = Semaphore::with_permits(rt, alloc, permits, room)?;
+// Plays rows at a new semaphore.
+fn played<R: Wait + Drop>(semaphore: &Semaphore<R>, rows: &[(Call, Told)]) -> Option<usize> {
     let mut desk = Desk {
-        semaphore: &semaphore,
+        semaphore,
         first: None,
         second: None,
         third: None,
         pager: Pager::new(),
     };
-    Ok(first_other(&mut desk, story))
+    first_other(&mut desk, rows)
 }
 
-// With both permits out nothing is available, and there is no room to wait.
-static IT_IS_GIVEN_BACK: [(Call, Told); 11] = [
-    (TryAcquire(First), Is(true)),
-    (Left, Count(1)),
-    (Acquire(Second), Taken(Ok(()))),
-    (Left, Count(0)),
-    (TryAcquire(Third), Is(false)),
-    (Acquire(Third), Taken(Err(Full))),
-    (Left, Count(0)),
-    (LetGo(First), Nothing),
-    (Left, Count(1)),
-    (LetGo(Second), Nothing),
-    (Left, Count(2)),
+// The first story in which a row was told otherwise, and that row.
+fn first_story<R: Wait + AllocGlobal>(rt: &R) -> Result<Option<(&'static str, usize)>, AllocError> {
+    for story in &STORIES {
+        let semaphore = Semaphore::with_permits(rt, rt.alloc(), story.permits, story.room)?;
+        if let Some(other) = played(&semaphore, story.rows) {
+            return Ok(Some((story.name, other)));
+        }
+    }
+    Ok(None)
+}
+
+static STORIES: [Story; 3] = [
+    // With both permits out nothing is available, and there is no room to wait.
+    Story {
+        name: "a permit is given back when it goes",
+        permits: 2,
+        room: 0,
+        rows: &[
+            (TryAcquire(First), Is(true)),
+            (Left, Count(1)),
+            (Acquire(Second), Taken(Ok(()))),
+            (Left, Count(0)),
+            (TryAcquire(Third), Is(false)),
+            (Acquire(Third), Taken(Err(Full))),
+            (Left, Count(0)),
+            (LetGo(First), Nothing),
+            (Left, Count(1)),
+            (LetGo(Second), Nothing),
+            (Left, Count(2)),
+        ],
+    },
+    // There is room to wait, and a try doesn't.
+    Story {
+        name: "a forgotten permit stays out",
+        permits: 2,
+        room: 2,
+        rows: &[
+            (Acquire(First), Taken(Ok(()))),
+            (TryAcquire(Second), Is(true)),
+            (TryAcquire(Third), Is(false)),
+            (Register(1, true), Asked(Ok(true))),
+            (Forget(First), Is(true)),
+            (Poll, Granted(Err(Error::NotReady))),
+            (Forget(Second), Is(true)),
+            (Poll, Granted(Err(Error::NotReady))),
+            (Left, Count(0)),
+            (Release, Is(true)),
+            (Poll, Granted(Ok(()))),
+            (Left, Count(0)),
+        ],
+    },
+    Story {
+        name: "no permit passes a waiter",
+        permits: 2,
+        room: 1,
+        rows: &[
+            (Register(3, false), Asked(Ok(true))),
+            (TryAcquire(First), Is(false)),
+            (Acquire(First), Taken(Err(Full))),
+            (Left, Count(2)),
+            (Cancel, Nothing),
+            (TryAcquire(First), Is(true)),
+            (LetGo(First), Nothing),
+            (Left, Count(2)),
+        ],
+    },
 ];
-
-#[test]
-fn a_permit_is_given_back_when_it_goes(rt: HostRuntime) -> Result<(), Fail> {
-    same!(rt; played(&rt, rt.alloc(), 2, 0, &IT_IS_GIVEN_BACK)?, None);
-    Ok(())
-}
-
-// There is room to wait, and a try doesn't.
-static FORGOTTEN: [(Call, Told); 12] = [
-    (Acquire(First), Taken(Ok(()))),
-    (TryAcquire(Second), Is(true)),
-    (TryAcquire(Third), Is(false)),
-    (Register(1, true), Asked(Ok(true))),
-    (Forget(First), Is(true)),
-    (Poll, Granted(Err(Error::NotReady))),
-    (Forget(Second), Is(true)),
-    (Poll, Granted(Err(Error::NotReady))),
-    (Left, Count(0)),
-    (Release, Is(true)),
-    (Poll, Granted(Ok(()))),
-    (Left, Count(0)),
-];
-
-#[test]
-fn a_forgotten_permit_stays_out(rt: HostRuntime) -> Result<(), Fail> {
-    same!(rt; played(&rt, rt.alloc(), 2, 2, &FORGOTTEN)?, None);
-    Ok(())
-}
-
-static BEHIND_A_WAITER: [(Call, Told); 8] = [
-    (Register(3, false), Asked(Ok(true))),
-    (TryAcquire(First), Is(false)),
-    (Acquire(First), Taken(Err(Full))),
-    (Left, Count(2)),
-    (Cancel, Nothing),
-    (TryAcquire(First), Is(true)),
-    (LetGo(First), Nothing),
-    (Left, Count(2)),
-];
-
-#[test]
-fn no_permit_passes_a_waiter(rt: HostRuntime) -> Result<(), Fail> {
-    same!(rt; played(&rt, rt.alloc(), 2, 1, &BEHIND_A_WAITER)?, None);
-    Ok(())
-}
 
 // Takes a permit, and tells how many are available while it has it.
 fn left_beside<R: Wait + Drop>(semaphore: &Semaphore<R>, has_ended: &AtomicBool) -> Option<usize> {
@@ -286,24 +289,6 @@ fn let_go<R: Wait + Drop>(
     is_first
 }
 
-/// A semaphore of so many permits with room for one waiter, which parks at once.
-pub fn sleepy<R: Wait + Drop, const MAX: usize>(
-    rt: R,
-    alloc: Global,
-    permits: usize,
-) -> Result<SemaphoreOf<R, MAX>, AllocError>
-    requires bound { 0 < MAX }
-    requires narrow { MAX < 65536 }
-{
-    let core = SemaphoreCoreOf::<MAX>::with_permits(alloc, permits, 1)?;
-    let no_patience = Patience {
-        looks: 0,
-        yields: 0,
-    };
-    let shell = Shell::new(rt, alloc, core, 1, no_patience)?;
-    Ok(SemaphoreOf::on_shell(shell))
-}
-
 // One permit is taken, and goes once another thread sleeps for it: how many are available while that has it, and whether it slept.
 fn go_beside<H: Wait + Threads + Sync, R: Wait + Drop + Sync>(
     rt: &H,
@@ -318,10 +303,18 @@ fn go_beside<H: Wait + Threads + Sync, R: Wait + Drop + Sync>(
     ))
 }
 
+// What both tell, and how many permits are left.
+fn woken_by_permit<R: Wait + Threads + Sync>(
+    rt: &R,
+    alloc: Global,
+) -> Result<(Result<(Option<usize>, bool), Full>, usize), AllocError> {
+    let semaphore = with_patience::<_, 63>(rt, alloc, 1, 1, NO_PATIENCE)?;
+    let told = go_beside(rt, &semaphore);
+    Ok((told, left(&semaphore)))
+}
+
 #[test]
-fn a_permit_that_goes_wakes_who_sleeps(rt: HostRuntime) -> Result<(), Fail> {
-    let semaphore = sleepy::<_, 63>(&rt, rt.alloc(), 1)?;
-    same!(rt; go_beside(&rt, &semaphore), Ok((Some(0), true)));
-    same!(rt; left(&semaphore), 1);
-    Ok(())
+fn permits_are_told(rt: HostRuntime) {
+    same!(rt; first_story(&rt).ok(), Some(None));
+    same!(rt; woken_by_permit(&rt, rt.alloc()).ok(), Some((Ok((Some(0), true)), 1)));
 }

@@ -1,22 +1,22 @@
 //! The threaded semaphore beside its core, over every list of moves, and tasks that sleep at it and are woken.
 
-use saa_core::semaphore::{SemaphoreAnswer, SemaphoreCall, SemaphoreCore};
+ghost use Rattle.std.specs.Prelude.{◌<◌};
+
+use saa_core::semaphore::{SemaphoreAnswer, SemaphoreCall, SemaphoreCore, SemaphoreCoreOf};
 use saa_core::ticket::{Full, Ticket};
 use saa_sync::pager::{Error, Pager};
-use saa_sync::semaphore::Semaphore;
+use saa_sync::semaphore::{Semaphore, SemaphoreOf};
 use saa_sync::testing::{PATIENCE, Patience, Shell, hold, register};
-use std::alloc::{AllocError, Global};
+use std::alloc::{AllocError, AllocGlobal, Global};
 use std::hint::spin_loop;
 use std::sync::Wait;
 use std::sync::atomic::{AtomicU64, Ordering};
-use std::test::Fail;
 use std::thread;
 use std::thread::Threads;
 use test_asserts::same;
-use test_support::sleepers::{
-    By, End, Place, Sleepers, a_call_wakes_all_whom_it_answers, each_call_wakes_one,
-};
-use test_support::twins::{Form, Move, Way, every_list, moves};
+use test_support::sleepers::{By, Case, End, Made, Place, Sleepers, Wakes};
+use test_support::twins::{Form, Trial, TrialOf, Way};
+use test_support::{sleepers, twins};
 
 // A semaphore, for the trials.
 #[derive(Drop)]
@@ -30,17 +30,19 @@ const LITTLE: Patience = Patience {
     yields: 0,
 };
 
-// A semaphore whose waiters have this patience.
-fn with_patience<R: Wait + Drop + Copy>(
+/// A semaphore whose waiters have this patience.
+pub fn with_patience<R: Wait + Drop, const MAX: usize>(
     rt: R,
     alloc: Global,
     permits: usize,
     room: u16,
     patience: Patience,
-) -> Result<Tried<R>, AllocError> {
-    let core = SemaphoreCore::with_permits(alloc, permits, room)?;
-    let semaphore = Semaphore::on_shell(Shell::new(rt, alloc, core, room, patience)?);
-    Ok(Tried { semaphore })
+) -> Result<SemaphoreOf<R, MAX>, AllocError>
+    requires bound { 0 < MAX }
+    requires narrow { MAX < 65536 }
+{
+    let core = SemaphoreCoreOf::<MAX>::with_permits(alloc, permits, room)?;
+    Ok(SemaphoreOf::on_shell(Shell::new(rt, alloc, core, room, patience)?))
 }
 
 impl<R: Wait + Drop + Copy> Form for Tried<R> {
@@ -196,271 +198,234 @@ impl<R: Wait + Drop + Sync> Sleepers for Tried<R> {
         }
     }
 
-    fn asleep(&self) -> usize {
-        self.semaphore.shell().asleep()
-    }
-
-    fn rung(&self) -> usize {
-        self.semaphore.shell().rung()
+    fn seats(&self) -> (usize, usize) {
+        let shell = self.semaphore.shell();
+        (shell.asleep(), shell.rung())
     }
 }
 
-// What a trial is made of: the calls that need no pager, the counts that pagers ask for, the calls that may wait, and the sizes of
-// the semaphores at first.
-#[derive(Clone, Copy)]
-struct Trial<'a> {
-    calls: &'a [SemaphoreCall],
-    counts: &'a [usize],
-    waits: &'a [(usize, Way)],
-    sizes: &'a [usize],
-}
-
-static SHORT: [SemaphoreCall; 2] = [
-    SemaphoreCall::TryAcquireMany(1),
-    SemaphoreCall::ReleaseMany(1),
-];
-
-static COUNTS: [usize; 7] = [0, 1, 2, 62, 63, 64, 300];
-
-// A try and a release of each of these counts, and the rest.
-static CALLS: [SemaphoreCall; 17] = [
-    SemaphoreCall::TryAcquireMany(0),
-    SemaphoreCall::ReleaseMany(0),
-    SemaphoreCall::TryAcquireMany(1),
-    SemaphoreCall::ReleaseMany(1),
-    SemaphoreCall::TryAcquireMany(2),
-    SemaphoreCall::ReleaseMany(2),
-    SemaphoreCall::TryAcquireMany(62),
-    SemaphoreCall::ReleaseMany(62),
-    SemaphoreCall::TryAcquireMany(63),
-    SemaphoreCall::ReleaseMany(63),
-    SemaphoreCall::TryAcquireMany(64),
-    SemaphoreCall::ReleaseMany(64),
-    SemaphoreCall::TryAcquireMany(300),
-    SemaphoreCall::ReleaseMany(300),
-    SemaphoreCall::AvailablePermits,
-    SemaphoreCall::IsOpen,
-    SemaphoreCall::IsClosed,
-];
-
-static WAITS: [(usize, Way); 10] = [
-    (1, Way::Short),
-    (1, Way::ShortWith),
-    (0, Way::Plain),
-    (1, Way::Plain),
-    (62, Way::Plain),
-    (63, Way::Plain),
-    (64, Way::Plain),
-    (1, Way::With),
-    (63, Way::With),
-    (300, Way::With),
-];
+// A try and a release of each of some counts, and the rest.
+const EVERY_MOVE: Trial<'static, SemaphoreCore> = TrialOf {
+    calls: &[
+        SemaphoreCall::TryAcquireMany(0),
+        SemaphoreCall::ReleaseMany(0),
+        SemaphoreCall::TryAcquireMany(1),
+        SemaphoreCall::ReleaseMany(1),
+        SemaphoreCall::TryAcquireMany(2),
+        SemaphoreCall::ReleaseMany(2),
+        SemaphoreCall::TryAcquireMany(62),
+        SemaphoreCall::ReleaseMany(62),
+        SemaphoreCall::TryAcquireMany(63),
+        SemaphoreCall::ReleaseMany(63),
+        SemaphoreCall::TryAcquireMany(64),
+        SemaphoreCall::ReleaseMany(64),
+        SemaphoreCall::TryAcquireMany(300),
+        SemaphoreCall::ReleaseMany(300),
+        SemaphoreCall::AvailablePermits,
+        SemaphoreCall::IsOpen,
+        SemaphoreCall::IsClosed,
+    ],
+    short: &[
+        SemaphoreCall::TryAcquireMany(1),
+        SemaphoreCall::ReleaseMany(1),
+    ],
+    asks: &[0, 1, 2, 62, 63, 64, 300],
+    waits: &[
+        (1, Way::Short),
+        (1, Way::ShortWith),
+        (0, Way::Plain),
+        (1, Way::Plain),
+        (62, Way::Plain),
+        (63, Way::Plain),
+        (64, Way::Plain),
+        (1, Way::With),
+        (63, Way::With),
+        (300, Way::With),
+    ],
+    sizes: &[0, 1, 63, 64, 300, usize::MAX],
+    length: 0,
+    wanted: (67, 18),
+};
 
 // The same of few counts: many are available, or none.
-static MANY: [usize; 3] = [0, 1, 63];
+const MANY: Trial<'static, SemaphoreCore> = TrialOf {
+    calls: &[
+        SemaphoreCall::TryAcquireMany(0),
+        SemaphoreCall::ReleaseMany(0),
+        SemaphoreCall::TryAcquireMany(1),
+        SemaphoreCall::ReleaseMany(1),
+        SemaphoreCall::TryAcquireMany(63),
+        SemaphoreCall::ReleaseMany(63),
+        SemaphoreCall::AvailablePermits,
+        SemaphoreCall::IsOpen,
+        SemaphoreCall::IsClosed,
+    ],
+    asks: &[0, 1, 63],
+    waits: &[(1, Way::Plain)],
+    sizes: &[63],
+    length: 4,
+    wanted: (34, 3 * 34 * 34 * 34 * 34),
+    ..EVERY_MOVE
+};
 
-static MANY_CALLS: [SemaphoreCall; 9] = [
-    SemaphoreCall::TryAcquireMany(0),
-    SemaphoreCall::ReleaseMany(0),
-    SemaphoreCall::TryAcquireMany(1),
-    SemaphoreCall::ReleaseMany(1),
-    SemaphoreCall::TryAcquireMany(63),
-    SemaphoreCall::ReleaseMany(63),
-    SemaphoreCall::AvailablePermits,
-    SemaphoreCall::IsOpen,
-    SemaphoreCall::IsClosed,
-];
+const FEW: Trial<'static, SemaphoreCore> = TrialOf {
+    calls: &[
+        SemaphoreCall::TryAcquireMany(0),
+        SemaphoreCall::ReleaseMany(0),
+        SemaphoreCall::TryAcquireMany(1),
+        SemaphoreCall::ReleaseMany(1),
+        SemaphoreCall::TryAcquireMany(2),
+        SemaphoreCall::ReleaseMany(2),
+        SemaphoreCall::AvailablePermits,
+        SemaphoreCall::IsOpen,
+        SemaphoreCall::IsClosed,
+    ],
+    asks: &[0, 1, 2],
+    sizes: &[0],
+    ..MANY
+};
 
-static FEW: [usize; 3] = [0, 1, 2];
-
-static FEW_CALLS: [SemaphoreCall; 9] = [
-    SemaphoreCall::TryAcquireMany(0),
-    SemaphoreCall::ReleaseMany(0),
-    SemaphoreCall::TryAcquireMany(1),
-    SemaphoreCall::ReleaseMany(1),
-    SemaphoreCall::TryAcquireMany(2),
-    SemaphoreCall::ReleaseMany(2),
-    SemaphoreCall::AvailablePermits,
-    SemaphoreCall::IsOpen,
-    SemaphoreCall::IsClosed,
-];
-
-// How many moves there are, and how many lists of so many agree, from each of the sizes and with room for 0, 1 and 2, up to the
-// first that doesn't.
-fn agreeing<R: Wait>(
-    rt: &R,
-    alloc: Global,
-    trial: Trial<'_>,
-    length: u32,
-) -> Result<(usize, u64), AllocError> {
-    let Trial {
-        calls,
-        counts,
-        waits,
-        sizes,
-    } = trial;
-    let moves = moves::<SemaphoreCore>(alloc, calls, &SHORT, counts, waits)?;
-    Ok((moves.len(), lists(rt, alloc, &moves, sizes, length)?))
-}
-
-fn lists<R: Wait>(
-    rt: &R,
-    alloc: Global,
-    moves: &[Move<SemaphoreCore>],
-    sizes: &[usize],
-    length: u32,
-) -> Result<u64, AllocError> {
-    let mut all = 0u64;
-    for size in sizes {
-        for room in 0..3 {
-            match every_list::<Tried<&R>>(rt, alloc, (*size, room), moves, length)? {
-                Ok(lists) => all = all.saturating_add(lists),
-                Err(number) => return Ok(all.saturating_add(number)),
-            }
-        }
-    }
-    Ok(all)
-}
-
-// All calls, from these sizes.
-fn whole_trial(sizes: &[usize]) -> Trial<'_> {
-    Trial {
-        calls: &CALLS,
-        counts: &COUNTS,
-        waits: &WAITS,
-        sizes,
-    }
-}
-
-#[test]
-fn short_lists_agree_from_every_size(rt: HostRuntime) -> Result<(), Fail> {
-    let trial = whole_trial(&[0, 1, 63, 64, 300, usize::MAX]);
-    for (length, lists) in [(0, 18), (1, 18 * 67), (2, 18 * 67 * 67)] {
-        same!(rt; agreeing(&rt, rt.alloc(), trial, length)?, (67, lists));
-    }
-    Ok(())
-}
-
-#[test]
-fn every_list_of_three_agrees_with_all_permits(rt: HostRuntime) -> Result<(), Fail> {
-    let told = agreeing(&rt, rt.alloc(), whole_trial(&[63]), 3)?;
-    same!(rt; told, (67, 3 * 67 * 67 * 67));
-    Ok(())
-}
-
-#[test]
-fn every_list_of_three_agrees_with_one_permit(rt: HostRuntime) -> Result<(), Fail> {
-    let told = agreeing(&rt, rt.alloc(), whole_trial(&[1]), 3)?;
-    same!(rt; told, (67, 3 * 67 * 67 * 67));
-    Ok(())
-}
-
-#[test]
-fn lists_of_four_agree_with_all_permits(rt: HostRuntime) -> Result<(), Fail> {
-    let trial = Trial {
-        calls: &MANY_CALLS,
-        counts: &MANY,
-        waits: &[(1, Way::Plain)],
+// From every size, and lists of three from all permits and from one.
+static SHORT_LISTS: [Trial<'static, SemaphoreCore>; 5] = [
+    EVERY_MOVE,
+    TrialOf {
+        length: 1,
+        wanted: (67, 18 * 67),
+        ..EVERY_MOVE
+    },
+    TrialOf {
+        length: 2,
+        wanted: (67, 18 * 67 * 67),
+        ..EVERY_MOVE
+    },
+    TrialOf {
         sizes: &[63],
-    };
-    same!(rt; agreeing(&rt, rt.alloc(), trial, 4)?, (34, 3 * 34 * 34 * 34 * 34));
-    Ok(())
+        length: 3,
+        wanted: (67, 3 * 67 * 67 * 67),
+        ..EVERY_MOVE
+    },
+    TrialOf {
+        sizes: &[1],
+        length: 3,
+        wanted: (67, 3 * 67 * 67 * 67),
+        ..EVERY_MOVE
+    },
+];
+
+static LISTS_OF_FOUR: [Trial<'static, SemaphoreCore>; 2] = [MANY, FEW];
+
+// The first of some trials that tells otherwise.
+fn first_other<R: Wait + AllocGlobal>(
+    rt: &R,
+    trials: &[Trial<'_, SemaphoreCore>],
+) -> Result<Option<(usize, (usize, u64))>, AllocError> {
+    twins::first_other::<Tried<&R>>(rt, rt.alloc(), trials)
 }
 
 #[test]
-fn lists_of_four_agree_with_no_permit(rt: HostRuntime) -> Result<(), Fail> {
-    let trial = Trial {
-        calls: &FEW_CALLS,
-        counts: &FEW,
-        waits: &[(1, Way::Plain)],
-        sizes: &[0],
-    };
-    same!(rt; agreeing(&rt, rt.alloc(), trial, 4)?, (34, 3 * 34 * 34 * 34 * 34));
-    Ok(())
+fn short_lists_agree(rt: HostRuntime) {
+    same!(rt; first_other(&rt, &SHORT_LISTS).ok(), Some(None));
 }
 
-// Every wait goes to sleep.
-const NO_PATIENCE: Patience = Patience {
+#[test]
+fn lists_of_four_agree(rt: HostRuntime) {
+    same!(rt; first_other(&rt, &LISTS_OF_FOUR).ok(), Some(None));
+}
+
+// A size is how many permits are available.
+impl<R: Wait + Drop + Copy + Sync> Made for Tried<R> {
+    type Lent = R;
+
+    fn made(
+        rt: R,
+        alloc: Global,
+        size: usize,
+        room: u16,
+        patience: Patience,
+    ) -> Result<Self, AllocError> {
+        let semaphore = with_patience(rt, alloc, size, room, patience)?;
+        Ok(Tried { semaphore })
+    }
+}
+
+/// Every wait goes to sleep.
+pub const NO_PATIENCE: Patience = Patience {
     looks: 0,
     yields: 0,
 };
 
-// Whether one end wakes so many sleepers.
-fn is_right_at_once<R: Wait + Threads + Sync>(
+// One end wakes all that it answers.
+const AT_ONCE: Case = Case {
+    size: 0,
+    room: 104,
+    patience: NO_PATIENCE,
+    by: By::Call,
+    counts: &[1, 2, 3, 48, 100],
+    wakes: &[
+        Wakes::AtOnce(End::Call(true)),
+        Wakes::AtOnce(End::Call(false)),
+        Wakes::AtOnce(End::Cancel),
+        Wakes::AtOnce(End::Forget),
+    ],
+};
+
+// Each call wakes one.
+const IN_TURN: Case = Case {
+    room: 48,
+    counts: &[1, 2, 3, 48],
+    wakes: &[Wakes::InTurn],
+    ..AT_ONCE
+};
+
+static CASES: [Case; 10] = [
+    AT_ONCE,
+    IN_TURN,
+    Case {
+        by: By::Plain,
+        ..AT_ONCE
+    },
+    Case {
+        by: By::Plain,
+        ..IN_TURN
+    },
+    Case {
+        by: By::Poll,
+        ..AT_ONCE
+    },
+    Case {
+        by: By::Poll,
+        ..IN_TURN
+    },
+    Case {
+        patience: PATIENCE,
+        ..AT_ONCE
+    },
+    Case {
+        patience: PATIENCE,
+        ..IN_TURN
+    },
+    Case {
+        patience: PATIENCE,
+        by: By::Poll,
+        ..AT_ONCE
+    },
+    Case {
+        patience: PATIENCE,
+        by: By::Poll,
+        ..IN_TURN
+    },
+];
+
+// The first of these cases that goes wrong.
+fn first_wrong<R: Wait + Threads + Sync + AllocGlobal>(
     rt: &R,
-    alloc: Global,
-    patience: Patience,
-    by: By,
-    (count, end): (u64, End),
-) -> Result<bool, AllocError> {
-    let form = with_patience(rt, alloc, 0, 104, patience)?;
-    let is_patient = patience.looks != 0;
-    Ok(a_call_wakes_all_whom_it_answers(rt, &form, is_patient, count, by, end))
-}
-
-// Whether so many calls wake so many sleepers, one by one.
-fn is_right_in_turn<R: Wait + Threads + Sync>(
-    rt: &R,
-    alloc: Global,
-    patience: Patience,
-    by: By,
-    count: u64,
-) -> Result<bool, AllocError> {
-    let form = with_patience(rt, alloc, 0, 48, patience)?;
-    let is_patient = patience.looks != 0;
-    Ok(each_call_wakes_one(rt, &form, is_patient, count, by))
-}
-
-// Each number of sleepers, and each way to answer them; the number where one went wrong, or 0.
-fn wrong_wakes<R: Wait + Threads + Sync>(
-    rt: &R,
-    alloc: Global,
-    patience: Patience,
-    by: By,
-) -> Result<u64, AllocError> {
-    for count in [1, 2, 3, 48, 100] {
-        for end in [End::Call(true), End::Call(false), End::Cancel, End::Forget] {
-            if !is_right_at_once(rt, alloc, patience, by, (count, end))? {
-                return Ok(count);
-            }
-        }
-    }
-    for count in [1, 2, 3, 48] {
-        if !is_right_in_turn(rt, alloc, patience, by, count)? {
-            return Ok(count);
-        }
-    }
-    Ok(0)
+) -> Result<Option<(usize, u64)>, AllocError> {
+    sleepers::first_wrong::<Tried<&R>, R>(rt, rt, rt.alloc(), &CASES)
 }
 
 #[test]
-fn sleeping_calls_wake(rt: HostRuntime) -> Result<(), Fail> {
-    same!(rt; wrong_wakes(&rt, rt.alloc(), NO_PATIENCE, By::Call)?, 0);
-    Ok(())
-}
-
-#[test]
-fn sleeping_calls_without_a_callback_wake(rt: HostRuntime) -> Result<(), Fail> {
-    same!(rt; wrong_wakes(&rt, rt.alloc(), NO_PATIENCE, By::Plain)?, 0);
-    Ok(())
-}
-
-#[test]
-fn sleeping_polls_wake(rt: HostRuntime) -> Result<(), Fail> {
-    same!(rt; wrong_wakes(&rt, rt.alloc(), NO_PATIENCE, By::Poll)?, 0);
-    Ok(())
-}
-
-#[test]
-fn waiting_calls_wake(rt: HostRuntime) -> Result<(), Fail> {
-    same!(rt; wrong_wakes(&rt, rt.alloc(), PATIENCE, By::Call)?, 0);
-    Ok(())
-}
-
-#[test]
-fn waiting_polls_wake(rt: HostRuntime) -> Result<(), Fail> {
-    same!(rt; wrong_wakes(&rt, rt.alloc(), PATIENCE, By::Poll)?, 0);
-    Ok(())
+fn sleepers_wake(rt: HostRuntime) {
+    same!(rt; first_wrong(&rt).ok(), Some(None));
 }
 
 // A call that joins the line and releases what it asks for then; adds how many seats are rung before that, and a hundred times as
@@ -476,25 +441,11 @@ fn release_within<R: Wait + Drop>(semaphore: &Semaphore<R>, rung: &AtomicU64) ->
     })
 }
 
-// The release of the first call rings the only seat, and the second call takes that seat over.
-#[test]
-fn a_seat_is_reset_for_its_next_holder(rt: HostRuntime) -> Result<(), Fail> {
-    let semaphore = Semaphore::with_permits(&rt, rt.alloc(), 0, 1)?;
-    let rung = AtomicU64::new(0);
-    let answers = [
-        release_within(&semaphore, &rung),
-        release_within(&semaphore, &rung),
-    ];
-    same!(rt; (answers, rung.load(Ordering::SeqCst)), ([Ok(()); 2], 200));
-    Ok(())
-}
-
 // What a registration for the only permit tells, which is released then, and what the poll after it; and how many seats are rung
 // between the registration and the release, and between that and the poll.
-fn release_for_pager<R: Wait + Drop>(
-    semaphore: &Semaphore<R>,
-    is_sync: bool,
-) -> (Result<bool, Full>, usize, bool, usize, Result<(), Error>) {
+type Released = (Result<bool, Full>, usize, bool, usize, Result<(), Error>);
+
+fn release_for_pager<R: Wait + Drop>(semaphore: &Semaphore<R>, is_sync: bool) -> Released {
     let mut pager = Pager::new();
     let registered = semaphore.register_pager(&mut pager, 1, is_sync);
     let before = semaphore.shell().rung();
@@ -503,14 +454,26 @@ fn release_for_pager<R: Wait + Drop>(
     (registered, before, is_released, after, pager.try_poll())
 }
 
-// The release rings the only seat, and the second pager takes that seat over.
-#[test]
-fn a_seat_is_reset_for_the_next_pager(rt: HostRuntime) -> Result<(), Fail> {
-    let semaphore = Semaphore::with_permits(&rt, rt.alloc(), 0, 1)?;
-    for is_sync in [true, false] {
-        same!(rt; release_for_pager(&semaphore, is_sync), (Ok(true), 0, true, 1, Ok(())));
-    }
-    Ok(())
+// What two calls tell, and how many seats they saw rung; and what two pagers tell. Each release rings the only seat, which the next takes
+// over.
+type Seats = ([Result<(), Full>; 2], u64, [Released; 2]);
+
+fn seats_of<R: Wait + Drop>(semaphore: &Semaphore<R>) -> Seats {
+    let rung = AtomicU64::new(0);
+    let answers = [
+        release_within(semaphore, &rung),
+        release_within(semaphore, &rung),
+    ];
+    let released = [
+        release_for_pager(semaphore, true),
+        release_for_pager(semaphore, false),
+    ];
+    (answers, rung.load(Ordering::SeqCst), released)
+}
+
+// The same at a new semaphore with one seat.
+fn seats<R: Wait>(rt: &R, alloc: Global) -> Result<Seats, AllocError> {
+    Ok(seats_of(&Semaphore::with_permits(rt, alloc, 0, 1)?))
 }
 
 // How many threads take all permits in turn, how often each does, and how many lengths of rest it has in between.
@@ -559,14 +522,15 @@ fn take_turns<H: Wait + Threads + Sync, R: Wait + Drop + Sync>(
 }
 
 // Without patience a turn that waits is a sleep and a wake. The rests let the one fall anywhere beside the other, so a
-// wake that can be lost between a poll and the sleep after it is lost.
-#[test]
-fn sleepers_in_turn_all_wake(rt: HostRuntime) -> Result<(), Fail> {
-    let Tried { semaphore } = with_patience(&rt, rt.alloc(), 63, 4, NO_PATIENCE)?;
-    let (started, taken) = take_turns(&rt, &semaphore);
-    let left = semaphore.available_permits(Ordering::SeqCst);
-    same!(rt; (taken, left), (started.saturating_mul(ROUNDS), 63));
-    Ok(())
+// wake that can be lost between a poll and the sleep after it is lost. How many turns were not taken, and how many permits are left.
+fn missing_turns<R: Wait + Threads + Sync>(
+    rt: &R,
+    alloc: Global,
+) -> Result<(u64, usize), AllocError> {
+    let semaphore = with_patience::<_, 63>(rt, alloc, 63, 4, NO_PATIENCE)?;
+    let (started, taken) = take_turns(rt, &semaphore);
+    let missing = started.saturating_mul(ROUNDS).abs_diff(taken);
+    Ok((missing, semaphore.available_permits(Ordering::SeqCst)))
 }
 
 // Who waits doesn't go to sleep before its minutes are over.
@@ -581,12 +545,7 @@ fn release_behind<R: Wait + Drop>(
     semaphore: &Semaphore<R>,
     joined: &AtomicU64,
 ) -> bool {
-    for _ in rt.forever() {
-        if joined.load(Ordering::SeqCst) != 0 {
-            break;
-        }
-        thread::yield_now();
-    }
+    sleepers::await_count(rt, joined, 1);
     semaphore.release()
 }
 
@@ -603,11 +562,20 @@ fn wait_and_release<H: Wait + Threads + Sync, R: Wait + Drop + Sync>(
     )
 }
 
-// A task that waits awake keeps nobody out, hears that its seat is rung, and waits no longer then.
+// A task that waits awake keeps nobody out, hears that its seat is rung, and waits no longer then: what both tell, how many sleep, and how
+// many seats are rung.
+fn patient_task<R: Wait + Threads + Sync>(
+    rt: &R,
+    alloc: Global,
+) -> Result<((bool, bool), (usize, usize)), AllocError> {
+    let form = Tried::made(rt, alloc, 0, 1, MUCH_PATIENCE)?;
+    Ok((wait_and_release(rt, &form), form.seats()))
+}
+
 #[test]
-fn a_patient_task_hears_its_ring(rt: HostRuntime) -> Result<(), Fail> {
-    let form = with_patience(&rt, rt.alloc(), 0, 1, MUCH_PATIENCE)?;
-    same!(rt; wait_and_release(&rt, &form), (true, true));
-    same!(rt; (form.rung(), form.asleep()), (1, 0));
-    Ok(())
+fn seats_are_reset_and_tasks_in_turn_wake(rt: HostRuntime) {
+    let released = (Ok(true), 0, true, 1, Ok(()));
+    same!(rt; seats(&rt, rt.alloc()).ok(), Some(([Ok(()); 2], 200, [released; 2])));
+    same!(rt; missing_turns(&rt, rt.alloc()).ok(), Some((0, 63)));
+    same!(rt; patient_task(&rt, rt.alloc()).ok(), Some(((true, true), (0, 1))));
 }

@@ -4,6 +4,8 @@
 //! too soon; it ends only if all who are answered wake.
 
 use crate::sleepers::{By, Counts};
+use saa_sync::testing::Patience;
+use std::alloc::{AllocError, Global};
 use std::sync::Wait;
 use std::sync::atomic::{AtomicU64, Ordering};
 use std::thread;
@@ -44,11 +46,8 @@ pub trait Gathering: Sync {
     /// Answers all who wait; whether it was told that they are so many.
     fn answer_all(&self, together: Together, count: u64) -> bool;
 
-    /// How many sleep; all those have let go of the lock.
-    fn asleep(&self) -> usize;
-
-    /// How many seats are rung.
-    fn rung(&self) -> usize;
+    /// How many sleep, all of whom have let go of the lock, and how many seats are rung.
+    fn seats(&self) -> (usize, usize);
 }
 
 /// How a gathering goes.
@@ -60,8 +59,30 @@ pub struct Plan {
     pub by: By,
     /// How they are answered.
     pub together: Together,
-    /// Whether they stay awake for a while, so that it isn't certain that they sleep when they are answered.
-    pub is_patient: bool,
+    /// Without patience they surely sleep when they are answered.
+    pub patience: Patience,
+}
+
+/// Such a form that is made anew for each gathering.
+pub trait Made: Gathering + Sized + Drop {
+    /// The permission to block that it is made with.
+    type Lent: Wait + Drop + Copy;
+
+    /// A form for so many waiters as a plan has, and for whoever answers them.
+    fn made(lent: Self::Lent, alloc: Global, plan: Plan) -> Result<Self, AllocError>;
+}
+
+/// Which gatherings there are.
+#[derive(Clone, Copy)]
+pub struct Case {
+    /// How patient the waiters are.
+    pub patience: Patience,
+    /// How they wait.
+    pub by: By,
+    /// How many they are.
+    pub counts: &'static [u64],
+    /// How they are answered.
+    pub ways: &'static [Together],
 }
 
 // What is counted beside what sleepers count.
@@ -74,15 +95,64 @@ struct Told {
     exact: AtomicU64,
 }
 
-/// Two gatherings, one after the other, the first answered by the main thread and the second by a thread of its own: all
-/// who wait wake with their answer, nobody before, and no other seat is rung.
-///
-/// The form is new.
-pub fn all_wake_together<F: Gathering, R: Threads + Wait + Sync>(
+/// The first of these cases that has a gathering which goes wrong, counted from 0, and for how many waiters.
+pub fn first_wrong<F: Made, R: Threads + Wait + Sync>(
     rt: &R,
-    form: &F,
-    plan: Plan,
-) -> bool {
+    lent: F::Lent,
+    alloc: Global,
+    cases: &[Case],
+) -> Result<Option<(usize, u64)>, AllocError> {
+    for (place, case) in cases.iter().enumerate() {
+        if let Some(count) = wrong_count::<F, R>(rt, lent, alloc, case)? {
+            return Ok(Some((place, count)));
+        }
+    }
+    Ok(None)
+}
+
+// The first number of waiters of a case at which it goes wrong.
+fn wrong_count<F: Made, R: Threads + Wait + Sync>(
+    rt: &R,
+    lent: F::Lent,
+    alloc: Global,
+    case: &Case,
+) -> Result<Option<u64>, AllocError> {
+    for count in case.counts {
+        if !is_right::<F, R>(rt, lent, alloc, case, *count)? {
+            return Ok(Some(*count));
+        }
+    }
+    Ok(None)
+}
+
+// Whether so many waiters wake in each way of a case.
+fn is_right<F: Made, R: Threads + Wait + Sync>(
+    rt: &R,
+    lent: F::Lent,
+    alloc: Global,
+    case: &Case,
+    count: u64,
+) -> Result<bool, AllocError> {
+    for together in case.ways {
+        let plan = Plan {
+            count,
+            by: case.by,
+            together: *together,
+            patience: case.patience,
+        };
+        let form = F::made(lent, alloc, plan)?;
+        if !all_wake_together(rt, &form, plan) {
+            return Ok(false);
+        }
+    }
+    Ok(true)
+}
+
+// Two gatherings, one after the other, the first answered by the main thread and the second by a thread of its own: all
+// who wait wake with their answer, nobody before, and no other seat is rung.
+//
+// The form is new.
+fn all_wake_together<F: Gathering, R: Threads + Wait + Sync>(rt: &R, form: &F, plan: Plan) -> bool {
     let by_main = gathers(rt, form, plan, false);
     by_main && gathers(rt, form, plan, true)
 }
@@ -106,7 +176,7 @@ fn gathers<F: Gathering, R: Threads + Wait + Sync>(
         start(scope, form, plan, counted, told_by);
         let started = counted.started.load(Ordering::SeqCst);
         counted.await_joined(rt);
-        if !plan.is_patient {
+        if plan.patience.looks == 0 {
             await_asleep(rt, form, counted, started);
         }
         let is_held_back = counted.none_ended();
@@ -119,7 +189,8 @@ fn gathers<F: Gathering, R: Threads + Wait + Sync>(
         }
         counted.await_ended(rt);
         await_answer(rt, told_by);
-        let is_quiet = form.rung() as u64 == started && form.asleep() == 0;
+        let (asleep, rung) = form.seats();
+        let is_quiet = rung as u64 == started && asleep == 0;
         is_held_back && is_quiet && told_by.right.load(Ordering::SeqCst) == started
     }) && told.exact.load(Ordering::SeqCst) == 1
 }
@@ -171,7 +242,7 @@ fn await_answer<R: Wait>(rt: &R, told: &Told) {
 // Waits until so many sleep, or one has ended.
 fn await_asleep<F: Gathering, R: Wait>(rt: &R, form: &F, counts: &Counts, wanted: u64) {
     for _ in rt.forever() {
-        if form.asleep() as u64 >= wanted || counts.ended.load(Ordering::SeqCst) != 0 {
+        if form.seats().0 as u64 >= wanted || counts.ended.load(Ordering::SeqCst) != 0 {
             return;
         }
         yield_now();

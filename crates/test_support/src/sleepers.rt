@@ -5,6 +5,8 @@
 //! A test goes on only once all whom it waits for sleep, and ends only if all whom a call answers wake.
 
 use saa_core::ticket::Ticket;
+use saa_sync::testing::Patience;
+use std::alloc::{AllocError, Global};
 use std::sync::Wait;
 use std::sync::atomic::{AtomicU64, Ordering};
 use std::thread;
@@ -36,11 +38,49 @@ pub trait Sleepers: Sync {
     /// Waits at this place, and counts that it joined the line; whether it was granted.
     fn wait_at(&self, place: Place, by: By, joined: &AtomicU64) -> bool;
 
-    /// How many sleep; all those have let go of the lock.
-    fn asleep(&self) -> usize;
+    /// How many sleep, all of whom have let go of the lock, and how many seats are rung.
+    fn seats(&self) -> (usize, usize);
+}
 
-    /// How many seats are rung.
-    fn rung(&self) -> usize;
+/// Such a form that is made anew for each number of sleepers.
+pub trait Made: Sleepers + Sized + Drop {
+    /// The permission to block that it is made with.
+    type Lent: Wait + Drop + Copy;
+
+    /// A form at which nothing is available, in the way of this size, with room for so many waiters, which have this patience.
+    fn made(
+        lent: Self::Lent,
+        alloc: Global,
+        size: usize,
+        room: u16,
+        patience: Patience,
+    ) -> Result<Self, AllocError>;
+}
+
+/// Which sleepers there are, and how they are woken.
+#[derive(Clone, Copy)]
+pub struct Case {
+    /// The size of the forms.
+    pub size: usize,
+    /// For how many waiters they have room.
+    pub room: u16,
+    /// Those without patience surely sleep when the first call comes.
+    pub patience: Patience,
+    /// How they wait.
+    pub by: By,
+    /// How many they are.
+    pub counts: &'static [u64],
+    /// What wakes them.
+    pub wakes: &'static [Wakes],
+}
+
+/// What wakes sleepers.
+#[derive(Clone, Copy)]
+pub enum Wakes {
+    /// One end answers all of them.
+    AtOnce(End),
+    /// Each call answers one.
+    InTurn,
 }
 
 /// How the sleepers wait.
@@ -113,10 +153,74 @@ impl Counts {
     }
 }
 
-/// So many sleepers behind the one ahead, two more behind a wall, and one end: all of the first wake, and no other.
-///
-/// The form is new and of size 0. Without patience it is certain that all sleep when the end comes.
-pub fn a_call_wakes_all_whom_it_answers<F: Sleepers, R: Threads + Wait + Sync>(
+/// The first of these cases in which not all wake, or others do, counted from 0, and for how many sleepers.
+pub fn first_wrong<F: Made, R: Threads + Wait + Sync>(
+    rt: &R,
+    lent: F::Lent,
+    alloc: Global,
+    cases: &[Case],
+) -> Result<Option<(usize, u64)>, AllocError> {
+    for (place, case) in cases.iter().enumerate() {
+        if let Some(count) = wrong_count::<F, R>(rt, lent, alloc, case)? {
+            return Ok(Some((place, count)));
+        }
+    }
+    Ok(None)
+}
+
+// The first number of sleepers of a case at which it goes wrong.
+fn wrong_count<F: Made, R: Threads + Wait + Sync>(
+    rt: &R,
+    lent: F::Lent,
+    alloc: Global,
+    case: &Case,
+) -> Result<Option<u64>, AllocError> {
+    for count in case.counts {
+        if !is_right::<F, R>(rt, lent, alloc, case, *count)? {
+            return Ok(Some(*count));
+        }
+    }
+    Ok(None)
+}
+
+// Whether so many sleepers wake in each way of a case.
+fn is_right<F: Made, R: Threads + Wait + Sync>(
+    rt: &R,
+    lent: F::Lent,
+    alloc: Global,
+    case: &Case,
+    count: u64,
+) -> Result<bool, AllocError> {
+    for wakes in case.wakes {
+        let form = F::made(lent, alloc, case.size, case.room, case.patience)?;
+        if !all_wake(rt, &form, case, count, *wakes) {
+            return Ok(false);
+        }
+    }
+    Ok(true)
+}
+
+// Whether so many sleepers wake at a new form.
+fn all_wake<F: Sleepers, R: Threads + Wait + Sync>(
+    rt: &R,
+    form: &F,
+    case: &Case,
+    count: u64,
+    wakes: Wakes,
+) -> bool {
+    let is_patient = case.patience.looks != 0;
+    match wakes {
+        Wakes::AtOnce(end) => {
+            a_call_wakes_all_whom_it_answers(rt, form, is_patient, count, case.by, end)
+        }
+        Wakes::InTurn => each_call_wakes_one(rt, form, is_patient, count, case.by),
+    }
+}
+
+// So many sleepers behind the one ahead, two more behind a wall, and one end: all of the first wake, and no other.
+//
+// The form is new and of size 0. Without patience it is certain that all sleep when the end comes.
+fn a_call_wakes_all_whom_it_answers<F: Sleepers, R: Threads + Wait + Sync>(
     rt: &R,
     form: &F,
     is_patient: bool,
@@ -146,18 +250,18 @@ pub fn a_call_wakes_all_whom_it_answers<F: Sleepers, R: Threads + Wait + Sync>(
         let rung = count.saturating_add(come_out(form, head, end));
         near_by.await_ended(rt);
         let is_exact = far_by.none_ended()
-            && form.rung() as u64 == rung
-            && (is_patient || form.asleep() as u64 == BEYOND);
+            && form.seats().1 as u64 == rung
+            && (is_patient || form.seats().0 as u64 == BEYOND);
         form.give_up(wall, true);
         far_by.await_ended(rt);
         is_led && is_walled && is_held_back && is_exact
     })
 }
 
-/// So many sleepers who all ask what the one ahead asks, and as many calls: each call wakes one, and no other.
-///
-/// The form is new and of size 0. Without patience it is certain that all sleep when the calls come.
-pub fn each_call_wakes_one<F: Sleepers, R: Threads + Wait + Sync>(
+// So many sleepers who all ask what the one ahead asks, and as many calls: each call wakes one, and no other.
+//
+// The form is new and of size 0. Without patience it is certain that all sleep when the calls come.
+fn each_call_wakes_one<F: Sleepers, R: Threads + Wait + Sync>(
     rt: &R,
     form: &F,
     is_patient: bool,
@@ -176,8 +280,8 @@ pub fn each_call_wakes_one<F: Sleepers, R: Threads + Wait + Sync>(
         for answered in 1..=count {
             form.answer(answered % 2 == 0);
             await_count(rt, &counted.ended, answered);
-            is_exact &= form.rung() as u64 == answered;
-            is_exact &= is_patient || form.asleep() as u64 == count.saturating_sub(answered);
+            is_exact &= form.seats().1 as u64 == answered;
+            is_exact &= is_patient || form.seats().0 as u64 == count.saturating_sub(answered);
         }
         is_exact
     })
@@ -224,18 +328,18 @@ fn come_out<F: Sleepers>(form: &F, head: Ticket, end: End) -> u64 {
     }
 }
 
-// Waits until so many sleep.
-fn await_asleep<F: Sleepers, R: Wait>(rt: &R, form: &F, wanted: u64) {
+/// Waits until so many sleep.
+pub fn await_asleep<F: Sleepers, R: Wait>(rt: &R, form: &F, wanted: u64) {
     for _ in rt.forever() {
-        if form.asleep() as u64 >= wanted {
+        if form.seats().0 as u64 >= wanted {
             return;
         }
         yield_now();
     }
 }
 
-// Waits until a counter is so large.
-fn await_count<R: Wait>(rt: &R, counter: &AtomicU64, wanted: u64) {
+/// Waits until a counter is so large.
+pub fn await_count<R: Wait>(rt: &R, counter: &AtomicU64, wanted: u64) {
     for _ in rt.forever() {
         if counter.load(Ordering::SeqCst) >= wanted {
             return;

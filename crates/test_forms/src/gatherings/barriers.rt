@@ -5,33 +5,20 @@ use saa_core::ticket::Full;
 use saa_sync::barrier::Barrier;
 use saa_sync::pager::{Error, Pager};
 use saa_sync::testing::{PATIENCE, Patience, Shell};
-use std::alloc::{AllocError, Global};
+use std::alloc::{AllocError, AllocGlobal, Global};
 use std::sync::Wait;
 use std::sync::atomic::{AtomicU64, Ordering};
-use std::test::Fail;
 use std::thread::Threads;
 use test_asserts::same;
-use test_support::gatherings::{Gathering, Plan, Together, all_wake_together};
+use test_support::gatherings::{Case, Gathering, Made, Plan, Together};
 use test_support::sleepers::By;
-use test_support::twins::{Form, Move, Way, every_list, moves};
+use test_support::twins::{Form, Trial, TrialOf, Way};
+use test_support::{gatherings, twins};
 
 // A barrier, for the trials.
 #[derive(Drop)]
 struct Tried<R: Wait + Drop> {
     barrier: Barrier<R>,
-}
-
-// A barrier whose waiters have this patience.
-fn with_patience<R: Wait + Drop + Copy>(
-    rt: R,
-    alloc: Global,
-    count: usize,
-    room: u16,
-    patience: Patience,
-) -> Result<Tried<R>, AllocError> {
-    let core = BarrierCore::with_count(alloc, count, room)?;
-    let barrier = Barrier::on_shell(Shell::new(rt, alloc, core, room, patience)?);
-    Ok(Tried { barrier })
 }
 
 // A size is what a barrier is made with.
@@ -102,85 +89,87 @@ impl<R: Wait + Drop + Copy> Form for Tried<R> {
     }
 }
 
-static CALLS: [BarrierCall; 1] = [BarrierCall::Count];
+const EVERY_MOVE: Trial<'static, BarrierCore> = TrialOf {
+    calls: &[BarrierCall::Count],
+    short: &[],
+    asks: &[()],
+    waits: &[((), Way::Plain), ((), Way::With)],
+    sizes: &[0, 1, 2, 3, 63, 64],
+    length: 0,
+    wanted: (17, 18),
+};
 
-static WAITS: [((), Way); 2] = [((), Way::Plain), ((), Way::With)];
+static TRIALS: [Trial<'static, BarrierCore>; 6] = [
+    EVERY_MOVE,
+    TrialOf {
+        length: 1,
+        wanted: (17, 18 * 17),
+        ..EVERY_MOVE
+    },
+    TrialOf {
+        length: 2,
+        wanted: (17, 18 * 17 * 17),
+        ..EVERY_MOVE
+    },
+    TrialOf {
+        length: 3,
+        wanted: (17, 18 * 17 * 17 * 17),
+        ..EVERY_MOVE
+    },
+    // At small barriers, and at large ones.
+    TrialOf {
+        sizes: &[0, 1, 2],
+        length: 4,
+        wanted: (17, 9 * 17 * 17 * 17 * 17),
+        ..EVERY_MOVE
+    },
+    TrialOf {
+        sizes: &[3, 63, 64],
+        length: 4,
+        wanted: (17, 9 * 17 * 17 * 17 * 17),
+        ..EVERY_MOVE
+    },
+];
 
-static SIZES: [usize; 6] = [0, 1, 2, 3, 63, 64];
-
-// How many moves there are, and how many lists of so many agree, at these sizes and with room for 0, 1 and 2, up to the first that
-// doesn't.
-fn agreeing<R: Wait>(
-    rt: &R,
-    alloc: Global,
-    sizes: &[usize],
-    length: u32,
-) -> Result<(usize, u64), AllocError> {
-    let moves = moves::<BarrierCore>(alloc, &CALLS, &[], &[()], &WAITS)?;
-    Ok((moves.len(), lists(rt, alloc, &moves, sizes, length)?))
+// The first of these trials that tells otherwise.
+fn first_other<R: Wait + AllocGlobal>(rt: &R) -> Result<Option<(usize, (usize, u64))>, AllocError> {
+    twins::first_other::<Tried<&R>>(rt, rt.alloc(), &TRIALS)
 }
 
-fn lists<R: Wait>(
-    rt: &R,
-    alloc: Global,
-    moves: &[Move<BarrierCore>],
-    sizes: &[usize],
-    length: u32,
-) -> Result<u64, AllocError> {
-    let mut all = 0u64;
-    for size in sizes {
-        for room in 0..3 {
-            match every_list::<Tried<&R>>(rt, alloc, (*size, room), moves, length)? {
-                Ok(lists) => all = all.saturating_add(lists),
-                Err(number) => return Ok(all.saturating_add(number)),
-            }
-        }
+#[test]
+fn every_list_agrees(rt: HostRuntime) {
+    same!(rt; first_other(&rt).ok(), Some(None));
+}
+
+// A barrier for those who wait and one last arrival.
+impl<R: Wait + Drop + Copy + Sync> Made for Tried<R> {
+    type Lent = R;
+
+    fn made(rt: R, alloc: Global, plan: Plan) -> Result<Self, AllocError> {
+        let room = u16::try_from(plan.count).unwrap_or(u16::MAX);
+        let core = BarrierCore::with_count(alloc, usize::from(room).saturating_add(1), room)?;
+        let barrier = Barrier::on_shell(Shell::new(rt, alloc, core, room, plan.patience)?);
+        Ok(Tried { barrier })
     }
-    Ok(all)
-}
-
-#[test]
-fn short_lists_agree(rt: HostRuntime) -> Result<(), Fail> {
-    let wanted = [
-        (0, 18),
-        (1, 18 * 17),
-        (2, 18 * 17 * 17),
-        (3, 18 * 17 * 17 * 17),
-    ];
-    for (length, lists) in wanted {
-        same!(rt; agreeing(&rt, rt.alloc(), &SIZES, length)?, (17, lists));
-    }
-    Ok(())
-}
-
-#[test]
-fn lists_of_four_agree_at_small_barriers(rt: HostRuntime) -> Result<(), Fail> {
-    same!(rt; agreeing(&rt, rt.alloc(), &SIZES[..3], 4)?, (17, 9 * 17 * 17 * 17 * 17));
-    Ok(())
-}
-
-#[test]
-fn lists_of_four_agree_at_large_barriers(rt: HostRuntime) -> Result<(), Fail> {
-    same!(rt; agreeing(&rt, rt.alloc(), &SIZES[3..], 4)?, (17, 9 * 17 * 17 * 17 * 17));
-    Ok(())
 }
 
 impl<R: Wait + Drop + Sync> Gathering for Tried<R> {
     fn prepare(&self) {}
 
     fn gather(&self, by: By, _together: Together, joined: &AtomicU64) -> bool {
-        let answer = match by {
-            By::Call => self.barrier.wait_sync_with(|| {
-                let _count = self.barrier.count(Ordering::SeqCst);
-                joined.fetch_add(1, Ordering::SeqCst);
-            }),
+        match by {
+            By::Call => {
+                self.barrier.wait_sync_with(|| {
+                    let _count = self.barrier.count(Ordering::SeqCst);
+                    joined.fetch_add(1, Ordering::SeqCst);
+                }) == Ok(false)
+            }
             By::Plain => {
                 joined.fetch_add(1, Ordering::SeqCst);
-                self.barrier.wait_sync()
+                self.barrier.wait_sync() == Ok(false)
             }
-            By::Poll => self.wait_by_pager(joined),
-        };
-        answer == Ok(false)
+            By::Poll => self.waits_by_pager(joined),
+        }
     }
 
     // Whoever waits leaves one arrival to come, which is the leader, and then all are to come.
@@ -196,25 +185,19 @@ impl<R: Wait + Drop + Sync> Gathering for Tried<R> {
         is_leader && missing == 1 && size == count.saturating_add(1)
     }
 
-    fn asleep(&self) -> usize {
-        self.barrier.shell().asleep()
-    }
-
-    fn rung(&self) -> usize {
-        self.barrier.shell().rung()
+    fn seats(&self) -> (usize, usize) {
+        let shell = self.barrier.shell();
+        (shell.asleep(), shell.rung())
     }
 }
 
 impl<R: Wait + Drop> Tried<R> {
-    // Waits by a pager.
-    fn wait_by_pager(&self, joined: &AtomicU64) -> Result<bool, Full> {
+    // Waits by a pager; whether it has the answer of all but the last.
+    fn waits_by_pager(&self, joined: &AtomicU64) -> bool {
         let mut pager = Pager::new();
-        let is_registered = self.barrier.register_pager(&mut pager, true)?;
+        let is_registered = self.barrier.register_pager(&mut pager, true) == Ok(true);
         joined.fetch_add(1, Ordering::SeqCst);
-        if !is_registered {
-            return Err(Full);
-        }
-        pager.poll_sync().map_err(|_fault| Full)
+        is_registered && pager.poll_sync() == Ok(false)
     }
 
     // Comes as the last arrival by a call whose callback doesn't run; whether it is the leader.
@@ -234,79 +217,49 @@ impl<R: Wait + Drop> Tried<R> {
 }
 
 // Every wait goes to sleep.
-const NO_PATIENCE: Patience = Patience {
-    looks: 0,
-    yields: 0,
+const ASLEEP: Case = Case {
+    patience: Patience {
+        looks: 0,
+        yields: 0,
+    },
+    by: By::Call,
+    counts: &[1, 2, 3, 48, 62],
+    ways: &[
+        Together::LastCall,
+        Together::LastPlainCall,
+        Together::LastPager,
+    ],
 };
 
-static EVERY_WAY: [Together; 3] = [
-    Together::LastCall,
-    Together::LastPlainCall,
-    Together::LastPager,
+static CASES: [Case; 5] = [
+    ASLEEP,
+    Case {
+        by: By::Plain,
+        ..ASLEEP
+    },
+    Case {
+        by: By::Poll,
+        ..ASLEEP
+    },
+    Case {
+        patience: PATIENCE,
+        ..ASLEEP
+    },
+    Case {
+        patience: PATIENCE,
+        by: By::Poll,
+        ..ASLEEP
+    },
 ];
 
-// Whether two rounds of so many sleepers and one last arrival, which comes in this way, go right.
-fn is_right<R: Wait + Threads + Sync>(
+// The first of these cases that goes wrong.
+fn first_wrong<R: Wait + Threads + Sync + AllocGlobal>(
     rt: &R,
-    alloc: Global,
-    patience: Patience,
-    by: By,
-    (count, together): (u16, Together),
-) -> Result<bool, AllocError> {
-    let size = usize::from(count).saturating_add(1);
-    let form = with_patience(rt, alloc, size, count, patience)?;
-    let plan = Plan {
-        count: u64::from(count),
-        by,
-        together,
-        is_patient: patience.looks != 0,
-    };
-    Ok(all_wake_together(rt, &form, plan))
-}
-
-// Rounds of these numbers of sleepers and one last arrival; the number where one went wrong, or 0.
-fn wrong_wakes<R: Wait + Threads + Sync>(
-    rt: &R,
-    alloc: Global,
-    patience: Patience,
-    by: By,
-) -> Result<u64, AllocError> {
-    for count in [1u16, 2, 3, 48, 62] {
-        for together in EVERY_WAY {
-            if !is_right(rt, alloc, patience, by, (count, together))? {
-                return Ok(u64::from(count));
-            }
-        }
-    }
-    Ok(0)
+) -> Result<Option<(usize, u64)>, AllocError> {
+    gatherings::first_wrong::<Tried<&R>, R>(rt, rt, rt.alloc(), &CASES)
 }
 
 #[test]
-fn sleeping_calls_wake(rt: HostRuntime) -> Result<(), Fail> {
-    same!(rt; wrong_wakes(&rt, rt.alloc(), NO_PATIENCE, By::Call)?, 0);
-    Ok(())
-}
-
-#[test]
-fn sleeping_plain_calls_wake(rt: HostRuntime) -> Result<(), Fail> {
-    same!(rt; wrong_wakes(&rt, rt.alloc(), NO_PATIENCE, By::Plain)?, 0);
-    Ok(())
-}
-
-#[test]
-fn sleeping_polls_wake(rt: HostRuntime) -> Result<(), Fail> {
-    same!(rt; wrong_wakes(&rt, rt.alloc(), NO_PATIENCE, By::Poll)?, 0);
-    Ok(())
-}
-
-#[test]
-fn waiting_calls_wake(rt: HostRuntime) -> Result<(), Fail> {
-    same!(rt; wrong_wakes(&rt, rt.alloc(), PATIENCE, By::Call)?, 0);
-    Ok(())
-}
-
-#[test]
-fn waiting_polls_wake(rt: HostRuntime) -> Result<(), Fail> {
-    same!(rt; wrong_wakes(&rt, rt.alloc(), PATIENCE, By::Poll)?, 0);
-    Ok(())
+fn sleepers_wake_together(rt: HostRuntime) {
+    same!(rt; first_wrong(&rt).ok(), Some(None));
 }

@@ -5,32 +5,20 @@ use saa_core::ticket::Full;
 use saa_sync::gate::{Error, Gate, State};
 use saa_sync::pager::Pager;
 use saa_sync::testing::{PATIENCE, Patience, Shell};
-use std::alloc::{AllocError, Global};
+use std::alloc::{AllocError, AllocGlobal, Global};
 use std::sync::Wait;
 use std::sync::atomic::{AtomicU64, Ordering};
-use std::test::Fail;
 use std::thread::Threads;
 use test_asserts::same;
-use test_support::gatherings::{Gathering, Plan, Together, all_wake_together};
+use test_support::gatherings::{Case, Gathering, Made, Plan, Together};
 use test_support::sleepers::By;
-use test_support::twins::{Form, Move, Way, every_list, moves};
+use test_support::twins::{Form, Trial, TrialOf, Way};
+use test_support::{gatherings, twins};
 
 // A gate, for the trials.
 #[derive(Drop)]
 struct Tried<R: Wait + Drop> {
     gate: Gate<R>,
-}
-
-// A controlled gate whose waiters have this patience.
-fn with_patience<R: Wait + Drop + Copy>(
-    rt: R,
-    alloc: Global,
-    room: u16,
-    patience: Patience,
-) -> Result<Tried<R>, AllocError> {
-    let core = GateCore::new(alloc, room)?;
-    let gate = Gate::on_shell(Shell::new(rt, alloc, core, room, patience)?);
-    Ok(Tried { gate })
 }
 
 // A gate of size 0 is controlled, one of size 1 is sealed, and any other is open.
@@ -131,61 +119,57 @@ impl<R: Wait + Drop + Copy> Form for Tried<R> {
     }
 }
 
-static CALLS: [GateCall; 6] = [
-    GateCall::State,
-    GateCall::Reset,
-    GateCall::Permit,
-    GateCall::Reject,
-    GateCall::Open,
-    GateCall::Seal,
+const EVERY_MOVE: Trial<'static, GateCore> = TrialOf {
+    calls: &[
+        GateCall::State,
+        GateCall::Reset,
+        GateCall::Permit,
+        GateCall::Reject,
+        GateCall::Open,
+        GateCall::Seal,
+    ],
+    short: &[],
+    asks: &[()],
+    waits: &[((), Way::Plain), ((), Way::With)],
+    sizes: &[0, 1, 2],
+    length: 0,
+    wanted: (22, 9),
+};
+
+static TRIALS: [Trial<'static, GateCore>; 5] = [
+    EVERY_MOVE,
+    TrialOf {
+        length: 1,
+        wanted: (22, 9 * 22),
+        ..EVERY_MOVE
+    },
+    TrialOf {
+        length: 2,
+        wanted: (22, 9 * 22 * 22),
+        ..EVERY_MOVE
+    },
+    TrialOf {
+        length: 3,
+        wanted: (22, 9 * 22 * 22 * 22),
+        ..EVERY_MOVE
+    },
+    // From a controlled gate.
+    TrialOf {
+        sizes: &[0],
+        length: 4,
+        wanted: (22, 3 * 22 * 22 * 22 * 22),
+        ..EVERY_MOVE
+    },
 ];
 
-static WAITS: [((), Way); 2] = [((), Way::Plain), ((), Way::With)];
-
-// How many moves there are, and how many lists of so many agree, from these sizes and with room for 0, 1 and 2, up to the first that
-// doesn't.
-fn agreeing<R: Wait>(
-    rt: &R,
-    alloc: Global,
-    sizes: &[usize],
-    length: u32,
-) -> Result<(usize, u64), AllocError> {
-    let moves = moves::<GateCore>(alloc, &CALLS, &[], &[()], &WAITS)?;
-    Ok((moves.len(), lists(rt, alloc, &moves, sizes, length)?))
-}
-
-fn lists<R: Wait>(
-    rt: &R,
-    alloc: Global,
-    moves: &[Move<GateCore>],
-    sizes: &[usize],
-    length: u32,
-) -> Result<u64, AllocError> {
-    let mut all = 0u64;
-    for size in sizes {
-        for room in 0..3 {
-            match every_list::<Tried<&R>>(rt, alloc, (*size, room), moves, length)? {
-                Ok(lists) => all = all.saturating_add(lists),
-                Err(number) => return Ok(all.saturating_add(number)),
-            }
-        }
-    }
-    Ok(all)
+// The first of these trials that tells otherwise.
+fn first_other<R: Wait + AllocGlobal>(rt: &R) -> Result<Option<(usize, (usize, u64))>, AllocError> {
+    twins::first_other::<Tried<&R>>(rt, rt.alloc(), &TRIALS)
 }
 
 #[test]
-fn short_lists_agree(rt: HostRuntime) -> Result<(), Fail> {
-    let wanted = [(0, 9), (1, 9 * 22), (2, 9 * 22 * 22), (3, 9 * 22 * 22 * 22)];
-    for (length, lists) in wanted {
-        same!(rt; agreeing(&rt, rt.alloc(), &[0, 1, 2], length)?, (22, lists));
-    }
-    Ok(())
-}
-
-#[test]
-fn lists_of_four_agree_from_a_controlled_gate(rt: HostRuntime) -> Result<(), Fail> {
-    same!(rt; agreeing(&rt, rt.alloc(), &[0], 4)?, (22, 3 * 22 * 22 * 22 * 22));
-    Ok(())
+fn every_list_agrees(rt: HostRuntime) {
+    same!(rt; first_other(&rt).ok(), Some(None));
 }
 
 // The answer of those who are answered in this way.
@@ -217,7 +201,7 @@ impl<R: Wait + Drop + Sync> Gathering for Tried<R> {
                 joined.fetch_add(1, Ordering::SeqCst);
                 self.gate.enter_sync()
             }
-            By::Poll => self.enter_by_pager(joined),
+            By::Poll => Ok(self.enter_by_pager(joined)),
         };
         answer == Ok(answer_by(together))
     }
@@ -235,25 +219,22 @@ impl<R: Wait + Drop + Sync> Gathering for Tried<R> {
         }
     }
 
-    fn asleep(&self) -> usize {
-        self.gate.shell().asleep()
-    }
-
-    fn rung(&self) -> usize {
-        self.gate.shell().rung()
+    fn seats(&self) -> (usize, usize) {
+        let shell = self.gate.shell();
+        (shell.asleep(), shell.rung())
     }
 }
 
 impl<R: Wait + Drop> Tried<R> {
-    // Waits by a pager.
-    fn enter_by_pager(&self, joined: &AtomicU64) -> Result<Result<State, Error>, Full> {
+    // Waits by a pager; what it is answered.
+    fn enter_by_pager(&self, joined: &AtomicU64) -> Result<State, Error> {
         let mut pager = Pager::new();
-        let is_registered = self.gate.register_pager(&mut pager, true)?;
+        let is_registered = self.gate.register_pager(&mut pager, true) == Ok(true);
         joined.fetch_add(1, Ordering::SeqCst);
         if !is_registered {
-            return Err(Full);
+            return Err(Error::NotRegistered);
         }
-        Ok(pager.poll_sync())
+        pager.poll_sync()
     }
 
     // A pager joins the line, and is cancelled or goes out of scope; whether it joined.
@@ -267,83 +248,67 @@ impl<R: Wait + Drop> Tried<R> {
     }
 }
 
+// A controlled gate for those who wait, and for a pager that waits too where that answers them.
+impl<R: Wait + Drop + Copy + Sync> Made for Tried<R> {
+    type Lent = R;
+
+    fn made(rt: R, alloc: Global, plan: Plan) -> Result<Self, AllocError> {
+        let others = u16::from(matches!(plan.together, Together::Cancel | Together::Forget));
+        let count = u16::try_from(plan.count).unwrap_or(u16::MAX);
+        let room = count.saturating_add(others);
+        let core = GateCore::new(alloc, room)?;
+        let gate = Gate::on_shell(Shell::new(rt, alloc, core, room, plan.patience)?);
+        Ok(Tried { gate })
+    }
+}
+
 // Every wait goes to sleep.
-const NO_PATIENCE: Patience = Patience {
-    looks: 0,
-    yields: 0,
+const ASLEEP: Case = Case {
+    patience: Patience {
+        looks: 0,
+        yields: 0,
+    },
+    by: By::Call,
+    counts: &[1, 2, 3, 48, 100],
+    ways: &[
+        Together::Permit,
+        Together::Reject,
+        Together::Open,
+        Together::Seal,
+        Together::Cancel,
+        Together::Forget,
+    ],
 };
 
-static EVERY_WAY: [Together; 6] = [
-    Together::Permit,
-    Together::Reject,
-    Together::Open,
-    Together::Seal,
-    Together::Cancel,
-    Together::Forget,
+static CASES: [Case; 5] = [
+    ASLEEP,
+    Case {
+        by: By::Plain,
+        ..ASLEEP
+    },
+    Case {
+        by: By::Poll,
+        ..ASLEEP
+    },
+    Case {
+        patience: PATIENCE,
+        ..ASLEEP
+    },
+    Case {
+        patience: PATIENCE,
+        by: By::Poll,
+        ..ASLEEP
+    },
 ];
 
-// Whether so many sleepers wake that are answered in this way.
-fn is_right<R: Wait + Threads + Sync>(
+// The first of these cases that goes wrong.
+fn first_wrong<R: Wait + Threads + Sync + AllocGlobal>(
     rt: &R,
-    alloc: Global,
-    patience: Patience,
-    by: By,
-    (count, together): (u16, Together),
-) -> Result<bool, AllocError> {
-    let others = u16::from(matches!(together, Together::Cancel | Together::Forget));
-    let form = with_patience(rt, alloc, count.saturating_add(others), patience)?;
-    let plan = Plan {
-        count: u64::from(count),
-        by,
-        together,
-        is_patient: patience.looks != 0,
-    };
-    Ok(all_wake_together(rt, &form, plan))
-}
-
-// Each way to answer these numbers of sleepers; the number where one went wrong, or 0.
-fn wrong_wakes<R: Wait + Threads + Sync>(
-    rt: &R,
-    alloc: Global,
-    patience: Patience,
-    by: By,
-) -> Result<u64, AllocError> {
-    for count in [1u16, 2, 3, 48, 100] {
-        for together in EVERY_WAY {
-            if !is_right(rt, alloc, patience, by, (count, together))? {
-                return Ok(u64::from(count));
-            }
-        }
-    }
-    Ok(0)
+) -> Result<Option<(usize, u64)>, AllocError> {
+    gatherings::first_wrong::<Tried<&R>, R>(rt, rt, rt.alloc(), &CASES)
 }
 
 #[test]
-fn sleeping_calls_wake(rt: HostRuntime) -> Result<(), Fail> {
-    same!(rt; wrong_wakes(&rt, rt.alloc(), NO_PATIENCE, By::Call)?, 0);
-    Ok(())
-}
-
-#[test]
-fn sleeping_plain_calls_wake(rt: HostRuntime) -> Result<(), Fail> {
-    same!(rt; wrong_wakes(&rt, rt.alloc(), NO_PATIENCE, By::Plain)?, 0);
-    Ok(())
-}
-
-#[test]
-fn sleeping_polls_wake(rt: HostRuntime) -> Result<(), Fail> {
-    same!(rt; wrong_wakes(&rt, rt.alloc(), NO_PATIENCE, By::Poll)?, 0);
-    Ok(())
-}
-
-#[test]
-fn waiting_calls_wake(rt: HostRuntime) -> Result<(), Fail> {
-    same!(rt; wrong_wakes(&rt, rt.alloc(), PATIENCE, By::Call)?, 0);
-    Ok(())
-}
-
-#[test]
-fn waiting_polls_wake(rt: HostRuntime) -> Result<(), Fail> {
-    same!(rt; wrong_wakes(&rt, rt.alloc(), PATIENCE, By::Poll)?, 0);
-    Ok(())
+fn sleepers_wake_together(rt: HostRuntime) {
+    same!(rt; first_wrong(&rt).ok(), Some(None));
 }
