@@ -30,6 +30,7 @@ mod spelling;
 #[cfg(test)]
 mod tests;
 mod wants;
+mod words;
 mod workers;
 
 use crate::arguments::BehindName;
@@ -59,6 +60,30 @@ fn asked<E: Env>(environment: &E, alloc: Global) -> Option<Wanted> {
     }
 }
 
+/// Runs a script, where its input was opened.
+fn run_script<T: Read + Drop, E: Drop, W: Write>(
+    alloc: Global,
+    input: Result<T, E>,
+    writer: &mut W,
+) -> u8 {
+    match input {
+        Ok(mut reader) => run::script(alloc, &mut reader, writer),
+        Err(_) => no_memory(writer),
+    }
+}
+
+/// Runs a schedule, where its input was opened.
+fn run_machine<T: Read + Drop, E: Drop, W: Write>(
+    alloc: Global,
+    input: Result<T, E>,
+    writer: &mut W,
+) -> u8 {
+    match input {
+        Ok(mut reader) => run::machine(alloc, &mut reader, writer),
+        Err(_) => no_memory(writer),
+    }
+}
+
 /// Does what is wanted, and answers the status; its input is opened only where it is read.
 fn answer<R, T, E, F, W>(rt: &R, alloc: Global, wanted: Wanted, input: F, writer: &mut W) -> u8
 where
@@ -70,14 +95,8 @@ where
     requires { F.pre input }
 {
     match wanted {
-        Wanted::Script => match input() {
-            Ok(mut reader) => run::script(alloc, &mut reader, writer),
-            Err(_) => no_memory(writer),
-        },
-        Wanted::Machine => match input() {
-            Ok(mut reader) => run::machine(alloc, &mut reader, writer),
-            Err(_) => no_memory(writer),
-        },
+        Wanted::Script => run_script(alloc, input(), writer),
+        Wanted::Machine => run_machine(alloc, input(), writer),
         Wanted::Threads(count @ 1..=32) => run::threads(rt, alloc, count, writer),
         Wanted::Threads(_) | Wanted::Usage => run::usage(writer),
     }

@@ -18,7 +18,7 @@ static SCHEDULES: [Row; 20] = [
         output: "going\ndone true\ngoing\ndone true\ngoing\nat publish\n58 1 0 1\ngoing\ndone true\n53 1 0 1\ndone true\n63 0 0 0\ngoing\ndone ok\n",
         status: 0,
     },
-    // The same with one who waits for its answer from the start: examples/release_in_place.schedule.
+    // The same with a waiter that polls from the start: examples/release_in_place.schedule.
     Row {
         input: "semaphore 63 3\nstart 0 reg 10\nend 0\nstart 0 poll\ngo 0\nstart 1 release 5\nuntil 1 walk\nword\nuntil 1 publish\nstart 2 release 5\nend 2\nword\ngo 1\nword\nend 1\nword\ngo 0\ngo 0\n",
         output: "going\ndone true\ngoing\nwaits\ngoing\nat walk\n58 1 0 1\nat publish\ngoing\ndone true\n53 1 0 1\ngoing\n53 1 0 1\ndone true\n63 0 0 0\ndone ok\nidle\n",
@@ -79,7 +79,7 @@ static SCHEDULES: [Row; 20] = [
         output: "done false\ndone false\ndone false\ndone false\ndone true\ndone not_registered\ndone not_registered\ngoing\ndone true\ndone false\ndone ok\ndone not_registered\n",
         status: 0,
     },
-    // An answer that isn't there yet: one who tries is told, and one who waits can be asked again.
+    // An answer that isn't there yet: a try is told so, and a waiter can be asked again.
     Row {
         input: "semaphore 63 2\nstart 0 reg 1\nend 0\nstart 0 try_poll\nend 0\nstart 0 poll\nend 0\nuntil 0 show\ngo 0\nstart 1 try 1\nend 1\nstart 1 release 63\nend 1\nend 0\nstart 1 release 2\nend 1\nstart 1 available\ngo 1\n",
         output: "going\ndone true\ngoing\ndone not_ready\ngoing\nwaits\nwaits\nwaits\ngoing\ndone false\ngoing\ndone true\ndone ok\ngoing\ndone false\ngoing\ndone 62\n",
@@ -378,7 +378,7 @@ fn is_going(machine: &mut Machine, place: u16) -> bool {
 }
 
 // Lets so many wait at a machine, the oldest for a permit and the others for none, and the place behind them give that permit back. It
-// makes 2 steps to take the flag, 3 for each who waits, and then publishes.
+// makes 2 steps to take the flag, 3 for each waiter, and then publishes.
 fn begin_walk(machine: &mut Machine, waiting: u16) {
     for place in 0..waiting {
         start(machine, place, WordCall::Register(usize::from(place == 0)));

@@ -147,8 +147,10 @@ static REPEATED: [Repeated; 2] = [
     },
 ];
 
-/// Long lines at the end of an input: what stands in front, of how many bytes the line is, what ends it, and what is written.
-static LONG_LAST_LINES: [(&str, usize, &str, &str); 12] = [
+/// A long line at the end of an input: what stands in front, of how many bytes the line is, what ends it, and what is written.
+type LongLine = (&'static str, usize, &'static str, &'static str);
+
+static LONG_LAST_LINES: [LongLine; 12] = [
     ("", 79, "", "bad line 1\n"),
     ("", 79, "\n", "bad line 1\n"),
     ("", 80, "", "bad line 1\n"),
@@ -168,24 +170,25 @@ fn repeated_pieces(rt: HostRuntime) {
     for row in &REPEATED {
         compare_repeated(&rt, rt.alloc(), row);
     }
+    for line in &LONG_LAST_LINES {
+        compare_long(&rt, rt.alloc(), line);
+    }
 }
 
-/// A long line at the end of the input, with and without a last newline: bad, by its number.
-#[test]
-fn long_last_lines(rt: HostRuntime) {
-    for (front, times, end, answer) in &LONG_LAST_LINES {
-        let row = Repeated {
-            language: Language::Script,
-            front: *front,
-            piece: "x",
-            times: *times,
-            end: *end,
-            answer: *answer,
-            answers: 1,
-            status: 2,
-        };
-        compare_repeated(&rt, rt.alloc(), &row);
-    }
+// Runs a text with a long line at its end, with or without a last newline: bad, by its number.
+fn compare_long<R: Abort>(rt: &R, alloc: Global, line: &LongLine) {
+    let (front, times, end, answer) = *line;
+    let row = Repeated {
+        language: Language::Script,
+        front,
+        piece: "x",
+        times,
+        end,
+        answer,
+        answers: 1,
+        status: 2,
+    };
+    compare_repeated(rt, alloc, &row);
 }
 
 /// Runs a text that has a piece so often.
@@ -246,32 +249,23 @@ static ENDS: [Row; 4] = [
 ];
 
 /// A read that fails, behind any number of bytes: no half line is called bad, and what went out is a beginning. A read of the
-/// schedule is interrupted by a signal, which ends the run too.
+/// schedule is interrupted by a signal, which ends the run too. Then a write that fails, behind any number of bytes, and a flush that
+/// fails at the end.
 #[test]
-fn a_read_fails(rt: HostRuntime) {
+fn a_transfer_fails(rt: HostRuntime) {
+    let alloc = rt.alloc();
+    fails_to_read(&rt, alloc, Language::Script, &ENDS[0], ErrorKind::Other);
     fails_to_read(
         &rt,
-        rt.alloc(),
-        Language::Script,
-        &ENDS[0],
-        ErrorKind::Other,
-    );
-    fails_to_read(
-        &rt,
-        rt.alloc(),
+        alloc,
         Language::Schedule,
         &SCHEDULE,
         ErrorKind::Interrupted,
     );
-}
-
-/// A write that fails, behind any number of bytes, and a flush that fails at the end.
-#[test]
-fn a_write_fails(rt: HostRuntime) {
     for row in &ENDS {
-        fails_to_write(&rt, rt.alloc(), Language::Script, row);
+        fails_to_write(&rt, alloc, Language::Script, row);
     }
-    fails_to_write(&rt, rt.alloc(), Language::Schedule, &SCHEDULE);
+    fails_to_write(&rt, alloc, Language::Schedule, &SCHEDULE);
 }
 
 /// A writer that counts the pieces that it is handed, and those that are one line.
@@ -390,11 +384,8 @@ static ASKED: [(&[&[u8]], Wanted); 40] = [
 #[test]
 fn what_is_asked(rt: HostRuntime) {
     for (words, wanted) in &ASKED {
-        assert_eq!(rt;
-            asked(&Arguments { words }, rt.alloc()),
-            Some(*wanted),
-            "of {words:?}"
-        );
+        let asked = asked(&Arguments { words }, rt.alloc());
+        assert!(rt; asked == Some(*wanted), "of {words:?}");
     }
 }
 

@@ -1,7 +1,7 @@
 //! What the program is asked to do.
 
 /// What the program's arguments ask for.
-#[derive(Clone, Copy, Debug, Eq, PartialEq)]
+#[derive(Clone, Copy, PartialEq)]
 pub enum Wanted {
     /// `script`: to run a script.
     Script,

@@ -7,7 +7,7 @@
 #[cfg(test)]
 mod tests;
 
-ghost use Rattle.std.specs.Prelude.{◌≡◌, ◌<◌, ◌*◌, All, IfOk, replicate};
+ghost use Rattle.std.specs.Prelude.{◌≡◌, ◌<◌, ◌*◌, All, IfOk, length, replicate, sum_by, true};
 ghost use Rattle.saa_core.specs.declared.ticket.Registration.TheVariants.{Unregistered};
 ghost use Rattle.saa_core.specs.Tickets.{object_of};
 
@@ -34,7 +34,7 @@ const CALLS: usize = 50;
 const PERMITS: usize = 2;
 
 /// What the workers counted together.
-#[derive(Clone, Copy, Debug, Eq, PartialEq)]
+#[derive(Clone, Copy, PartialEq)]
 pub struct Counts {
     /// How many arrivals at the barrier were told that they were the last of their round: one in each.
     pub leaders: usize,
@@ -90,33 +90,24 @@ struct Done<J: Journal> {
     ghost called: { share.calls ≡ 50 },
 }
 
+/// The forms at which the workers meet.
+#[derive(Drop)]
+struct Forms<'r, R: Wait> {
+    gate: Gate<&'r R>,
+    barrier: Barrier<&'r R>,
+    permits: Semaphore<&'r R>,
+}
+
 /// What the workers share.
 #[derive(Drop)]
 struct Place<'r, J: Journal, R: Wait> {
     rt: &'r R,
-    gate: Gate<&'r R>,
-    barrier: Barrier<&'r R>,
-    permits: Semaphore<&'r R>,
+    forms: Forms<'r, R>,
     journal: Mutex<Journalled<SemaphoreCore, J>>,
     done: Mutex<Vec<Done<J>>>,
 }
 
-impl<'r, J: Journal, R: Wait> Place<'r, J, R> {
-    // All that one worker does. It ends at a sealed gate, and where the journal gets no memory: then it isn't done.
-    fn work<W: Watch>(&self, worker: Worker<J>, watch: &W) {
-        let Worker { number, share } = worker;
-        watch.begin(number);
-        let Ok(Ok(_open)) = self.gate.enter_sync() else {
-            return;
-        };
-        let leaders = self.meet();
-        self.share_permits(watch);
-        // Last, so that nobody waits for a worker that gets no memory here.
-        if let Some(done) = self.write(leaders, share) {
-            let _ = self.done.lock(self.rt).push(done);
-        }
-    }
-
+impl<R: Wait> Forms<'_, R> {
     // Passes the barrier, and tells how often it was the last to come.
     fn meet(&self) -> usize {
         let mut leaders = 0usize;
@@ -136,17 +127,43 @@ impl<'r, J: Journal, R: Wait> Place<'r, J, R> {
             }
         }
     }
+}
 
-    // Makes all calls of the journal; nothing where memory for one of them was refused.
-    fn write(&self, leaders: usize, share: Share<J>) -> Option<Done<J>>
+impl<J: Journal, R: Wait> Place<'_, J, R> {
+    // All that one worker does. It ends at a sealed gate, and where the journal gets no memory: then it isn't done.
+    fn work<W: Watch>(&self, worker: Worker<J>, watch: &W) {
+        let Worker { number, share } = worker;
+        watch.begin(number);
+        if let Ok(Ok(_open)) = self.forms.gate.enter_sync() {
+            let leaders = self.forms.meet();
+            self.forms.share_permits(watch);
+            // Last, so that nobody waits for a worker that gets no memory here.
+            self.write(leaders, share);
+        }
+    }
+
+    // Makes all calls of the journal, and hands the share in; not where memory for one of them was refused.
+    fn write(&self, leaders: usize, share: Share<J>)
         requires { share.calls ≡ 0 }
     {
         let mut share = share;
+        if self.call_all(&mut share) {
+            let _ = self.done.lock(self.rt).push(Done { leaders, share });
+        }
+    }
+
+    // Makes all calls of the journal. Whether memory for each of them was had.
+    fn call_all(&self, share: &mut Share<J>) -> bool
+        requires { share.old.calls ≡ 0 }
+        ensures { result ≡ true → share.new.calls ≡ 50 }
+    {
         let command = CommandOf::Call(SemaphoreCall::TryAcquireMany(1));
         while share.calls() < CALLS {
-            let _reply = self.journal.lock(self.rt).call(&command, &mut share).ok()?;
+            if self.journal.lock(self.rt).call(&command, share).is_err() {
+                return false;
+            }
         }
-        Some(Done { leaders, share })
+        true
     }
 }
 
@@ -161,11 +178,11 @@ fn start_all<J: Journal + Send + Sync, R: Threads + Wait + Sync, W: Watch + Sync
         for worker in workers {
             let may_start = watch.may_start(worker.number);
             if !may_start || scope.spawn(move || place.work(worker, watch)).is_err() {
-                let _ = place.gate.seal();
+                let _ = place.forms.gate.seal();
                 return false;
             }
         }
-        let _ = place.gate.open();
+        let _ = place.forms.gate.open();
         true
     })
 }
@@ -186,33 +203,41 @@ fn workers_of<J: Journal>(
     Ok(workers)
 }
 
-// How often those that are done led at the barrier, and how many calls the journal has. The error comes where a worker
-// isn't done, or memory was refused.
-fn gather<J: Journal>(
+// How often the workers that are done led at the barrier.
+fn leaders_of<J: Journal>(done: &[Done<J>]) -> usize {
+    let mut leaders = 0usize;
+    for worker in done {
+        leaders = leaders.saturating_add(worker.leaders);
+    }
+    leaders
+}
+
+// The shares of the workers that are done, each with all its calls.
+fn shares_of<J: Journal>(
     alloc: Global,
-    journal: Journalled<SemaphoreCore, J>,
-    done: Vec<Done<J>>,
-) -> Result<(usize, usize), AllocError>
-    requires { J.dealt ≡ J.parts }
-    ensures { IfOk result (λ counted. counted.1 ≡ 50 * J.parts) }
+    done: &mut Vec<Done<J>>,
+) -> Result<Vec<Share<J>>, AllocError>
+    ensures { IfOk result (λ shares. sum_by (λ share. share.calls) shares.items ≡ 50 * length shares.items) }
 {
     let mut shares = Vec::with_capacity(alloc, done.len())?;
-    let (mut done, mut leaders) = (done, 0usize);
-    while let Some(
-        Done {
-            leaders: led,
-            share,
-        },
-    ) = done.pop()
-    {
-        leaders = leaders.saturating_add(led);
-        shares.push_reserved(share);
+    while let Some(worker) = done.pop() {
+        shares.push_reserved(worker.share);
     }
-    let mut journal = journal;
-    match journal.gather(shares) {
-        Some(calls) => Ok((leaders, calls)),
-        None => Err(AllocError),
-    }
+    Ok(shares)
+}
+
+// The forms at which so many workers meet.
+fn forms_for<'r, R: Wait>(
+    rt: &'r R,
+    alloc: Global,
+    workers: u8,
+) -> Result<Forms<'r, R>, AllocError> {
+    let room = u16::from(workers);
+    Ok(Forms {
+        gate: Gate::new(rt, alloc, room)?,
+        barrier: Barrier::with_count(rt, alloc, usize::from(workers), room)?,
+        permits: Semaphore::new(rt, alloc, room)?,
+    })
 }
 
 // What so many workers share, over this journal.
@@ -222,37 +247,56 @@ fn place_for<'r, J: Journal, R: Wait>(
     journal: Journalled<SemaphoreCore, J>,
     workers: u8,
 ) -> Result<Place<'r, J, R>, AllocError> {
-    let size = usize::from(workers);
-    let room = u16::from(workers);
-    let done = Vec::with_capacity(alloc, size)?;
+    let done = Vec::with_capacity(alloc, usize::from(workers))?;
+    let forms = forms_for(rt, alloc, workers)?;
     Ok(Place {
         rt,
-        gate: Gate::new(rt, alloc, room)?,
-        barrier: Barrier::with_count(rt, alloc, size, room)?,
-        permits: Semaphore::new(rt, alloc, room)?,
+        forms,
         journal: Mutex::new(journal),
         done: Mutex::new(done),
     })
 }
 
-// What the workers did, once all have ended.
+// What the workers did, once all have ended. The error comes where one of them isn't done, or memory was refused.
 fn count<J: Journal, R: Wait, W: Watch>(
     alloc: Global,
-    place: Place<'_, J, R>,
+    place: &mut Place<'_, J, R>,
     watch: &W,
 ) -> Result<Counts, AllocError>
     requires { J.dealt ≡ J.parts }
     ensures { IfOk result (λ counts. counts.journal ≡ 50 * J.parts) }
 {
-    let available = place.permits.available_permits(Ordering::SeqCst);
-    let journal = place.journal.into_inner();
-    watch.read(&journal);
-    let (leaders, journal) = gather(alloc, journal, place.done.into_inner())?;
-    Ok(Counts {
-        leaders,
-        available,
-        journal,
-    })
+    let available = place.forms.permits.available_permits(Ordering::SeqCst);
+    let leaders = leaders_of(place.done.get_mut().as_slice());
+    let journal = place.journal.get_mut();
+    watch.read(journal);
+    let shares = shares_of(alloc, place.done.get_mut())?;
+    match journal.gather(shares) {
+        Some(journal) => Ok(Counts {
+            leaders,
+            available,
+            journal,
+        }),
+        None => Err(AllocError),
+    }
+}
+
+// Starts a worker with each share, and counts what they did once all have ended.
+fn run_at<J: Journal + Send + Sync, R: Threads + Wait + Sync, W: Watch + Sync>(
+    alloc: Global,
+    place: &mut Place<'_, J, R>,
+    shares: Vec<Share<J>>,
+    watch: &W,
+) -> Result<Counts, AllocError>
+    requires unused { All (λ share. share.calls ≡ 0) shares.items }
+    requires one_each { J.dealt ≡ J.parts }
+    ensures { IfOk result (λ counts. counts.journal ≡ 50 * J.parts) }
+{
+    let workers = workers_of(alloc, shares)?;
+    match start_all(place, workers, watch) {
+        true => count(alloc, place, watch),
+        false => Err(AllocError),
+    }
 }
 
 // Runs the workers over a journal of a core that is handed in.
@@ -274,12 +318,8 @@ fn run_over<J: Journal + Send + Sync, R: Threads + Wait + Sync, W: Watch + Sync>
 {
     let room = u16::from(workers);
     let (journal, shares) = Journalled::<SemaphoreCore, J>::new(alloc, core, 0, blank, room)?;
-    let starting = workers_of(alloc, shares)?;
-    let place = place_for(rt, alloc, journal, workers)?;
-    if !start_all(&place, starting, watch) {
-        return Err(AllocError);
-    }
-    count(alloc, place, watch)
+    let mut place = place_for(rt, alloc, journal, workers)?;
+    run_at(alloc, &mut place, shares, watch)
 }
 
 /// Starts so many workers, each on a thread of its own, lets `watch` see them, and counts what they did when all are done.

@@ -5,12 +5,13 @@ ghost use Rattle.std.specs.Prelude.{◌≡◌, ◌<◌, Bool, IfSome};
 ghost use Rattle.saa_run.specs.Schedules.{IsLineOf, bound_of, bounded_made, first_schedule_of, four_fields, kind_of_word, lock_made, place_below, places_of, schedule_line_of, semaphore_made, three_fields, two_fields};
 
 use crate::schedule::calls::{lone_call, paired_call};
+use crate::words::meaning;
 use saa_run_text::fields::{count, first_field, number};
 use saa_word::machine::{Kind, WordCall};
 use std::marker::Model;
 
 /// The bound of a machine: 1 to 65535.
-#[derive(Clone, Copy, Debug)]
+#[derive(Clone, Copy)]
 pub struct MachineBound {
     number: u16,
 }
@@ -38,7 +39,7 @@ impl MachineBound {
 }
 
 /// The first line of a schedule: which machine is made, with 1 to 100 places.
-#[derive(Clone, Copy, Debug)]
+#[derive(Clone, Copy)]
 pub enum FirstOfSchedule {
     /// `semaphore W PLACES`: a semaphore of which W permits are withheld.
     Semaphore {
@@ -58,7 +59,7 @@ pub enum FirstOfSchedule {
 }
 
 /// A line behind the first. A place is below the number of places.
-#[derive(Clone, Copy, Debug)]
+#[derive(Clone, Copy)]
 pub enum ScheduleLine {
     /// `start P CALL`: starts a call.
     Start(u16, WordCall),
@@ -106,51 +107,29 @@ fn bound(field: &[u8]) -> Option<MachineBound>
     }
 }
 
+/// The words of the kinds of step.
+static KINDS: [(&str, Kind); 13] = [
+    ("ask", Kind::Ask),
+    ("prepare", Kind::Prepare),
+    ("join", Kind::Join),
+    ("release", Kind::Release),
+    ("walk", Kind::Walk),
+    ("publish", Kind::Publish),
+    ("show", Kind::Show),
+    ("take", Kind::Take),
+    ("flag", Kind::Flag),
+    ("unlink", Kind::Unlink),
+    ("tail", Kind::Tail),
+    ("poison", Kind::Poison),
+    ("clear", Kind::Clear),
+];
+
 /// The kind of step that a word is.
 #[tactic(auto, unfolding(crate::specs::Schedules::kind_of_word))]
 fn kind(word: &[u8]) -> Option<Kind>
     ensures { result ≡ kind_of_word word.now }
 {
-    if word == b"ask".as_slice() {
-        return Some(Kind::Ask);
-    }
-    if word == b"prepare".as_slice() {
-        return Some(Kind::Prepare);
-    }
-    if word == b"join".as_slice() {
-        return Some(Kind::Join);
-    }
-    if word == b"release".as_slice() {
-        return Some(Kind::Release);
-    }
-    if word == b"walk".as_slice() {
-        return Some(Kind::Walk);
-    }
-    if word == b"publish".as_slice() {
-        return Some(Kind::Publish);
-    }
-    if word == b"show".as_slice() {
-        return Some(Kind::Show);
-    }
-    if word == b"take".as_slice() {
-        return Some(Kind::Take);
-    }
-    if word == b"flag".as_slice() {
-        return Some(Kind::Flag);
-    }
-    if word == b"unlink".as_slice() {
-        return Some(Kind::Unlink);
-    }
-    if word == b"tail".as_slice() {
-        return Some(Kind::Tail);
-    }
-    if word == b"poison".as_slice() {
-        return Some(Kind::Poison);
-    }
-    if word == b"clear".as_slice() {
-        return Some(Kind::Clear);
-    }
-    None
+    meaning(&KINDS, word)
 }
 
 /// A line that is two fields: `go P` or `end P`.
@@ -159,11 +138,14 @@ fn two_words(places: u16, word: &[u8], of: &[u8]) -> Option<ScheduleLine>
     ensures line { result ≡ two_fields places word.now of.now }
     ensures within { IfSome result (λ line. (is_lock : Bool) → IsLineOf is_lock places line) }
 {
-    match word {
-        b"go" => Some(ScheduleLine::Go(place(places, of)?)),
-        b"end" => Some(ScheduleLine::End(place(places, of)?)),
-        _ => None,
+    let place = place(places, of)?;
+    if word == b"go".as_slice() {
+        return Some(ScheduleLine::Go(place));
     }
+    if word == b"end".as_slice() {
+        return Some(ScheduleLine::End(place));
+    }
+    None
 }
 
 /// A line that is three fields: `start P CALL` or `until P KIND`.
@@ -178,11 +160,14 @@ fn three_words(
     ensures line { result ≡ three_fields is_lock places word.now of.now third.now }
     ensures within { IfSome result (λ line. IsLineOf is_lock places line) }
 {
-    match word {
-        b"start" => Some(ScheduleLine::Start(place(places, of)?, lone_call(is_lock, third)?)),
-        b"until" => Some(ScheduleLine::Until(place(places, of)?, kind(third)?)),
-        _ => None,
+    let place = place(places, of)?;
+    if word == b"start".as_slice() {
+        return Some(ScheduleLine::Start(place, lone_call(is_lock, third)?));
     }
+    if word == b"until".as_slice() {
+        return Some(ScheduleLine::Until(place, kind(third)?));
+    }
+    None
 }
 
 /// A line that is four fields: `start P CALL N` or `start P CALL MODE`.

@@ -13,7 +13,7 @@ use saa_run_text::reply::{Reply, ReplyText, joined, numbered, word};
 use saa_word::machine::{Answer, Kind, Step};
 
 /// What a reply says.
-#[derive(Clone, Copy, Debug)]
+#[derive(Clone, Copy)]
 pub enum Said {
     /// What a move of a machine did, which is a lock or a semaphore.
     Step { is_lock: bool, step: Step },

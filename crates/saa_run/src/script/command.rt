@@ -9,11 +9,12 @@ ghost use Rattle.saa_run.specs.Language.{pager_of, room_of, bound_of, mode_of, l
 ghost use Rattle.saa_run_text.specs.Fields.{number_of};
 
 use crate::script::spoken::Spoken;
+use crate::words::meaning;
 use saa_core::bench::{CommandOf, Primitive};
 use saa_run_text::fields::{count, first_field, number};
 
 /// The bounds of a semaphore that a script can name.
-#[derive(Clone, Copy, Debug)]
+#[derive(Clone, Copy)]
 pub enum Bound {
     /// 1 permit.
     One,
@@ -24,7 +25,7 @@ pub enum Bound {
 }
 
 /// The first line of a script: which primitive is made.
-#[derive(Clone, Copy, Debug)]
+#[derive(Clone, Copy)]
 pub enum FirstLine {
     /// `semaphore P ROOM`: a semaphore that has at most P permits available.
     Semaphore {
@@ -53,7 +54,7 @@ pub enum FirstLine {
 }
 
 /// A line behind the first, over the calls `C` of a primitive and what its registrations ask, `K`.
-#[derive(Clone, Copy, Debug)]
+#[derive(Drop)]
 pub enum ScriptLine<C, K> {
     /// A command of the run.
     Do(CommandOf<C, K>),
@@ -86,29 +87,30 @@ fn room(field: &[u8]) -> Option<u16>
     }
 }
 
+/// The bounds, as they are written.
+static BOUNDS: [(&str, Bound); 3] = [
+    ("1", Bound::One),
+    ("1000", Bound::Thousand),
+    ("65535", Bound::Greatest),
+];
+
 /// The bound that a field is: 1, 1000 or 65535.
 #[tactic(auto, unfolding(crate::specs::Language::bound_of))]
 fn named_bound(field: &[u8]) -> Option<Bound>
     ensures { result ≡ bound_of field.now }
 {
-    match field {
-        b"1" => Some(Bound::One),
-        b"1000" => Some(Bound::Thousand),
-        b"65535" => Some(Bound::Greatest),
-        _ => None,
-    }
+    meaning(&BOUNDS, field)
 }
+
+/// The words of the modes of a registration: whether it is sync.
+static MODES: [(&str, bool); 2] = [("sync", true), ("async", false)];
 
 /// Whether a field says that a registration is sync, or async.
 #[tactic(auto, unfolding(crate::specs::Language::mode_of))]
 fn mode(field: &[u8]) -> Option<bool>
     ensures { result ≡ mode_of field.now }
 {
-    match field {
-        b"sync" => Some(true),
-        b"async" => Some(false),
-        _ => None,
-    }
+    meaning(&MODES, field)
 }
 
 /// A line that is one word.
@@ -138,20 +140,21 @@ fn counted_words<P: Spoken>(word: &[u8], field: &[u8]) -> Option<LineOf<P>>
 fn pager_words<C, K>(word: &[u8], field: &[u8]) -> Option<ScriptLine<C, K>>
     ensures { result ≡ pager_line word.now field.now }
 {
+    let pager = pager(field)?;
     if word == b"try_poll".as_slice() {
-        return Some(ScriptLine::Do(CommandOf::TryPoll(pager(field)?)));
+        return Some(ScriptLine::Do(CommandOf::TryPoll(pager)));
     }
     if word == b"poll_sync".as_slice() {
-        return Some(ScriptLine::Do(CommandOf::PollSync(pager(field)?)));
+        return Some(ScriptLine::Do(CommandOf::PollSync(pager)));
     }
     if word == b"poll_async".as_slice() {
-        return Some(ScriptLine::Do(CommandOf::PollAsync(pager(field)?)));
+        return Some(ScriptLine::Do(CommandOf::PollAsync(pager)));
     }
     if word == b"registered".as_slice() {
-        return Some(ScriptLine::Registered(pager(field)?));
+        return Some(ScriptLine::Registered(pager));
     }
     if word == b"drop".as_slice() {
-        return Some(ScriptLine::Do(CommandOf::Drop(pager(field)?)));
+        return Some(ScriptLine::Do(CommandOf::Drop(pager)));
     }
     None
 }
@@ -214,12 +217,11 @@ pub fn parse_line<P: Spoken>(line: &[u8]) -> Option<LineOf<P>>
 fn roomed_words(word: &[u8], room_field: &[u8]) -> Option<FirstLine>
     ensures { result ≡ roomed_made word.now (room_of room_field.now) }
 {
+    let room = room(room_field)?;
     if word == b"lock".as_slice() {
-        let room = room(room_field)?;
         return Some(FirstLine::Lock { room });
     }
     if word == b"gate".as_slice() {
-        let room = room(room_field)?;
         return Some(FirstLine::Gate { room });
     }
     None
@@ -230,15 +232,16 @@ fn roomed_words(word: &[u8], room_field: &[u8]) -> Option<FirstLine>
 fn counted_first_words(word: &[u8], field: &[u8], room_field: &[u8]) -> Option<FirstLine>
     ensures { result ≡ counted_made word.now (number_of field.now) (room_of room_field.now) }
 {
+    let number = count(field)?;
+    let room = room(room_field)?;
     if word == b"semaphore".as_slice() {
-        let permits = count(field)?;
-        let room = room(room_field)?;
-        return Some(FirstLine::Semaphore { permits, room });
+        return Some(FirstLine::Semaphore {
+            permits: number,
+            room,
+        });
     }
     if word == b"barrier".as_slice() {
-        let size = count(field)?;
-        let room = room(room_field)?;
-        return Some(FirstLine::Barrier { size, room });
+        return Some(FirstLine::Barrier { size: number, room });
     }
     None
 }

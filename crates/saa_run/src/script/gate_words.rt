@@ -6,6 +6,7 @@ ghost use Rattle.saa_run.specs.ScriptSaid.{said_words};
 
 use crate::script::said::Said;
 use crate::script::spoken::{Spoken, nothing_asked};
+use crate::words::meaning;
 use saa_core::gate::{Error, GateAnswer, GateCall, GateCore, State};
 
 impl Spoken for GateCore {
@@ -38,30 +39,22 @@ impl Spoken for GateCore {
     }
 }
 
+/// The words of the calls.
+static CALLS: [(&str, GateCall); 6] = [
+    ("state", GateCall::State),
+    ("reset", GateCall::Reset),
+    ("permit", GateCall::Permit),
+    ("reject", GateCall::Reject),
+    ("open", GateCall::Open),
+    ("seal", GateCall::Seal),
+];
+
 /// A call that is one word.
 #[tactic(auto, unfolding(crate::specs::Language::lone_call_in))]
 fn lone_call(word: &[u8]) -> Option<GateCall>
     ensures { result ≡ lone_call_in gate_readings word.now }
 {
-    if word == b"state".as_slice() {
-        return Some(GateCall::State);
-    }
-    if word == b"reset".as_slice() {
-        return Some(GateCall::Reset);
-    }
-    if word == b"permit".as_slice() {
-        return Some(GateCall::Permit);
-    }
-    if word == b"reject".as_slice() {
-        return Some(GateCall::Reject);
-    }
-    if word == b"open".as_slice() {
-        return Some(GateCall::Open);
-    }
-    if word == b"seal".as_slice() {
-        return Some(GateCall::Seal);
-    }
-    None
+    meaning(&CALLS, word)
 }
 
 /// What a call's answer says.

@@ -8,6 +8,7 @@ ghost use Rattle.saa_run.specs.ScriptSaid.{said_words};
 
 use crate::script::said::Said;
 use crate::script::spoken::{Spoken, said_truth};
+use crate::words::meaning;
 use saa_core::lock::{LockAnswer, LockCall, LockCore, Mode, TryLockError};
 use saa_core::ticket::Error;
 
@@ -40,66 +41,43 @@ impl Spoken for LockCore {
     }
 }
 
+/// The words of the calls.
+static CALLS: [(&str, LockCall); 11] = [
+    ("try_lock", LockCall::TryLock),
+    ("try_share", LockCall::TryShare),
+    ("release_lock", LockCall::ReleaseLock),
+    ("release_share", LockCall::ReleaseShare),
+    ("downgrade", LockCall::Downgrade),
+    ("poison_lock", LockCall::PoisonLock),
+    ("clear_poison", LockCall::ClearPoison),
+    ("is_free", LockCall::IsFree),
+    ("is_locked", LockCall::IsLocked),
+    ("is_shared", LockCall::IsShared),
+    ("is_poisoned", LockCall::IsPoisoned),
+];
+
 /// A call that is one word.
 #[tactic(auto, unfolding(crate::specs::Language::lone_call_in))]
 pub fn lone_call(word: &[u8]) -> Option<LockCall>
     ensures { result ≡ lone_call_in lock_readings word.now }
 {
-    if word == b"try_lock".as_slice() {
-        return Some(LockCall::TryLock);
-    }
-    if word == b"try_share".as_slice() {
-        return Some(LockCall::TryShare);
-    }
-    if word == b"release_lock".as_slice() {
-        return Some(LockCall::ReleaseLock);
-    }
-    if word == b"release_share".as_slice() {
-        return Some(LockCall::ReleaseShare);
-    }
-    if word == b"downgrade".as_slice() {
-        return Some(LockCall::Downgrade);
-    }
-    if word == b"poison_lock".as_slice() {
-        return Some(LockCall::PoisonLock);
-    }
-    if word == b"clear_poison".as_slice() {
-        return Some(LockCall::ClearPoison);
-    }
-    if word == b"is_free".as_slice() {
-        return Some(LockCall::IsFree);
-    }
-    if word == b"is_locked".as_slice() {
-        return Some(LockCall::IsLocked);
-    }
-    if word == b"is_shared".as_slice() {
-        return Some(LockCall::IsShared);
-    }
-    if word == b"is_poisoned".as_slice() {
-        return Some(LockCall::IsPoisoned);
-    }
-    None
+    meaning(&CALLS, word)
 }
+
+/// The words of the modes.
+static MODES: [(&str, Mode); 4] = [
+    ("exclusive", Mode::Exclusive),
+    ("shared", Mode::Shared),
+    ("wait_exclusive", Mode::WaitExclusive),
+    ("wait_shared", Mode::WaitShared),
+];
 
 /// What a registration asks: one of the modes.
 #[tactic(auto, unfolding(crate::specs::Language::ask_in))]
 pub fn ask(field: Option<&[u8]>) -> Option<Mode>
     ensures { result ≡ ask_in lock_readings (option_map (λ bytes. bytes.now) field.entry) }
 {
-    let field = field?;
-    if field == b"exclusive".as_slice() {
-        return Some(Mode::Exclusive);
-    }
-    if field == b"shared".as_slice() {
-        return Some(Mode::Shared);
-    }
-    if field == b"wait_exclusive".as_slice() {
-        return Some(Mode::WaitExclusive);
-    }
-    if field == b"wait_shared".as_slice() {
-        return Some(Mode::WaitShared);
-    }
-    None
+    meaning(&MODES, field?)
 }
 
 /// What a call's answer says.

@@ -11,7 +11,7 @@ use saa_core::ticket::Error;
 use saa_run_text::reply::{Reply, ReplyText, joined, numbered, word};
 
 /// What a reply says.
-#[derive(Clone, Copy, Debug)]
+#[derive(Clone, Copy)]
 pub enum Said {
     /// `true` or `false`.
     Truth(bool),

@@ -6,6 +6,7 @@ ghost use Rattle.saa_run.specs.SemaphoreWords.{semaphore_answer, semaphore_poll,
 
 use crate::script::said::Said;
 use crate::script::spoken::Spoken;
+use crate::words::meaning;
 use saa_core::semaphore::{SemaphoreAnswer, SemaphoreCall, SemaphoreCoreOf};
 use saa_core::ticket::Error;
 use saa_run_text::fields::count;
@@ -44,21 +45,19 @@ impl<const MAX: usize> Spoken for SemaphoreCoreOf<MAX> {
     }
 }
 
+/// The words of the calls that are one word.
+static CALLS: [(&str, SemaphoreCall); 3] = [
+    ("available", SemaphoreCall::AvailablePermits),
+    ("is_open", SemaphoreCall::IsOpen),
+    ("is_closed", SemaphoreCall::IsClosed),
+];
+
 /// A call that is one word.
 #[tactic(auto, unfolding(crate::specs::Language::lone_call_in))]
 fn lone_call(word: &[u8]) -> Option<SemaphoreCall>
     ensures { result ≡ lone_call_in semaphore_readings word.now }
 {
-    if word == b"available".as_slice() {
-        return Some(SemaphoreCall::AvailablePermits);
-    }
-    if word == b"is_open".as_slice() {
-        return Some(SemaphoreCall::IsOpen);
-    }
-    if word == b"is_closed".as_slice() {
-        return Some(SemaphoreCall::IsClosed);
-    }
-    None
+    meaning(&CALLS, word)
 }
 
 /// A call that is a word and a number.

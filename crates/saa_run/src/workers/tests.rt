@@ -16,7 +16,7 @@ const PATIENCE: u16 = 10_000;
 
 const YIELDS: u16 = 1_000;
 
-// For how many turns who keeps all permits waits until somebody waits for some.
+// For how many turns the keeper of all permits gives way until there is a waiter for some.
 const KEPT: u16 = 1_000;
 
 // Gives way for a while.
