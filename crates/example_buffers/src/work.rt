@@ -13,7 +13,7 @@ use std::thread::{self, Threads, yield_now};
 const TURNS: u16 = 50;
 
 /// What was seen of a pool.
-#[derive(Clone, Copy, Debug, Eq, PartialEq)]
+#[derive(Clone, Copy, PartialEq)]
 pub struct Seen {
     /// How many turns the workers had.
     pub turns: u64,

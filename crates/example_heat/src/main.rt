@@ -8,8 +8,7 @@ mod spread;
 #[cfg(test)]
 mod tests;
 
-use crate::ring::Ring;
-use crate::spread::{alone, together};
+use crate::spread::compare;
 use std::{env, io};
 
 fn main(rt: HostRuntime) -> io::Result<()> {
@@ -19,14 +18,11 @@ fn main(rt: HostRuntime) -> io::Result<()> {
     }
     match wanted {
         Some(threads @ 1..=16) => {
-            let by_many = Ring::new(rt.alloc())?;
-            together(&rt, rt.alloc(), &by_many, threads)?;
-            let by_one = Ring::new(rt.alloc())?;
-            alone(&by_one);
-            println!(rt; "the hottest cell has {}", by_many.hottest())?;
+            let seen = compare(&rt, rt.alloc(), threads)?;
+            println!(rt; "the hottest cell has {}", seen.hottest)?;
             println!(rt;
                 "{} cells differ from what one thread computes",
-                by_many.differences(&by_one)
+                seen.different
             )
         }
         _ => println!(rt; "usage: example_heat N, with N from 1 to 16"),

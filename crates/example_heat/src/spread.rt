@@ -6,12 +6,11 @@ use crate::ring::{CELLS, Ring};
 use saa::barrier::Barrier;
 use saa::gate::Gate;
 use std::alloc::{AllocError, Global};
-use std::io;
 use std::sync::Wait;
 use std::thread::{self, Threads};
 
-/// How many steps there are.
-pub const STEPS: u16 = 500;
+// How many steps there are.
+const STEPS: u16 = 500;
 
 /// All steps, by the thread that calls.
 pub fn alone(ring: &Ring) {
@@ -30,7 +29,15 @@ struct Phases<'r, R: Wait> {
     step: Barrier<&'r R>,
 }
 
-impl<R: Wait> Phases<'_, R> {
+impl<'r, R: Wait> Phases<'r, R> {
+    // Phases for so many threads, which don't start yet.
+    fn new(rt: &'r R, alloc: Global, threads: u16) -> Result<Self, AllocError> {
+        Ok(Phases {
+            start: Gate::new(rt, alloc, threads)?,
+            step: Barrier::with_count(rt, alloc, usize::from(threads), threads)?,
+        })
+    }
+
     // All steps for each so manieth cell, from the first of them on.
     //
     // Nobody reads a buffer that somebody still writes: all meet when the step is computed, where one of them swaps the
@@ -55,25 +62,15 @@ impl<R: Wait> Phases<'_, R> {
     }
 }
 
-/// All steps, by so many threads beside each other.
-///
-/// The error comes where memory was refused or a thread couldn't be started. Threads that were started then find the gate
-/// sealed, so that none waits at the barrier for one that never comes.
-pub fn together<R: Threads + Wait + Sync>(
+// All steps, by the thread that calls and others that it starts. Whether all were started: threads that were started find the
+// gate sealed where one couldn't be, so that none waits at the barrier for one that never comes.
+fn all_compute<R: Threads + Wait + Sync>(
     rt: &R,
-    alloc: Global,
+    phases: &Phases<'_, R>,
     ring: &Ring,
-    threads: u16,
-) -> io::Result<()>
-    requires { 0 < threads }
-{
-    let every = usize::from(threads);
-    let made = Phases {
-        start: Gate::new(rt, alloc, threads)?,
-        step: Barrier::with_count(rt, alloc, every, threads)?,
-    };
-    let phases = &made;
-    let is_whole = thread::scope(thread::scope_env(), rt, |scope| {
+    every: usize,
+) -> bool {
+    thread::scope(thread::scope_env(), rt, |scope| {
         for first in 1..every {
             let work = move || phases.compute_behind_gate(ring, first, every);
             if scope.spawn(work).is_err() {
@@ -84,10 +81,51 @@ pub fn together<R: Threads + Wait + Sync>(
         let _ = phases.start.open();
         phases.compute(ring, 0, every);
         true
-    });
-    if is_whole {
+    })
+}
+
+// All steps, by so many threads beside each other. The error comes where memory was refused or a thread couldn't be started.
+fn together<R: Threads + Wait + Sync>(
+    rt: &R,
+    alloc: Global,
+    ring: &Ring,
+    threads: u16,
+) -> Result<(), AllocError>
+    requires { 0 < threads }
+{
+    let phases = Phases::new(rt, alloc, threads)?;
+    if all_compute(rt, &phases, ring, usize::from(threads)) {
         Ok(())
     } else {
-        Err(AllocError.into())
+        Err(AllocError)
     }
+}
+
+/// What is seen of a ring that many threads computed.
+#[derive(Clone, Copy)]
+pub struct Seen {
+    /// How hot its hottest cell is.
+    pub hottest: u64,
+    /// How many cells differ from what one thread computes.
+    pub different: usize,
+}
+
+/// Computes one ring by so many threads, and another by one thread.
+///
+/// The error comes where memory was refused or a thread couldn't be started.
+pub fn compare<R: Threads + Wait + Sync>(
+    rt: &R,
+    alloc: Global,
+    threads: u16,
+) -> Result<Seen, AllocError>
+    requires { 0 < threads }
+{
+    let by_many = Ring::new(alloc)?;
+    together(rt, alloc, &by_many, threads)?;
+    let by_one = Ring::new(alloc)?;
+    alone(&by_one);
+    Ok(Seen {
+        hottest: by_many.hottest(),
+        different: by_many.differences(&by_one),
+    })
 }

@@ -1,22 +1,23 @@
 //! Many threads compute exactly what one does.
 
 use crate::ring::{HEAT, Ring};
-use crate::spread::{alone, together};
-use std::io;
+use crate::spread::{alone, compare};
+use std::alloc::{AllocError, Global};
 use std::process::Abort;
 
-#[test]
-fn many_compute_what_one_does(rt: HostRuntime) -> io::Result<()> {
-    let by_one = Ring::new(rt.alloc())?;
-    let untouched = Ring::new(rt.alloc())?;
-    assert!(rt; untouched.hottest() == HEAT);
+// Whether one thread spreads the heat: no cell is as hot as one was.
+fn is_spread_by_one(alloc: Global) -> Result<bool, AllocError> {
+    let untouched = Ring::new(alloc)?;
+    let by_one = Ring::new(alloc)?;
     alone(&by_one);
-    assert!(rt; by_one.hottest() < HEAT);
-    assert!(rt; by_one.differences(&untouched) > 0);
+    Ok(untouched.hottest() == HEAT && by_one.hottest() < HEAT && by_one.differences(&untouched) > 0)
+}
+
+#[test]
+fn many_compute_what_one_does(rt: HostRuntime) {
+    assert!(rt; is_spread_by_one(rt.alloc()) == Ok(true));
     for threads in [1u16, 2, 5, 16] {
-        let by_many = Ring::new(rt.alloc())?;
-        together(&rt, rt.alloc(), &by_many, threads)?;
-        assert!(rt; by_many.differences(&by_one) == 0, "by {threads} threads");
+        let different = compare(&rt, rt.alloc(), threads).map(|seen| seen.different);
+        assert!(rt; different == Ok(0), "by {threads} threads");
     }
-    Ok(())
 }

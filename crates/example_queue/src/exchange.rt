@@ -3,7 +3,6 @@
 use crate::queue::{Popped, Queue, Refused};
 use saa::Mutex;
 use std::alloc::{AllocError, Global};
-use std::io;
 use std::sync::Wait;
 use std::thread::{self, Threads};
 use std::time::{Clock, Duration};
@@ -14,14 +13,14 @@ const ITEMS: u16 = 100;
 const BOUND: u16 = 4;
 
 /// An item: who made it, and the how manieth of that maker it is.
-#[derive(Clone, Copy, Debug, Eq, PartialEq)]
+#[derive(Clone, Copy)]
 pub struct Item {
     pub producer: u16,
     pub number: u16,
 }
 
 /// What the consumers counted together.
-#[derive(Clone, Copy, Debug, Default, Drop, Eq, PartialEq)]
+#[derive(Clone, Copy, Default, Drop, PartialEq)]
 pub struct Tally {
     pub items: u64,
     pub sum: u64,
@@ -49,7 +48,16 @@ struct Market<'r, R: Wait> {
     tally: Mutex<&'r R, Tally>,
 }
 
-impl<R: Wait> Market<'_, R> {
+impl<'r, R: Wait> Market<'r, R> {
+    // A market with an empty queue.
+    fn new(rt: &'r R, alloc: Global) -> Result<Self, AllocError> {
+        Ok(Market {
+            rt,
+            queue: Queue::new(rt, alloc, BOUND, 32)?,
+            tally: Mutex::new(rt, alloc, Tally::default(), 32)?,
+        })
+    }
+
     // Pushes all items of one producer; a closed queue ends it.
     fn produce(&self, producer: u16) {
         for number in 0..ITEMS {
@@ -85,28 +93,31 @@ fn all_produce<R: Threads + Wait + Sync>(rt: &R, market: &Market<'_, R>, pairs: 
     })
 }
 
-/// Has so many producers push 100 items each, and as many consumers pop them; at most 16.
-///
-/// The error comes where memory was refused or a thread couldn't be started; all threads have ended then too.
-pub fn exchange<R: Threads + Wait + Sync>(rt: &R, alloc: Global, pairs: u16) -> io::Result<Tally> {
-    let made = Market {
-        rt,
-        queue: Queue::new(rt, alloc, BOUND, 32)?,
-        tally: Mutex::new(rt, alloc, Tally::default(), 32)?,
-    };
-    let market = &made;
-    let is_whole = thread::scope(thread::scope_env(), rt, |scope| {
+// Starts so many consumers and producers, and closes the queue behind the last item. Whether all were started.
+fn all_trade<R: Threads + Wait + Sync>(rt: &R, market: &Market<'_, R>, pairs: u16) -> bool {
+    thread::scope(thread::scope_env(), rt, |scope| {
         let mut is_whole = true;
         for _consumer in 0..pairs {
             is_whole = scope.spawn(move || market.consume()).is_ok() && is_whole;
         }
         is_whole = is_whole && all_produce(rt, market, pairs);
         market.queue.close().is_ok() && is_whole
-    });
-    if is_whole {
-        Ok(made.tally.into_inner())
+    })
+}
+
+/// Has so many producers push 100 items each, and as many consumers pop them; at most 16.
+///
+/// The error comes where memory was refused or a thread couldn't be started; all threads have ended then too.
+pub fn exchange<R: Threads + Wait + Sync>(
+    rt: &R,
+    alloc: Global,
+    pairs: u16,
+) -> Result<Tally, AllocError> {
+    let market = Market::new(rt, alloc)?;
+    if all_trade(rt, &market, pairs) {
+        Ok(market.tally.into_inner())
     } else {
-        Err(AllocError.into())
+        Err(AllocError)
     }
 }
 
@@ -116,7 +127,7 @@ pub fn ends_in_time<R: Wait + Clock>(
     rt: &R,
     alloc: Global,
     patience: Duration,
-) -> io::Result<bool> {
+) -> Result<bool, AllocError> {
     let queue = Queue::new(rt, alloc, 1, 1)?;
     let is_pushed = queue.push_for(1u8, patience) == Ok(());
     let is_late = queue.push_for(2u8, patience) == Err(Refused::TooLate(2));

@@ -17,7 +17,7 @@ use std::time::{Clock, Duration};
 pub const MOST: u16 = 62;
 
 /// An item that was not taken, handed back, and why.
-#[derive(Clone, Copy, Debug, Eq, PartialEq)]
+#[derive(Drop, PartialEq)]
 pub enum Refused<T> {
     /// The queue is closed.
     Closed(T),
@@ -30,7 +30,7 @@ pub enum Refused<T> {
 }
 
 /// What a wait for an item came to that ends in time.
-#[derive(Clone, Copy, Debug, Eq, PartialEq)]
+#[derive(Drop, PartialEq)]
 pub enum Popped<T> {
     /// The oldest item.
     Item(T),

@@ -1,20 +1,39 @@
 //! What the program counts, and the queue's calls one by one.
 
-use crate::exchange::exchange;
+use crate::exchange::{Tally, exchange};
 use crate::queue::{Popped, Queue, Refused};
 use saa::ticket::Full;
-use std::io;
+use std::alloc::{AllocError, Global};
 use std::process::Abort;
 use std::sync::Wait;
 use std::time::{Clock, Duration};
 
+// How many pairs exchange items, and what their consumers count.
+static PAIRS: [(u16, Tally); 2] = [
+    (
+        1,
+        Tally {
+            items: 100,
+            sum: 4_950,
+            out_of_order: 0,
+        },
+    ),
+    (
+        8,
+        Tally {
+            items: 800,
+            sum: 39_600,
+            out_of_order: 0,
+        },
+    ),
+];
+
 #[test]
-fn a_pair_and_more(rt: HostRuntime) -> io::Result<()> {
-    let one = exchange(&rt, rt.alloc(), 1)?;
-    assert!(rt; one.items == 100 && one.sum == 4_950 && one.out_of_order == 0);
-    let eight = exchange(&rt, rt.alloc(), 8)?;
-    assert!(rt; eight.items == 800 && eight.sum == 39_600 && eight.out_of_order == 0);
-    Ok(())
+fn a_pair_and_more(rt: HostRuntime) {
+    for (pairs, tally) in &PAIRS {
+        let is_counted = exchange(&rt, rt.alloc(), *pairs) == Ok(*tally);
+        assert!(rt; is_counted, "of {pairs} pairs");
+    }
 }
 
 // A call at a queue of numbers.
@@ -30,7 +49,7 @@ enum Call {
 }
 
 // What a call tells.
-#[derive(Clone, Copy, Debug, PartialEq)]
+#[derive(Drop, PartialEq)]
 enum Told {
     Pushed(Result<(), Refused<u8>>),
     Popped(Result<Option<u8>, Full>),
@@ -51,7 +70,7 @@ fn answer<R: Wait + Clock + Copy + Drop>(queue: &Queue<R, u8>, call: Call) -> To
 }
 
 // Calls at a queue for two items, one after another, and what each must tell.
-const CALLS: [(Call, Told); 14] = [
+static CALLS: [(Call, Told); 14] = [
     (Call::TryPop, Told::Popped(Ok(None))),
     (Call::Push(1), Told::Pushed(Ok(()))),
     (Call::TryPush(2), Told::Pushed(Ok(()))),
@@ -77,11 +96,25 @@ const CALLS: [(Call, Told); 14] = [
     ),
 ];
 
-#[test]
-fn a_full_queue_and_a_closed_one(rt: HostRuntime) -> io::Result<()> {
-    let queue = Queue::new(&rt, rt.alloc(), 2, 1)?;
-    for (call, wanted) in &CALLS {
-        assert_eq!(rt; answer(&queue, *call), *wanted);
+// Makes the calls: the number of the first that tells something else.
+fn first_other<R: Wait + Clock + Copy + Drop>(queue: &Queue<R, u8>) -> Option<usize> {
+    for (number, (call, wanted)) in CALLS.iter().enumerate() {
+        if answer(queue, *call) != *wanted {
+            return Some(number);
+        }
     }
-    Ok(())
+    None
+}
+
+// The same at a queue of its own.
+fn first_other_of_a_queue<R: Wait + Clock>(
+    rt: &R,
+    alloc: Global,
+) -> Result<Option<usize>, AllocError> {
+    Ok(first_other(&Queue::new(rt, alloc, 2, 1)?))
+}
+
+#[test]
+fn a_full_queue_and_a_closed_one(rt: HostRuntime) {
+    assert_eq!(rt; first_other_of_a_queue(&rt, rt.alloc()), Ok(None));
 }

@@ -4,20 +4,19 @@ use futures::executor::block_on;
 use saa::barrier::Barrier;
 use saa::gate::{Error, Gate, State};
 use std::alloc::{AllocError, AllocGlobal, Global};
-use std::io;
 use std::random::RandomSource;
 use std::sync::Wait;
 use std::sync::atomic::{AtomicU64, Ordering};
 use std::thread::{self, Threads, yield_now};
 
 /// What a worker is told when it asks for work.
-#[derive(Clone, Copy, Debug, Eq, PartialEq)]
+#[derive(Clone, Copy, PartialEq)]
 pub enum Verdict {
-    /// Those who waited were let in.
+    /// The waiters were let in.
     LetIn,
     /// The service is open to all.
     Passed,
-    /// Those who waited were turned away, or somebody who waited too gave up: ask again.
+    /// The waiters were turned away, or another waiter gave up: ask again.
     AskAgain,
     /// The service has stopped.
     Stopped,
@@ -39,7 +38,7 @@ fn ask<R: Wait + Drop>(gate: &Gate<R>) -> Verdict {
 }
 
 /// How many were told what.
-#[derive(Clone, Copy, Debug, Eq, PartialEq)]
+#[derive(Clone, Copy, PartialEq)]
 pub struct Told {
     pub let_in: u64,
     pub stopped: u64,
@@ -63,6 +62,14 @@ impl Counts {
             Verdict::AskAgain => 0,
         };
     }
+
+    fn told(&self) -> Told {
+        Told {
+            let_in: self.let_in.load(Ordering::SeqCst),
+            stopped: self.stopped.load(Ordering::SeqCst),
+            passed: self.passed.load(Ordering::SeqCst),
+        }
+    }
 }
 
 /// The service: its gate, and a place where all meet who were let in.
@@ -74,6 +81,19 @@ struct Service<'r, R: Wait> {
 }
 
 impl<'r, R: Wait> Service<'r, R> {
+    // A service that hasn't let in anybody, for so many at a time.
+    fn new(rt: &'r R, alloc: Global, room: u16) -> Result<Self, AllocError> {
+        Ok(Service {
+            gate: Gate::new(rt, alloc, room)?,
+            drained: Barrier::with_count(rt, alloc, usize::from(room), room)?,
+            counts: Counts {
+                let_in: AtomicU64::new(0),
+                stopped: AtomicU64::new(0),
+                passed: AtomicU64::new(0),
+            },
+        })
+    }
+
     // A worker.
     fn work(&self) {
         self.go_on(ask(&self.gate));
@@ -102,7 +122,7 @@ impl<'r, R: Wait> Service<'r, R> {
         }
     }
 
-    // Lets in who waits until so many were let in.
+    // Permits the waiters to enter until so many were let in.
     fn let_in(&self, rt: &R, all: usize) {
         let mut awaited = all;
         for _permit in rt.forever() {
@@ -113,28 +133,22 @@ impl<'r, R: Wait> Service<'r, R> {
             yield_now();
         }
     }
+
+    // Opens the service that was stopped, and asks once more.
+    fn open_to_all(&self) {
+        let _ = self.gate.reset();
+        let _ = self.gate.open();
+        self.counts.count(ask(&self.gate));
+    }
 }
 
-/// Starts a service with so many workers and a polled task, lets all in once, stops it, and opens it to all.
-///
-/// The error comes where memory was refused or a thread couldn't be started: then it is stopped before anybody was let in.
-pub fn serve<R: Threads + Wait + AllocGlobal + RandomSource + Sync>(
+// Starts so many workers and a polled task, lets all in once, and stops the service. Whether all were started.
+fn run_once<R: Threads + Wait + AllocGlobal + RandomSource + Sync>(
     rt: &R,
-    alloc: Global,
+    service: &Service<'_, R>,
     workers: u16,
-) -> io::Result<Told> {
-    let room = workers.saturating_add(2);
-    let made = Service {
-        gate: Gate::new(rt, alloc, room)?,
-        drained: Barrier::with_count(rt, alloc, usize::from(room), room)?,
-        counts: Counts {
-            let_in: AtomicU64::new(0),
-            stopped: AtomicU64::new(0),
-            passed: AtomicU64::new(0),
-        },
-    };
-    let service = &made;
-    let is_whole = thread::scope(thread::scope_env(), rt, |scope| {
+) -> bool {
+    thread::scope(thread::scope_env(), rt, |scope| {
         let mut is_whole = scope.spawn(move || service.poll(rt)).is_ok();
         for _worker in 0..workers {
             is_whole = is_whole && scope.spawn(move || service.work()).is_ok();
@@ -145,16 +159,22 @@ pub fn serve<R: Threads + Wait + AllocGlobal + RandomSource + Sync>(
         }
         let _ = service.gate.seal();
         is_whole
-    });
-    if !is_whole {
-        return Err(AllocError.into());
-    }
-    let _ = service.gate.reset();
-    let _ = service.gate.open();
-    service.counts.count(ask(&service.gate));
-    Ok(Told {
-        let_in: service.counts.let_in.load(Ordering::SeqCst),
-        stopped: service.counts.stopped.load(Ordering::SeqCst),
-        passed: service.counts.passed.load(Ordering::SeqCst),
     })
+}
+
+/// Starts a service with so many workers and a polled task, lets all in once, stops it, and opens it to all.
+///
+/// The error comes where memory was refused or a thread couldn't be started: then it is stopped before anybody was let in.
+pub fn serve<R: Threads + Wait + AllocGlobal + RandomSource + Sync>(
+    rt: &R,
+    alloc: Global,
+    workers: u16,
+) -> Result<Told, AllocError> {
+    let service = Service::new(rt, alloc, workers.saturating_add(2))?;
+    if run_once(rt, &service, workers) {
+        service.open_to_all();
+        Ok(service.counts.told())
+    } else {
+        Err(AllocError)
+    }
 }

@@ -1,22 +1,32 @@
 //! What the workers of a small service and of a larger one are told.
 
 use crate::service::{Told, serve};
-use std::io;
 use std::process::Abort;
 
-#[test]
-fn one_worker_and_sixteen(rt: HostRuntime) -> io::Result<()> {
-    for workers in [1u16, 16] {
-        let all = u64::from(workers).saturating_add(1);
-        let told = Told {
-            let_in: all,
-            stopped: all,
+// How many workers there are beside the task that is polled, and how many are told what.
+static SERVICES: [(u16, Told); 2] = [
+    (
+        1,
+        Told {
+            let_in: 2,
+            stopped: 2,
             passed: 1,
-        };
-        assert!(rt;
-            serve(&rt, rt.alloc(), workers)? == told,
-            "of {workers} workers"
-        );
+        },
+    ),
+    (
+        16,
+        Told {
+            let_in: 17,
+            stopped: 17,
+            passed: 1,
+        },
+    ),
+];
+
+#[test]
+fn one_worker_and_sixteen(rt: HostRuntime) {
+    for (workers, told) in &SERVICES {
+        let is_told = serve(&rt, rt.alloc(), *workers) == Ok(*told);
+        assert!(rt; is_told, "of {workers} workers");
     }
-    Ok(())
 }

@@ -13,7 +13,7 @@ use std::thread::{self, Threads};
 const READINGS: u64 = 50;
 
 /// What was seen of a table.
-#[derive(Clone, Copy, Debug, Eq, PartialEq)]
+#[derive(Clone, Copy, PartialEq)]
 pub struct Seen {
     /// How many readings are in the table at the end.
     pub written: u64,

@@ -1,7 +1,6 @@
 //! Each future, awaited by `block_on` while another thread lets it be answered later: a waker that memory was refused for is a yield, and the
 //! answer is the same. Only where `block_on` itself is refused is there none, and then the future is awaited anew.
 
-use crate::anew;
 use crate::came::{Came, row};
 use futures::executor::block_on;
 use saa_sync::barrier::Barrier;
@@ -41,7 +40,7 @@ enum What {
 }
 
 // What another thread lets be answered.
-const ANSWERED: [(&str, What); 6] = [
+static ANSWERED: [(&str, What); 6] = [
     ("a permit awaited", What::Permit),
     ("two permits awaited", What::TwoPermits),
     ("a lock awaited, taken before (true)", What::Turn),
@@ -51,7 +50,7 @@ const ANSWERED: [(&str, What); 6] = [
 ];
 
 // These are answered at once: how long one waits is the lock's matter.
-const GUARDS: [(&str, What); 3] = [
+static GUARDS: [(&str, What); 3] = [
     ("a mutex awaited", What::Mutex),
     ("a reader awaited", What::Reader),
     ("a writer awaited", What::Writer),
@@ -98,8 +97,15 @@ pub fn rows<R: Runtime + RandomSource + AllocGlobal + Threads + Wait + Sync>(
     rt: &R,
     alloc: Global,
 ) -> io::Result<()> {
-    let forms = anew!(Forms::new(rt, alloc));
-    rows_of(rt, &forms)
+    rows_of(rt, &forms_anew(rt, alloc)?)
+}
+
+// Makes the forms, anew where they were refused.
+fn forms_anew<R: Wait>(rt: &R, alloc: Global) -> Result<Forms<'_, R>, AllocError> {
+    match Forms::new(rt, alloc) {
+        Ok(forms) => Ok(forms),
+        Err(_) => Forms::new(rt, alloc),
+    }
 }
 
 // The same of forms that are made.
@@ -153,17 +159,30 @@ fn is_answered<R: RandomSource + AllocGlobal + Wait>(
     forms: &Forms<'_, R>,
     what: What,
 ) -> Option<bool> {
-    Some(match what {
-        What::Permit => block_on(rt, forms.semaphore.acquire_async()).ok()? == Ok(()),
-        What::TwoPermits => block_on(rt, forms.semaphore.acquire_many_async(2)).ok()? == Ok(true),
-        What::Turn => block_on(rt, forms.lock.lock_async()).ok()? == Ok(true),
-        What::Share => block_on(rt, forms.lock.share_async()).ok()? == Ok(true),
-        What::Gate => block_on(rt, forms.gate.enter_async()).ok()? == Ok(Ok(State::Open)),
-        What::Barrier => block_on(rt, forms.barrier.wait_async()).ok()?.is_ok(),
-        What::Mutex => block_on(rt, lock_async(&forms.mutex)).ok()?.is_ok(),
-        What::Reader => block_on(rt, read_async(&forms.rwlock)).ok()?.is_ok(),
-        What::Writer => block_on(rt, write_async(&forms.rwlock)).ok()?.is_ok(),
-    })
+    match what {
+        What::Permit => is_told(block_on(rt, forms.semaphore.acquire_async()), Ok(())),
+        What::TwoPermits => is_told(
+            block_on(rt, forms.semaphore.acquire_many_async(2)),
+            Ok(true),
+        ),
+        What::Turn => is_told(block_on(rt, forms.lock.lock_async()), Ok(true)),
+        What::Share => is_told(block_on(rt, forms.lock.share_async()), Ok(true)),
+        What::Gate => is_told(block_on(rt, forms.gate.enter_async()), Ok(Ok(State::Open))),
+        What::Barrier => is_had(block_on(rt, forms.barrier.wait_async())),
+        What::Mutex => is_had(block_on(rt, lock_async(&forms.mutex))),
+        What::Reader => is_had(block_on(rt, read_async(&forms.rwlock))),
+        What::Writer => is_had(block_on(rt, write_async(&forms.rwlock))),
+    }
+}
+
+// Whether this is what a future is answered; nothing where it was refused to await it.
+fn is_told<T: PartialEq + Drop, E: Drop>(answer: Result<T, E>, wanted: T) -> Option<bool> {
+    Some(answer.ok()? == wanted)
+}
+
+// Whether a future is answered with what was asked for; nothing where it was refused to await it.
+fn is_had<T: Drop, F: Drop, E: Drop>(answer: Result<Result<T, F>, E>) -> Option<bool> {
+    Some(answer.ok()?.is_ok())
 }
 
 // Registers a pager, and awaits its answer.

@@ -5,7 +5,7 @@ use std::io;
 use std::rt::Runtime;
 
 /// What came of it.
-#[derive(Clone, Copy, Debug, Eq, PartialEq)]
+#[derive(Clone, Copy)]
 pub enum Came {
     /// It was done at once.
     AtOnce,

@@ -43,15 +43,33 @@ fn twenty_calls<J: Journal>(
     requires opening { object_of core (replicate 2 Unregistered) ≡ J.opening }
 {
     let (mut journal, mut shares) = Journalled::<SemaphoreCore, J>::new(alloc, core, 2, blank, 1)?;
+    beside_a_bench(alloc, &mut journal, &mut shares)
+}
+
+// Makes the bench, and the calls at both.
+fn beside_a_bench<J: Journal>(
+    alloc: Global,
+    journal: &mut Journalled<SemaphoreCore, J>,
+    shares: &mut Vec<Share<J>>,
+) -> Result<Came, AllocError> {
     let mut bench = Bench::new(alloc, SemaphoreCore::new(alloc, 4)?, 2)?;
-    let Some(mut share) = shares.pop() else {
-        return Ok(Came::Wrong);
-    };
-    let came = calls_alike(&mut journal, &mut bench, &mut share);
-    if journal.history().len() != 20 || share.calls() != 20 {
-        return Ok(Came::Wrong);
+    match shares.pop() {
+        Some(mut share) => Ok(all_alike(journal, &mut bench, &mut share)),
+        None => Ok(Came::Wrong),
     }
-    Ok(came)
+}
+
+// Makes the twenty calls at both: what came of them, and wrong where they aren't twenty.
+fn all_alike<J: Journal>(
+    journal: &mut Journalled<SemaphoreCore, J>,
+    bench: &mut Bench<SemaphoreCore>,
+    share: &mut Share<J>,
+) -> Came {
+    let came = calls_alike(journal, bench, share);
+    if journal.history().len() != 20 || share.calls() != 20 {
+        return Came::Wrong;
+    }
+    came
 }
 
 // Makes five calls four times at both: what came of them.

@@ -47,7 +47,7 @@ enum What {
 }
 
 // Its name, in the order of the rows.
-const ROWS: [(&str, What); 19] = [
+static ROWS: [(&str, What); 19] = [
     ("semaphore core", What::SemaphoreCore),
     ("wide semaphore core", What::WideSemaphoreCore),
     ("lock core", What::LockCore),
@@ -109,26 +109,31 @@ fn made<R: Wait>(rt: &R, alloc: Global, what: What, value: &Arc<u32>) -> Came {
 // Whether it was made, and not refused.
 fn is_made<R: Wait>(rt: &R, alloc: Global, what: What, value: &Arc<u32>) -> bool {
     match what {
-        What::SemaphoreCore => SemaphoreCore::new(alloc, 4).is_ok(),
-        What::WideSemaphoreCore => SemaphoreCoreOf::<1000>::with_permits(alloc, 5, 4).is_ok(),
-        What::LockCore => LockCore::new(alloc, 4).is_ok(),
-        What::GateCore => GateCore::new(alloc, 4).is_ok(),
-        What::BarrierCore => BarrierCore::with_count(alloc, 3, 4).is_ok(),
-        What::Bench => bench(alloc).is_ok(),
-        What::SemaphoreMachine => Machine::semaphore(alloc, 7, 3).is_ok(),
-        What::LockMachine => Machine::lock(alloc, 3).is_ok(),
-        What::WordSemaphore => WordSemaphore::new(alloc, 7, 3).is_ok(),
-        What::WordLock => WordLock::new(alloc, 3).is_ok(),
-        What::Semaphore => Semaphore::new(rt, alloc, 4).is_ok(),
-        What::WideSemaphore => SemaphoreOf::<_, 1000>::with_permits(rt, alloc, 5, 4).is_ok(),
-        What::Lock => Lock::new(rt, alloc, 4).is_ok(),
-        What::Gate => Gate::new(rt, alloc, 4).is_ok(),
-        What::Barrier => Barrier::with_count(rt, alloc, 3, 4).is_ok(),
-        What::Mutex => mutex(rt, alloc, value).is_ok(),
-        What::RwLock => rwlock(rt, alloc, value).is_ok(),
-        What::WordMutex => word_mutex(alloc, value).is_ok(),
-        What::WordRwLock => word_rwlock(alloc, value).is_ok(),
+        What::SemaphoreCore => is_had(SemaphoreCore::new(alloc, 4)),
+        What::WideSemaphoreCore => is_had(SemaphoreCoreOf::<1000>::with_permits(alloc, 5, 4)),
+        What::LockCore => is_had(LockCore::new(alloc, 4)),
+        What::GateCore => is_had(GateCore::new(alloc, 4)),
+        What::BarrierCore => is_had(BarrierCore::with_count(alloc, 3, 4)),
+        What::Bench => is_had(bench(alloc)),
+        What::SemaphoreMachine => is_had(Machine::semaphore(alloc, 7, 3)),
+        What::LockMachine => is_had(Machine::lock(alloc, 3)),
+        What::WordSemaphore => is_had(WordSemaphore::new(alloc, 7, 3)),
+        What::WordLock => is_had(WordLock::new(alloc, 3)),
+        What::Semaphore => is_had(Semaphore::new(rt, alloc, 4)),
+        What::WideSemaphore => is_had(SemaphoreOf::<_, 1000>::with_permits(rt, alloc, 5, 4)),
+        What::Lock => is_had(Lock::new(rt, alloc, 4)),
+        What::Gate => is_had(Gate::new(rt, alloc, 4)),
+        What::Barrier => is_had(Barrier::with_count(rt, alloc, 3, 4)),
+        What::Mutex => is_had(mutex(rt, alloc, value)),
+        What::RwLock => is_had(rwlock(rt, alloc, value)),
+        What::WordMutex => is_had(word_mutex(alloc, value)),
+        What::WordRwLock => is_had(word_rwlock(alloc, value)),
     }
+}
+
+// Whether something was made, which ends here.
+fn is_had<T: Drop>(made: Result<T, AllocError>) -> bool {
+    made.is_ok()
 }
 
 fn bench(alloc: Global) -> Result<Bench<SemaphoreCore>, AllocError> {
