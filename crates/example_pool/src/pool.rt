@@ -9,7 +9,7 @@ use std::sync::{Mutex, Wait};
 use std::time::{Clock, Duration};
 
 /// A connection: a value here that can't be copied, knows whether it is in use, and counts its uses.
-#[derive(Debug, Drop)]
+#[derive(Drop)]
 pub struct Connection {
     pub number: usize,
     pub uses: u64,
@@ -37,7 +37,7 @@ impl Connection {
 }
 
 /// Why nothing was checked out.
-#[derive(Clone, Copy, Debug, Eq, PartialEq)]
+#[derive(Clone, Copy)]
 pub enum Refused {
     /// The pool is shut down.
     Shut,
@@ -190,7 +190,7 @@ impl<'r, R: Wait, const MAX: usize> Pool<'r, R, MAX> {
         }
     }
 
-    // Takes a connection by a permit, which goes with it. Where the pool is shut the permit lets in the next who waits.
+    // Takes a connection by a permit, which goes with it. Where the pool is shut the permit lets in the next waiter.
     fn take<'p>(
         &'p self,
         permit: PermitOf<'p, &'r R, MAX>,

@@ -2,34 +2,31 @@
 
 use crate::pool::{Pool, Refused};
 use crate::work::{Seen, share};
-use std::io;
+use std::alloc::{AllocError, Global};
 use std::process::Abort;
 use std::sync::Wait;
 use std::time::{Clock, Duration};
 
+const ONE: Seen = Seen {
+    taken: 1,
+    refused: 1,
+    late: 1,
+    turns: 200,
+    uses: 201,
+};
+
+const A_HUNDRED: Seen = Seen {
+    taken: 100,
+    refused: 1,
+    late: 1,
+    turns: 800,
+    uses: 900,
+};
+
 #[test]
-fn one_connection_and_a_hundred(rt: HostRuntime) -> io::Result<()> {
-    assert!(rt;
-        share::<_, 1>(&rt, rt.alloc(), 4)?
-            == Seen {
-                taken: 1,
-                refused: 1,
-                late: 1,
-                turns: 200,
-                uses: 201
-            }
-    );
-    assert!(rt;
-        share::<_, 100>(&rt, rt.alloc(), 16)?
-            == Seen {
-                taken: 100,
-                refused: 1,
-                late: 1,
-                turns: 800,
-                uses: 900
-            }
-    );
-    Ok(())
+fn one_connection_and_a_hundred(rt: HostRuntime) {
+    assert!(rt; share::<_, 1>(&rt, rt.alloc(), 4) == Ok(ONE));
+    assert!(rt; share::<_, 100>(&rt, rt.alloc(), 16) == Ok(A_HUNDRED));
 }
 
 // Checks out the other of two connections: whether one more is refused then, at once and in time, and what was used and is out.
@@ -65,18 +62,27 @@ fn shut_down<R: Wait>(pool: &Pool<'_, R, 2>) -> (bool, bool) {
     (is_shut, matches!(pool.check_out(), Err(Refused::Shut)))
 }
 
-#[test]
-fn a_pool_that_is_out_and_one_that_is_shut(rt: HostRuntime) -> io::Result<()> {
-    let pool = Pool::<_, 2>::new(&rt, rt.alloc(), 1)?;
+// Whether a pool does as it must while one of its two connections is out.
+fn is_right_with_one_out<R: Wait + Clock>(pool: &Pool<'_, R, 2>) -> bool {
+    with_both_out(pool) == (true, true, true, (0, 2))
+        && unused(pool) == (true, (0, 1))
+        && used(pool) == (true, (1, 1))
+        && shut_down(pool) == (true, true)
+}
+
+// Checks that connection out meanwhile: whether it was had, and the pool does as it must.
+fn with_one_out<R: Wait + Clock>(pool: &Pool<'_, R, 2>) -> (bool, bool) {
     let one = pool.check_out();
-    let is_out = one.is_ok();
-    let with_both_out = with_both_out(&pool);
-    let unused = unused(&pool);
-    let used = used(&pool);
-    let shut = shut_down(&pool);
-    drop(one);
-    assert!(rt; is_out && with_both_out == (true, true, true, (0, 2)));
-    assert!(rt; unused == (true, (0, 1)) && used == (true, (1, 1)));
-    assert!(rt; shut == (true, true) && pool.uses() == (1, 0));
-    Ok(())
+    (one.is_ok(), is_right_with_one_out(pool))
+}
+
+// Whether a pool of its own does as it must, then and once both connections are back.
+fn is_right<R: Wait + Clock>(rt: &R, alloc: Global) -> Result<bool, AllocError> {
+    let pool = Pool::<R, 2>::new(rt, alloc, 1)?;
+    Ok(with_one_out(&pool) == (true, true) && pool.uses() == (1, 0))
+}
+
+#[test]
+fn a_pool_that_is_out_and_one_that_is_shut(rt: HostRuntime) {
+    assert_eq!(rt; is_right(&rt, rt.alloc()), Ok(true));
 }

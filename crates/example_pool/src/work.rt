@@ -4,7 +4,6 @@ ghost use Rattle.std.specs.Prelude.{◌<◌};
 
 use crate::pool::{Connection, Pool, Refused};
 use std::alloc::{AllocError, Global};
-use std::io;
 use std::sync::Wait;
 use std::sync::atomic::{AtomicU64, Ordering};
 use std::thread::{self, Threads};
@@ -17,7 +16,7 @@ const TURNS: u16 = 50;
 const PATIENCE: u64 = 5;
 
 /// What was seen of a pool.
-#[derive(Clone, Copy, Debug, Eq, PartialEq)]
+#[derive(Clone, Copy, PartialEq)]
 pub struct Seen {
     /// How many connections were taken one after the other, and stayed out.
     pub taken: usize,
@@ -39,7 +38,7 @@ pub fn share<R: Threads + Wait + Clock + Sync, const MAX: usize>(
     rt: &R,
     alloc: Global,
     workers: u16,
-) -> io::Result<Seen>
+) -> Result<Seen, AllocError>
     requires bound { 0 < MAX }
     requires narrow { MAX < 65536 }
 {
@@ -48,7 +47,7 @@ pub fn share<R: Threads + Wait + Clock + Sync, const MAX: usize>(
     pool.shut_down();
     match pool.uses() {
         (uses, 0) => Ok(Seen { uses, ..seen }),
-        _ => Err(AllocError.into()),
+        _ => Err(AllocError),
     }
 }
 
@@ -62,13 +61,9 @@ fn pass_on<R: Threads + Wait + Clock + Sync, const MAX: usize>(
     let (mut kept, refused) = take_all(alloc, pool)?;
     let taken = kept.len();
     let is_late = is_late(pool);
-    for connection in &mut kept {
-        connection.use_once();
-    }
+    use_all(&mut kept);
     let turns = turns_with_one(rt, pool, kept.pop(), workers);
-    for connection in kept {
-        pool.give_back(connection);
-    }
+    give_all_back(pool, kept);
     match turns {
         Some(turns) => Ok(Seen {
             taken,
@@ -95,6 +90,20 @@ fn take_all<R: Wait, const MAX: usize>(
         }
     }
     Ok((kept, refused))
+}
+
+// Uses each of these connections once.
+fn use_all(kept: &mut [Connection]) {
+    for connection in kept {
+        connection.use_once();
+    }
+}
+
+// Gives these connections back.
+fn give_all_back<R: Wait, const MAX: usize>(pool: &Pool<'_, R, MAX>, kept: Vec<Connection>) {
+    for connection in kept {
+        pool.give_back(connection);
+    }
 }
 
 // Waits for one connection more; whether it was told that time was up.

@@ -1,6 +1,7 @@
 //! Each future, awaited by `block_on` while another thread lets it be answered later: a waker that memory was refused for is a yield, and the
 //! answer is the same. Only where `block_on` itself is refused is there none, and then the future is awaited anew.
 
+use crate::anew;
 use crate::came::{Came, row};
 use futures::executor::block_on;
 use saa_sync::barrier::Barrier;
@@ -97,15 +98,8 @@ pub fn rows<R: Runtime + RandomSource + AllocGlobal + Threads + Wait + Sync>(
     rt: &R,
     alloc: Global,
 ) -> io::Result<()> {
-    rows_of(rt, &forms_anew(rt, alloc)?)
-}
-
-// Makes the forms, anew where they were refused.
-fn forms_anew<R: Wait>(rt: &R, alloc: Global) -> Result<Forms<'_, R>, AllocError> {
-    match Forms::new(rt, alloc) {
-        Ok(forms) => Ok(forms),
-        Err(_) => Forms::new(rt, alloc),
-    }
+    let forms = anew!(Forms::new(rt, alloc));
+    rows_of(rt, &forms)
 }
 
 // The same of forms that are made.
