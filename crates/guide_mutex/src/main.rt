@@ -17,7 +17,7 @@ struct Purse {
 }
 
 fn main(rt: HostRuntime) -> io::Result<()> {
-    // Room for two who wait.
+    // Room for two waiters.
     let purse = Purse {
         left: 100,
         right: 0,
@@ -39,7 +39,7 @@ fn shift<R: Wait + Drop>(purse: &RwLock<R, Purse>) -> Result<(), Full> {
     Ok(())
 }
 
-// Counts all coins, whoever moves them meanwhile. The sum can't overflow, since it is 100.
+// Counts all coins, while other threads move some. The sum can't overflow, since it is 100.
 fn count<R: Wait + Drop>(purse: &RwLock<R, Purse>) -> Result<u64, Full>
     ensures { IfOk result (λ coins. coins ≡ 100) }
 {

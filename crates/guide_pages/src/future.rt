@@ -10,7 +10,7 @@ use std::{io, thread};
 
 #[test]
 fn main(rt: HostRuntime) -> io::Result<()> {
-    // One permit, and room for two who wait.
+    // One permit, and room for two waiters.
     let permits = Semaphore::with_permits(&rt, rt.alloc(), 1, 2)?;
     let (polled, slept) = thread::join(&rt, || poll(&rt, &permits), || sleep(&permits));
     println!(rt; "{} turns by polling, {slept} by sleeping", polled?)

@@ -7,7 +7,7 @@ use std::{io, thread};
 
 #[test]
 fn main(rt: HostRuntime) -> io::Result<()> {
-    // A controlled gate, and room for two who wait.
+    // A controlled gate, and room for two waiters.
     let gate = Gate::new(&rt, rt.alloc(), 2)?;
     // Who comes first waits; who comes when it is open passes at once.
     let (started, _before) = thread::join(&rt, || both(&rt, &gate), || gate.open());

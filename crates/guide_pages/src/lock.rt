@@ -8,12 +8,12 @@ use std::{io, thread};
 
 #[test]
 fn main(rt: HostRuntime) -> io::Result<()> {
-    // A free lock, and room for two who wait.
+    // A free lock, and room for two waiters.
     let lock = Lock::new(&rt, rt.alloc(), 2)?;
     let total = AtomicU64::new(0);
     thread::join(&rt, || add(&lock, &total), || add(&lock, &total));
     println!(rt; "{} turns were taken", total.load(Ordering::SeqCst))?;
-    // Whoever has the lock alone can poison it: all who wait and all who come are told.
+    // The owner of the lock can poison it: all waiters and all later calls are told.
     let is_poisoned = lock.lock_sync() == Ok(true) && lock.poison_lock();
     let is_shared = lock.share_sync() == Ok(true);
     println!(rt; "poisoned: {is_poisoned}, shared: {is_shared}")

@@ -9,7 +9,7 @@ use std::sync::Wait;
 
 #[test]
 fn main(rt: HostRuntime) -> io::Result<()> {
-    // One permit, which is out, and room for two who wait.
+    // One permit, which is out, and room for two waiters.
     let printer = Semaphore::with_permits(&rt, rt.alloc(), 0, 2)?;
     match queue(&printer) {
         Ok(is_granted) => println!(rt; "the second has the printer: {is_granted}"),

@@ -8,7 +8,7 @@ use std::{io, thread};
 
 #[test]
 fn main(rt: HostRuntime) -> io::Result<()> {
-    // Two permits, and room for four who wait for one.
+    // Two permits, and room for four waiters.
     let desks = Semaphore::with_permits(&rt, rt.alloc(), 2, 4)?;
     let busy = AtomicU64::new(0);
     let done = thread::map_indices(&rt, rt.alloc(), 4, &|_worker| work(&desks, &busy))?;

@@ -45,7 +45,7 @@ fn shift<R: Wait>(rt: &R, mut worker: RwLockWorker<'_, Purse>) {
     }
 }
 
-// Counts all coins, whoever moves them meanwhile. The sum can't overflow, since it is 100.
+// Counts all coins, while other threads move some. The sum can't overflow, since it is 100.
 fn count<R: Wait>(rt: &R, mut worker: RwLockWorker<'_, Purse>) -> u64
     ensures { result ≡ 100 }
 {

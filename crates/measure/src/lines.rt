@@ -31,7 +31,7 @@ impl Action {
     fn place(self, turn: u64, waiting: u64) -> usize {
         let half = waiting / 2;
         let place = match self {
-            // The first half stays, so that whoever is next in the second half stands in the middle.
+            // The first half stays, so that the next of the second half stands in the middle.
             Action::DropMiddle => half.saturating_add(turn.checked_rem(half).unwrap_or(0)),
             Action::DropNewest => waiting.saturating_sub(1),
             Action::Grant => turn.checked_rem(waiting).unwrap_or(0),
@@ -134,7 +134,7 @@ fn join<'s, S: Wait + Drop>(
     Some(())
 }
 
-// Does it so often. Whoever is replaced gives up by its drop, unless it took its answer.
+// Does it so often. A waiter that is replaced is cancelled by its drop, unless it took its answer.
 fn act_often<'s, S: Wait + Drop>(
     cx: &mut Context<'_>,
     semaphore: &'s Semaphore<S>,

@@ -4,7 +4,7 @@
 //!
 //! With the argument `measure` it prints, for some numbers of threads, what one acquire with its release costs by each,
 //! and the ratio, and for one thread the ratios to two bare turns at a `Mutex`; with the name of a part it prints that part, and with
-//! any other arguments only how to run it. What is measured here is proved nowhere. The counter is unfair: whoever comes first takes
+//! any other arguments only how to run it. What is measured here is proved nowhere. The counter is unfair: the first that comes takes
 //! what is there.
 //!
 //! What is printed is a table (`tables`); what is timed is a load (`loads`), and one function times each.

@@ -1,8 +1,8 @@
 //! A meeting: threads wait for one another, take turns at one lock for a while, and are counted only while all are there.
 //!
 //! With a fixed number of turns for each thread some would be taken before the others begin or after they have ended, where nothing
-//! contends. Here whoever finds that the time is up ends the meeting for all. Or the thread that comes first times how long it waits for its
-//! turns, and ends the meeting once it has waited often enough.
+//! contends. Here the thread that finds that the time is up ends the meeting for all. Or the thread that comes first times how long it
+//! waits for its turns, and ends the meeting once it has waited often enough.
 
 use crate::takers::{Taker, Work};
 use crate::times::nanos_since;

@@ -22,7 +22,7 @@ one_if-nat_lt a b counts =
           absurd (omega (arith, none))
     ]
 
--- who stands at a place of the line stands in the line
+-- a ticket at a place of the line is in the line
 pub times-at : (slot : ℕ) (line : List Waiter) (place : ℕ) (waiter : Waiter) → slice_get line place ≡ Some waiter → waiter.0 ≡ slot → 0 < times slot line
 times-at slot [] place waiter at_place is = absurd (cc)
 times-at slot (first ∷ rest) zero waiter at_place is =

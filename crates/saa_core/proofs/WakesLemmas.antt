@@ -211,7 +211,7 @@ owed_after-kept [] slot owed = omega arith
 owed_after-kept (waiter ∷ waiters) slot owed =
     omega (arith, owing-kept waiter.0 slot owed, owed_after-kept waiters slot (owing waiter.0 owed))
 
--- and each who was answered is owed one
+-- and each that was answered is owed one
 pub owed_after-there : (waiters : List Waiter) (slot : ℕ) (owed : List ℕ) → 0 < times slot waiters → 0 < count_of slot (owed_after waiters owed)
 owed_after-there [] slot owed some = absurd (omega arith)
 owed_after-there (waiter ∷ waiters) slot owed some =

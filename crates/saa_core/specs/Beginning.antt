@@ -20,7 +20,7 @@ mode_of (InSlot slot request is_sync) = Some is_sync
 abbrev pub alone : Core → Object
 alone core = object_of core (Unregistered ∷ [])
 
--- What a call that may wait owes as it begins: its registration, with this answer, owes each whom it answers a wake; to
+-- What a call that may wait owes as it begins: its registration, with this answer, owes a wake to each waiter that it answers; to
 -- consume its own answer at once changes none
 pub record BeginOwes (old new : Core) (ticket : Registration) (request : Request) (is_sync : Bool) (answer : Result Bool Full) : Type 0 where
   pub between : Core

@@ -1,6 +1,6 @@
 -- How a `Line` keeps its slots, and the wakes that it owes: which of its parts agree.
 -- No user must believe this. It is what the code is proved to keep, so that a call finds a free slot where there is
--- one, answers who waits without a search, and never needs memory for a wake.
+-- one, answers a waiter without a search, and never needs memory for a wake.
 use Rattle.std.specs.Prelude.{◌≡◌, ℕ, ◌+◌, ◌<◌, ◌≤◌, Bool, false, List, [], ◌∷◌, length, nat_lt, slice_index_or, Option, is_some}
 use Rattle.saa_core_spec.specs.Object.{Waiter, one_if, times}
 use Rattle.saa_core.specs.Slots.{answer_in, answer_count, count_of, owing}

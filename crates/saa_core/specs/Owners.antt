@@ -1,4 +1,4 @@
--- How the core of a lock keeps who has it. No user must believe this: contracts speak of the state of the lock.
+-- How the core of a lock keeps its owner and its sharers. No user must believe this: contracts speak of the state of the lock.
 use Rattle.saa_core_spec.specs.Held.{LockState, Free, Exclusive, Poisoned, Shared}
 use Rattle.saa_core.specs.declared.lock.Owner.{Owner}
 use Rattle.saa_core.specs.declared.lock.Owner.TheVariants.{Free as NoOwner, Exclusive as OneOwner, Shared as Sharing, Poisoned as IsPoisoned}

@@ -88,7 +88,7 @@ answered_of [] answers = []
 answered_of (waiter ∷ waiters) answers =
     if is_some (answer_in answers waiter.0) then (waiter ∷ answered_of waiters answers) else answered_of waiters answers
 
--- What a call does to the wakes that are owed: whoever waited before it and has an answer after it is owed one, in the
+-- What a call does to the pending wakes: a waiter before it that has an answer after it is owed one, in the
 -- order of the line and behind those that were owed before; no other wake comes, and none goes
 pub record OwesAnswered (old new : Slots) : Type 0 where
   pub exact : new.owed ≡ owed_after (answered_of old.line new.answers) old.owed

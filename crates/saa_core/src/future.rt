@@ -143,8 +143,8 @@ impl<P: Primitive> Asking<P> {
 
     /// Ends it, and drops what it is registered for in its core.
     ///
-    /// A waiter leaves the line, and what was granted and not consumed is given back; each whom that answers is owed a
-    /// wake. Where it isn't registered, nothing is done to the core. Costs what the cancel of a ticket costs in the core,
+    /// A waiter leaves the line, and what was granted and not consumed is given back; each waiter that this answers has a
+    /// pending wake. Where it isn't registered, nothing is done to the core. Costs what the cancel of a ticket costs in the core,
     /// and takes no memory.
     pub fn cancel_on(&mut self, core: &mut P)
         ensures acts { Acts (P.core core.old) (P.core core.new) self.old.ticket self.new.ticket dropping result }

@@ -95,7 +95,7 @@ impl GateCore {
         })
     }
 
-    /// How the gate treats those who enter. Costs O(1).
+    /// How the gate treats a call that enters. Costs O(1).
     pub fn state(&self) -> State
         ensures calls { Calls self.now self.now (gate_step GateCall.State) (GateAnswer.State result) }
         ensures answer { result ≡ gate_state self.now.held }

@@ -18,7 +18,7 @@ use std::sync::ledger::{self, Blank, Book, Ledger};
 
 /// Which journal a share is of, and what its history replays from.
 ///
-/// No program implements it: whoever makes a journal is generic over it, and is called with `Brand`.
+/// No program implements it: a function that makes a journal is generic over it, and is called with `Brand`.
 pub trait Journal: Ledger {
     // The bench as it was made, and how many shares are dealt: as many as the ledger has parts.
     ghost opening: { Object };

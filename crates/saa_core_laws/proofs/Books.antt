@@ -1,4 +1,4 @@
--- What the steps of an object do to its book: who is idle stays idle, and an answer that is there stays as it is,
+-- What the steps of an object do to its book: an idle name stays idle, and an answer that is there stays as it is,
 -- where the step is neither a registration, a poll nor a drop of that name.
 use Rattle.std.proofs.Common.{◌≡◌, ℕ, ◌+◌, Bool, true, false, eqb, ◌⊎◌, inl, inr, List, [], ◌∷◌, length, set, take, Option, Some, None, refl, ap, ◌∙◌}
 use Rattle.std.proofs.lemmas.Bool.{cases_Bool, cases_eq, cases_lt}

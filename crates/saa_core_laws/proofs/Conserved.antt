@@ -188,7 +188,7 @@ IsGranted-answered most s (OfLock lock) request answer fine e = absurd fine
 IsGranted-answered most s (OfGate gate) request answer fine e = absurd fine
 IsGranted-answered most s (OfBarrier size) request answer fine e = absurd fine
 
--- who is idle is granted nothing out of the line
+-- an idle name is granted nothing out of the line
 pub granted_between-idle : (entry after : Entry) → is_idle entry ≡ true → granted_between entry after ≡ 0
 granted_between-idle Idle after e = refl
 granted_between-idle (Waiting request is_sync) after e = cc

@@ -1,4 +1,4 @@
--- What a semaphore and a lock keep, both of which grant what fits: they stand settled, and who waits would fit
+-- What a semaphore and a lock keep, both of which grant what fits: they stand settled, and each waiter would fit
 -- if nothing were out.
 use Rattle.std.proofs.Common.{◌≡◌, ℕ, zero, suc, Bool, true, false, ◌&&◌, eqb, List, [], ◌∷◌, ◌++◌, take, drop, Option, Some, None, refl, ap, ◌∙◌, inl, inr, arith}
 use Rattle.std.specs.List.{AllByRecursion}
@@ -17,12 +17,12 @@ use Rattle.saa_core_laws.proofs.Commands.{IsRight, IsRightAnswer, cond_none}
 use Rattle.saa_core_spec.proofs.FittingFronts.{fitting_front-fits, fitting_front-blocked, fitting_front-settled}
 use Rattle.saa_core_spec.proofs.Poison.{less-not_poisoned, plus_all-not_poisoned}
 
--- each who waits would fit with this held
+-- each waiter would fit with this held
 abbrev pub AllFit : Held → List Waiter → Type 0
 AllFit empty line = AllByRecursion (λ waiter. fits empty waiter.1 ≡ true) line
 
 -- What a value that grants what fits keeps with its line: it is fine in its own way, the line stands settled,
--- each who waits would fit with nothing out, and nobody waits at a poisoned lock
+-- each waiter would fit with nothing out, and nobody waits at a poisoned lock
 pub record Grants (IsFine : Held → Type 0) (empty held : Held) (line : List Waiter) : Type 0 where
   pub fine : IsFine held
   pub front : fitting_front held line ≡ 0

@@ -1,4 +1,4 @@
--- The leaders of a barrier: every step keeps the balance of arrivals, leaders, those who gave up and the waiters.
+-- The leaders of a barrier: every step keeps the balance of arrivals, leaders, cancelled arrivals and the waiters.
 use Rattle.std.proofs.Common.{◌≡◌, ℕ, ◌+◌, ◌-◌, ◌*◌, ◌/◌, ◌<◌, Bool, true, false, ◌&&◌, eqb, cond, inl, inr, List, [], ◌∷◌, length, set, Option, Some, None, refl, sym, ap, ◌∙◌, arith, All, length-append}
 use Rattle.std.specs.Prelude.{Result, Ok}
 use Rattle.std.specs.List.{AllByRecursion, count_by}
@@ -39,7 +39,7 @@ use Rattle.saa_core_laws.proofs.Reading.{is_idle-emptied}
 use Rattle.saa_core_laws.proofs.BarrierLaws.{IsFineBarrier, KeepsRight-barrier, barrier-incomplete}
 use Rattle.saa_core_spec.proofs.Counts.{length-without}
 
--- What a step balances: those who arrive and the waiters are the leaders' rounds, the waiters, and those who gave up
+-- What a step balances: the arrivals and the waiters are the leaders' rounds, the waiters, and the cancelled arrivals
 abbrev pub Balances : (size waited waits : ℕ) (is_new is_full is_gone : Bool) → Type 0
 Balances size waited waits is_new is_full is_gone = one_if is_new + waited ≡ size * one_if is_full + waits + one_if is_gone
 
@@ -207,7 +207,7 @@ pub record Completes (size : ℕ) (before after : Object) : Type 0 where
 pub IsRight-newly_made : (size room names : ℕ) → IsRight (IsFineBarrier size) names (newly_made (OfBarrier size) room names)
 IsRight-newly_made size room names = record { kept = IsKept-newly_made (OfBarrier size) room names; kind = (refl, λ some. some) }
 
--- as many leaders as full rounds of those who arrived and didn't give up
+-- as many leaders as full rounds of the arrivals that weren't cancelled
 pub leaders-counted : (size room names : ℕ) (commands : List (CommandOf BarrierCall (Unit {0}))) → 0 < size → All (IsWithin names) commands
     → count_by names_leader (barrier_run size room names commands)
     ≡ (count_by is_arrival (barrier_run size room names commands) - count_by is_given_up (barrier_run size room names commands)) / size
@@ -272,7 +272,7 @@ Completes-done size names (PollSync name) s within right leads = cc
 Completes-done size names (PollAsync name) s within right leads = cc
 Completes-done size names (Drop name) s within right leads = cc
 
--- who is answered that it passes is told that it isn't the leader
+-- a name that is answered that it passes is told that it isn't the leader
 pub told-passed : (s : Object) (name : ℕ) (request : Request) (is_sync : Bool) → entry_at s.book name ≡ Answered passed_value request is_sync true
     → told s name ≡ Polled (Ok false)
 told-passed s name request is_sync at =
@@ -351,7 +351,7 @@ waits-polled_of s name other how (Waiting request is_sync) none = waits-polled_i
 waits-polled_of s name other how (Answered value request is_sync slotted) none =
     waits-polled_in s name other (Answered value request is_sync slotted) (is_right_mode how is_sync) none
 
--- so a poll answers nobody who waits
+-- so a poll answers no waiter
 pub poll-answers : (s : Object) (name other : ℕ) (how : How) → is_waiting (entry_at s.book name) ≡ true
     → is_answered (entry_at (polled s other how).state.book name) ≡ true → ⊥
 poll-answers s name other how waits there =
@@ -384,7 +384,7 @@ waits-dropped_of size s name other (Answered value request is_sync slotted) fine
   | inr e ↦ rw e (waits-emptied s name other none)
 ]
 
--- a registration answers who waits only where it leads
+-- a registration answers waiters only where it leads
 pub waits-registered_of : (size : ℕ) (s : Object) (name other : ℕ) (request : Request) (is_sync is_refused : Bool) (answer : Option (After ℕ)) (is_full : Bool)
     → IsFineBarrier size s.held s.line → other < length s.book → (is_refused ≡ false → is_idle (entry_at s.book other) ≡ true) → answer_at_once s request ≡ answer
     → is_waiting (entry_at s.book name) ≡ true
@@ -405,7 +405,7 @@ waits-registered_of size s name other request is_sync false None false fine with
     ] in
     cc
 
--- every command answers who waits only where it leads
+-- every command answers waiters only where it leads
 pub leads-answering : (size names : ℕ) (command : CommandOf BarrierCall (Unit {0})) (s : Object) (name : ℕ) → IsWithin names command
     → IsRight (IsFineBarrier size) names s → is_waiting (entry_at s.book name) ≡ true
     → is_answered (entry_at (done arrive_request barrier_step barrier_value command s).state.book name) ≡ true

@@ -267,7 +267,7 @@ pub one_gives_up-counts :
 unfolding settled
 one_gives_up-counts = (refl, refl, refl)
 
--- the next arrival leads, and 1, who waits, is told that it doesn't
+-- the next arrival leads, and the waiter 1 is told that it doesn't
 pub the_next_arrival_leads :
     (names_leader (barrier_next 2 4 4 one_gives_up (Register 3 tt false)) ≡ true)
     × (entry_at (barrier_next 2 4 4 one_gives_up (Register 3 tt false)).before.book 1 ≡ Waiting Arrive true)

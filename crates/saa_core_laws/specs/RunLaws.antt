@@ -1,4 +1,4 @@
--- What a settled object keeps, who is answered before whom, and what nobody waits for.
+-- What a settled object keeps, in which order it answers, and what nobody waits for.
 -- Functions of the module `laws` have these laws as their contracts; nothing else cites them.
 use Rattle.std.specs.Prelude.{◌≡◌, ℕ, ◌<◌, false, IsTrue, [], Some, slice_get}
 use Rattle.saa_core_spec.specs.Held.{OfSemaphore, OfLock, LockState, Poisoned}

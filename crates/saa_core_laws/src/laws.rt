@@ -165,8 +165,8 @@ pub fn answers_once()
 /// The permits of a semaphore are conserved: what is out in the end and all that was given back are what was withheld at
 /// first and all that was granted.
 ///
-/// Granted is what a try took that was answered true, what a registration took that was answered at once, and what those
-/// who waited were granted. Given back is what a release gave back that was answered true, and a grant that was dropped
+/// Granted is what a try took that was answered true, what a registration took that was answered at once, and what waiters
+/// were granted. Given back is what a release gave back that was answered true, and a grant that was dropped
 /// before it was consumed. Such a drop is the release of what was granted. It gives back all of it wherever no more was
 /// released by calls than was withheld, tried and polled; where others have released the grant already, so that less is
 /// out, it gives nothing back.
@@ -185,11 +185,11 @@ pub fn permits_conserved()
         → given_back_by (step_of Permits semaphore_step semaphore_value (Drop name) end) ≡ n }
 {}
 
-/// A barrier of size `N` has named as many leaders as full rounds of `N` arrivals, not counting those who were dropped
+/// A barrier of size `N` has named as many leaders as full rounds of `N` arrivals, not counting arrivals that were dropped
 /// while they waited.
 ///
 /// The arrival that completes a round is its leader, and is told so; all others of the round are told that they aren't.
-/// Nobody who waits is answered in any other way.
+/// No waiter is answered in any other way.
 pub fn leaders()
     ensures counted { (size room names : ℕ) (commands : List (CommandOf BarrierCall (Unit {0})))
         → 0 < size → All (IsWithin names) commands

@@ -1,4 +1,4 @@
--- The gate object: those who enter a controlled gate wait until they are permitted or rejected.
+-- The gate object: a call that enters a controlled gate waits until it is permitted or rejected.
 use Rattle.std.specs.Prelude.{ℕ, Some, None, Ok, Err, length}
 use Rattle.saa_core_spec.specs.declared.request.Request.{Request}
 use Rattle.saa_core_spec.specs.declared.request.Request.TheVariants.{Enter}

@@ -1,4 +1,4 @@
--- The sequential object: what is held, who waits, what is known of each name, and how much room there is.
+-- The sequential object: what is held, the queue of waiters, what is known of each name, and how much room there is.
 -- A name is a task's ticket: the number of a pager of a bench, or a ticket that is used with a core alone.
 use Rattle.std.specs.Prelude.{ℕ, ◌+◌, Bool, true, false, List, [], ◌∷◌, if◌then◌else◌, ◌==◌, slice_index_or, slice_set, replicate}
 use Rattle.saa_core_spec.specs.declared.request.Request.{Request}

@@ -14,7 +14,7 @@ use Rattle.saa_core_words.specs.Links.{first_link, last_link, IsChain, followed,
 times-first : (waiter : Waiter) (rest : List Waiter) → 0 < times waiter.0 (waiter ∷ rest)
 times-first waiter rest = omega (arith, one_if-same waiter.0)
 
--- who stands behind the first stands in the line
+-- a place behind the first is in the line
 times-behind : (place : ℕ) (waiter : Waiter) (rest : List Waiter) → 0 < times place rest → 0 < times place (waiter ∷ rest)
 times-behind place waiter rest stands = omega (arith, stands)
 
@@ -56,7 +56,7 @@ chain-followed words read older (waiter ∷ rest) newer asked h =
 pub chain-once : (words : ℕ → LineWord) (older : ℕ) (waiter : Waiter) (rest : List Waiter) (newer : ℕ) → IsChain words older (waiter ∷ rest) newer → times waiter.0 (waiter ∷ rest) ≡ 1
 chain-once words older waiter rest newer h = omega (arith, one_if-same waiter.0, h.1)
 
--- a line without its oldest, who stands in it once, is what stands behind
+-- a line without its oldest, which is in it once, is what stands behind
 pub without-oldest : (line : List Waiter) (oldest : Waiter) → slice_get line 0 ≡ Some oldest → times oldest.0 line ≡ 1 → without oldest.0 line ≡ drop 1 line
 without-oldest [] oldest is once = absurd (cc)
 without-oldest (waiter ∷ rest) oldest is once =
@@ -126,7 +126,7 @@ chain-joined old new older (waiter ∷ next ∷ rest) place request absent same 
           written h.2,
     )
 
--- a neighbour of who stands in a line is the end that is known there, or stands in it too
+-- a neighbour of a member of a line is the end that is known there, or is in it too
 pub chain-older : (words : ℕ → LineWord) (older : ℕ) (line : List Waiter) (newer place : ℕ) → IsChain words older line newer → 0 < times place line
     → ((words place).older ≡ older) ⊎ ((other : ℕ) × ((words place).older ≡ other + 1) × (0 < times other line))
 chain-older words older [] newer place h stands = absurd (omega arith)
@@ -209,7 +209,7 @@ chain-left_first old new older waiter (next ∷ more) newer h no_older unlinked 
           h.2.2,
     )
 
--- who stands right before a place that leaves, or further ahead, is linked to what follows then
+-- a place right before one that leaves, or further ahead, is linked to what follows then
 chain-left_word : (old new : ℕ → LineWord) (older : ℕ) (waiter : Waiter) (rest : List Waiter) (newer place : ℕ)
     → IsChain old older (waiter ∷ rest) newer
     → 0 < times place rest

@@ -1,4 +1,4 @@
--- A line that is held by links: each place has a line word, with what it asks and who stands right before and right behind.
+-- A line that is held by links: each place has a line word, with what it asks and the places right before and right behind.
 -- The line words are a function of the place, so that they may stand in a list or in shared memory.
 use Rattle.std.specs.Prelude.{◌≡◌, ℕ, suc, zero, pred, ◌+◌, ◌<◌, List, [], ◌∷◌, length, slice_index_or}
 use Rattle.saa_core_spec.specs.declared.request.Request.{Request}
@@ -7,12 +7,12 @@ use Rattle.saa_core_spec.specs.Object.{Waiter, times}
 use Rattle.saa_core_words.specs.declared.line_word.LineWord.{LineWord}
 use Rattle.saa_core_words.specs.Words.{line_word_of}
 
--- the link to the oldest of a line, and to whoever is behind where nobody stands in it
+-- the link to the oldest of a line, and to the place behind where the line is empty
 abbrev pub first_link : List Waiter → ℕ → ℕ
 first_link [] newer = newer
 first_link (waiter ∷ rest) newer = waiter.0 + 1
 
--- the link to the newest of a line, and to whoever is before where nobody stands in it
+-- the link to the newest of a line, and to the place before where the line is empty
 abbrev pub last_link : ℕ → List Waiter → ℕ
 last_link older [] = older
 last_link older (waiter ∷ rest) = last_link (waiter.0 + 1) rest
@@ -40,7 +40,7 @@ AreRead read (waiter ∷ rest) = (read (request_number waiter.1) ≡ waiter.1) �
 abbrev pub words_in : List ℕ → ℕ → LineWord
 words_in numbers place = line_word_of (slice_index_or numbers place 0)
 
--- What is seen of a line that is held by links: who waits, oldest first, and how many places there are
+-- What is seen of a line that is held by links: its waiters, oldest first, and how many places there are
 pub record Waiters : Type 0 where
   pub line : List Waiter
   pub room : ℕ

@@ -19,7 +19,7 @@ use std::marker::{Model, PhantomData};
 pub struct Links<K: Requests> {
     words: Vec<u64>,
     // It stands before the two ends, which keeps the first of these from being read as half of a wider number: the other half
-    // has just been written by itself where one who waits alone left, and such a read has to wait for both.
+    // has just been written by itself where the only waiter left, and such a read has to wait for both.
     waiting: u16,
     oldest: u16,
     newest: u16,

@@ -120,7 +120,7 @@ pub(crate) static KIND_ROWS: [Row; 36] = [
         output: "not_registered\ntrue\ncontrolled 1\nwrong_mode\ntrue\nok open\nnot_registered\n",
         status: 0,
     },
-    // A full room turns away only those who must wait.
+    // A full room turns away only a call that must wait.
     Row {
         input: "gate 0\nreg 1 sync\nopen\nreg 1 sync\ntry_poll 1\n",
         output: "full\ncontrolled 0\ntrue\nok open\n",
@@ -144,7 +144,7 @@ pub(crate) static KIND_ROWS: [Row; 36] = [
         output: "true\ntrue\ntrue\nok 3\nrejected\ncontrolled 0\nrejected\nsealed 0\n",
         status: 0,
     },
-    // Whoever waited once isn't woken twice.
+    // A waiter isn't woken twice for one wait.
     Row {
         input: "gate 4\nreg 1 sync\nreg 2 sync\nreg 3 sync\ndrop 2\ndrop 1\ntry_poll 3\npermit\n",
         output: "true\ntrue\ntrue\ndropped\ndropped\nspurious\nok 0\n",

@@ -80,7 +80,7 @@ impl<R: Wait + Drop> Gate<R> {
         &self.shell
     }
 
-    /// How the gate treats those who enter. Every ordering acts as the sequentially consistent one; none panics.
+    /// How the gate treats a call that enters. Every ordering acts as the sequentially consistent one; none panics.
     pub fn state(&self, _mo: Ordering) -> State {
         tell_state(&self.shell.lock().core)
     }
@@ -272,8 +272,8 @@ pub(crate) fn read_answer(answer: Result<u8, polling::Error>) -> Result<State, E
 
 // What a number means that the core answered.
 //
-// No gate answers a number that reads as an error of a poll. Such a one would say that somebody gave up, so that whoever
-// has an answer isn't told that it has none.
+// No gate answers a number that reads as an error of a poll. Such a one would say that a wait was cancelled, so that a
+// call with an answer isn't told that it has none.
 pub(crate) fn read_value(value: u8) -> Result<State, Error>
     ensures reads { result ≡ gate_reading (Ok value) }
     ensures means { gate_fault (gate_value (Ok value)) ≡ None → result ≡ gate_value (Ok value) }

@@ -119,7 +119,7 @@ impl<R: Wait + Drop, T> Guarded<R, T> {
     // Makes the turn alone a share, and the value to write a value to read.
     //
     // The value comes first: while the turn is still one owner's alone nobody else asks for the value, so this waits for
-    // nobody, and nobody writes in between. Were the turn lowered first, those who are let in beside it would have to wait
+    // nobody, and nobody writes in between. Were the turn lowered first, readers that are let in beside it would have to wait
     // for the writer's guard.
     pub(crate) fn lower<'a>(
         &'a self,

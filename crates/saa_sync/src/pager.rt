@@ -78,7 +78,7 @@ pub trait SyncResult: Sized {
         ensures heard { OnPending result (Hears cx.new (source self.now)) }
         ensures kept { Keeps cx.old cx.new };
 
-    /// Drops what a ticket is registered for here, and wakes whom that answers; the ticket is idle afterwards.
+    /// Drops what a ticket is registered for here, and wakes each waiter that this answers; the ticket is idle afterwards.
     ///
     /// May wait for the lock. A ticket is used with the primitive that it was registered in: of one from elsewhere,
     /// what it was granted at once is given back here, and a slot of its number that is held here is freed. Where its
@@ -170,7 +170,7 @@ impl<'s, S: SyncResult> Pager<'s, S> {
         }
     }
 
-    /// Drops what it is registered for, and wakes whom that answers; it is unregistered afterwards and can be used again.
+    /// Drops what it is registered for, and wakes each waiter that this answers; it is unregistered afterwards and can be used again.
     ///
     /// Does nothing where it isn't registered. May wait for the lock. A waiter's drop costs
     /// O(how many wait) at a gate and a barrier.

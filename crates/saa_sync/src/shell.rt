@@ -449,7 +449,7 @@ impl<R: Wait + Drop, P: Tries> Shell<R, P> {
         }
     }
 
-    /// Registers a ticket, and wakes whom that answered. An idle one that asks for no more than there ever is is
+    /// Registers a ticket, and wakes each waiter that this answered. An idle one that asks for no more than there ever is is
     /// registered, or the room is full.
     pub(crate) fn register(
         &self,
@@ -511,7 +511,7 @@ impl<R: Wait + Drop, P: Tries> Shell<R, P> {
         Poll::Ready(answer)
     }
 
-    /// Drops what a ticket is registered for, and wakes whom that answered.
+    /// Drops what a ticket is registered for, and wakes each waiter that this answered.
     pub(crate) fn cancel(&self, ticket: &mut Ticket)
         ensures { ticket.new ≡ Unregistered }
     {
@@ -522,7 +522,7 @@ impl<R: Wait + Drop, P: Tries> Shell<R, P> {
         self.leave(inside);
     }
 
-    /// Polls a future for a task, and says whether it joined the line by that; wakes whom a first poll answered.
+    /// Polls a future for a task, and says whether it joined the line by that; wakes each waiter that a first poll answered.
     ///
     /// Where it waits the task's waker is kept, as [`Self::poll_task`] does.
     pub(crate) fn advance(
@@ -560,7 +560,7 @@ impl<R: Wait + Drop, P: Tries> Shell<R, P> {
         (polled, has_joined)
     }
 
-    /// Drops what a future is registered for, and wakes whom that answered. Takes no lock where it isn't registered.
+    /// Drops what a future is registered for, and wakes each waiter that this answered. Takes no lock where it isn't registered.
     pub(crate) fn give_up(&self, asking: &mut Asking<P>)
         ensures { asking.new.ticket ≡ Unregistered }
     {
@@ -574,7 +574,7 @@ impl<R: Wait + Drop, P: Tries> Shell<R, P> {
         self.leave(inside);
     }
 
-    // Registers a ticket as sync and polls it once, under one lock, and wakes whom that answered.
+    // Registers a ticket as sync and polls it once, under one lock, and wakes each waiter that this answered.
     #[inline(always)]
     fn begin(&self, ticket: &mut Ticket, ask: P::Ask) -> Result<Begun, Full>
         requires { ticket.old ≡ Unregistered }
@@ -638,7 +638,7 @@ impl<R: Wait + Drop, P: Tries> Shell<R, P> {
         self.lock()
     }
 
-    // Wakes who waits at a slot: a thread at its seat, and a task by its waker, which wakes it as it is dropped here.
+    // Wakes the waiter of a slot: a thread at its seat, and a task by its waker, which wakes it as it is dropped here.
     fn ring(&self, wake: Wake) {
         if let Some(seat) = self.seat(wake.slot) {
             seat.ring();

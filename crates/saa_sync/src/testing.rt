@@ -51,7 +51,7 @@ pub fn hold<'s, S: SyncResult>(pager: &mut Pager<'s, S>, ticket: Ticket, primiti
     pager.hold(ticket, primitive);
 }
 
-/// Makes one step of the core under the mutex, and leaves whoever it answers unwoken: their wakes stay pending until the next call.
+/// Makes one step of the core under the mutex, and wakes none of the waiters that it answers: their wakes stay pending until the next call.
 pub fn call_untold<R: Wait + Drop, P: Tries, A, F: FnOnce(&mut P) -> A + Drop>(
     shell: &Shell<R, P>,
     step: F,

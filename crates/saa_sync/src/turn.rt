@@ -129,7 +129,7 @@ impl<'a, R: Wait + Drop> Alone<'a, R> {
         (Shared { lock }, reader)
     }
 
-    // Gives the turn back, to whoever is next.
+    // Gives the turn back, to the next waiter.
     pub(crate) fn give_back(self, value: PutDown) {
         let (Alone { lock }, PutDown { by: _by }) = (self, value);
         lock.release_lock();

@@ -37,7 +37,7 @@ use Rattle.saa_word.proofs.Keeping.{gone-places, gone-rules, quiet-stage}
 use Rattle.saa_word.proofs.Tracking.{simulates}
 use Rattle.saa_word.proofs.Solo.{agrees-alone, begins-alone, ends-alone, goes-alone}
 
--- who is in a call is in the middle of it
+-- a place in a call is in the middle of it
 in-middle : (needs : Needs) (place : Place) (underway : Option Underway) (u : Underway) → underway ≡ Some u → IsIn needs underway place → is_quiet place.stage ≡ false
 in-middle needs place None u same is = absurd (cc)
 in-middle needs place (Some underway) u same is = by-test (is_quiet place.stage) refl

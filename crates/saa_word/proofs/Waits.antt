@@ -37,7 +37,7 @@ use Rattle.saa_word.proofs.Holding.{not-true}
 pub not-quiet : (stage : Stage) → is_quiet stage ≡ false → stage ≢ Quiet
 not-quiet stage busy is = let wrong : true ≡ false = ap is_quiet (sym is) ∙ busy in absurd (cc)
 
--- whoever takes an answer and waits for it polls
+-- a call that takes an answer and waits for it polls
 awaits-polls : (call : WordCall) → taken_by call ≡ Some Awaits → call ≡ Poll
 awaits-polls (Try count) is = absurd (cc)
 awaits-polls (Register count) is = absurd (cc)
@@ -59,13 +59,13 @@ awaits-polls TryPoll is = absurd (cc)
 awaits-polls Poll is = refl
 awaits-polls Cancel is = absurd (cc)
 
--- whoever is to leave the line cancels
+-- a call that is to leave the line cancels
 leaves-cancels : (call : WordCall) (registered : Registration) (back : Back) (events : List Event) → IsLeavingLine call registered back events → call ≡ Cancel
 leaves-cancels call registered TellsLine events leaves = absurd leaves
 leaves-cancels call registered Ends events leaves = absurd leaves
 leaves-cancels call registered (Takes request) events leaves = leaves.0
 
--- whoever is to leave the line is registered in it
+-- a call that is to leave the line is registered in it
 leaving-slot : (registration : Registration) (back : Back) → IsLeaving registration back → is_slot registration ≡ true
 leaving-slot registration TellsLine leaves = absurd leaves
 leaving-slot registration Ends leaves = absurd leaves

@@ -52,8 +52,8 @@ IsIn needs None place = place.stage ≡ Quiet
 IsIn needs (Some underway) place = IsUnder needs underway.call underway.registered place.back place.stage underway.events
 
 -- A trace tracks a machine: its events lead to the abstract state that words and places refine; each place is registered as the trace says,
--- in the line exactly where the abstract state holds it, and with what it asks there; the flag is held by whom the trace says; each place is
--- in the call that it says; and what each place has made and what it has left are at most 16 steps for each place and 48 more
+-- in the line exactly where the abstract state holds it, and with what it asks there; the flag's holder is the one that the trace says; each
+-- place is in the call that it says; and what each place has made and what it has left are at most 16 steps for each place and 48 more
 pub record Tracks (state : State) (trace : Trace) : Type 0 where
   pub sized : IsSized state
   pub run : IsRun (needs_of state.rules) (opening trace.withheld) trace.history trace.state

@@ -12,8 +12,8 @@ use Rattle.saa_word_steps.specs.AbstractState.{AbstractState, is_in}
 abbrev pub IsOwnedAndFlagged : Word → Type 0
 IsOwnedAndFlagged seen = (seen.count ≡ lock_count Exclusive) × (seen.is_poisoned ≡ false) × (seen.is_flagged ≡ true)
 
--- a place waits at a stage: a poll of who is in the line or due, a cancel of who is due, a cancel that finds the flag set, and poison that
--- finds one owner and the flag set
+-- a place waits at a stage: a poll in the line or with an answer due, a cancel with an answer due, a cancel that finds the flag set, and
+-- poison that finds one owner and the flag set
 abbrev pub IsBlockedAt : AbstractState → ℕ → Word → Stage → Type 0
 IsBlockedAt state me seen (Take Awaits) = (is_in me state.line || is_some (state.due me)) ≡ true
 IsBlockedAt state me seen (Take (Gives request)) = is_some (state.due me) ≡ true

@@ -35,7 +35,7 @@ AreAsking words [] = Unit {0}
 AreAsking words (asker ∷ rest) = ((words asker.0).request ≡ asker.1) × AreAsking words rest
 
 -- The words show what the abstract state is: the count and poison at every moment, of each place the answer that it is shown, and of each
--- who waits what it asks. The main word has no bits beyond those of the tail, and that of a poisoned lock is one number. While the flag is
+-- waiter what it asks. The main word has no bits beyond those of the tail, and that of a poisoned lock is one number. While the flag is
 -- clear the places met along older neighbours from the tail are the line, newest first, the state isn't open, and its line is settled. No
 -- more is held than there ever is, and no place waits twice, or waits and has an answer
 pub record Observes (needs : Needs) (places : ℕ) (row : ℕ → ℕ) (state : AbstractState) : Type 0 where

@@ -191,7 +191,7 @@ IsPassed me behind joined = (is_in me behind ≡ false) × (is_in me joined ≡ 
 abbrev pub IsFound : ℕ → List (ℕ × ℕ) → ℕ → Type 0
 IsFound me front older = (before : List (ℕ × ℕ)) × (request : ℕ) × (front ≡ before ++ (me, request) ∷ []) × (older ≡ newest 0 before)
 
--- what the holder of the flag knows of the line, and whom it has cut off from the line
+-- what the holder of the flag knows of the line, and which waiters it has cut off from the line
 abbrev pub IsHolding : Needs → (ℕ → LineWord) → ℕ → ℕ → List (ℕ × ℕ) → List (ℕ × ℕ) → Stage → Type 0
 IsHolding needs words me held line cut (BackLoad seen current newer) =
     (work : Work held line seen) × (cut ≡ []) × IsBack words work.front work.behind current newer
@@ -232,7 +232,7 @@ IsHolding needs words me held line cut (DropTail seen older) =
     (work : Work held line seen) × (cut ≡ []) × IsFound me work.front older × (work.behind ≡ [])
 IsHolding needs words me held line cut _ = ⊥
 
--- The main word says what is held and who is the newest, and its flag whether somebody holds it: the link of that place, or 0.
+-- The main word says what is held and which place is the newest, and its flag whether it has a holder: the link of that place, or 0.
 -- Where nobody holds it the object isn't open, and where it isn't open its line is settled. Only a lock is poisoned, and then nothing is
 -- held and nobody waits
 pub record IsMain (needs : Needs) (number : ℕ) (state : AbstractState) (holder : ℕ) : Type 0 where
@@ -264,7 +264,7 @@ pub record AreAnswers (places : ℕ) (row : ℕ → ℕ) (shown : ℕ → Option
   pub words : (place : ℕ) → place < places → row (places + place + 1) ≡ answer_number (shown place)
   pub small : (place value : ℕ) → shown place ≡ Some value → value < 256
 
--- each answer that is due is to be shown by one place, which follows the links of those whom it has to show and shows one value
+-- each answer that is due is to be shown by one place, which follows the links of the places that it has to show and shows one value
 pub record AreDebts (words : ℕ → LineWord) (due : ℕ → Option ℕ) (owed : ℕ → List (ℕ × ℕ)) (shower worth : ℕ → ℕ) : Type 0 where
   pub due_to : (place other : ℕ) → is_in other (owed place) ≡ true → (shower other ≡ place) × (due other ≡ Some (worth place))
   pub paid_by : (other : ℕ) → is_some (due other) ≡ true → is_in other (owed (shower other)) ≡ true

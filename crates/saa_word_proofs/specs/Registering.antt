@@ -63,8 +63,8 @@ cancelling_answer needs Idle = Some Ended
 cancelling_answer needs (Once value request) = if is_taken_up needs request value then None else Some Ended
 cancelling_answer needs (Slot request) = None
 
--- What a call of a place that is registered so answers at its start, where it needs no word: a count above the bound, a registration of who
--- is registered, a release of nothing, a poll and a cancel of who has no slot, but for a cancel that gives back what was granted at once
+-- What a call of a place that is registered so answers at its start, where it needs no word: a count above the bound, a registration where
+-- it is registered, a release of nothing, a poll and a cancel without a slot, but for a cancel that gives back what was granted at once
 abbrev pub starting_answer : Needs → WordCall → Registration → Option Answer
 starting_answer needs (Try count) was = if nat_lt needs.top count then Some (Says false) else None
 starting_answer needs (Register count) was = if nat_lt needs.top count then Some (Says false) else registering_answer was

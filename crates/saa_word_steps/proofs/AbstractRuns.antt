@@ -141,7 +141,7 @@ waits-parts place zero line = omega arith
 waits-parts place (suc askers) [] = omega arith
 waits-parts place (suc askers) (asker ∷ rest) = omega (arith, waits-parts place askers rest)
 
--- who is answered out of the line was held there
+-- a place that is answered out of the line was held there
 pub answered-once : (place value : ℕ) (askers : List (ℕ × ℕ)) (answers : ℕ → Option ℕ) (others : ℕ)
     → times place askers + others + one_if (is_some (answers place)) ≤ 1
     → others + one_if (is_some (answered_with value askers answers place)) ≤ 1

@@ -56,7 +56,7 @@ mode_takes AskExclusive = lock_count Exclusive
 mode_takes AskShared = 1
 mode_takes _ = 0
 
--- those of a lock: its count says who has it, and a number asks for it in a mode
+-- those of a lock: its count names its owner or counts its sharers, and a number asks for it in a mode
 abbrev pub lock_needs : Needs
 lock_needs = record {
   held = λ count. OfLock (lock_at count);

@@ -208,7 +208,7 @@ granted needs place ask =
     then Done (record place { registration = Once granted_value ask.request; stage = Quiet }) (Says true)
     else done place (tried_answer needs true)
 
--- who asks a poisoned lock is answered so at once
+-- a registration at a poisoned lock is answered so at once
 abbrev pub found_poisoned : Place → Ask → Next
 found_poisoned place ask =
     if ask.joins

@@ -267,7 +267,7 @@ impl Place {
         }
     }
 
-    // It gave back, and holds the flag where somebody waits whom nobody else works for; or the word that was found decides anew.
+    // It gave back, and holds the flag where there are waiters that no other holder settles; or the word that was found decides anew.
     fn given(self, rules: Rules, me: u16, what: Given, seen: Word, found: u64) -> Next
         requires { IsSmall seen }
         ensures { result ≡ next_of (needs_of rules) me self (ReleaseExchange what seen) found }

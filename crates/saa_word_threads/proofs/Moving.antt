@@ -46,7 +46,7 @@ set-updated words at number inside =
           rw apart (get_or-set_other words at other number 0 differs)
     ])
 
--- who is found in a list is within it
+-- a member of a list is within it
 pub found-within : (views : List View) (seat : ℕ) (v : View) → get_elem? views seat ≡ some v → seat < length views
 found-within [] seat v found = absurd (some-ne-none v (sym found))
 found-within (u ∷ views) zero v found = omega arith

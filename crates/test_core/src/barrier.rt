@@ -184,7 +184,7 @@ static ALL_ARRIVE: [Row; 3] = [
     (Call::Of(2, ARRIVE), JOINED),
 ];
 
-// Whoever was answered holds its slot until it takes its answer, and waits no more.
+// An answered ticket holds its slot until it takes its answer, and waits no more.
 #[test]
 fn a_core_prints_who_waits_and_not_who_was_answered(rt: HostRuntime) {
     prints_at(&rt, &TWO_ARRIVE, "BarrierCore { count: 1, waiting: 2 }");

@@ -18,7 +18,7 @@ use std::thread::Threads;
 use std::{io, thread};
 use test_asserts::same;
 
-// A call of a row; who asks is 0 or 1.
+// A call of a row; the caller is 0 or 1.
 #[derive(Clone, Copy)]
 enum Call {
     Try(usize),
@@ -83,7 +83,7 @@ fn polled(answer: Poll<Result<bool, Full>>) -> Answer {
     }
 }
 
-// Makes a call of a row by the pager or the future of whoever asks for so many. A future asks at its first poll.
+// Makes a call of a row by the caller's pager or future, for so many permits. A future asks at its first poll.
 fn make<'s, R: Wait + Drop, const MAX: usize>(
     semaphore: &'s SemaphoreOf<R, MAX>,
     task: Option<&MockTask>,
@@ -107,7 +107,7 @@ fn make<'s, R: Wait + Drop, const MAX: usize>(
     }
 }
 
-// Whether a call is one of the second who asks.
+// Whether a call is the second caller's.
 fn is_second(call: Call) -> bool {
     matches!(call, Call::Ask(1) | Call::Poll(1))
 }

@@ -241,7 +241,7 @@ impl<R: Wait + Drop + Sync> Sleepers for Tried<R> {
         }
     }
 
-    // Whoever has it gives it back; of a lock that was owned alone the short call is the release, and the long one the downgrade.
+    // The owner or a sharer gives the lock back. An owner does so by a release, which is the short call, or by a downgrade, the long one.
     fn answer(&self, is_short: bool) {
         let _is_answered = if self.is_owned && !is_short {
             self.lock.downgrade()
@@ -401,7 +401,7 @@ fn first_wrong<R: Wait + Threads + Sync + AllocGlobal>(
     sleepers::first_wrong::<Tried<&R>, R>(rt, rt, rt.alloc(), &CASES)
 }
 
-// So many sleepers at a lock that one owner has, who wait in every way in turn, and poison: how many were told that it is
+// So many sleepers at a lock that one owner has, which wait in every way in turn, and poison: how many were told that it is
 // poisoned.
 fn told_of_poison<H: Wait + Threads + Sync, R: Wait + Drop + Sync>(
     rt: &H,

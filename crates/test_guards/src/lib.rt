@@ -1,7 +1,7 @@
 //! Tests of the mutex, the reader-writer lock, their guards and their futures.
 //!
 //! What a guard shows of its value is proved; `pair` stands here for a user's type whose invariant matters. That a guard
-//! has the lock's turn, keeps the others out meanwhile, and gives the turn to whoever asked first is shown by tests.
+//! has the lock's turn, keeps the others out meanwhile, and gives the turn to the oldest waiter is shown by tests.
 //!
 //! What one thread can see is told in tables of rows (`mutexes`, `rwlocks`, `tasks`, `rooms`), which `stories` plays.
 #![tactic(auto)]

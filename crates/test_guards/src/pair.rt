@@ -1,6 +1,6 @@
 //! A type whose invariant matters: two numbers that agree, behind each of the two locks.
 //!
-//! Whoever writes has to leave the numbers equal, and whoever reads may use that they are. Beside them a plain number, which
+//! A writer has to leave the numbers equal, and a reader may use that they are. Beside them a plain number, which
 //! shows that what is written through a guard is what it shows at its next use.
 
 ghost use Rattle.std.specs.Prelude.{◌≡◌, IfOk};

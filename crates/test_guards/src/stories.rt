@@ -12,7 +12,7 @@ use std::random::RandomSource;
 use std::sync::Wait;
 use test_asserts::same;
 
-// What somebody is told who asks for a guard: nothing yet, or the number that the guard shows, or that there is no room.
+// What a call for a guard is told: nothing yet, or the number that the guard shows, or that there is no room.
 pub(crate) type Told = Option<Result<u64, Full>>;
 
 // Nobody may wait any more.

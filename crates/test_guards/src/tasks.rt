@@ -150,7 +150,7 @@ const NO_ROOM: [Row; 5] = [
     (One, Tries(Write, Some(Ok(0)))),
     (Two, Asks(Read, FULL)),
     (Three, Asks(Write, FULL)),
-    // Whoever is polled after the end waits, and is woken to be polled again.
+    // A task that is polled after the end waits, and is woken to be polled again.
     (Three, Polls(None)),
     (Three, IsWoken(true)),
 ];

@@ -159,7 +159,7 @@ fn state(model: &Model) -> State {
     }
 }
 
-// Answers all who wait at a controlled gate.
+// Answers all waiters of a controlled gate.
 fn let_through(model: &mut Model, value: u8) -> GateAnswer {
     GateAnswer::Answered(match state(model) {
         State::Controlled => Ok(model.answer_all(value)),
@@ -167,7 +167,7 @@ fn let_through(model: &mut Model, value: u8) -> GateAnswer {
     })
 }
 
-// Brings the gate into a state, and answers all who wait.
+// Brings the gate into a state, and answers all waiters.
 fn moved(model: &mut Model, to: State, value: u8) -> GateAnswer {
     let before = state(model);
     model.held = Held::Gate(to);

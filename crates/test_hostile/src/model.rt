@@ -169,7 +169,7 @@ impl Model {
         }
     }
 
-    /// Makes an owner alone one of those who share, and serves the oldest who then fit.
+    /// Downgrades the owner to a sharer, and serves the oldest waiters that fit then.
     pub fn lower(&mut self) -> bool {
         let is_owned = matches!(self.held, Held::Owned);
         if is_owned {
@@ -179,7 +179,7 @@ impl Model {
         is_owned
     }
 
-    // The oldest who waits is answered, and keeps its slot.
+    // The oldest waiter is answered, and keeps its slot.
     fn answer_oldest(&mut self, value: u8) {
         let Some(name) = self.oldest else {
             return;
@@ -199,7 +199,7 @@ impl Model {
         self.next = None;
     }
 
-    /// Answers all who wait, and tells how many they were.
+    /// Answers all waiters, and returns how many they were.
     pub fn answer_all(&mut self, value: u8) -> usize {
         let count = self.waiting();
         self.answer_oldest(value);
@@ -321,7 +321,7 @@ impl Model {
         }
     }
 
-    // Somebody who waited has left the line.
+    // A waiter has left the line.
     fn left(&mut self) {
         match self.held {
             Held::Gate(_) => {

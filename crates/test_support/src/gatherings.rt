@@ -1,7 +1,7 @@
-//! Gatherings: tasks that surely sleep at a form that answers all who wait together, and each way to answer them.
+//! Gatherings: tasks that surely sleep at a form that answers all its waiters together, and each way to answer them.
 //!
-//! This is for tests, over any such form. A test goes on only once all whom it waits for sleep, or one of them has ended
-//! too soon; it ends only if all who are answered wake.
+//! This is for tests, over any such form. A test goes on only once all its waiters sleep, or one of them has ended
+//! too soon; it ends only if all that are answered wake.
 
 use crate::sleepers::{By, Counts};
 use saa_sync::testing::Patience;
@@ -11,7 +11,7 @@ use std::sync::atomic::{AtomicU64, Ordering};
 use std::thread;
 use std::thread::{Scope, Threads, yield_now};
 
-/// How all who wait are answered.
+/// How all waiters are answered.
 #[derive(Clone, Copy)]
 pub enum Together {
     /// A gate permits them.
@@ -34,19 +34,19 @@ pub enum Together {
     LastPager,
 }
 
-/// A form at which all who wait are answered together, as these tests see it. Its waiters run in threads of their own, so
+/// A form at which all waiters are answered together, as these tests see it. Its waiters run in threads of their own, so
 /// nothing of it but itself is named here.
 pub trait Gathering: Sync {
     /// Makes it so that tasks wait.
     fn prepare(&self);
 
-    /// Waits, and counts that it joined the line; whether the answer was that of those who are answered in this way.
+    /// Waits, and counts that it joined the line; whether the answer was the one of waiters that are answered in this way.
     fn gather(&self, by: By, together: Together, joined: &AtomicU64) -> bool;
 
-    /// Answers all who wait; whether it was told that they are so many.
+    /// Answers all waiters; whether it was told that they are so many.
     fn answer_all(&self, together: Together, count: u64) -> bool;
 
-    /// How many sleep, all of whom have let go of the lock, and how many seats are rung.
+    /// How many sleep, which have all let go of the lock, and how many seats are rung.
     fn seats(&self) -> (usize, usize);
 }
 
@@ -68,7 +68,7 @@ pub trait Made: Gathering + Sized + Drop {
     /// The permission to block that it is made with.
     type Lent: Wait + Drop + Copy;
 
-    /// A form for so many waiters as a plan has, and for whoever answers them.
+    /// A form for so many waiters as a plan has, and for the call that answers them.
     fn made(lent: Self::Lent, alloc: Global, plan: Plan) -> Result<Self, AllocError>;
 }
 
@@ -149,7 +149,7 @@ fn is_right<F: Made, R: Threads + Wait + Sync>(
 }
 
 // Two gatherings, one after the other, the first answered by the main thread and the second by a thread of its own: all
-// who wait wake with their answer, nobody before, and no other seat is rung.
+// waiters wake with their answer, nobody before, and no other seat is rung.
 //
 // The form is new.
 fn all_wake_together<F: Gathering, R: Threads + Wait + Sync>(rt: &R, form: &F, plan: Plan) -> bool {
@@ -221,7 +221,7 @@ fn wait_with_others<F: Gathering>(form: &F, plan: Plan, counts: &Counts, told: &
     counts.ended.fetch_add(1, Ordering::SeqCst);
 }
 
-// Answers all who wait, and counts whether it was told how many they are.
+// Answers all waiters, and counts whether it was told how many they are.
 fn answer_all<F: Gathering>(form: &F, plan: Plan, count: u64, told: &Told) {
     if form.answer_all(plan.together, count) {
         told.exact.fetch_add(1, Ordering::SeqCst);
@@ -229,7 +229,7 @@ fn answer_all<F: Gathering>(form: &F, plan: Plan, count: u64, told: &Told) {
     told.answers.fetch_add(1, Ordering::SeqCst);
 }
 
-// Waits until whoever answers all has done so, and has rung for each.
+// Waits until the thread that answers all has done so, and has rung for each.
 fn await_answer<R: Wait>(rt: &R, told: &Told) {
     for _ in rt.forever() {
         if told.answers.load(Ordering::SeqCst) != 0 {

@@ -25,7 +25,7 @@ pub struct ListedSemaphore {
 }
 
 impl ListedSemaphore {
-    /// All permits are available, and there is room for so many who wait.
+    /// All permits are available, and there is room for so many waiters.
     pub fn new(alloc: Global, room: u16) -> Result<Self, AllocError> {
         let line = Line::with_room(alloc, room)?;
         Ok(ListedSemaphore {

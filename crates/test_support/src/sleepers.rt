@@ -1,8 +1,8 @@
 //! Sleepers: tasks that surely sleep, and each kind of call that answers them.
 //!
-//! This is for tests, over any form whose waiters can stand like this: one ahead who must wait, others behind who are
-//! answered as soon as the one ahead is answered or gone, and one between them and the last, as a wall, who isn't.
-//! A test goes on only once all whom it waits for sleep, and ends only if all whom a call answers wake.
+//! This is for tests, over any form whose waiters can stand like this: one ahead that must wait, others behind that are
+//! answered as soon as the one ahead is answered or gone, and one between them and the last, as a wall, that isn't.
+//! A test goes on only once all its waiters sleep, and ends only if all that a call answers wake.
 
 use saa_core::ticket::Ticket;
 use saa_sync::testing::Patience;
@@ -38,7 +38,7 @@ pub trait Sleepers: Sync {
     /// Waits at this place, and counts that it joined the line; whether it was granted.
     fn wait_at(&self, place: Place, by: By, joined: &AtomicU64) -> bool;
 
-    /// How many sleep, all of whom have let go of the lock, and how many seats are rung.
+    /// How many sleep, which have all let go of the lock, and how many seats are rung.
     fn seats(&self) -> (usize, usize);
 }
 

@@ -48,9 +48,9 @@ fn counted<H: Wait + Threads + Sync + AllocGlobal>(rt: &H) -> [Result<Counted, A
 // Each crowd has all its threads, and then:
 // - two of one try each leave 61 permits of a core;
 // - one release grants 20 sleepers, and no permit is left;
-// - contention leaves all 63 permits, each taking is ended, and none of those who take all adds to a total that another one reads;
+// - contention leaves all 63 permits, each taking is ended, and no thread that takes all adds to a total that another one reads;
 // - each of four rounds of eight has one leader, and all eight are missing again;
-// - each writer adds 200, nobody meets whom it mustn't, and the lock is free.
+// - each writer adds 200, no writer is inside together with any other thread, and the lock is free.
 #[test]
 fn crowds_leave_what_they_must(rt: HostRuntime) {
     let wanted = [

@@ -54,7 +54,7 @@ pub(crate) enum GateCall {
 pub(crate) enum GateCallback {
     // Nothing.
     Counts,
-    // It permits all who wait, and sees how many that let pass, or 9.
+    // It permits all waiters, and sees how many that let pass, or 9.
     Permits,
 }
 

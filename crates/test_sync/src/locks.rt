@@ -354,7 +354,7 @@ pub(crate) static PAIRS: [Pair<LockCall>; 2] = [
 // How often each thread takes the lock.
 const ROUNDS: u64 = 200;
 
-// Readers and writers at a lock, of whom every so manyth writes, and what they see of one another.
+// Readers and writers at a lock, where every so manyth writes, and what they see of one another.
 #[derive(Drop)]
 struct Turns<R: Wait + Drop> {
     lock: Lock<R>,

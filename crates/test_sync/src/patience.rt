@@ -1,4 +1,4 @@
-//! Tests of calls that look before they register: what they see, whom they never pass, and that their patience ends.
+//! Tests of calls that look before they register: what they see, that they never pass a waiter, and that their patience ends.
 
 mod hints;
 mod order;

@@ -190,8 +190,8 @@ fn of_semaphore(alloc: Global) -> Result<Option<usize>, AllocError> {
     first_other(alloc, &mut SemaphoreCore::new(alloc, 4)?, &SEMAPHORE)
 }
 
-// A gate prints each state and how many wait, a barrier what is missing, a lock who has it and that it is poisoned, and a
-// semaphore what is available.
+// A gate prints each state and its number of waiters, a barrier what is missing, a lock its owner or its sharers and that it is
+// poisoned, and a semaphore what is available.
 #[test]
 fn cores_print_their_state(rt: HostRuntime) {
     let told = [

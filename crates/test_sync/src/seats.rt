@@ -50,7 +50,7 @@ fn rung<R: Wait + Threads + Sync>(rt: &R, is_late: bool) -> [bool; 3] {
 }
 
 // A ring for the slot's last holder may come late. One that comes before the next goes to sleep doesn't keep it awake;
-// one that comes as it does, and finds nobody asleep, leaves a sleeper at a seat that is rung, whom the next ring wakes.
+// one that comes as it does, and finds nobody asleep, leaves a sleeper at a seat that is rung, and the next ring wakes it.
 #[test]
 fn a_sleeper_at_a_rung_seat_is_woken(rt: HostRuntime) {
     same!(rt; [rung(&rt, false), rung(&rt, true)], [[true; 3], [true; 3]]);

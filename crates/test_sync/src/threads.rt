@@ -140,7 +140,7 @@ impl<R: Wait + Drop + Sync> Crowd for Sleepers<R> {
     }
 }
 
-// One release wakes all whom it grants.
+// One release wakes all waiters that it grants.
 pub(crate) fn sleepers_granted<H: Wait + Threads + Sync + AllocGlobal>(
     rt: &H,
 ) -> Result<Counted, AllocError> {

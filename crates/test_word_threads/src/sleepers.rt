@@ -16,7 +16,7 @@ use test_asserts::same;
 // How many wait for a permit each.
 const SLEEPERS: u64 = 24;
 
-// How often whoever answers yields first: much more often than a waiter does before it parks.
+// How often the thread that answers yields first: much more often than a waiter does before it parks.
 const RESTS: u32 = 5_000;
 
 // How the sleepers are answered: by releases of so many permits, or by one who stands before them all and cancels.
@@ -43,7 +43,7 @@ fn together(way: Way) -> u64
     }
 }
 
-// Waits for its answer, and tells whether it ends together with those whom it is answered with.
+// Waits for its answer, and tells whether it ends together with the waiters that are answered with it.
 fn sleep(rt: &impl Wait, mut worker: Worker<'_, 63>, turn: u64, way: Way, watched: &Watched) {
     let told = worker.make(rt, Call::Poll);
     let rank = watched.ended.fetch_add(1, Ordering::SeqCst);
@@ -53,7 +53,7 @@ fn sleep(rt: &impl Wait, mut worker: Worker<'_, 63>, turn: u64, way: Way, watche
     worker.leave(rt);
 }
 
-// Lets the sleepers park, and tells how many have ended beyond those who were answered.
+// Lets the sleepers park, and tells how many have ended beyond those that were answered.
 fn rest(watched: &Watched, answered: u64) -> u64 {
     for _turn in 0..RESTS {
         yield_now();
@@ -88,7 +88,7 @@ fn release_some(rt: &impl Wait, giver: &mut Worker<'_, 63>, count: u64, watched:
     early
 }
 
-// Releases permits for all sleepers, who wait behind the giver, and lets them have these by a cancel; how many ended before that.
+// Releases permits for all sleepers, which wait behind the giver, and lets them have these by a cancel; how many ended before that.
 fn cancel_before(rt: &impl Wait, giver: &mut Worker<'_, 63>, watched: &Watched) -> u64 {
     giver.make(rt, Call::Release(SLEEPERS as usize));
     let early = rest(watched, 0);

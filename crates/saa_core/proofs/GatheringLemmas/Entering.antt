@@ -1,4 +1,4 @@
--- The gate: what those who enter are answered, what its calls do, and what happens when a waiter leaves.
+-- The gate: what a call that enters is answered, what its calls do, and what happens when a waiter leaves.
 use Rattle.std.proofs.Common.{◌≡◌, ℕ, Bool, true, List, length, Some, None, Ok, refl, ap, ◌∙◌}
 use Rattle.saa_core_spec.specs.declared.request.Request.TheVariants.{Enter}
 use Rattle.saa_core_spec.specs.declared.gate.State.{State}
@@ -18,7 +18,7 @@ use Rattle.saa_core.specs.GateParts.{answer_by_state}
 use Rattle.saa_core.proofs.GatheringLemmas.Gathering.{Gathers, register_answered}
 use Rattle.saa_core.proofs.TicketLemmas.Answering.{all-object, all-belong, all_calls}
 
--- those who enter a sealed or an open gate are answered so
+-- a call that enters a sealed or an open gate is answered so
 enter_answer : (state : State) (v : ℕ) (s : Object) → s.held ≡ OfGate state → answer_by_state state ≡ Some v → answer_at_once s Enter ≡ Some (after v s)
 enter_answer Controlled v s is answered = cc
 enter_answer Sealed v s is answered = let same : sealed_value ≡ v = cc in ap (λ h. answer_in s h Enter) is ∙ ap (λ n. Some (after n s)) same
@@ -31,7 +31,7 @@ enter_answered state slots v m answered =
     let c : Core = record { held = OfGate state; slots = slots } in
     register_answered c c v Enter m refl (λ ts b. enter_answer state v (object_of c ts) refl answered) (λ ts b. b)
 
--- those who enter another gate wait
+-- a call that enters another gate waits
 pub enter_waits : (state : State) (slots : Slots) → answer_by_state state ≡ None
     → (ts : List Registration) → answer_at_once (object_of (record { held = OfGate state; slots = slots }) ts) Enter ≡ None
 enter_waits Controlled slots none ts = refl

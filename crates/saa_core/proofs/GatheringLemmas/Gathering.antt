@@ -60,7 +60,7 @@ register_joined h slots slot r m fine waits room fresh = record {
 
 -- Dropping
 
--- What is held where tasks gather: nothing is to be given back, and this happens to those who stay when a waiter leaves
+-- What is held where tasks gather: nothing is to be given back, and this happens to the waiters that stay when one leaves
 pub record Gathers (h : Held) (close : Slots → Slots) : Type 0 where
   pub undone : (s : Object) (r : Request) → undone_of s h r ≡ s
   pub left : (slots : Slots) (ts : List Registration) → IsSound slots → Belong slots ts

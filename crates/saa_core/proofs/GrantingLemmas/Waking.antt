@@ -14,7 +14,7 @@ use Rattle.saa_core.proofs.TicketLemmas.Waking.{owes-same, owes-front, owes-take
 use Rattle.saa_core.specs.CoreParts.{core_settled, core_given, core_given_of, core_undone, core_vacated, core_vacated_by}
 use Rattle.saa_core_spec.proofs.Counts.{bool_cases}
 
--- settling owes those whom it grants
+-- settling owes a wake to each waiter that it grants
 pub owes-settled : (c : Core) → IsSound c.slots → OwesAnswered c.slots (core_settled c).slots
 unfolding core_settled
 owes-settled c sound = owes-front 0 (fitting_front c.held c.slots.line) c.slots sound
@@ -25,7 +25,7 @@ pub owes-settled_left : (c : Core) (slot : ℕ) → IsSound c.slots → 0 < time
 unfolding core_settled
 owes-settled_left c slot sound waits = owes-left_front 0 (fitting_front c.held (without slot c.slots.line)) c.slots slot sound waits
 
--- giving back owes those whom it grants
+-- giving back owes a wake to each waiter that it grants
 owes-given_of : (c : Core) (nothing : Bool) (rest : Option Held) → IsSound c.slots → OwesAnswered c.slots (core_given_of c nothing rest).slots
 owes-given_of c true rest sound = owes-same c.slots sound
 owes-given_of c false (Some rest) sound = owes-settled (record c { held = rest }) sound
@@ -42,7 +42,7 @@ owes-undone c v r sound =
       | inr e ↦ rw e (owes-same c.slots sound)
     ]
 
--- a slot that is freed owes those whom that grants
+-- a slot that is freed owes a wake to each waiter that this grants
 owes-vacated_by : (c : Core) (slot : ℕ) (r : Request) (answer : Option ℕ) (waits : Bool) → IsSound c.slots
     → answer_in c.slots.answers slot ≡ answer → nat_lt 0 (times slot c.slots.line) ≡ waits → OwesAnswered c.slots (core_vacated_by c slot r answer waits).slots
 owes-vacated_by c slot r (Some v) waits sound there is =

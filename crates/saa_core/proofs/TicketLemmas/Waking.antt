@@ -1,4 +1,4 @@
--- The wakes that are owed after each change that a core makes of its line: of those whom it answered, and of nobody else.
+-- The pending wakes after each change that a core makes of its line: of the waiters that it answered, and of no other.
 use Rattle.std.proofs.Common.{◌≡◌, ℕ, ◌<◌, Bool, true, false, ◌==◌, List, [], ◌∷◌, ◌++◌, length, take, drop, Option, Some, None, is_some, slice_set, nat_lt, refl, sym, ap, subst, ◌∙◌, arith, inl, inr}
 use Rattle.std.proofs.lemmas.List.{take-append-drop, append-nil}
 use Rattle.std.proofs.Math.ListN.{length-set}
@@ -22,7 +22,7 @@ one_if-false : (b : Bool) → one_if b ≡ 0 → b ≡ false
 one_if-false true none = absurd (omega arith)
 one_if-false false none = refl
 
--- nobody of those who have no answers
+-- none of waiters that have no answers
 answered_of-none : (ws : List Waiter) (answers : List (Option ℕ)) → ((slot : ℕ) → 0 < times slot ws → is_some (answer_in answers slot) ≡ false) → answered_of ws answers ≡ []
 answered_of-none [] answers none = refl
 answered_of-none (w ∷ ws) answers none =
@@ -30,7 +30,7 @@ answered_of-none (w ∷ ws) answers none =
     let first : is_some (answer_in answers w.0) ≡ false = none w.0 here in
     rw first (answered_of-none ws answers (λ slot some. none slot (omega arith)))
 
--- all of those who all have one
+-- all of waiters that all have one
 answered_of-all : (ws : List Waiter) (answers : List (Option ℕ)) → ((slot : ℕ) → 0 < times slot ws → is_some (answer_in answers slot) ≡ true) → answered_of ws answers ≡ ws
 answered_of-all [] answers all = refl
 answered_of-all (w ∷ ws) answers all =
@@ -62,7 +62,7 @@ answered_of-without slot (w ∷ ws) answers none =
           ]
     ]
 
--- the front is who has an answer once it is answered
+-- the front is what has an answer once it is answered
 answered_of-front : (v k : ℕ) (slots : Slots) → IsSound slots → answered_of slots.line (answered_slots v (take k slots.line) slots.answers) ≡ take k slots.line
 answered_of-front v k slots sound =
     let front : List Waiter = take k slots.line in
@@ -136,7 +136,7 @@ sound-left slots slot sound waits = record {
   small = sound.small;
 }
 
--- whoever is owed after an answer was taken was owed before
+-- what is owed a wake after an answer was taken was owed one before
 pub owes-taken : (slots new : Slots) (slot : ℕ) → OwesAnswered (slots_taken slots slot) new → OwesAnswered slots new
 owes-taken slots new slot owes = owes-from slots (slots_taken slots slot) new refl refl owes
 

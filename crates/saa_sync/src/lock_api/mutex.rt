@@ -83,7 +83,7 @@ impl<R: Wait + Drop, T> Mutex<R, T> {
         Some(MutexGuard::new(turn, value))
     }
 
-    /// The value, with no lock: whoever has the mutex to itself needs none.
+    /// The value, with no lock: an exclusive reference to the mutex needs none.
     pub fn get_mut(&mut self) -> &mut T {
         self.guarded.get_mut()
     }

@@ -112,7 +112,7 @@ impl<R: Wait + Drop, T> RwLock<R, T> {
         Writing::new(&self.guarded, turn)
     }
 
-    /// The value, with no lock: whoever has the lock to itself needs none.
+    /// The value, with no lock: an exclusive reference to the lock needs none.
     pub fn get_mut(&mut self) -> &mut T {
         self.guarded.get_mut()
     }

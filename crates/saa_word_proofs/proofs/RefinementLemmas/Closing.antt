@@ -128,7 +128,7 @@ missed-step needs places row standing state me here s seen count top at differs 
           ];
     }
 
--- Whoever closes the line publishes what it granted, or goes on with the word that it found
+-- A holder that closes the line publishes what it granted, or goes on with the word that it found
 pub step-Close : (needs : Needs) → AreNeeds needs → needs.top < 2 ^ count_bits → (places : ℕ) (row : ℕ → ℕ) (standing : ℕ → Place) (state : AbstractState) (me : ℕ)
     → places < 65536 → me < places → (s : Refines needs places row standing state)
     → (seen : Word) (count top : ℕ) → (standing me).stage ≡ Close seen count top → StepRefines needs places row standing state me (Close seen count top)

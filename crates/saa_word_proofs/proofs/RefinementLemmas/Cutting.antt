@@ -1,4 +1,4 @@
--- The holder of the flag cuts those who are granted off from those who stay: each step keeps how words, places and the abstract state
+-- The holder of the flag cuts the granted waiters off from those that stay: each step keeps how words, places and the abstract state
 -- stand together.
 use Rattle.std.proofs.Common.{◌^◌, ◌≡◌, ℕ, ◌+◌, ◌<◌, ◌≤◌, pred, true, false, List, [], ◌∷◌, ◌++◌, refl, sym, ap, subst, ◌∙◌, arith}
 use Rattle.saa_core_spec.specs.Object.{one_if, times}
@@ -20,7 +20,7 @@ use Rattle.saa_word_proofs.proofs.RefinementLemmas.Frames.{oldest-stands, work-b
 use Rattle.saa_word_proofs.proofs.RefinementLemmas.Rows.{apart-at, line-at, line-other}
 use Rattle.saa_word_proofs.proofs.RefinementLemmas.Linking.{flag-held, flag-knows, in-line, line-room, relinked, IsLooked, looked, linked-all, tail-room}
 
--- who stands once in a line stands in one part of it
+-- a place that is once in a line is in one part of it
 once-before : (front rest : List (ℕ × ℕ)) (asker : ℕ × ℕ) (place : ℕ) → times asker.0 (front ++ asker ∷ rest) ≤ 1
     → 0 < times place front → place ≡ asker.0 → ⊥
 once-before front rest asker place once there is =
@@ -100,7 +100,7 @@ cut-inside places row standing state seen work current seats at =
     let there = oldest-stands work.behind current at.1 at.0 in
     omega (arith, there.1, (in-line places standing state (pred current) seats (work-behind state.count state.line seen work (pred current) there.0)).0)
 
--- The cut before the line is closed: the oldest of those who stay does not fit
+-- The cut before the line is closed: the oldest waiter that stays does not fit
 pub step-CutToClose : (needs : Needs) → AreNeeds needs → needs.top < 2 ^ count_bits → (places : ℕ) (row : ℕ → ℕ) (standing : ℕ → Place) (state : AbstractState) (me : ℕ)
     → places < 65536 → me < places → (s : Refines needs places row standing state)
     → (seen : Word) (current count : ℕ) (line : LineWord) → (standing me).stage ≡ CutToClose seen current count line

@@ -47,7 +47,7 @@ some-last : (front : List (ℕ × ℕ)) (last : ℕ × ℕ) → is_empty (front 
 some-last [] last = refl
 some-last (asker ∷ rest) last = refl
 
--- the line word of the oldest names who is before it
+-- the line word of the oldest names the place before it
 older-first : (words : ℕ → LineWord) (older : ℕ) (line : List (ℕ × ℕ)) (link : ℕ) → is_empty line ≡ false → link ≡ oldest line
     → IsBehind words older line → (words (pred link)).older ≡ older
 older-first words older [] link some first linked = absurd (cc)

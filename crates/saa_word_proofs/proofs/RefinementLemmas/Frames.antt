@@ -27,7 +27,7 @@ work-frame held now line after more seen less grown work = record {
   count = omega (arith, less, work.count);
 }
 
--- whoever stands among those behind the front, or in it, stands in the line
+-- a place behind the front, or in it, is in the line
 pub work-behind : (held : ℕ) (line : List (ℕ × ℕ)) (seen : Word) (work : Work held line seen) (place : ℕ)
     → 0 < times place work.behind → 0 < times place line
 work-behind held line seen work place there =
@@ -52,7 +52,7 @@ oldest-stands (asker ∷ rest) link some is =
     let same : asker.0 ≡ pred link = omega (arith, is, link_is) in
     (omega (arith, ap one_if (ap (λ n. n == pred link) same ∙ number_same (pred link))), link_is)
 
--- whoever passed itself by has done so where others have joined
+-- a holder that passed itself by has done so where others have joined
 passed-more : (me : ℕ) (behind joined more : List (ℕ × ℕ)) → is_in me more ≡ false → IsPassed me behind joined → IsPassed me behind (joined ++ more)
 passed-more me behind joined more none passed = (passed.0, rw (in-append me joined more, passed.1) none)
 

@@ -62,7 +62,7 @@ raised-main needs lawful wide state number holder more front rest calm was fits 
       settled = λ closed. round-settled needs state.count state.line front rest parts fits (was.settled closed);
     }
 
--- Whoever walks anew adds what it granted to the count, shows the answers, and walks anew
+-- A holder that retries adds what it granted to the count, shows the answers, and walks anew
 pub step-GoRound : (needs : Needs) → AreNeeds needs → needs.top < 2 ^ count_bits → (places : ℕ) (row : ℕ → ℕ) (standing : ℕ → Place) (state : AbstractState) (me : ℕ)
     → places < 65536 → me < places → (s : Refines needs places row standing state)
     → (seen : Word) (count top : ℕ) → (standing me).stage ≡ GoRound seen count top → StepRefines needs places row standing state me (GoRound seen count top)

@@ -1,4 +1,4 @@
--- Those of a front are granted: they leave the line, and their answers are owed by whoever granted them.
+-- The waiters of a front are granted: they leave the line, and the place that granted them owes their answers.
 use Rattle.std.proofs.Common.{◌≡◌, ℕ, ◌+◌, ◌<◌, ◌≤◌, Bool, true, false, ◌||◌, List, [], ◌∷◌, ◌++◌, length, take, drop, ◌==◌, if◌then◌else◌, Some, is_some, refl, sym, ap, subst, ◌∙◌, arith, inl, inr, ◌^◌}
 use Rattle.std.proofs.lemmas.Bool.{cases_Bool}
 use Rattle.std.proofs.Math.ListN.{length-append}
@@ -107,7 +107,7 @@ front-none front top is none = empty-nil front (sym (newest-empty front) ∙ ap 
 pub front-some : (front : List (ℕ × ℕ)) (top : ℕ) → top ≡ newest 0 front → top == 0 ≡ false → is_empty front ≡ false
 front-some front top is some = sym (newest-empty front) ∙ ap (λ (n : ℕ). n == 0) (sym is) ∙ some
 
--- a line behind those who are granted is linked, and so are they
+-- a line behind the granted waiters is linked, and so are they
 pub parts-linked : (words : ℕ → LineWord) (line cut uncut front rest : List (ℕ × ℕ)) → IsLine words line cut uncut → cut ≡ front
     → line ≡ front ++ rest → IsBehind words 0 front × IsBehind words 0 rest
 parts-linked words line cut uncut front rest was same parts =
@@ -207,7 +207,7 @@ close-run needs state me (asker ∷ more) rest parts fits closes settled =
 pub held-once : (places : ℕ) (standing : ℕ → Place) (state : AbstractState) → AreSeats places standing state → (place : ℕ) → held_by place state ≤ 1
 held-once places standing state seats place = omega (arith, seats.held place, one_if-le (is_slot (standing place).registration))
 
--- who is due stands in no part of the line
+-- a place with an answer due is in no part of the line
 pub due-apart : (state : AbstractState) (front rest : List (ℕ × ℕ)) (place : ℕ) → state.line ≡ front ++ rest → held_by place state ≤ 1
     → is_some (state.due place) ≡ true → is_in place front ≡ false
 due-apart state front rest place parts once due =
@@ -293,7 +293,7 @@ settled-main needs state front rest count tail calm small room adds bounded is s
       settled = λ closed. rw (← adds) settled;
     }
 
--- who stands in no line stands in no part of it
+-- a place that is in no line is in no part of it
 pub out-of-rest : (place : ℕ) (front rest line : List (ℕ × ℕ)) → line ≡ front ++ rest → is_in place line ≡ false → is_in place rest ≡ false
 out-of-rest place front rest line parts out =
     out-of-both (is_in place front) (is_in place rest) (sym (ap (is_in place) parts ∙ in-append place front rest) ∙ out)

@@ -22,7 +22,7 @@ use Rattle.saa_word_proofs.proofs.RefinementLemmas.Rows.{row-other, own-any}
 use Rattle.saa_word_proofs.proofs.RefinementLemmas.Granting.{in-waits, in-no}
 use Rattle.saa_word_proofs.proofs.RefinementLemmas.Linking.{apart-by, in-line, line-room}
 
--- The object once a place has left the line, with those who still wait
+-- The object once a place has left the line, with the waiters that are left
 abbrev pub left : AbstractState → List (ℕ × ℕ) → AbstractState
 left state rest = record state { line = rest; unclosed = not (is_empty rest) }
 
@@ -52,7 +52,7 @@ pub times-left : (place : ℕ) (before after : List (ℕ × ℕ)) (asker : ℕ �
     → times place (before ++ asker ∷ after) ≡ one_if (asker.0 == place) + times place (before ++ after)
 times-left place before after asker = omega (arith, times-append place before (asker ∷ after), times-append place before after)
 
--- who waits once leaves those before it and those behind it
+-- a place that waits once leaves the waiters before it and behind it
 pub without-once : (place request : ℕ) (before after : List (ℕ × ℕ)) → times place (before ++ (place, request) ∷ after) ≡ 1
     → without place (before ++ (place, request) ∷ after) ≡ before ++ after
 without-once place request before after once =
@@ -90,14 +90,14 @@ found-parts me held older line seen work found =
     work.parts ∙ ap (λ (l : List (ℕ × ℕ)). l ++ (work.behind ++ work.joined)) found.2
     ∙ append_assoc found.0 ((me, found.1) ∷ []) (work.behind ++ work.joined)
 
--- the link to whoever is before the holder is within its bits
+-- the link to the place before the holder is within its bits
 pub found-room : (row : ℕ → ℕ) (line before after : List (ℕ × ℕ)) (asker : ℕ × ℕ)
     → IsBehind (line_of row) 0 line → line ≡ before ++ asker ∷ after → newest 0 before < 65536
 found-room row line before after asker linked parts =
     let all = behind-rest (line_of row) 0 before (asker ∷ after) (subst (λ (l : List (ℕ × ℕ)). IsBehind (line_of row) 0 l) parts linked) in
     subst (λ (n : ℕ). n < 65536) all.1 (line-room (row (asker.0 + 1))).1
 
--- The event, for the object with those who still wait
+-- The event, for the object with the waiters that are left
 pub left-run : (needs : Needs) (state : AbstractState) (me request : ℕ) (before after : List (ℕ × ℕ)) → state.line ≡ before ++ (me, request) ∷ after
     → times me state.line ≡ 1 → IsRun needs state (of_place me (Left ∷ [])) (left state (before ++ after))
 left-run needs state me request before after parts once =
@@ -108,7 +108,7 @@ left-run needs state me request before after parts once =
 
 -- Links
 
--- the first of those behind who leaves is linked to whoever is before that
+-- the first waiter behind the place that leaves is linked to the one before that place
 pub unlinked : (words new : ℕ → LineWord) (before rest : List (ℕ × ℕ)) (gone asker : ℕ × ℕ)
     → IsBehind words 0 (before ++ gone ∷ (asker ∷ rest)) → times asker.0 (before ++ gone ∷ (asker ∷ rest)) ≤ 1
     → (new asker.0).request ≡ (words asker.0).request → (new asker.0).older ≡ newest 0 before
@@ -134,7 +134,7 @@ unlinked words new before rest gone asker linked once request older others =
     not-behind place there is =
         omega (arith, once, times-append asker.0 before (gone ∷ (asker ∷ rest)), one_if-same asker.0, there, ap (λ (n : ℕ). times n rest) is)
 
--- a line word that is written with another older link leaves whom the newer ones name
+-- a line word that is written with another older link leaves the places that the newer ones name
 pub newer-same : (words new : ℕ → LineWord) (at : ℕ) → (new at).newer ≡ (words at).newer → ((place : ℕ) → (place ≡ at → ⊥) → new place ≡ words place)
     → (place : ℕ) → (new place).newer ≡ (words place).newer
 newer-same words new at newer others place =
@@ -145,7 +145,7 @@ newer-same words new at newer others place =
 
 -- Seats and debts
 
--- who waits where the holder found itself waits once
+-- a place that waits where the holder found itself waits once
 pub found-once : (places : ℕ) (standing : ℕ → Place) (state : AbstractState) (me request : ℕ) (before after : List (ℕ × ℕ))
     → AreSeats places standing state → state.line ≡ before ++ (me, request) ∷ after → times me state.line ≡ 1
 found-once places standing state me request before after seats parts =
@@ -174,7 +174,7 @@ seats-left places standing state me request before after stage was here parts =
           (λ other apart. was.beyond other);
     }
 
--- no answer is due to who waits, so nobody owes it one
+-- no answer is due to a waiter, so nobody owes it one
 pub owed-out : (places : ℕ) (words : ℕ → LineWord) (standing : ℕ → Place) (state : AbstractState) (owed : ℕ → List (ℕ × ℕ)) (shower worth : ℕ → ℕ)
     → AreSeats places standing state → AreDebts words state.due owed shower worth
     → (place other : ℕ) → 0 < times other (owed place) → is_in other state.line ≡ false

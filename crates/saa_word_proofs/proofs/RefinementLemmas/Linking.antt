@@ -31,7 +31,7 @@ flag-knows needs places row standing state me s stage at holds =
 pub apart-by : (one other : ℕ) → one == other ≡ false → one ≡ other → ⊥
 apart-by one other apart is = let same : one == other ≡ true = ap (λ (n : ℕ). n == other) is ∙ number_same other in absurd (cc)
 
--- Whoever stands in the line is a place that is registered in it, stands there once, and no answer is due to it
+-- A member of the line is a place that is registered in it, is in it once, and no answer is due to it
 pub in-line : (places : ℕ) (standing : ℕ → Place) (state : AbstractState) (place : ℕ) → AreSeats places standing state → 0 < times place state.line
     → (place < places) × (is_slot (standing place).registration ≡ true) × (times place state.line ≡ 1) × (is_some (state.due place) ≡ false)
 in-line places standing state place seats there =
@@ -153,7 +153,7 @@ relinked needs places row standing state me s next at number off rest here flag 
               (s.stages.own other)
         ]
 
--- The first of those behind the front: what its line word says, and who is behind it
+-- The first waiter behind the front: what its line word says, and which place is behind it
 pub record IsLooked (words : ℕ → LineWord) (held : ℕ) (line : List (ℕ × ℕ)) (seen : Word) (work : Work held line seen) (current : ℕ) : Type 0 where
   pub asker : ℕ × ℕ
   pub rest : List (ℕ × ℕ)
@@ -175,7 +175,7 @@ begun : (line : List (ℕ × ℕ)) → is_empty line ≡ false → IsBegun line
 begun [] some = absurd (cc)
 begun (asker ∷ rest) some = record { asker = asker; rest = rest; is = refl }
 
--- who is linked to the next one, and those behind are linked too
+-- a waiter that is linked to the next one, and those behind are linked too
 ahead-rest : (words : ℕ → LineWord) (asker : ℕ × ℕ) (rest : List (ℕ × ℕ))
     → IsAhead words (asker ∷ rest) → (is_empty rest ≡ false → (words asker.0).newer ≡ oldest rest) × IsAhead words rest
 ahead-rest words asker [] ahead = (λ some. absurd (cc), tt)

@@ -1,4 +1,4 @@
--- Lines of places as lists: their ends, who stands in them, and what their line words say.
+-- Lines of places as lists: their ends, their members, and what their line words say.
 use Rattle.std.proofs.Common.{◌≡◌, ℕ, ◌+◌, ◌<◌, ◌≤◌, true, false, ◌||◌, List, [], ◌∷◌, ◌++◌, length, take, drop, ◌==◌, refl, sym, ap, subst, ◌∙◌, arith, inl, inr}
 use Rattle.std.proofs.lemmas.Bool.{cases_Bool}
 use Rattle.std.proofs.lemmas.Bool.Decides.{nat_tests}
@@ -72,7 +72,7 @@ pub newest-append : (older : ℕ) (front behind : List (ℕ × ℕ)) → newest 
 newest-append older [] behind = refl
 newest-append older (asker ∷ rest) behind = newest-append (asker.0 + 1) rest behind
 
--- the newest doesn't depend on who is before the line, where somebody stands in it
+-- the newest of a line that isn't empty doesn't depend on the place before the line
 pub newest-any : (one other : ℕ) (line : List (ℕ × ℕ)) → is_empty line ≡ false → newest one line ≡ newest other line
 newest-any one other [] some = absurd (cc)
 newest-any one other (asker ∷ rest) some = refl
@@ -117,7 +117,7 @@ newest-last older before last = newest-append older before (last ∷ [])
 
 -- What line words say of a line
 
--- line words that are the same for those who stand in a line say the same of it
+-- line words that are the same for the members of a line say the same of it
 pub behind-frame : (old new : ℕ → LineWord) (older : ℕ) (line : List (ℕ × ℕ))
     → ((place : ℕ) → 0 < times place line → ((new place).request ≡ (old place).request) × ((new place).older ≡ (old place).older))
     → IsBehind old older line → IsBehind new older line

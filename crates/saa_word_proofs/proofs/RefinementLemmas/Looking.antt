@@ -27,7 +27,7 @@ oldest-empty : (line : List (ℕ × ℕ)) → oldest line == 0 ≡ is_empty line
 oldest-empty [] = refl
 oldest-empty (asker ∷ rest) = grind (arith, nat_tests)
 
--- the holder finds itself as the last of the front, and its line word says who is before it
+-- the holder finds itself as the last of the front, and its line word names the place before it
 found : (words : ℕ → LineWord) (me held : ℕ) (line : List (ℕ × ℕ)) (seen : Word) (current newer : ℕ) (work : Work held line seen)
     → IsBack words work.front work.behind current newer → IsBehind words 0 line → current ≡ me + 1 → IsFound me work.front (words me).older
 found words me held line seen current newer work back linked own =
@@ -103,7 +103,7 @@ step-LookLoad needs lawful wide places row standing state me room here s seen cu
           ];
     }
 
--- who stands in no part of a line stands in no line
+-- a place that is in no part of a line is in no line
 passed-all : (me held : ℕ) (line : List (ℕ × ℕ)) (seen : Word) (work : Work held line seen) → work.front ≡ [] → IsPassed me work.behind work.joined
     → is_in me line ≡ false
 passed-all me held line seen work none passed =

@@ -126,7 +126,7 @@ unnamed needs call registered back stage events next under =
 
 -- Asks
 
--- who is granted at once has named that it got what it asked
+-- a call that is granted at once has named that it got what it asked
 pub granted-under : (needs : Needs) (call : WordCall) (registered : Registration) (stage : Stage) (place : Place) (ask : Ask) → asked_by call ≡ Some ask
     → IsUnderNext needs call registered place.back stage (Got ask.request ∷ []) (granted needs place ask)
 granted-under needs call registered stage place ask is =
@@ -175,7 +175,7 @@ decided-under needs call registered stage place ask seen is =
           ]
     ]
 
--- Whoever is done with the line
+-- A call that is done with the line
 
 -- it answers what it named, or takes its own answer next
 pub finished-under : (needs : Needs) (call : WordCall) (registered : Registration) (was : Back) (stage : Stage) (events : List Event) (place : Place) (back : Back)

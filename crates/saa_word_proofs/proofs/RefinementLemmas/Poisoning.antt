@@ -95,7 +95,7 @@ poisoning-outcome needs places row standing state me here s none nothing lock te
           ]
     ]
 
--- Whoever poisons looks at the main word
+-- The poisoner looks at the main word
 pub step-PoisonLoad : (needs : Needs) → AreNeeds needs → needs.top < 2 ^ count_bits → (places : ℕ) (row : ℕ → ℕ) (standing : ℕ → Place) (state : AbstractState) (me : ℕ)
     → places < 65536 → me < places → (s : Refines needs places row standing state)
     → (standing me).stage ≡ PoisonLoad → StepRefines needs places row standing state me PoisonLoad
@@ -164,7 +164,7 @@ poisoned-stands needs places row standing state me s stage here unheld none lock
       stages = rw (line-main row number) stages;
     }
 
--- Whoever saw a lock that one owner has poisons it, and shows that to all waiters; or decides by the word that it found
+-- A poisoner that saw a lock of one owner poisons it, and shows that to all waiters; or decides by the word that it found
 pub step-PoisonExchange : (needs : Needs) → AreNeeds needs → needs.top < 2 ^ count_bits → (places : ℕ) (row : ℕ → ℕ) (standing : ℕ → Place) (state : AbstractState) (me : ℕ)
     → places < 65536 → me < places → (s : Refines needs places row standing state)
     → (seen : Word) → (standing me).stage ≡ PoisonExchange seen → StepRefines needs places row standing state me (PoisonExchange seen)
@@ -287,7 +287,7 @@ cleared-stands needs places row standing state me s here none nothing poisoned =
           (sym (line-main row number)) stages;
     }
 
--- Whoever clears poison does so in one exchange, or finds none
+-- A call that clears poison does so in one exchange, or finds none
 pub step-Clear : (needs : Needs) → AreNeeds needs → needs.top < 2 ^ count_bits → (places : ℕ) (row : ℕ → ℕ) (standing : ℕ → Place) (state : AbstractState) (me : ℕ)
     → places < 65536 → me < places → (s : Refines needs places row standing state)
     → (standing me).stage ≡ Clear → StepRefines needs places row standing state me Clear

@@ -49,7 +49,7 @@ pub either : (test : Bool) (one other : Next) → GoesOn one → GoesOn other �
 either true one other o t = o
 either false one other o t = t
 
--- who is done with the line, who is granted at once, and who asked
+-- a call that is done with the line, one that is granted at once, and one that registered
 pub on-finished : (place : Place) (back : Back) → GoesOn (finished place back)
 on-finished place Tells = refl
 on-finished place EndsCall = refl
@@ -193,7 +193,7 @@ not-exchanged row old new differs = rw differs (updated-same row 0 (row 0) refl)
 
 -- The answer that isn't there
 
--- an answer that is there is read, so who waits has none
+-- an answer that is there is read, so a waiter has none
 none-shown : (needs : Needs) (place : Place) (taking : Taking) (answer : Option ℕ) → ((value : ℕ) → answer ≡ Some value → value < 256)
     → taken_answer needs place taking (answer_of (answer_number answer % 65536)) ≡ Waits → answer ≡ None
 none-shown needs place taking None small waits = refl
@@ -204,7 +204,7 @@ none-shown needs place taking (Some value) small waits =
     sym (on-some needs place taking value) ∙ ap (λ (a : Option ℕ). says_wait (taken_answer needs place taking a)) (sym read) ∙ ap says_wait waits in
     absurd (cc)
 
--- who is held and has no answer to take is in the line, or its answer is to be shown
+-- a place that is held and has no answer to take is in the line, or its answer is to be shown
 held-else : (state : AbstractState) (me : ℕ) → held_by me state ≡ 1 → state.shown me ≡ None → (is_in me state.line || is_some (state.due me)) ≡ true
 held-else state me held none =
     let nothing : one_if (is_some (state.shown me)) ≡ 0 = ap (λ (a : Option ℕ). one_if (is_some a)) none in

@@ -25,7 +25,7 @@ not-false : (mark : Bool) → not mark ≡ false → mark ≡ true
 not-false true is = refl
 not-false false is = absurd (cc)
 
--- whoever stands behind another asks what its line word says
+-- a waiter behind another asks what its line word says
 behind-asks : (words : ℕ → LineWord) (older : ℕ) (line : List (ℕ × ℕ)) → IsBehind words older line → AreAsking words line
 behind-asks words older [] behind = tt
 behind-asks words older (asker ∷ rest) behind = (behind.0, behind-asks words (asker.0 + 1) rest behind.2)

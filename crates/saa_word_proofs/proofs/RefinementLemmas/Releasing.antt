@@ -119,7 +119,7 @@ given-outcome needs places row standing state me here s none nothing ends what f
       (λ it. absurd (not-holder needs places row standing state me s none it));
 }
 
--- Whoever is to give back looks at the main word
+-- A call that is to give back looks at the main word
 pub step-ReleaseLoad : (needs : Needs) → AreNeeds needs → needs.top < 2 ^ count_bits → (places : ℕ) (row : ℕ → ℕ) (standing : ℕ → Place) (state : AbstractState) (me : ℕ)
     → places < 65536 → me < places → (s : Refines needs places row standing state)
     → (what : Given) → (standing me).stage ≡ ReleaseLoad what → StepRefines needs places row standing state me (ReleaseLoad what)
@@ -136,7 +136,7 @@ unopened : (line : List (ℕ × ℕ)) (other : Bool) → not (is_empty line) || 
 unopened [] other closed = refl
 unopened (asker ∷ rest) other closed = absurd (cc)
 
--- Something is given back: the count falls; whoever holds the flag afterwards, and what this place does then, is said by the premises
+-- Something is given back: the count falls; which place holds the flag afterwards, and what this place does then, is said by the premises
 given-back : (needs : Needs) → AreNeeds needs → needs.top < 2 ^ count_bits → (places : ℕ) (row : ℕ → ℕ) (standing : ℕ → Place) (state : AbstractState) (me : ℕ)
     → me < places → (s : Refines needs places row standing state)
     → (what : Given) (left : ℕ) (seen : Word) → seen.tail < 65536 → seen.is_poisoned ≡ false → main_of row ≡ seen → left_from needs seen.count what ≡ Some left
@@ -209,7 +209,7 @@ no-tail true flagged test clear = refl
 no-tail false true test clear = absurd (cc)
 no-tail false false test clear = absurd (cc)
 
--- Whoever gives back lowers the count, and works on the line where somebody waits and nobody does
+-- A call that gives back lowers the count, and works on the line where there are waiters and nobody works on it
 pub step-ReleaseExchange : (needs : Needs) → AreNeeds needs → needs.top < 2 ^ count_bits → (places : ℕ) (row : ℕ → ℕ) (standing : ℕ → Place) (state : AbstractState) (me : ℕ)
     → places < 65536 → me < places → (s : Refines needs places row standing state)
     → (what : Given) (seen : Word) → (standing me).stage ≡ ReleaseExchange what seen

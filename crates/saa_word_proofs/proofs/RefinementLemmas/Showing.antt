@@ -26,13 +26,13 @@ slot-of : (mark : Bool) → 0 < one_if mark → mark ≡ true
 slot-of true some = refl
 slot-of false some = absurd (omega (arith, some))
 
--- whoever stands in a line is one of the places
+-- each member of a line is one of the places
 pub line-inside : (needs : Needs) (places : ℕ) (row : ℕ → ℕ) (standing : ℕ → Place) (state : AbstractState) (s : Refines needs places row standing state) (other : ℕ)
     → 0 < times other state.line → other < places
 line-inside needs places row standing state s other there =
     s.seats.within other (slot-of (is_slot (standing other).registration) (omega (arith, there, s.seats.held other)))
 
--- so is whoever is owed an answer
+-- so is each place that is owed an answer
 pub due-inside : (needs : Needs) (places : ℕ) (row : ℕ → ℕ) (standing : ℕ → Place) (state : AbstractState) (s : Refines needs places row standing state) (place other : ℕ)
     → is_in other (s.owed place) ≡ true → other < places
 due-inside needs places row standing state s place other there =

@@ -16,8 +16,8 @@ use Rattle.saa_word_proofs.proofs.RefinementLemmas.Frames.{newest-stands, work-f
 use Rattle.saa_word_proofs.proofs.RefinementLemmas.Rows.{line-at, line-other}
 use Rattle.saa_word_proofs.proofs.RefinementLemmas.Linking.{apart-by, in-line, oldest-room, line-room, linked-all}
 
--- The line as the holder sees it once it linked the last of the front to those behind it: the front ends with whoever is older, and who
--- isn't that last one has passed itself by no less
+-- The line as the holder sees it once it linked the last of the front to the waiters behind it: the front ends with the place that is
+-- older, and a holder that isn't that last one has passed itself by no less
 pub record IsWalked (new : ℕ → LineWord) (held : ℕ) (line : List (ℕ × ℕ)) (seen : Word) (current older : ℕ) (was : Work held line seen) : Type 0 where
   pub work : Work held line seen
   pub before : older ≡ newest 0 work.front

@@ -219,7 +219,7 @@ taken needs places row standing state me value here s slot none is place idle ra
           (λ other differs it. holding-shown needs places row standing state s (me + 1) 0 some other (standing other).stage (s.stages.holding other it));
     })
 
--- whoever has joined and has no answer waits, or its answer is due
+-- a place that has joined and has no answer waits, or its answer is due
 not-yet : (waits : Bool) (due : Bool) (often : ℕ) → (0 < often → waits ≡ true) → often + one_if due ≡ 1 → (waits || due) ≡ true
 not-yet true due often there one = refl
 not-yet false true often there one = refl

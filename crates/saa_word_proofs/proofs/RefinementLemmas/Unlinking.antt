@@ -125,7 +125,7 @@ unlinking needs places row standing state me s seen work newer older line found 
     ranged alone stays (own (new me)) showing (holder ∙ sym (ap (λ (n : ℕ). n == me + 1) mine ∙ number_same (me + 1)))
     (λ is. holding new ahead) (λ other differs. refl))
 
--- Where somebody is behind the holder, the first of those is linked to whoever is before the holder
+-- Where there are waiters behind the holder, the first of them is linked to the place before the holder
 pub step-Unlink : (needs : Needs) → AreNeeds needs → needs.top < 2 ^ count_bits → (places : ℕ) (row : ℕ → ℕ) (standing : ℕ → Place) (state : AbstractState) (me : ℕ)
     → places < 65536 → me < places → (s : Refines needs places row standing state)
     → (seen : Word) (newer : ℕ) (line : LineWord) (older : ℕ) → (standing me).stage ≡ Unlink seen newer line older
@@ -304,7 +304,7 @@ looks-again needs places row standing state me here s seen older at differs leav
           ))));
     }
 
--- Where nobody is behind the holder, the tail is whoever is before it
+-- Where no waiter is behind the holder, the tail is the place before it
 pub step-DropTail : (needs : Needs) → AreNeeds needs → needs.top < 2 ^ count_bits → (places : ℕ) (row : ℕ → ℕ) (standing : ℕ → Place) (state : AbstractState) (me : ℕ)
     → places < 65536 → me < places → (s : Refines needs places row standing state)
     → (seen : Word) (older : ℕ) → (standing me).stage ≡ DropTail seen older

@@ -130,7 +130,7 @@ passed needs words held line seen current count work added look fits differs =
       (look.newer some, some, look.ahead),
     )
 
--- Whoever fits is passed; the line is emptied where all fit, and cut and closed at the first who does not
+-- A waiter that fits is passed; the line is emptied where all fit, and cut and closed at the first that does not
 pub step-Forward : (needs : Needs) → AreNeeds needs → needs.top < 2 ^ count_bits → (places : ℕ) (row : ℕ → ℕ) (standing : ℕ → Place) (state : AbstractState) (me : ℕ)
     → places < 65536 → me < places → (s : Refines needs places row standing state)
     → (seen : Word) (current count : ℕ) → (standing me).stage ≡ Forward seen current count

@@ -298,7 +298,7 @@ without-waiters needs me (asker ∷ rest) =
       | inr apart ↦ rw apart (ap (λ (l : List Waiter). (asker.0, needs.read asker.1) ∷ l) (without-waiters needs me rest))
     ]
 
--- who stands in the line without a place stands in the line, and is another
+-- a place in the line without another one is in the line, and isn't that one
 in-without : (me other : ℕ) (line : List (ℕ × ℕ)) → is_in other (without me line) ≡ true → (is_in other line ≡ true) × (other ≡ me → ⊥)
 in-without me other [] there = absurd (cc)
 in-without me other (asker ∷ rest) there =

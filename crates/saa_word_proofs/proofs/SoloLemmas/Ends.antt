@@ -196,7 +196,7 @@ begins needs places me call registered now most (Done place answer) is begun mor
       few = omega arith;
     }
 
--- whoever has joined, isn't in the line and has no answer to come has its answer
+-- a place that has joined, isn't in the line and has no answer to come has its answer
 has-answer : (waits : ℕ) (due shown : Option ℕ) → waits ≡ 0 → due ≡ None → waits + one_if (is_some due) + one_if (is_some shown) ≡ 1
     → (value : ℕ) × (shown ≡ Some value)
 has-answer waits due None none nobody held = absurd (omega (arith, none, held, ap (λ (a : Option ℕ). one_if (is_some a)) nobody))

@@ -30,7 +30,7 @@ use Rattle.saa_word_proofs.proofs.SoloLemmas.Mirroring.{Starts, Settles, Answers
 
 -- Settling
 
--- who waits joined the line, and is shown nothing
+-- a waiter joined the line, and is shown nothing
 abbrev pub AreWaiting : (ℕ → Place) → AbstractState → Type 0
 AreWaiting standing state = (place : ℕ) → is_in place state.line ≡ true → (is_slot (standing place).registration ≡ true) × (state.shown place ≡ None)
 

@@ -177,7 +177,7 @@ asks-at Modes state request calm = either state.poisoned request
     either true request = refl
     either false request = refl
 
--- whom a registration is answered at once: who asks a poisoned lock, and whom it grants
+-- which registrations are answered at once: one at a poisoned lock, and one that is granted
 pub answer-at : (rules : Rules) (state : AbstractState) (s : Object) (request : Request) → state.poisoned ≡ false
     → answer_when s (held_at (needs_of rules) state) request ≡ granted_at_once s request
 answer-at (Permits bound) state s request calm = rw calm refl

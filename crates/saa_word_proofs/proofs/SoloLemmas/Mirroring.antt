@@ -158,7 +158,7 @@ slot-is IsIdle slot = absurd (cc)
 slot-is (Once value request) slot = absurd (cc)
 slot-is (Slot request) slot = (request, refl)
 
--- who is shown an answer joined the line, and so did who waits, who is shown none
+-- a place that is shown an answer joined the line, and so did a waiter, which is shown none
 pub shown-slot : (places me : ℕ) (standing : ℕ → Place) (state : AbstractState) (value : ℕ) → AreSeats places standing state → state.shown me ≡ Some value
     → is_slot (standing me).registration ≡ true
 shown-slot places me standing state value seats shown =

@@ -113,7 +113,7 @@ finished-left place Tells = (refl, refl)
 finished-left place EndsCall = (refl, refl)
 finished-left place (Takes request) = refl
 
--- Those who work on the line
+-- Calls that work on the line
 
 looked-left : (needs : Needs) (place : Place) (seen : Word) (current count : ℕ) (line : LineWord)
     → IsLeft place.registration place.registration (looked_at needs place seen current count line)

@@ -92,7 +92,7 @@ poll-idle rules places me is_sync call standing state s taking place h takes idl
     (poll-call needs.is_lock me is_sync call s taking takes ∙ ap (λ (e : Entry). polled_by (polled_of s me TriesHow e)) entry)
     (mirrors-same needs places standing state s me place h.mirrors same) refl
 
--- the sequential object answers who stands in the line that it isn't ready
+-- the sequential object answers a waiter that it isn't ready
 pub unready : (needs : Needs) (places me : ℕ) (is_sync : Bool) (standing : ℕ → Place) (state : AbstractState) (s : Object) → Mirrors needs places standing state s
     → AreSeats places standing state → me < places → is_in me state.line ≡ true
     → ((called needs.is_lock me is_sync Poll s).reply ≡ Taken (Err IsNotReady)) × ((called needs.is_lock me is_sync Poll s).state ≡ s)

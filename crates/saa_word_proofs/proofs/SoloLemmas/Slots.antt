@@ -148,7 +148,7 @@ run-registered needs state last me (event ∷ events) asks registered was run on
     same true = refl
     same false = refl
 
--- a call that starts leaves whoever is registered in the line as it is
+-- a call that starts leaves each place that is registered in the line as it is
 begun-slot : (call : WordCall) (registration : Registration) → is_slot registration ≡ true → begun_as call registration ≡ registration
 begun-slot call Idle slot = absurd (cc)
 begun-slot call (Once value request) slot = absurd (cc)

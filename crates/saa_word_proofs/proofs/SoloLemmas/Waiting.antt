@@ -183,7 +183,7 @@ moves-on needs lawful wide places me room here call registered now m place is =
       quiet = λ other apart. ap (λ (p : Place). p.stage) (updated-other now.standing me after other apart) ∙ m.quiet other apart;
     }
 
--- who waits for its own answer polls
+-- a call that waits for its own answer polls
 awaits-poll : (call : WordCall) → taken_by call ≡ Some Awaits → call ≡ Poll
 awaits-poll Poll is = refl
 awaits-poll call is = absurd (cc)

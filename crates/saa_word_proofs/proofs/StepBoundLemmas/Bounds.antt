@@ -55,7 +55,7 @@ end-most back wait =
       | inr ends ↦ rw ends (omega arith)
     ]
 
--- who is done with the line has two steps more for each who waits than who has to walk yet
+-- a call that is done with the line has two steps more for each waiter than one that has to walk yet
 pub end-within : (back : Back) (few many : ℕ) → few ≤ many → more_to_end back few ≤ 2 * few + more_to_walk back many
 end-within back few many within =
     elim (cases_Bool (takes_back back)) [

@@ -40,7 +40,7 @@ ways-store places row index number same =
       | inr apart ↦ ap (λ (n : ℕ). (line_word_of n).older) (row-other row index number at apart)
     ])
 
--- who stands once in a line is none of those before it and behind it
+-- a place that is once in a line is none of those before it and behind it
 apart-front : (front rest : List (ℕ × ℕ)) (asker : ℕ × ℕ) (place : ℕ) → ((other : ℕ) → times other (front ++ asker ∷ rest) ≤ 1)
     → 0 < times place front → place ≡ asker.0 → ⊥
 apart-front front rest asker place once there is =

@@ -69,14 +69,14 @@ met-past places row new at gone (suc more) link some was now others =
 
 -- A line that somebody leaves
 
--- who stands once in a line stands neither before nor behind itself
+-- a place that is once in a line is neither before nor behind itself
 alone-in : (before rest : List (ℕ × ℕ)) (gone asker : ℕ × ℕ) (place : ℕ) → ((other : ℕ) → times other (before ++ gone ∷ (asker ∷ rest)) ≤ 1)
     → 0 < times place before + times place rest → place ≡ asker.0 → ⊥
 alone-in before rest gone asker place once there is =
     let here : one_if (asker.0 == place) ≡ 1 = ap (λ (n : ℕ). one_if (asker.0 == n)) is ∙ ap one_if (number_same asker.0) in
     omega (arith, once place, there, here, times-append place before (gone ∷ (asker ∷ rest)))
 
--- a link that led along a line leads along those who stay, where the first of those behind who leaves is linked past it
+-- a link that led along a line leads along the places that stay, where the first place behind the one that leaves is linked past it
 pub past-way : (places : ℕ) (row : ℕ → ℕ) (link : ℕ) (before rest : List (ℕ × ℕ)) (gone asker : ℕ × ℕ) (number : ℕ)
     → IsWay places row link (before ++ gone ∷ (asker ∷ rest)) → (line_word_of number).request ≡ (line_of row asker.0).request
     → (line_word_of number).older ≡ newest 0 before → IsWay places (updated row (asker.0 + 1) number) link (before ++ asker ∷ rest)
@@ -108,7 +108,7 @@ past-way places row link before rest gone asker number leads request older =
           leads.within place (omega (arith, there, times-append place before (gone ∷ (asker ∷ rest)), times-append place before (asker ∷ rest)));
     }
 
--- a store to the line word of a place that doesn't stand in a line leaves whom a link leads along
+-- a store to the line word of a place outside a line leaves the places that a link leads along
 pub apart-way : (places : ℕ) (row : ℕ → ℕ) (link : ℕ) (line : List (ℕ × ℕ)) (place number : ℕ) → IsWay places row link line
     → times place line ≡ 0 → IsWay places (updated row (place + 1) number) link line
 apart-way places row link line place number leads none = record {

@@ -13,7 +13,7 @@ use Rattle.saa_word_proofs.proofs.RefinementLemmas.Lists.{newest-any, newest-app
 use Rattle.saa_word_proofs.specs.StepBound.{way, waiting}
 use Rattle.saa_word_proofs.proofs.StepBoundLemmas.Ways.{IsWay, way-length, way-front}
 
--- whoever is held once at least is a place
+-- what is held once at least is a place
 slot-within : (needs : Needs) (places : ℕ) (row : ℕ → ℕ) (standing : ℕ → Place) (state : AbstractState) (s : Refines needs places row standing state) (place : ℕ)
     → 0 < held_by place state → place < places
 slot-within needs places row standing state s place held =
@@ -50,7 +50,7 @@ parts-times : (needs : Needs) (places : ℕ) (row : ℕ → ℕ) (standing : ℕ
     → times place state.line ≡ times place s.cut + times place s.uncut
 parts-times needs places row standing state s place = ap (times place) s.line.parts ∙ times-append place s.cut s.uncut
 
--- the tail leads along those who aren't cut off
+-- the tail leads along the places that aren't cut off
 pub tail-newest : (needs : Needs) (places : ℕ) (row : ℕ → ℕ) (standing : ℕ → Place) (state : AbstractState) (s : Refines needs places row standing state)
     → (main_of row).tail ≡ newest 0 s.uncut
 tail-newest needs places row standing state s =
@@ -68,7 +68,7 @@ uncut-way needs places row standing state s = record {
   within = λ place there. slot-within needs places row standing state s place (omega (arith, there, parts-times needs places row standing state s place));
 }
 
--- the newest of those who are cut off leads along them
+-- the newest of the places that are cut off leads along them
 pub cut-way : (needs : Needs) (places : ℕ) (row : ℕ → ℕ) (standing : ℕ → Place) (state : AbstractState) (s : Refines needs places row standing state)
     → IsWay places row (newest 0 s.cut) s.cut
 cut-way needs places row standing state s = record {

@@ -55,7 +55,7 @@ lower-LookLoad needs places row standing state me s seen current newer previous 
     (looked_for me (standing me) seen current newer previous (line_word_of (row current)))
     (looked_for-lower (way places row) (row 0) me (standing me) seen current newer previous (line_word_of (row current)) older)
 
--- whoever has written a newer link looks at the place before, or goes forward where nobody is
+-- a holder that has written a newer link looks at the place before, or goes forward where there is none
 look-lower : (ways : ℕ → ℕ) (number : ℕ) (place : Place) (seen : Word) (current newer : ℕ) (line : LineWord) → ways current ≡ ways line.older + 1
     → ways 0 ≡ 0
     → IsLower ways number (steps_left ways number place.back (LookStore seen current newer line))

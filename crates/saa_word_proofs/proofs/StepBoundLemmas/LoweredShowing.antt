@@ -77,7 +77,7 @@ lower-Empty needs places row standing state me s seen current count line at =
       | inr others ↦ rw others (omega arith)
     ])
 
--- those who fit one after another stay within the greatest count
+-- waiters that fit one after another stay within the greatest count
 front-bounded : (needs : Needs) → AreNeeds needs → (count : ℕ) (front : List (ℕ × ℕ)) → count ≤ needs.top → IsFront needs count front
     → count + takes_of needs front ≤ needs.top
 front-bounded needs lawful count [] within fits = omega (arith, within)

@@ -32,7 +32,7 @@ lower-BackLoad needs places row standing me seen current newer =
           (3 * waiting (way places row) (row 0) + 2) (way places row seen.tail + 5 * waiting (way places row) (row 0) + 6) (omega arith) (omega arith),
     ))
 
--- whoever has written a newer link goes on to the place before, or forward where nobody is
+-- a holder that has written a newer link goes on to the place before, or forward where there is none
 back-lower : (ways : ℕ → ℕ) (number : ℕ) (place : Place) (seen : Word) (current newer : ℕ) (line : LineWord) → ways current ≡ ways line.older + 1
     → ways 0 ≡ 0
     → IsLower ways number (steps_left ways number place.back (BackStore seen current newer line))

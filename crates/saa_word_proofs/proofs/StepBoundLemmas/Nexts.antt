@@ -133,7 +133,7 @@ pub either-lower : (ways : ℕ → ℕ) (number before : ℕ) (test : Bool) (one
 either-lower ways number before true one other is not_so = is refl
 either-lower ways number before false one other is not_so = not_so refl
 
--- who is done with the line has to take its own answer, or nothing
+-- a call that is done with the line has to take its own answer, or nothing
 pub finished-lower : (ways : ℕ → ℕ) (number before : ℕ) (place : Place) (back : Back) → more_to_end back (waiting ways number) < before
     → IsLower ways number before (finished place back)
 finished-lower ways number before place Tells more = (refl, more)
@@ -148,7 +148,7 @@ granted-lower ways number before needs place ask some =
       | inr tries ↦ rw tries (refl, some)
     ]
 
--- who asks a poisoned lock is done
+-- a registration at a poisoned lock is done
 poisoned-lower : (ways : ℕ → ℕ) (number before : ℕ) (place : Place) (ask : Ask) → 0 < before → IsLower ways number before (found_poisoned place ask)
 poisoned-lower ways number before place ask some =
     elim (cases_Bool ask.joins) [
@@ -197,7 +197,7 @@ given-lower ways number before needs place what seen fresh more =
     (λ poisoned. gave-lower ways number before place place.back (omega (arith, more)))
     (λ sound. given_to-lower ways number before place what seen (left_from needs seen.count what) fresh more)
 
--- whoever walks from the word that is found now
+-- a holder that walks from the word that is found now
 pub walking-lower : (ways : ℕ → ℕ) (number before : ℕ) (place : Place) (seen : Word) → number == word_number count_bits seen ≡ true
     → ways seen.tail ≡ waiting ways number → 5 * waiting ways number + 2 + more_to_walk place.back (waiting ways number) < before
     → IsLower ways number before (walking place seen)
@@ -286,7 +286,7 @@ taken-lower ways number needs place Awaits None = omega arith
 taken-lower ways number needs place Tries (Some value) = (refl, omega arith)
 taken-lower ways number needs place Tries None = (refl, omega arith)
 
--- whoever is to set the flag
+-- a call that is to set the flag
 pub flagging-lower : (ways : ℕ → ℕ) (number before : ℕ) (place : Place) (seen : Word) → number == word_number count_bits seen ≡ true
     → 8 * waiting ways number + 10 < before → IsLower ways number before (flagging place seen)
 flagging-lower ways number before place seen fresh more =
@@ -298,7 +298,7 @@ flagging-lower ways number before place seen fresh more =
       | inr some ↦ rw (some, fresh) more
     ])
 
--- whoever looks for itself from the word that is found now
+-- a holder that looks for itself from the word that is found now
 pub looking-lower : (ways : ℕ → ℕ) (number before : ℕ) (place : Place) (seen : Word) → number == word_number count_bits seen ≡ true
     → ways seen.tail ≡ waiting ways number → 8 * waiting ways number + 9 < before → IsLower ways number before (looking place seen)
 looking-lower ways number before place seen fresh tail more = rw fresh (omega (arith, tail, more))
@@ -338,7 +338,7 @@ looked_for-lower ways number me place seen current newer previous line older =
           ))
     ]
 
--- whoever poisons a lock
+-- a call that poisons a lock
 pub poisoning-lower : (ways : ℕ → ℕ) (number before : ℕ) (place : Place) (seen : Word) → number == word_number count_bits seen ≡ true
     → 2 * waiting ways number + 1 < before → IsLower ways number before (poisoning place seen)
 poisoning-lower ways number before place seen fresh more =

@@ -106,7 +106,7 @@ kept-shorter places row new back stage free less main =
     subst (λ (n : ℕ). steps_left (way places new) n back stage ≤ step_bound places row back stage) (sym main)
     (shorter (way places row) (way places new) (row 0) back stage free less)
 
--- beside whoever holds the flag nobody else does
+-- beside the flag's holder no place holds it
 pub other-free : (needs : Needs) (places : ℕ) (row : ℕ → ℕ) (standing : ℕ → Place) (state : AbstractState) (s : Refines needs places row standing state)
     (me other : ℕ)
     → is_holder (standing me).stage ≡ true → (other ≡ me → ⊥) → is_holder (standing other).stage ≡ false

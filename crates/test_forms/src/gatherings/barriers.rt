@@ -141,7 +141,7 @@ fn every_list_agrees(rt: HostRuntime) {
     same!(rt; first_other(&rt).ok(), Some(None));
 }
 
-// A barrier for those who wait and one last arrival.
+// A barrier for the waiters and one last arrival.
 impl<R: Wait + Drop + Copy + Sync> Made for Tried<R> {
     type Lent = R;
 
@@ -172,7 +172,7 @@ impl<R: Wait + Drop + Sync> Gathering for Tried<R> {
         }
     }
 
-    // Whoever waits leaves one arrival to come, which is the leader, and then all are to come.
+    // While all waiters are here one arrival is missing, which leads; after it all are missing again.
     fn answer_all(&self, together: Together, count: u64) -> bool {
         let missing = self.barrier.count(Ordering::SeqCst);
         let is_leader = match together {

@@ -172,7 +172,7 @@ fn every_list_agrees(rt: HostRuntime) {
     same!(rt; first_other(&rt).ok(), Some(None));
 }
 
-// The answer of those who are answered in this way.
+// The answer of waiters that are answered in this way.
 fn answer_by(together: Together) -> Result<State, Error> {
     match together {
         Together::Permit => Ok(State::Controlled),
@@ -248,7 +248,7 @@ impl<R: Wait + Drop> Tried<R> {
     }
 }
 
-// A controlled gate for those who wait, and for a pager that waits too where that answers them.
+// A controlled gate with room for the waiters, and for a pager that waits too where that answers them.
 impl<R: Wait + Drop + Copy + Sync> Made for Tried<R> {
     type Lent = R;
 

@@ -93,7 +93,7 @@ fn told_behind<R: Wait + Threads + Sync>(
 }
 
 // With no patience a call that came first is granted first, and so is one whose patience is over, which registers beside a lock
-// that is never free for it. One that still looks has asked nobody.
+// that is never free for it. One that still looks isn't registered.
 #[test]
 fn the_order_is_that_of_registrations(rt: HostRuntime) -> Result<(), Fail> {
     let not_yet = (Err(Error::NotReady), true, true);

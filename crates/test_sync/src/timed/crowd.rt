@@ -1,4 +1,4 @@
-//! Sleepers of whom some are out of time: those behind them are granted at once, and no permit is lost.
+//! Sleepers, some of them out of time: those behind them are granted at once, and no permit is lost.
 
 use crate::timed::calls::ALONE;
 use crate::timed::clock::OnClock;

@@ -117,7 +117,7 @@ pub static STORIES: [Story; 5] = [
             Moved(Move::Go(2), UNIT, None, 131_072),
         ],
     },
-    // The lock of one owner is downgraded beside a sharer and an owner who wait, with the flag taken in the same step: the sharer is let in
+    // The lock of one owner is downgraded while a sharer and an owner wait, with the flag taken in the same step: the sharer is let in
     // beside it, and the owner waits on. The word is read as count, flag and tail: 851,969 is 1, set and place 2; 786,434 is 2, clear and
     // place 2.
     Story {

@@ -54,7 +54,7 @@ pub enum Event {
     Read,
 }
 
-/// What is held, who waits, whether something was given back or left since the line was last settled, and the answers that are to be
+/// What is held, the waiters, whether something was given back or left since the line was last settled, and the answers that are to be
 /// shown and that are shown, by link.
 #[derive(Drop)]
 pub struct AbstractState {

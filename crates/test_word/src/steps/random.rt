@@ -117,7 +117,7 @@ fn calls(alloc: Global, seed: u16, held: Held, places: u16) -> Result<Option<Fau
     Ok(None)
 }
 
-// One call from its start to its end; the first fault. It may take 8 steps for each who waits as it starts, and 24.
+// One call from its start to its end; the first fault. It may take 8 steps for each waiter there is as it starts, and 24.
 fn alone(watched: &mut Watched, me: u16, call: WordCall) -> Result<Option<Fault>, AllocError> {
     let waiting = watched.state.line.len();
     let most = waiting.saturating_mul(8).saturating_add(24);

@@ -117,7 +117,7 @@ fn who_leaves_as_the_newest_hands_the_tail_on(rt: HostRuntime) -> Result<(), Fai
     Ok(())
 }
 
-// A cancel waits for whoever holds the flag, and then for the answer that is to be shown; that permit is given back.
+// A cancel waits for the flag's holder, and then for the answer that is to be shown; that permit is given back.
 #[test]
 fn a_cancel_waits_for_a_grant_and_gives_it_back(rt: HostRuntime) -> Result<(), Fail> {
     let mut row = three_who_wait(rt.alloc())?;
@@ -137,7 +137,7 @@ fn a_cancel_waits_for_a_grant_and_gives_it_back(rt: HostRuntime) -> Result<(), F
     Ok(())
 }
 
-// All who wait for a lock that is poisoned are answered so, whatever they asked.
+// All waiters of a lock that is poisoned are answered so, whatever they asked.
 #[test]
 fn poison_answers_all_who_wait(rt: HostRuntime) -> Result<(), Fail> {
     let mut row = Row::new(rt.alloc(), Rules::Modes, 0, 4)?;

@@ -1,8 +1,8 @@
-//! Who is inside a lock, kept by those who are, and a value that is written there: what shows that a writer is alone.
+//! A count of the threads inside a lock, kept by these threads, and a value that is written there: what shows that a writer is alone.
 
 use std::sync::atomic::{AtomicU64, Ordering};
 
-// One who is inside alone, counted beside those who share.
+// A writer inside, counted beside the readers.
 const ALONE: u64 = 1 << 32;
 
 /// Who is inside, two numbers that are equal wherever nobody writes, and how often something wasn't as it has to be.

@@ -1,4 +1,4 @@
-//! A mutex and a reader-writer lock with two workers in one thread: what their guards show, and whom they let in.
+//! A mutex and a reader-writer lock with two workers in one thread: what their guards show, and which calls they let in.
 
 use saa_word_guards::guard::Guard;
 use saa_word_guards::mutex::{Mutex, MutexWorker};
