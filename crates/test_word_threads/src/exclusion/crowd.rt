@@ -177,8 +177,9 @@ fn wrong_end<R: Wait + Threads + Sync + AllocGlobal>(
     })
 }
 
-// How many threads there are, and how many turns each takes.
-static CROWDS: [(u16, u32); 4] = [(2, 40_000), (4, 10_000), (8, 2_000), (32, 200)];
+// How many threads there are, and how many turns each takes. Most turns yield inside the lock, and beside other work a yield may cost
+// milliseconds.
+static CROWDS: [(u16, u32); 4] = [(2, 10_000), (4, 4_000), (8, 1_000), (32, 200)];
 
 // The first crowd that doesn't end as it has to: how many threads there are, and how it ended.
 fn first_wrong<R: Wait + Threads + Sync + AllocGlobal>(
