@@ -1,4 +1,4 @@
-//! A pool of connections: checked out in the order of asking, and returned as the guard of each goes.
+//! A pool of connections whose waiters are FIFO; each is returned as its guard goes.
 
 ghost use Rattle.std.specs.Prelude.{◌≡◌, ◌+◌, ◌≤◌, ◌<◌, ◌↔◌, All, IfErr, IfSome, IsOk, IsSome, false, length, true, vec_capacity};
 
@@ -110,7 +110,7 @@ impl<const MAX: usize> Shelf<MAX> {
     }
 }
 
-/// `MAX` connections, 1 to 65,535, that tasks in threads check out, in the order of asking.
+/// `MAX` connections, 1 to 65,535, that tasks in threads check out. Waiters are FIFO.
 #[derive(Drop)]
 pub struct Pool<'r, R: Wait, const MAX: usize> {
     rt: &'r R,

@@ -112,7 +112,7 @@ fn is_late<R: Wait + Clock, const MAX: usize>(pool: &Pool<'_, R, MAX>) -> bool {
     matches!(one_more, Err(Refused::TooLate))
 }
 
-// Starts so many workers, and gives back one connection, which goes from worker to worker, in the order of asking; the others stay
+// Starts so many workers, and gives back one connection, which goes from worker to worker; the others stay
 // out. How many turns the workers had with all out; none where one couldn't be started.
 fn turns_with_one<R: Threads + Wait + Sync, const MAX: usize>(
     rt: &R,

@@ -75,7 +75,7 @@ impl<T> Items<T> {
     }
 }
 
-/// A queue for at most so many items, which tasks in threads push and pop, each in the order of asking.
+/// A queue for at most so many items, which tasks in threads push and pop. Waiters at each end are FIFO.
 #[derive(Drop)]
 pub struct Queue<R: Wait + Drop, T> {
     free: Semaphore<R>,

@@ -1,4 +1,4 @@
-//! Four threads that work at two desks, in the order of asking.
+//! Four threads that work at two desks, two at a time.
 #![tactic(auto)]
 
 use saa::semaphore::Semaphore;

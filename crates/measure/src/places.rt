@@ -22,7 +22,7 @@ const ROOM: u16 = 32;
 pub enum Kind {
     /// A lock.
     Lock,
-    /// A lock at which each call registers at once, so that the order of turns is that of the calls.
+    /// A lock at which each call registers at its first turn at the mutex.
     StrictLock,
     /// A mutex round a number.
     Mutex,

@@ -41,6 +41,7 @@ pub use Rattle.saa_sync.specs.GateAnswers
 pub use Rattle.saa_sync.specs.LockAnswers
 pub use Rattle.saa_sync.specs.SemaphoreAnswers
 pub use Rattle.saa_word_steps.specs.Needs
+pub use Rattle.saa_word_steps.specs.Readings as WordReadings
 pub use Rattle.saa_word_steps.specs.AbstractState
 pub use Rattle.saa_word_steps.specs.Steps as WordSteps
 pub use Rattle.saa_word_proofs.specs.Blocking
@@ -48,12 +49,16 @@ pub use Rattle.saa_word_proofs.specs.Calls
 pub use Rattle.saa_word_proofs.specs.History as TraceHistory
 pub use Rattle.saa_word_proofs.specs.Promises
 pub use Rattle.saa_word_proofs.specs.Registering
+pub use Rattle.saa_word_proofs.specs.Represents
+pub use Rattle.saa_word_proofs.specs.Rows
 pub use Rattle.saa_word.specs.Kinds
 pub use Rattle.saa_word.specs.Machine
 pub use Rattle.saa_word.specs.Moves
+pub use Rattle.saa_word.specs.Runs
 pub use Rattle.saa_word.specs.Trace
+pub use Rattle.saa_word.specs.Tracks
 pub use Rattle.saa_word.specs.Simulation
-pub use Rattle.saa_word.specs.Alone
+pub use Rattle.saa_word.specs.Solo
 pub use Rattle.saa_word_threads.specs.Semaphores as WordSemaphores
 pub use Rattle.saa_word_threads.specs.Locks as WordLocks
 pub use Rattle.saa_word_threads.specs.Public as WordCalls

@@ -75,7 +75,7 @@ pub trait Primitive: Drop {
         ensures idle { ticket.new ≡ Unregistered }
         ensures wakes { OwesAnswered (core self.old).slots (core self.new).slots };
 
-    /// The oldest wake that is owed, which is told by this; `None` exactly where none is owed.
+    /// Takes out the oldest pending wake, and reports its slot; `None` exactly where none is pending.
     fn next_answered(&mut self) -> Option<u16>
         ensures oldest { result ≡ slice_get (core self.old).slots.owed 0 }
         ensures told { core self.new ≡ record (core self.old) { slots = wake_told (core self.old).slots } }

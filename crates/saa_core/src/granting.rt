@@ -1,4 +1,4 @@
-//! What the semaphore and the lock share: a line of waiters, and what is granted to them in the order of asking.
+//! What the semaphore and the lock share: a line of waiters, and what is granted to them in FIFO order.
 //!
 //! The two differ in which request fits, what it takes, and what giving back leaves: that is `Needs`. All else is said
 //! and proved here once: taking at once, registering, settling, giving back, undoing and dropping, each held to the
@@ -229,7 +229,7 @@ impl<N: Needs> Granting<N> {
         }
     }
 
-    /// The oldest wake that is owed, which is told by this; `None` exactly where none is owed. Costs O(1).
+    /// Takes out the oldest pending wake, and reports its slot; `None` exactly where none is pending. Costs O(1).
     pub fn next_answered(&mut self) -> Option<u16>
         ensures oldest { result ≡ slice_get self.old.slots.owed 0 }
         ensures told { self.new ≡ record self.old { slots = wake_told self.old.slots } }

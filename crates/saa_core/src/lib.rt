@@ -7,6 +7,7 @@
 
 pub mod barrier;
 pub mod bench;
+pub mod equality;
 pub mod future;
 pub mod gate;
 pub mod granting;

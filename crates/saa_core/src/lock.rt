@@ -1,4 +1,4 @@
-//! The lock: one owner alone, or several that share it, taken in the order of asking; and poison.
+//! The lock: one owner alone, or several that share it, whose waiters are FIFO; and poison.
 //!
 //! The core is held to `specs/Lock.antt` of `saa_core_spec` by every call, with any tickets that are registered in it. It is
 //! thin: asking, settling and dropping stand in `granting`; who has the lock, and poison, stand here.

@@ -1,4 +1,4 @@
-//! The semaphore: permits that are taken and given back, in the order of asking.
+//! The semaphore: permits that are taken and given back, whose waiters are FIFO.
 //!
 //! The core is held to `specs/Semaphore.antt` of `saa_core_spec` by every call, with any tickets that are registered in it.
 //! It is thin: asking, settling and dropping stand in `granting`, and here what is out, and which counts there are.

@@ -7,9 +7,9 @@ pub enum Mode {
     Exclusive,
     /// To own one of its shares.
     Shared,
-    /// To hear when it could be owned alone; takes nothing.
+    /// To be answered once it could be owned alone, or is poisoned; takes nothing.
     WaitExclusive,
-    /// To hear when it could be shared; takes nothing.
+    /// To be answered once it could be shared, or is poisoned; takes nothing.
     WaitShared,
 }
 

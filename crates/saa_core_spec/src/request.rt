@@ -9,9 +9,9 @@ pub enum Request {
     Exclusive,
     /// A share of a lock.
     Shared,
-    /// To hear when a lock could be taken by one owner alone; takes nothing.
+    /// To be answered once a lock could be taken by one owner alone, or is poisoned; takes nothing.
     WaitExclusive,
-    /// To hear when a lock could be shared; takes nothing.
+    /// To be answered once a lock could be shared, or is poisoned; takes nothing.
     WaitShared,
     /// So many permits of a semaphore, 0 among them.
     Permits(u16),

@@ -10,8 +10,8 @@ use Rattle.saa_word.specs.declared.moves.Move.TheVariants.{Start as Starts, Go a
 use Rattle.saa_word.specs.declared.moves.Step.{Step}
 use Rattle.saa_word.specs.declared.moves.Step.TheVariants.{Going}
 use Rattle.saa_word.specs.Kinds.{kind_at}
-use Rattle.saa_word.specs.Machine.{State, is_lock, opened, place_of}
-use Rattle.saa_word.specs.Moves.{Moved, gone}
+use Rattle.saa_word.specs.Machine.{Moved, State, is_lock, opened, place_of}
+use Rattle.saa_word.specs.Moves.{gone}
 use Rattle.saa_run.specs.declared.schedule.said.Said.{Said}
 use Rattle.saa_run.specs.declared.schedule.said.Said.TheVariants.{Step as Did, At, Main}
 use Rattle.saa_run.specs.declared.schedule.lines.FirstOfSchedule.{FirstOfSchedule}
@@ -84,7 +84,7 @@ line_said state (Start me call) = move_said (gone state (Starts me call))
 line_said state (Go me) = move_said (gone state (Goes me))
 line_said state (End me) = move_said (ended most_steps state me)
 line_said state (Until me kind) = until_at most_steps state me kind
-line_said state Word = record { said = Main (word_of count_bits (slice_index state.row 0)); machine = record state { operations = state.operations + 1 } }
+line_said state Word = record { said = Main (word_of count_bits (slice_index state.row 0)); machine = record state { operations = state.operations + 1; last_word = 0 } }
 
 -- the answer to lines of which the first has this number, from a machine
 unfoldable pub answer_schedule : ℕ → State → List (List ℕ) → Answer

@@ -35,6 +35,7 @@ mod workers;
 
 use crate::arguments::BehindName;
 use crate::run::Wanted;
+use arrayvec::ArrayVec;
 use saa_run_text::run::no_memory;
 use std::alloc::Global;
 use std::env::{self, Env};
@@ -43,20 +44,26 @@ use std::process::ExitCode;
 use std::sync::Wait;
 use std::thread::Threads;
 
+// How many arguments are kept: no wish has so many, so it doesn't matter what those behind them are.
+const KEPT: usize = 3;
+
 /// What the arguments ask for; nothing where memory for them was refused.
 ///
 /// An argument that is no text is like any other unknown word. The name that the program was called by
-/// is none, and isn't read.
+/// is none, and isn't read. Only reading them takes memory, and none is asked for anew.
 fn asked<E: Env>(environment: &E, alloc: Global) -> Option<Wanted> {
     match env::args(&(BehindName(environment), alloc)) {
         Err(error) => match error.kind() {
             ErrorKind::OutOfMemory => None,
             _ => Some(Wanted::Usage),
         },
-        Ok(args) => match args.collect::<Vec<String>>(alloc) {
-            Ok(words) => Some(run::wanted(words.as_slice())),
-            Err(_) => None,
-        },
+        Ok(args) => {
+            let mut words = ArrayVec::<String, KEPT, Global>::new_in(alloc);
+            for word in args {
+                let _unkept = words.try_push(word);
+            }
+            Some(run::wanted(words.as_slice()))
+        }
     }
 }
 

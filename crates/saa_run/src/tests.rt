@@ -338,7 +338,7 @@ impl Env for Arguments<'_> {
 ///
 /// Only what stands behind the program's name is judged: the name may be any bytes. Exactly the word `script` asks for a script,
 /// exactly `machine` for a schedule, and `threads` with a number from 1 to 32 in plain decimal for so many threads.
-static ASKED: [(&[&[u8]], Wanted); 40] = [
+static ASKED: [(&[&[u8]], Wanted); 43] = [
     (&[b"saa-run", b"script"], Wanted::Script),
     (&[b"/tmp/\xff/saa-run", b"script"], Wanted::Script),
     (&[b"saa-run", b"\xff"], Wanted::Usage),
@@ -359,6 +359,12 @@ static ASKED: [(&[&[u8]], Wanted); 40] = [
     (&[b"saa-run", b"threads", b"1", b"1"], Wanted::Usage),
     (&[b"saa-run", b"threads", b"2"], Wanted::Threads(2)),
     (&[b"saa-run", b"threads", b"2", b"2"], Wanted::Usage),
+    (&[b"saa-run", b"threads", b"2", b"2", b"2"], Wanted::Usage),
+    (
+        &[b"saa-run", b"script", b"script", b"script", b"script"],
+        Wanted::Usage,
+    ),
+    (&[b"saa-run", b"script", b"", b"", b"\xff"], Wanted::Usage),
     (&[b"saa-run", b"threads", b"32"], Wanted::Threads(32)),
     (&[b"saa-run", b"threads", b"32", b"32"], Wanted::Usage),
     (&[b"saa-run", b"threads", b"33"], Wanted::Usage),

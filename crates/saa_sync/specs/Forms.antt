@@ -30,9 +30,13 @@ BarrierShell R = Shell R Core BarrierCall (Unit {0}) BarrierAnswer (Result Bool 
 abbrev pub source_of : {R P Call Ask Answer Value : Type 0} → Shell R P Call Ask Answer Value → ℕ
 source_of shell = shell.source.id
 
--- how long a call at a shell looks before it registers
+-- how often a call at a shell looks and yields before it registers
 abbrev pub patience_of : {R P Call Ask Answer Value : Type 0} → Shell R P Call Ask Answer Value → Patience
 patience_of shell = shell.unregistered
+
+-- how often a waiter at a shell spins and yields before it parks
+abbrev pub waiter_patience_of : {R P Call Ask Answer Value : Type 0} → Shell R P Call Ask Answer Value → Patience
+waiter_patience_of shell = shell.patience
 
 -- a lock round a value is the lock whose turns the value is used in
 abbrev pub TurnLock : Type 0 → Type 0

@@ -11,9 +11,11 @@ ghost use Rattle.saa_core_spec.specs.declared.request.Request.TheVariants.{Arriv
 ghost use Rattle.saa_core.specs.declared.ticket.Registration.TheVariants.{Unregistered};
 ghost use Rattle.saa_core.specs.Tickets.{is_busy, is_yes};
 ghost use Rattle.saa_core.specs.Beginning.{mode_of};
+ghost use Rattle.saa_sync.specs.Forms.{patience_of, waiter_patience_of};
 
 use crate::future::barrier::{ArriveFuture, ArriveFutureWith, Asked, AskedWith};
 use crate::pager::{Pager, SyncResult};
+use crate::patience::NONE;
 use crate::seat::PATIENCE;
 use crate::shell::Shell;
 use futures::task::{Context, Poll};
@@ -32,7 +34,7 @@ const LEADER: u8 = 1;
 ///
 /// The last arrival of a round is its leader, never waits, and wakes all others of the round. At a barrier of size 0 every
 /// arrival waits, and none is ever answered. `R` is the permission to block, as a reference to the runtime. Every call may wait
-/// for the mutex around the core, which is held for one short step at a time; all but making take no memory.
+/// for the mutex around the core, which is held for one short step at a time. No call but making takes memory.
 ///
 /// Each ticket and pager is used with the barrier that it was registered in.
 #[derive(Drop)]
@@ -60,6 +62,8 @@ impl<R: Wait + Drop> Barrier<R> {
     /// the error comes only where that was refused, and so never for room 0, which takes none.
     pub fn with_count(rt: R, alloc: Global, count: usize, room: u16) -> Result<Self, AllocError>
         ensures no_room { room ≡ 0 → IsOk result }
+        ensures patience { IfOk result (λ barrier. patience_of barrier ≡ NONE) }
+        ensures waiter { IfOk result (λ barrier. waiter_patience_of barrier ≡ PATIENCE) }
     {
         let core = BarrierCore::with_count(alloc, count, room)?;
         Ok(Self::on_shell(Shell::new(rt, alloc, core, room, PATIENCE)?))

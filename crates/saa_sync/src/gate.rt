@@ -15,10 +15,12 @@ ghost use Rattle.saa_core_spec.specs.declared.request.Request.TheVariants.{Enter
 ghost use Rattle.saa_core.specs.declared.ticket.Registration.TheVariants.{Unregistered};
 ghost use Rattle.saa_core.specs.Tickets.{Calls, fault_of, is_busy, is_yes};
 ghost use Rattle.saa_core.specs.Beginning.{mode_of};
+ghost use Rattle.saa_sync.specs.Forms.{patience_of, waiter_patience_of};
 ghost use Rattle.saa_sync.specs.GateAnswers.{gate_fault, gate_reading};
 
 use crate::future::gate::{Asked, AskedWith, Enter, EnterWith};
 use crate::pager::{Pager, SyncResult};
+use crate::patience::NONE;
 use crate::seat::PATIENCE;
 use crate::shell::Shell;
 use futures::task::{Context, Poll};
@@ -36,7 +38,7 @@ use std::sync::atomic::Ordering;
 ///
 /// At a controlled gate tasks wait in a line until one call permits or rejects them all. A sealed gate refuses every task
 /// at once, and an open one lets every task pass. `R` is the permission to block, as a reference to the runtime. Every call
-/// may wait for the mutex around the core, which is held for one short step at a time; all but making take no memory.
+/// may wait for the mutex around the core, which is held for one short step at a time. No call but making takes memory.
 ///
 /// Each ticket and pager is used with the gate that it was registered in.
 #[derive(Drop)]
@@ -59,6 +61,8 @@ impl<R: Wait + Drop> Gate<R> {
     /// room 0, which takes none.
     pub fn new(rt: R, alloc: Global, room: u16) -> Result<Self, AllocError>
         ensures no_room { room ≡ 0 → IsOk result }
+        ensures patience { IfOk result (λ gate. patience_of gate ≡ NONE) }
+        ensures waiter { IfOk result (λ gate. waiter_patience_of gate ≡ PATIENCE) }
     {
         let core = GateCore::new(alloc, room)?;
         Ok(Self::on_shell(Shell::new(rt, alloc, core, room, PATIENCE)?))

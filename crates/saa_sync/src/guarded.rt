@@ -1,15 +1,15 @@
 //! A value and the lock whose turns it is used in: what mutexes and reader-writer locks share.
 //!
-//! The value is in a lock of std, which gives it only to a guard. Only the holder of the turn asks for it, and gives it
-//! back before the turn is passed on, so that lock never blocks.
+//! The value is in a lock of std, which gives it only to a guard. Only the holder of the turn asks for it, and gives it back before
+//! the turn is passed on, so that lock should never be contended. No clause says so.
 
 ghost use Rattle.std.specs.Prelude.{◌≡◌, IfOk, IfSome, IsOk};
-ghost use Rattle.saa_sync.specs.Forms.{patience_of};
+ghost use Rattle.saa_sync.specs.Forms.{patience_of, waiter_patience_of};
 
-use crate::lock::Lock;
 use crate::patience::Patience;
+use crate::seat::PATIENCE;
 use crate::timed::Deadline;
-use crate::turn::{Alone, Lowered, Shared};
+use crate::turn::{Alone, Lowered, Shared, Turns};
 use saa_core::ticket::Full;
 use std::alloc::{AllocError, Global};
 use std::sync::{RwLock, RwLockReadGuard, RwLockWriteGuard, Wait};
@@ -19,7 +19,7 @@ use std::time::Clock;
 #[derive(Drop)]
 pub(crate) struct Guarded<R: Wait + Drop, T> {
     /// Whose turn it is.
-    pub(crate) turn: Lock<R>,
+    pub(crate) turn: Turns<R>,
     value: RwLock<T>,
 }
 
@@ -36,11 +36,19 @@ impl<R: Wait + Drop, T> Guarded<R, T> {
         T: Drop,
         ensures no_room { room ≡ 0 → IsOk result }
         ensures patience { IfOk result (λ guarded. patience_of guarded.turn ≡ patience) }
+        ensures waiter { IfOk result (λ guarded. waiter_patience_of guarded.turn ≡ PATIENCE) }
     {
-        Ok(Guarded {
-            turn: Lock::with_patience(rt, alloc, room, patience)?,
+        Ok(Guarded::of(Turns::new(rt, alloc, room, patience)?, value))
+    }
+
+    // A value that nobody uses yet, and the turns that it is used in.
+    pub(crate) fn of(turn: Turns<R>, value: T) -> Self
+        ensures { result.turn ≡ turn }
+    {
+        Guarded {
+            turn,
             value: RwLock::new(value),
-        })
+        }
     }
 
     // The value, which nobody else can use meanwhile.
@@ -118,9 +126,9 @@ impl<R: Wait + Drop, T> Guarded<R, T> {
 
     // Makes the turn alone a share, and the value to write a value to read.
     //
-    // The value comes first: while the turn is still one owner's alone nobody else asks for the value, so this waits for
-    // nobody, and nobody writes in between. Were the turn lowered first, readers that are let in beside it would have to wait
-    // for the writer's guard.
+    // The value comes first: while the turn is still one owner's alone nobody else asks for the value, so this should wait for
+    // nobody, and nobody writes in between; no clause says so. Were the turn lowered first, readers that are let in beside it
+    // would have to wait for the writer's guard.
     pub(crate) fn lower<'a>(
         &'a self,
         turn: Alone<'a, R>,

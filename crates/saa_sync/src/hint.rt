@@ -1,35 +1,58 @@
-//! What a thread may see of a core without its mutex, while somebody looks.
+//! What a thread may see of a core without its mutex, while a call looks.
 //!
 //! A call looks before it registers. As long as one does, whatever may let it in shows the core's main word here as it leaves the
-//! mutex of a shell (`Shell::leave`); where nobody looks that costs one load. Calls that only take or only read show nothing: one
+//! mutex of a shell (`Shell::leave`); where no call looks that costs one load. Calls that only take or only read show nothing: one
 //! that looks is misled by that to try once in vain, and shows the word itself.
 //!
-//! Nothing rests on a hint: who finds that it may have what it asks for tries, through the core and under the mutex.
+//! Nothing rests on a hint: a call that finds that it may have what it asks for tries, through the core and under the mutex.
 
 use std::sync::atomic::{AtomicU64, Ordering};
 
-/// The main word of a core as it was when the mutex was left last, and how many look at it.
+// The parts of the counts: how many calls look, in the low bits, and above them how often those looked and tried that no longer
+// look. They stand in one number, so that tests see them and the end of a look is still one operation. The upper two wrap around.
+const LOOKER: u64 = 1;
+
+const LOOK: u64 = 1 << 24;
+
+const TRY: u64 = 1 << 44;
+
+/// The main word of a core as it was when the mutex was left last, and how many calls look at it.
 #[derive(Drop)]
 pub(crate) struct Hint {
     word: AtomicU64,
-    lookers: AtomicU64,
+    counts: AtomicU64,
+}
+
+/// How often one call looked, and how often it tried.
+#[derive(Clone, Copy)]
+pub(crate) struct Looked {
+    /// How often it looked at the hint.
+    pub looks: u32,
+    /// How often it tried, through the core.
+    pub tries: u32,
 }
 
 impl Hint {
-    /// A hint that nobody looks at.
+    /// A hint that no call looks at.
     pub(crate) fn new() -> Self {
         Hint {
             word: AtomicU64::new(0),
-            lookers: AtomicU64::new(0),
+            counts: AtomicU64::new(0),
         }
     }
 
-    /// How many look.
+    /// How many calls look.
     pub(crate) fn lookers(&self) -> u64 {
-        self.lookers.load(Ordering::SeqCst)
+        self.counts.load(Ordering::SeqCst) % LOOK
     }
 
-    /// Whether somebody looks.
+    /// How often calls looked, and how often they tried, of those that no longer look; each wraps around at a million.
+    pub(crate) fn looked(&self) -> (u64, u64) {
+        let counts = self.counts.load(Ordering::SeqCst);
+        (counts % TRY / LOOK, counts / TRY)
+    }
+
+    /// Whether a call looks.
     #[inline(always)]
     pub(crate) fn is_watched(&self) -> bool {
         self.lookers() != 0
@@ -46,13 +69,17 @@ impl Hint {
         self.word.store(word, Ordering::SeqCst);
     }
 
-    /// Begins to look. The first who does finds what was shown to others before it, so it has to enter the mutex once itself.
+    /// Begins to look. The first call to look finds what was shown to others before it, so it has to enter the mutex once itself.
     pub(crate) fn arrive(&self) -> bool {
-        self.lookers.fetch_add(1, Ordering::SeqCst) == 0
+        self.counts.fetch_add(LOOKER, Ordering::SeqCst) % LOOK == 0
     }
 
-    /// Ends to look.
-    pub(crate) fn depart(&self) {
-        self.lookers.fetch_sub(1, Ordering::SeqCst);
+    /// Ends to look, after so many looks and tries.
+    pub(crate) fn depart(&self, looked: Looked) {
+        let ended = u64::from(looked.looks)
+            .wrapping_mul(LOOK)
+            .wrapping_add(u64::from(looked.tries).wrapping_mul(TRY));
+        self.counts
+            .fetch_add(ended.wrapping_sub(LOOKER), Ordering::SeqCst);
     }
 }

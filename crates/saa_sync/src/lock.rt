@@ -13,7 +13,7 @@ ghost use Rattle.saa_core.specs.declared.ticket.Registration.TheVariants.{Unregi
 ghost use Rattle.saa_core.specs.Tickets.{Calls, is_busy, is_yes};
 ghost use Rattle.saa_core.specs.LockCalls.{lock_tried};
 ghost use Rattle.saa_core.specs.Beginning.{mode_of};
-ghost use Rattle.saa_sync.specs.Forms.{patience_of};
+ghost use Rattle.saa_sync.specs.Forms.{patience_of, waiter_patience_of};
 
 use crate::future::lock::{
     Asked, AskedWith, LockFuture, LockFutureWith, ShareFuture, ShareFutureWith,
@@ -32,12 +32,13 @@ use std::marker::Model;
 use std::sync::Wait;
 use std::sync::atomic::Ordering;
 
-/// A lock that threads share, of one owner alone or of up to 62 that share it, taken in the order of asking.
+/// A lock that threads share, of one owner alone or of up to 62 that share it.
 ///
-/// Waiters are FIFO: no later request passes a waiter, a reader beside readers included. A call that may block first looks for a
-/// while, and then joins the line ([`Patience`]). The lock doesn't know its owners: any caller may release, so keep the call
-/// with the owner. `R` is the permission to block, as a reference to the runtime. Every call may wait for the mutex around the
-/// core, which is held for one short step at a time; all but making take no memory.
+/// Waiters are granted in FIFO order of joining the queue: no later request passes a waiter, a reader beside readers included. A call
+/// that may block, and isn't timed, first tries and spins for a bounded number of times ([`Patience`]); until it joins it is no
+/// waiter, and nothing orders it. The lock doesn't know its owners: any caller may release, so keep the call with the owner. `R` is
+/// the permission to block, as a reference to the runtime. Every call may wait for the mutex around the core, which is held for one
+/// short step at a time. No call but making takes memory.
 ///
 /// Each ticket and pager is used with the lock that it was registered in.
 #[derive(Drop)]
@@ -63,12 +64,14 @@ impl<R: Wait + Drop> Lock<R> {
     /// room 0, which takes none.
     pub fn new(rt: R, alloc: Global, room: u16) -> Result<Self, AllocError>
         ensures no_room { room ≡ 0 → IsOk result }
+        ensures patience { IfOk result (λ lock. patience_of lock ≡ UNREGISTERED) }
+        ensures waiter { IfOk result (λ lock. waiter_patience_of lock ≡ PATIENCE) }
     {
         Self::with_patience(rt, alloc, room, UNREGISTERED)
     }
 
     /// As [`Self::new`], with a patience of its own for calls that aren't registered yet; [`NONE`](crate::patience::NONE) has each
-    /// call register at once, so that the order of grants is that of the calls.
+    /// call register at its first turn at the mutex, so that grants come in the order of these turns.
     pub fn with_patience(
         rt: R,
         alloc: Global,
@@ -77,6 +80,7 @@ impl<R: Wait + Drop> Lock<R> {
     ) -> Result<Self, AllocError>
         ensures no_room { room ≡ 0 → IsOk result }
         ensures patience { IfOk result (λ lock. patience_of lock ≡ patience) }
+        ensures waiter { IfOk result (λ lock. waiter_patience_of lock ≡ PATIENCE) }
     {
         let core = LockCore::new(alloc, room)?;
         let shell = Shell::new(rt, alloc, core, room, PATIENCE)?;
@@ -165,7 +169,8 @@ impl<R: Wait + Drop> Lock<R> {
         self.shell.step(lower)
     }
 
-    /// Poisons the lock that one owner has alone: all waiters are answered that it is poisoned, and woken.
+    /// Poisons the lock that one owner has alone: all waiters are answered that it is poisoned, and woken. A call that hasn't joined the
+    /// queue is no waiter: it is told only if it tries or joins while the lock is poisoned.
     ///
     /// `false` comes exactly where the lock isn't one owner's alone, and changes nothing. Answers that were there before
     /// stay as they are.
@@ -180,17 +185,18 @@ impl<R: Wait + Drop> Lock<R> {
         self.shell.step(clear)
     }
 
-    /// Takes the lock for one owner alone, and waits for it in the line where it must.
+    /// Takes the lock for one owner alone. It spins for its patience first, and then waits in the queue where it must.
     ///
-    /// `Ok(true)`: it is granted. `Ok(false)`: the lock is poisoned, or was while this waited. `Full`: it would have to
-    /// wait, and as many slots are held as there is room; nothing is changed. Nothing stays registered in any case.
+    /// `Ok(true)`: it is granted. `Ok(false)`: it found the lock poisoned, or the lock was poisoned while it was in the queue; of poison
+    /// that is set and cleared again between two of its tries it is never told. `Full`: its patience is over, it would have to wait, and as
+    /// many slots are held as there is room; nothing is changed. Nothing stays registered in any case.
     #[inline(always)]
     pub fn lock_sync(&self) -> Result<bool, Full> {
         let value = self.shell.acquire(Mode::Exclusive)?;
         Ok(is_granted(value))
     }
 
-    /// Takes a share of the lock, and waits for it in the line where it must; answers as [`Self::lock_sync`] does.
+    /// Takes a share of the lock; waits and answers as [`Self::lock_sync`] does.
     #[inline(always)]
     pub fn share_sync(&self) -> Result<bool, Full> {
         let value = self.shell.acquire(Mode::Shared)?;
@@ -200,7 +206,7 @@ impl<R: Wait + Drop> Lock<R> {
     /// Takes the lock as [`Self::lock_sync`] does, and calls `begin_wait` where it joins the line.
     ///
     /// The callback runs once, after the join and before the wait, with the mutex free; it may use this
-    /// lock. It doesn't run where the answer is there at once, nor where the room is full.
+    /// lock. It doesn't run where the call is answered before it joins, nor where the room is full.
     pub fn lock_sync_with<F: FnOnce() + Drop>(&self, begin_wait: F) -> Result<bool, Full>
         requires { F.pre begin_wait }
     {

@@ -1,8 +1,8 @@
 //! A value behind a fair lock: `Mutex` and `RwLock`, their guards, and the futures that wait for a guard.
 //!
-//! The turn is the project's `Lock`, which serves in the order of asking. Its calls aren't handed out, so it is never
-//! poisoned. A guard gives up the value first and the turn afterwards. What stands under the lock is known by the value's
-//! type: each guard keeps every invariant of that type.
+//! The turn is the project's `Lock`, whose waiters are FIFO. Its calls aren't handed out, so it is never poisoned. A guard's drop gives
+//! up the value first and the turn afterwards; a guard that is leaked (`mem::forget`) gives up neither. What stands under the lock is
+//! known by the value's type: each guard keeps every invariant of that type.
 
 mod future;
 mod guard;

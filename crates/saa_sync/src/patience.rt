@@ -1,4 +1,4 @@
-//! How long a call stays awake that can't have what it asks for.
+//! How often a call looks and yields that can't have what it asks for, before it registers or parks.
 
 use std::hint::spin_loop;
 use std::thread::yield_now;
@@ -6,8 +6,8 @@ use std::thread::yield_now;
 /// How often a call looks, and then yields, before it does what costs more.
 ///
 /// A lock and a semaphore have one for calls that aren't registered yet (`with_patience`): such a call looks, tries where what it
-/// asks for may be there, and registers once its patience is over. With 0 of both it registers at once, so that the order of grants
-/// is that of the calls.
+/// asks for may be there, and registers once its patience is over. With 0 of both it registers at its first turn at the mutex, so that
+/// grants come in the order of these turns, which is no order of calls.
 #[derive(Clone, Copy, Debug, Eq, PartialEq)]
 pub struct Patience {
     /// How often it looks, before it begins to yield.
@@ -18,7 +18,8 @@ pub struct Patience {
 
 /// The patience of a call that isn't registered yet, where the form is made with no other.
 ///
-/// The looks last some 50 microseconds. Measured with 2, 4 and 8 threads on 4 processors: where turns take a microsecond or less, mostly no
+/// The rests between the looks are 10,232 spin hints, 50 to 60 microseconds on the machines where that was measured; a yield lasts as
+/// long as the scheduler makes it. Measured with 2, 4 and 8 threads on 4 processors: where turns take a microsecond or less, mostly no
 /// queue forms. With more looks turns of a microsecond cost a few per cent less, and a call that finds others at the lock again and again
 /// waits longer before it registers.
 pub const UNREGISTERED: Patience = Patience {
@@ -26,7 +27,7 @@ pub const UNREGISTERED: Patience = Patience {
     yields: 100,
 };
 
-/// Registers at once: the order of grants is that of the calls.
+/// Registers at the call's first turn at the mutex: grants come in the order of these turns.
 pub const NONE: Patience = Patience {
     looks: 0,
     yields: 0,

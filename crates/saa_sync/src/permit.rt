@@ -55,7 +55,7 @@ impl<S: TakesBack> Drop for PermitFrom<'_, S> {
 }
 
 impl<R: Wait + Drop, const MAX: usize> TakesBack for SemaphoreOn<R, SemaphoreCoreOf<MAX>> {
-    /// As its `release`; what that answers is true wherever a permit is out, as one is here.
+    /// As its `release`. The answer isn't looked at: it is `false` only where releases by other tasks have given back all that was out.
     fn take_back(&self) {
         self.release();
     }
@@ -64,7 +64,7 @@ impl<R: Wait + Drop, const MAX: usize> TakesBack for SemaphoreOn<R, SemaphoreCor
 impl<R: Wait + Drop, const MAX: usize> SemaphoreOn<R, SemaphoreCoreOf<MAX>> {
     /// Takes one permit as [`Self::acquire_sync`] does, and gives it back when what is returned goes.
     ///
-    /// `Full`: it would have to wait, and as many slots are held as there is room; nothing is changed.
+    /// `Full`: its patience is over, it would have to wait, and as many slots are held as there is room; nothing is changed.
     pub fn acquire_permit(&self) -> Result<PermitOf<'_, R, MAX>, Full>
         ensures { IfOk result (λ permit. permit.now ≡ self.now) }
     {

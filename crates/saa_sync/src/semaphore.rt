@@ -13,7 +13,7 @@ ghost use Rattle.saa_core.specs.Slots.{OwesAnswered};
 ghost use Rattle.saa_core.specs.declared.ticket.Registration.TheVariants.{Unregistered};
 ghost use Rattle.saa_core.specs.Tickets.{Calls, is_busy, is_yes};
 ghost use Rattle.saa_core.specs.Beginning.{mode_of};
-ghost use Rattle.saa_sync.specs.Forms.{patience_of};
+ghost use Rattle.saa_sync.specs.Forms.{patience_of, waiter_patience_of};
 
 use crate::future::semaphore::{
     AcquireManyOf, AcquireManyWithOf, AcquireOf, AcquireWithOf, Asked, AskedWith,
@@ -37,11 +37,12 @@ pub struct SemaphoreOn<R: Wait + Drop, C: Primitive> {
     shell: Shell<R, C>,
 }
 
-/// Up to `MAX` permits that threads share, 1 to 65,535, taken in the order of asking.
+/// Up to `MAX` permits that threads share, 1 to 65,535.
 ///
-/// Waiters are FIFO: no later request passes a waiter, a request for 0 permits included. A call that may block first looks for
-/// a while, and then joins the line ([`Patience`]). `R` is the permission to block, as a reference to the runtime. Every call
-/// may wait for the mutex, which is held for one short step of the core at a time; all but making take no memory.
+/// Waiters are granted in FIFO order of joining the queue: no later request passes a waiter, a request for 0 permits included. A call
+/// that may block, and isn't timed, first tries and spins for a bounded number of times ([`Patience`]); until it joins it is no
+/// waiter, and nothing orders it. `R` is the permission to block, as a reference to the runtime. Every call may wait for the mutex,
+/// which is held for one short step of the core at a time. No call but making takes memory.
 ///
 /// Each ticket and pager is used with the semaphore that it was registered in.
 pub type SemaphoreOf<R, const MAX: usize> = SemaphoreOn<R, SemaphoreCoreOf<MAX>>;
@@ -81,6 +82,8 @@ impl<R: Wait + Drop, const MAX: usize> SemaphoreOn<R, SemaphoreCoreOf<MAX>> {
         requires bound { 0 < MAX }
         requires narrow { MAX < 65536 }
         ensures no_room { room ≡ 0 → IsOk result }
+        ensures patience { IfOk result (λ semaphore. patience_of semaphore ≡ UNREGISTERED) }
+        ensures waiter { IfOk result (λ semaphore. waiter_patience_of semaphore ≡ PATIENCE) }
     {
         Self::with_permits(rt, alloc, MAX, room)
     }
@@ -94,12 +97,14 @@ impl<R: Wait + Drop, const MAX: usize> SemaphoreOn<R, SemaphoreCoreOf<MAX>> {
         requires bound { 0 < MAX }
         requires narrow { MAX < 65536 }
         ensures no_room { room ≡ 0 → IsOk result }
+        ensures patience { IfOk result (λ semaphore. patience_of semaphore ≡ UNREGISTERED) }
+        ensures waiter { IfOk result (λ semaphore. waiter_patience_of semaphore ≡ PATIENCE) }
     {
         Self::with_patience(rt, alloc, permits, room, UNREGISTERED)
     }
 
     /// As [`Self::with_permits`], with a patience of its own for calls that aren't registered yet; [`NONE`](crate::patience::NONE) has each
-    /// call register at once, so that the order of grants is that of the calls.
+    /// call register at its first turn at the mutex, so that grants come in the order of these turns.
     pub fn with_patience(
         rt: R,
         alloc: Global,
@@ -111,6 +116,7 @@ impl<R: Wait + Drop, const MAX: usize> SemaphoreOn<R, SemaphoreCoreOf<MAX>> {
         requires narrow { MAX < 65536 }
         ensures no_room { room ≡ 0 → IsOk result }
         ensures patience { IfOk result (λ semaphore. patience_of semaphore ≡ patience) }
+        ensures waiter { IfOk result (λ semaphore. waiter_patience_of semaphore ≡ PATIENCE) }
     {
         let core = SemaphoreCoreOf::with_permits(alloc, permits, room)?;
         let shell = Shell::new(rt, alloc, core, room, PATIENCE)?;
@@ -188,21 +194,21 @@ impl<R: Wait + Drop, const MAX: usize> SemaphoreOn<R, SemaphoreCoreOf<MAX>> {
         )
     }
 
-    /// Takes one permit, and waits for it in the line where it must.
+    /// Takes one permit. It spins for its patience first, and then waits in the queue where it must.
     ///
-    /// `Ok`: the core answered that it is granted. `Full`: it would have to wait, and as many slots are held as there
-    /// is room; nothing is changed. Nothing stays registered either way. No core refuses to register one permit, or
+    /// `Ok`: the core answered that it is granted. `Full`: its patience is over, it would have to wait, and as many slots are held as
+    /// there is room; nothing is changed. Nothing stays registered either way. No core refuses to register one permit, or
     /// forgets a ticket that waits; one that did would be asked again.
     pub fn acquire_sync(&self) -> Result<(), Full> {
         let _granted = self.shell.acquire(1)?;
         Ok(())
     }
 
-    /// Takes `count` permits, all at once, and waits for them in the line where it must.
+    /// Takes `count` permits, all at once. It spins for its patience first, and then waits in the queue where it must.
     ///
     /// `Ok(true)`: the core answered that they are granted. `Ok(false)` comes at once, exactly where the count is above
-    /// [`Self::MAX_PERMITS`]. `Full`: it would have to wait, and as many slots are held as there is room. The last two
-    /// change nothing. Nothing stays registered in any case.
+    /// [`Self::MAX_PERMITS`]. `Full`: its patience is over, it would have to wait, and as many slots are held as there is room. The
+    /// last two change nothing. Nothing stays registered in any case.
     #[inline(always)]
     pub fn acquire_many_sync(&self, count: usize) -> Result<bool, Full>
         ensures answer { IfOk result (λ is_granted. IsTrue is_granted ↔ (count ≤ MAX)) }
@@ -217,8 +223,8 @@ impl<R: Wait + Drop, const MAX: usize> SemaphoreOn<R, SemaphoreCoreOf<MAX>> {
 
     /// Takes one permit as [`Self::acquire_sync`] does, and calls `begin_wait` where it joins the line.
     ///
-    /// The callback runs once, after the join and before the wait, with the lock free; it may use this semaphore. It
-    /// doesn't run where the permit is there at once, nor where the room is full.
+    /// The callback runs once, after the join and before the wait, with the mutex free; it may use this semaphore. It
+    /// doesn't run where the call is answered before it joins, nor where the room is full.
     pub fn acquire_sync_with<F: FnOnce() + Drop>(&self, begin_wait: F) -> Result<(), Full>
         requires { F.pre begin_wait }
     {
@@ -228,8 +234,8 @@ impl<R: Wait + Drop, const MAX: usize> SemaphoreOn<R, SemaphoreCoreOf<MAX>> {
 
     /// Takes `count` permits as [`Self::acquire_many_sync`] does, and calls `begin_wait` where it joins the line.
     ///
-    /// The callback runs once, after the join and before the wait, with the lock free; it may use this semaphore. It
-    /// doesn't run where the answer is there at once, `Ok(false)` among them, nor where the room is full.
+    /// The callback runs once, after the join and before the wait, with the mutex free; it may use this semaphore. It
+    /// doesn't run where the call is answered before it joins, `Ok(false)` among them, nor where the room is full.
     pub fn acquire_many_sync_with<F: FnOnce() + Drop>(
         &self,
         count: usize,

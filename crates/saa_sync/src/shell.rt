@@ -16,15 +16,15 @@ ghost use Rattle.saa_core_spec.specs.Polling.{polled};
 ghost use Rattle.saa_core.specs.Tickets.{Acts, Calls, HasAnswer, Polled, dropping, fault_of, is_busy, is_not_ready, is_yes, IsNeverTooMuch};
 ghost use Rattle.saa_core.specs.Slots.{OwesAnswered, wake_told};
 ghost use Rattle.saa_core.specs.Beginning.{BeginOwes, alone, mode_of};
-ghost use Rattle.saa_sync.specs.Forms.{patience_of};
+ghost use Rattle.saa_sync.specs.Forms.{patience_of, waiter_patience_of};
 ghost use Rattle.saa_sync.specs.Waits.{begun, concluded, has_joined, registration_of, slot_woken};
 ghost use Rattle.futures.specs.Task.{Hears, IsArmed, Keeps};
 ghost use Rattle.futures.specs.Poll.{IfReady, OnPending};
 
 mod timed;
 
-use crate::hint::Hint;
-use crate::patience::{self, Patience};
+use crate::hint::{Hint, Looked};
+use crate::patience::{self, NONE, Patience};
 use crate::seat::Seat;
 use crate::tries::Tries;
 use crate::wakers::Wakers;
@@ -222,7 +222,7 @@ pub struct Shell<R: Wait + Drop, P: Primitive> {
     // of its neighbours, which cost two threads that take turns a third of the time.
     seats: Vec<CachePadded<Seat>>,
     patience: Patience,
-    // What is seen without the mutex, on cache lines of its own, and how long a call looks at it before it registers.
+    // What is seen without the mutex, on cache lines of its own, and how often a call looks at it before it registers.
     hint: CachePadded<Hint>,
     unregistered: Patience,
     /// What tasks wait for.
@@ -242,6 +242,8 @@ impl<R: Wait + Drop, P: Tries> Shell<R, P> {
         patience: Patience,
     ) -> Result<Self, AllocError>
         ensures no_room { room ≡ 0 → IsOk result }
+        ensures waiter { IfOk result (λ shell. waiter_patience_of shell ≡ patience) }
+        ensures patience { IfOk result (λ shell. patience_of shell ≡ NONE) }
     {
         let mut seats = Vec::with_capacity(alloc, usize::from(room))?;
         for _slot in 0..room {
@@ -254,14 +256,15 @@ impl<R: Wait + Drop, P: Tries> Shell<R, P> {
             seats,
             patience,
             hint: CachePadded::new(Hint::new()),
-            unregistered: patience::NONE,
+            unregistered: NONE,
             source: Source::new(),
         })
     }
 
-    /// The shell, whose calls look so long before they register.
+    /// The shell, whose calls look so often before they register.
     pub fn with_patience(self, unregistered: Patience) -> Self
-        ensures { patience_of result ≡ unregistered }
+        ensures patience { patience_of result ≡ unregistered }
+        ensures waiter { waiter_patience_of result ≡ waiter_patience_of self }
     {
         let mut shell = self;
         shell.unregistered = unregistered;
@@ -348,8 +351,8 @@ impl<R: Wait + Drop, P: Tries> Shell<R, P> {
     /// Asks, waits for the answer if it isn't there at once, and consumes it; nothing stays registered.
     ///
     /// For what the core never refuses. A core that refused all the same, or that forgot a ticket which waits, is
-    /// asked again, so that every value is one that the core answered. `Full`: it would have to wait, and the room is
-    /// full.
+    /// asked again, so that every value is one that the core answered. `Full`: its patience is over, it would have to wait, and the room
+    /// is full.
     #[inline(always)]
     pub(crate) fn acquire(&self, ask: P::Ask) -> Result<u8, Full> {
         if let Some(value) = self.look(ask) {
@@ -363,37 +366,41 @@ impl<R: Wait + Drop, P: Tries> Shell<R, P> {
     // A call that finds it at once makes one turn at the mutex, without a ticket.
     #[inline(always)]
     fn look(&self, ask: P::Ask) -> Option<u8> {
-        if self.unregistered == patience::NONE {
+        if self.unregistered == NONE {
             return None;
         }
-        if !self.hint.is_watched() || P::may_fit(ask, self.hint.word()) {
-            let mut inside = self.lock();
-            let answer = inside.try_now(ask);
-            self.leave(inside);
-            if answer.is_some() {
-                return answer;
-            }
+        if self.hint.is_watched() && !P::may_fit(ask, self.hint.word()) {
+            return self.look_on(ask, 0);
         }
-        self.look_on(ask)
+        let mut inside = self.lock();
+        let answer = inside.try_now(ask);
+        self.leave(inside);
+        if answer.is_some() {
+            return answer;
+        }
+        self.look_on(ask, 1)
     }
 
-    // Looks at the hint, which is kept up meanwhile.
+    // Looks at the hint, which is kept up meanwhile, after so many tries.
     #[inline(never)]
-    fn look_on(&self, ask: P::Ask) -> Option<u8> {
+    fn look_on(&self, ask: P::Ask, tries: u32) -> Option<u8> {
         let is_first = self.hint.arrive();
-        let answer = self.look_while(ask, is_first);
-        self.hint.depart();
+        let mut looked = Looked { looks: 0, tries };
+        let answer = self.look_while(ask, is_first, &mut looked);
+        self.hint.depart(looked);
         answer
     }
 
     // Looks so often, and tries where the hint says that it may have what it asks, or is none yet.
-    fn look_while(&self, ask: P::Ask, is_due: bool) -> Option<u8> {
+    fn look_while(&self, ask: P::Ask, is_due: bool, looked: &mut Looked) -> Option<u8> {
         let mut is_due = is_due;
         for turn in 0..self.unregistered.turns() {
+            looked.looks = turn.saturating_add(1);
             if is_due || P::may_fit(ask, self.hint.word()) {
                 // Waits for nobody at the mutex: all who look come at once when the hint changes, and would queue there.
                 if let Some(mut inside) = self.lock.try_lock() {
                     is_due = false;
+                    looked.tries = looked.tries.saturating_add(1);
                     let answer = inside.try_now(ask);
                     self.leave(inside);
                     if answer.is_some() {
@@ -689,6 +696,12 @@ impl<R: Wait + Drop, P: Tries> Shell<R, P> {
     /// How many calls look, of those that haven't registered. For the tests of the forms above.
     pub fn lookers(&self) -> u64 {
         self.hint.lookers()
+    }
+
+    /// How often calls looked, and how often they tried, of those that found nothing at once and no longer look. For the tests
+    /// of the forms above.
+    pub fn looked(&self) -> (u64, u64) {
+        self.hint.looked()
     }
 
     /// How many seats are rung; for the tests of the forms above.

@@ -8,10 +8,15 @@ ghost use Rattle.saa_core.specs.Tickets.{Polled, is_busy, is_not_ready, is_yes, 
 ghost use Rattle.saa_core_spec.specs.declared.polling.How.TheVariants.{Sync};
 ghost use Rattle.saa_sync.specs.Waits.{IsTold};
 
+use crate::guarded::Guarded;
+use crate::lock::Lock;
+use crate::lock_api::{Mutex, RwLock};
 use crate::pager::{How, Pager, SyncResult, Ticket};
 pub use crate::seat::{PATIENCE, Patience, Seat};
 pub use crate::shell::Shell;
 use crate::tries::Tries;
+use crate::turn::Turns;
+use saa_core::lock::LockCore;
 use saa_core::ticket::Full;
 use std::sync::Wait;
 
@@ -49,6 +54,38 @@ pub fn hold<'s, S: SyncResult>(pager: &mut Pager<'s, S>, ticket: Ticket, primiti
     ensures { pager.new ≡ ticket }
 {
     pager.hold(ticket, primitive);
+}
+
+/// The mutex whose turns stand on a shell that is handed in, with another patience of its waiters, say.
+pub fn mutex_on<R: Wait + Drop, T>(shell: Shell<R, LockCore>, value: T) -> Mutex<R, T>
+    ensures { result ≡ shell }
+{
+    Mutex {
+        guarded: Guarded::of(Turns::of(Lock::on_shell(shell)), value),
+    }
+}
+
+/// The reader-writer lock whose turns stand on a shell that is handed in.
+pub fn rwlock_on<R: Wait + Drop, T>(shell: Shell<R, LockCore>, value: T) -> RwLock<R, T>
+    ensures { result ≡ shell }
+{
+    RwLock {
+        guarded: Guarded::of(Turns::of(Lock::on_shell(shell)), value),
+    }
+}
+
+/// What the turns of a mutex stand on.
+pub fn shell_of_mutex<R: Wait + Drop, T>(mutex: &Mutex<R, T>) -> &Shell<R, LockCore>
+    ensures { result.now ≡ mutex.now }
+{
+    mutex.guarded.turn.shell()
+}
+
+/// What the turns of a reader-writer lock stand on.
+pub fn shell_of_rwlock<R: Wait + Drop, T>(rwlock: &RwLock<R, T>) -> &Shell<R, LockCore>
+    ensures { result.now ≡ rwlock.now }
+{
+    rwlock.guarded.turn.shell()
 }
 
 /// Makes one step of the core under the mutex, and wakes none of the waiters that it answers: their wakes stay pending until the next call.

@@ -1,24 +1,34 @@
-//! The turn at a lock, of one owner alone or shared, and that it ends behind the value's guard.
+//! The turn at a lock, of one owner alone or shared, and that it ends after the value's guard.
 //!
-//! No turn can be dropped, so each that is taken is given back; and `give_back` asks for a `PutDown`, which only giving up a
-//! guard of the value makes. `lower` asks for a `Lowered` in the same way, which only giving up a writer's guard makes.
-//! That a turn is really the lock's, and is given back to it, is shown by tests.
+//! A turn can be neither dropped nor forgotten, so the code here passes each on; a guard's holder may leak the guard, and its turn with
+//! it (`mem::forget`). `give_back` asks for a `PutDown`, which only dropping a guard of a value makes, and `lower` for a `Lowered`, which
+//! only giving up a writer's guard makes; the types don't say of which value. The lock is private to `Turns`: code beside this module is
+//! meant to reach it by turns, and tests by its shell. No clause refuses a body here that makes a turn by `granted`, or steps the shell's
+//! core. That a turn is really the lock's, and is given back to it, is shown by tests.
 
-ghost use Rattle.std.specs.Prelude.{◌≡◌, IfOk, IfSome};
+ghost use Rattle.std.specs.Prelude.{◌≡◌, false, IfOk, IfSome, IsOk};
 ghost use Rattle.futures.specs.Task.{Covers, Keeps};
 ghost use Rattle.futures.specs.Poll.{OnPending};
+ghost use Rattle.saa_core_spec.specs.declared.request.Request.TheVariants.{Exclusive as AskExclusive, Shared as AskShared};
+ghost use Rattle.saa_core.specs.declared.ticket.Registration.TheVariants.{Unregistered};
+ghost use Rattle.saa_sync.specs.Forms.{patience_of, waiter_patience_of};
 
-use crate::future::lock::LockFuture;
+use crate::future::lock::{LockFuture, ShareFuture};
 use crate::lock::{Lock, Mode};
+use crate::patience::Patience;
+use crate::seat::PATIENCE;
+use crate::shell::Shell;
 use crate::timed::Deadline;
 use futures::Future;
 use futures::task::{Context, Poll};
+use saa_core::lock::LockCore;
 use saa_core::ticket::Full;
+use std::alloc::{AllocError, Global};
 use std::marker::{Model, PhantomData};
 use std::sync::{RwLock, RwLockReadGuard, RwLockWriteGuard, Wait};
 use std::time::Clock;
 
-/// Says that a guard of the value was given up; only that makes one.
+/// Says that a guard of a value was dropped; only that makes one.
 pub struct PutDown {
     by: PhantomData<()>,
 }
@@ -56,10 +66,77 @@ impl<'a, T> Lowered<'a, T> {
     }
 }
 
+/// A lock that gives turns, and is reached through them alone. Contracts see the lock.
+#[derive(Drop)]
+pub struct Turns<R: Wait + Drop> {
+    lock: Lock<R>,
+}
+
+impl<R: Wait + Drop> Model for Turns<R> {
+    ghost use Rattle.saa_sync.specs.Forms.{TurnLock};
+
+    ghost Value = { TurnLock R };
+
+    ghost view = { λ turns. turns.lock };
+}
+
+impl<R: Wait + Drop> Turns<R> {
+    // A lock whose turn nobody has, and room for so many waiters.
+    pub(crate) fn new(
+        rt: R,
+        alloc: Global,
+        room: u16,
+        patience: Patience,
+    ) -> Result<Self, AllocError>
+        ensures no_room { room ≡ 0 → IsOk result }
+        ensures patience { IfOk result (λ turns. patience_of turns ≡ patience) }
+        ensures waiter { IfOk result (λ turns. waiter_patience_of turns ≡ PATIENCE) }
+    {
+        Ok(Turns::of(Lock::with_patience(rt, alloc, room, patience)?))
+    }
+
+    // The turns of a lock that is handed in.
+    pub(crate) fn of(lock: Lock<R>) -> Self
+        ensures { result ≡ lock }
+    {
+        Turns { lock }
+    }
+
+    // The permission to block, for waits in a turn.
+    pub(crate) fn rt(&self) -> &R {
+        self.lock.rt()
+    }
+
+    // The future of the turn alone.
+    pub(crate) fn lock_async(&self) -> LockFuture<'_, R>
+        ensures request { result.asking.request ≡ AskExclusive }
+        ensures idle { result.asking.ticket ≡ Unregistered }
+        ensures fresh { result.asking.has_ended ≡ false }
+    {
+        self.lock.lock_async()
+    }
+
+    // The future of a share of the turn.
+    pub(crate) fn share_async(&self) -> ShareFuture<'_, R>
+        ensures request { result.asking.request ≡ AskShared }
+        ensures idle { result.asking.ticket ≡ Unregistered }
+        ensures fresh { result.asking.has_ended ≡ false }
+    {
+        self.lock.share_async()
+    }
+
+    // What the lock stands on; for tests.
+    pub(crate) fn shell(&self) -> &Shell<R, LockCore>
+        ensures { result.now ≡ self.now }
+    {
+        self.lock.shell()
+    }
+}
+
 /// The turn of one owner alone. Contracts see whose turn it is.
 pub struct Alone<'a, R: Wait + Drop> {
     // Whose turn it is.
-    lock: &'a Lock<R>,
+    turns: &'a Turns<R>,
 }
 
 impl<'a, R: Wait + Drop> Model for Alone<'a, R> {
@@ -68,44 +145,44 @@ impl<'a, R: Wait + Drop> Model for Alone<'a, R> {
 
     ghost Value = { Bor (TurnLock R) };
 
-    ghost view = { λ turn. turn.lock };
+    ghost view = { λ turn. turn.turns };
 }
 
 impl<'a, R: Wait + Drop> Alone<'a, R> {
     // Takes the turn if it is free and nobody waits for it.
-    pub(crate) fn try_take(lock: &'a Lock<R>) -> Option<Self>
-        ensures { IfSome result (λ turn. turn ≡ lock.entry) }
+    pub(crate) fn try_take(turns: &'a Turns<R>) -> Option<Self>
+        ensures { IfSome result (λ turn. turn ≡ turns.entry) }
     {
-        match lock.try_lock() {
-            Ok(()) => Some(Alone { lock }),
+        match turns.lock.try_lock() {
+            Ok(()) => Some(Alone { turns }),
             Err(_taken) => None,
         }
     }
 
     // Waits for the turn. A lock that says it is poisoned, as none here ever is, is cleared and asked again.
-    pub(crate) fn take(lock: &'a Lock<R>) -> Result<Self, Full>
-        ensures { IfOk result (λ turn. turn ≡ lock.entry) }
+    pub(crate) fn take(turns: &'a Turns<R>) -> Result<Self, Full>
+        ensures { IfOk result (λ turn. turn ≡ turns.entry) }
     {
-        for _ in lock.rt().forever() {
-            if lock.lock_sync()? {
-                return Ok(Alone { lock });
+        for _ in turns.rt().forever() {
+            if turns.lock.lock_sync()? {
+                return Ok(Alone { turns });
             }
-            lock.clear_poison();
+            turns.lock.clear_poison();
         }
         unreachable!()
     }
 
     // Waits for the turn as `take` does, until the deadline. `None`: time is up.
-    pub(crate) fn take_by(lock: &'a Lock<R>, deadline: Deadline) -> Result<Option<Self>, Full>
+    pub(crate) fn take_by(turns: &'a Turns<R>, deadline: Deadline) -> Result<Option<Self>, Full>
     where
         R: Clock,
-        ensures { IfOk result (λ told. IfSome told (λ turn. turn ≡ lock.entry)) }
+        ensures { IfOk result (λ told. IfSome told (λ turn. turn ≡ turns.entry)) }
     {
-        for _ in lock.rt().forever() {
-            match lock.take_by(Mode::Exclusive, deadline)? {
-                Some(true) => return Ok(Some(Alone { lock })),
+        for _ in turns.rt().forever() {
+            match turns.lock.take_by(Mode::Exclusive, deadline)? {
+                Some(true) => return Ok(Some(Alone { turns })),
                 Some(false) => {
-                    lock.clear_poison();
+                    turns.lock.clear_poison();
                 }
                 None => return Ok(None),
             }
@@ -114,32 +191,32 @@ impl<'a, R: Wait + Drop> Alone<'a, R> {
     }
 
     // The turn that a future was granted.
-    pub(crate) fn granted(lock: &'a Lock<R>) -> Self
-        ensures { result ≡ lock.entry }
+    pub(crate) fn granted(turns: &'a Turns<R>) -> Self
+        ensures { result ≡ turns.entry }
     {
-        Alone { lock }
+        Alone { turns }
     }
 
     // Makes the turn a share, beside which others may have shares; and gives the value to read with it.
     pub(crate) fn lower<T>(self, value: Lowered<'a, T>) -> (Shared<'a, R>, RwLockReadGuard<'a, T>)
         ensures { result.0 ≡ self.entry }
     {
-        let (Alone { lock }, Lowered { reader }) = (self, value);
-        lock.downgrade();
-        (Shared { lock }, reader)
+        let (Alone { turns }, Lowered { reader }) = (self, value);
+        turns.lock.downgrade();
+        (Shared { turns }, reader)
     }
 
     // Gives the turn back, to the next waiter.
     pub(crate) fn give_back(self, value: PutDown) {
-        let (Alone { lock }, PutDown { by: _by }) = (self, value);
-        lock.release_lock();
+        let (Alone { turns }, PutDown { by: _by }) = (self, value);
+        turns.lock.release_lock();
     }
 }
 
 /// A turn that is shared with others. Contracts see whose turn it is.
 pub struct Shared<'a, R: Wait + Drop> {
     // Whose turn it is.
-    lock: &'a Lock<R>,
+    turns: &'a Turns<R>,
 }
 
 impl<'a, R: Wait + Drop> Model for Shared<'a, R> {
@@ -148,44 +225,44 @@ impl<'a, R: Wait + Drop> Model for Shared<'a, R> {
 
     ghost Value = { Bor (TurnLock R) };
 
-    ghost view = { λ turn. turn.lock };
+    ghost view = { λ turn. turn.turns };
 }
 
 impl<'a, R: Wait + Drop> Shared<'a, R> {
     // Takes a share of the turn if one is left and nobody waits.
-    pub(crate) fn try_take(lock: &'a Lock<R>) -> Option<Self>
-        ensures { IfSome result (λ turn. turn ≡ lock.entry) }
+    pub(crate) fn try_take(turns: &'a Turns<R>) -> Option<Self>
+        ensures { IfSome result (λ turn. turn ≡ turns.entry) }
     {
-        match lock.try_share() {
-            Ok(()) => Some(Shared { lock }),
+        match turns.lock.try_share() {
+            Ok(()) => Some(Shared { turns }),
             Err(_taken) => None,
         }
     }
 
     // Waits for a share of the turn, as `Alone::take` does for all of it.
-    pub(crate) fn take(lock: &'a Lock<R>) -> Result<Self, Full>
-        ensures { IfOk result (λ turn. turn ≡ lock.entry) }
+    pub(crate) fn take(turns: &'a Turns<R>) -> Result<Self, Full>
+        ensures { IfOk result (λ turn. turn ≡ turns.entry) }
     {
-        for _ in lock.rt().forever() {
-            if lock.share_sync()? {
-                return Ok(Shared { lock });
+        for _ in turns.rt().forever() {
+            if turns.lock.share_sync()? {
+                return Ok(Shared { turns });
             }
-            lock.clear_poison();
+            turns.lock.clear_poison();
         }
         unreachable!()
     }
 
     // Waits for the turn as `take` does, until the deadline. `None`: time is up.
-    pub(crate) fn take_by(lock: &'a Lock<R>, deadline: Deadline) -> Result<Option<Self>, Full>
+    pub(crate) fn take_by(turns: &'a Turns<R>, deadline: Deadline) -> Result<Option<Self>, Full>
     where
         R: Clock,
-        ensures { IfOk result (λ told. IfSome told (λ turn. turn ≡ lock.entry)) }
+        ensures { IfOk result (λ told. IfSome told (λ turn. turn ≡ turns.entry)) }
     {
-        for _ in lock.rt().forever() {
-            match lock.take_by(Mode::Shared, deadline)? {
-                Some(true) => return Ok(Some(Shared { lock })),
+        for _ in turns.rt().forever() {
+            match turns.lock.take_by(Mode::Shared, deadline)? {
+                Some(true) => return Ok(Some(Shared { turns })),
                 Some(false) => {
-                    lock.clear_poison();
+                    turns.lock.clear_poison();
                 }
                 None => return Ok(None),
             }
@@ -194,16 +271,16 @@ impl<'a, R: Wait + Drop> Shared<'a, R> {
     }
 
     // The share that a future was granted.
-    pub(crate) fn granted(lock: &'a Lock<R>) -> Self
-        ensures { result ≡ lock.entry }
+    pub(crate) fn granted(turns: &'a Turns<R>) -> Self
+        ensures { result ≡ turns.entry }
     {
-        Shared { lock }
+        Shared { turns }
     }
 
     // Gives the share back.
     pub(crate) fn give_back(self, value: PutDown) {
-        let (Shared { lock }, PutDown { by: _by }) = (self, value);
-        lock.release_share();
+        let (Shared { turns }, PutDown { by: _by }) = (self, value);
+        turns.lock.release_share();
     }
 }
 

@@ -1,7 +1,7 @@
 //! Wakers: for each slot that of the task which polls for its answer, where a task does.
 //!
-//! They stand under the lock, in places that are reserved at making. A waker wakes its task when it is dropped, so it is
-//! taken out under the lock and dropped with the lock free.
+//! They stand under the lock, in places that are reserved at making. A waker wakes its task when it is dropped, so it is taken out under
+//! the lock and dropped with the lock free; but one that another task's poll replaces is dropped under the lock.
 
 ghost use Rattle.std.specs.Prelude.{◌≡◌, IsOk};
 ghost use Rattle.futures.specs.Task.{Hears, IsArmed, Keeps};

@@ -5,7 +5,8 @@ use Rattle.saa_core_spec.proofs.Counts.{number_same, same_number}
 use Rattle.saa_word_steps.specs.declared.place.Place.{Place}
 use Rattle.saa_word_steps.specs.Needs.{Needs}
 use Rattle.saa_word_steps.specs.AbstractState.{AbstractState}
-use Rattle.saa_word_proofs.specs.Refinement.{is_holder, main_of, Refines}
+use Rattle.saa_word_proofs.specs.Refinement.{is_holder, Refines}
+use Rattle.saa_word_proofs.specs.Rows.{main_of}
 use Rattle.saa_word.specs.Simulation.{holder_after}
 
 -- a mark that is negated

@@ -14,10 +14,12 @@ use Rattle.saa_word_steps.specs.declared.place.Place.{Place}
 use Rattle.saa_word_steps.specs.declared.place.Next.{Next}
 use Rattle.saa_word_steps.specs.declared.place.Stage.{Stage}
 use Rattle.saa_word_steps.specs.declared.place.Stage.TheVariants.{Quiet, ReadLoad, AskLoad, AskExchange, Prepare, Join, ReleaseLoad, ReleaseExchange, BackLoad, BackStore, Forward, CutToClose, CutToGoRound, Close, Empty, GoRound, ShowLoad, ShowStore, Take, FlagLoad, FlagExchange, LookLoad, LookStore, Unlink, DropTail, PoisonLoad, PoisonExchange, Clear}
-use Rattle.saa_word_steps.specs.Needs.{Needs}
+use Rattle.saa_word_steps.specs.Needs.{Needs, needs_of}
 use Rattle.saa_word_steps.specs.AbstractState.{AbstractState, opening}
-use Rattle.saa_word_steps.specs.Steps.{is_taken, needs_of, next_of, started, word_at, written_by}
-use Rattle.saa_word_proofs.specs.Refinement.{Refines, updated}
+use Rattle.saa_word_steps.specs.Steps.{next_of, started, word_at, written_by}
+use Rattle.saa_word_steps.specs.Readings.{is_taken}
+use Rattle.saa_word_proofs.specs.Refinement.{Refines}
+use Rattle.saa_word_proofs.specs.Rows.{updated}
 use Rattle.saa_word_proofs.specs.StepRefinement.{StepRefines, place_after}
 use Rattle.saa_word_proofs.specs.Promises.{idle_place, opening_row}
 use Rattle.saa_word_proofs.proofs.RefinementLemmas.Lists.{all-same}
@@ -28,13 +30,14 @@ use Rattle.saa_word_proofs.proofs.SoloLemmas.Alone.{rules-lawful}
 use Rattle.saa_word.specs.declared.moves.Move.{Move}
 use Rattle.saa_word.specs.declared.moves.Move.TheVariants.{Start, Go}
 use Rattle.saa_word.specs.declared.moves.Step.{Step}
-use Rattle.saa_word.specs.Trace.{IsMachine}
-use Rattle.saa_word.specs.Machine.{IsSized, RefinesAs, State, is_lock, opened, place_in, place_of, row_of}
-use Rattle.saa_word.specs.Moves.{Moved, found_by, gone, is_quiet, made_by, next_by, operation_at, started_by, step_of, stepped_at, worked_at}
+use Rattle.saa_word.specs.Tracks.{IsMachine, IsSized, RefinesAs}
+use Rattle.saa_word.specs.Machine.{HasMade, Moved, State, is_lock, opened, place_in, place_of, row_of}
+use Rattle.saa_word.specs.Moves.{found_by, gone, is_quiet, made_by, next_by, operation_at, started_by, step_of, stepped_at, worked_at}
 
 -- what a move did, by its parts
-abbrev pub made_of : Rules → Step → List ℕ → List Place → ℕ → Moved
-made_of rules step row places operations = record { step = step; machine = record { rules = rules; row = row; places = places; operations = operations } }
+abbrev pub made_of : Rules → Step → List ℕ → List Place → ℕ → ℕ → Moved
+made_of rules step row places operations last_word =
+    record { step = step; machine = record { rules = rules; row = row; places = places; operations = operations; last_word = last_word } }
 
 -- a place that a test finds in no call is in none
 pub quiet-stage : (stage : Stage) → is_quiet stage ≡ true → stage ≡ Quiet
@@ -187,13 +190,13 @@ pub stepped-worked : (state : State) (me : ℕ) → is_quiet (place_of state me)
 stepped-worked state me busy = rw busy refl
 
 -- what a place in a call does, by its parts
-pub worked-is : (state : State) (me at count : ℕ) (place : Place) (operation : Operation) (found : ℕ) (next : Next) (behind : Place) (step : Step) (row : List ℕ) (operations : ℕ)
+pub worked-is : (state : State) (me at count : ℕ) (place : Place) (operation : Operation) (found : ℕ) (next : Next) (behind : Place) (step : Step) (row : List ℕ) (operations last_word : ℕ)
     → place ≡ place_of state me → count ≡ length state.places → operation ≡ made_by (needs_of state.rules) count me place
     → found ≡ slice_index state.row (word_at operation) → next ≡ next_by (needs_of state.rules) me place found
     → behind ≡ place_after place next → step ≡ step_of next → at ≡ me
-    → row ≡ slice_set state.row (word_at operation) (written_by operation found) → operations ≡ state.operations + 1
-    → made_of state.rules step row (set state.places at behind) operations ≡ worked_at state me
-worked-is state me at count place operation found next behind step row operations reads counts makes finds nexts goes steps same writes counted =
+    → row ≡ slice_set state.row (word_at operation) (written_by operation found) → operations ≡ state.operations + 1 → last_word ≡ word_at operation
+    → made_of state.rules step row (set state.places at behind) operations last_word ≡ worked_at state me
+worked-is state me at count place operation found next behind step row operations last_word reads counts makes finds nexts goes steps same writes counted touched =
     let needs : Needs = needs_of state.rules in
     let own : Place = place_of state me in
     let op : Operation = operation_at state me in
@@ -206,10 +209,11 @@ worked-is state me at count place operation found next behind step row operation
     writes ∙ ap (λ o. set state.row (word_at o) (written_by o found)) makes2 ∙ ap (λ n. set state.row (word_at op) (written_by op n)) finds2 in
     let places2 : set state.places at behind ≡ set state.places me (place_after own (next_by needs me own (found_by state op))) =
     ap (λ n. set state.places n behind) same ∙ ap (λ p. set state.places me p) goes2 in
-    ap (λ s. made_of state.rules s row (set state.places at behind) operations) steps2
-    ∙ ap (λ r. made_of state.rules (step_of (next_by needs me own (found_by state op))) r (set state.places at behind) operations) writes2
-    ∙ ap (λ ps. made_of state.rules (step_of (next_by needs me own (found_by state op))) (set state.row (word_at op) (written_by op (found_by state op))) ps operations) places2
-    ∙ ap (λ n. made_of state.rules (step_of (next_by needs me own (found_by state op))) (set state.row (word_at op) (written_by op (found_by state op))) (set state.places me (place_after own (next_by needs me own (found_by state op)))) n) counted
+    ap (λ s. made_of state.rules s row (set state.places at behind) operations last_word) steps2
+    ∙ ap (λ r. made_of state.rules (step_of (next_by needs me own (found_by state op))) r (set state.places at behind) operations last_word) writes2
+    ∙ ap (λ ps. made_of state.rules (step_of (next_by needs me own (found_by state op))) (set state.row (word_at op) (written_by op (found_by state op))) ps operations last_word) places2
+    ∙ ap (λ n. made_of state.rules (step_of (next_by needs me own (found_by state op))) (set state.row (word_at op) (written_by op (found_by state op))) (set state.places me (place_after own (next_by needs me own (found_by state op)))) n last_word) counted
+    ∙ ap (λ n. made_of state.rules (step_of (next_by needs me own (found_by state op))) (set state.row (word_at op) (written_by op (found_by state op))) (set state.places me (place_after own (next_by needs me own (found_by state op)))) (state.operations + 1) n) (touched ∙ ap word_at makes2)
 
 -- a move makes no place and takes none away
 pub gone-places : (state : State) (move : Move) → length (gone state move).machine.places ≡ length state.places
@@ -231,3 +235,13 @@ gone-rules state (Start me call) =
     elim (cases_Bool (is_quiet (place_of state me).stage)) [ inl quiet ↦ rw quiet refl | inr busy ↦ rw busy refl ]
 gone-rules state (Go me) =
     elim (cases_Bool (is_quiet (place_of state me).stage)) [ inl quiet ↦ rw quiet refl | inr busy ↦ rw busy refl ]
+
+-- and makes one operation at most, a Start none
+pub gone-made : (state : State) (move : Move) → HasMade move state.operations (gone state move).machine.operations
+gone-made state (Start me call) =
+    elim (cases_Bool (is_quiet (place_of state me).stage)) [ inl quiet ↦ rw quiet refl | inr busy ↦ rw busy refl ]
+gone-made state (Go me) =
+    elim (cases_Bool (is_quiet (place_of state me).stage)) [
+      | inl quiet ↦ rw quiet (omega arith, omega arith)
+      | inr busy ↦ rw busy (omega arith, omega arith)
+    ]

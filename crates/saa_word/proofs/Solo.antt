@@ -1,5 +1,5 @@
 -- What a call is that moves alone at a machine.
-use Rattle.std.proofs.Common.{◌≡◌, ℕ, ◌+◌, ◌*◌, ◌<◌, Bool, true, false, length, refl, ap, ◌∙◌, arith}
+use Rattle.std.proofs.Common.{◌≡◌, ℕ, ◌+◌, ◌*◌, ◌<◌, Bool, true, false, length, Option, refl, subst, ap, ◌∙◌, arith}
 use Rattle.saa_core_spec.specs.Object.{Object}
 use Rattle.saa_word_steps.specs.declared.call.Answer.{Answer}
 use Rattle.saa_word_steps.specs.declared.call.WordCall.{WordCall}
@@ -8,22 +8,40 @@ use Rattle.saa_word_steps.specs.declared.place.Place.{Place}
 use Rattle.saa_word_steps.specs.declared.place.Next.{Next}
 use Rattle.saa_word_steps.specs.declared.operation.Operation.{Operation}
 use Rattle.saa_word_steps.specs.AbstractState.{is_in}
-use Rattle.saa_word_steps.specs.Steps.{is_taken, needs_of, next_of, started, word_at, written_by}
-use Rattle.saa_word_proofs.specs.Refinement.{updated}
+use Rattle.saa_word_steps.specs.Steps.{next_of, started, word_at, written_by}
+use Rattle.saa_word_steps.specs.Readings.{is_taken}
+use Rattle.saa_word_steps.specs.Needs.{needs_of}
+use Rattle.saa_word_proofs.specs.Rows.{updated}
 use Rattle.saa_word_proofs.specs.StepRefinement.{place_after, row_after}
 use Rattle.saa_word_proofs.specs.Promises.{idle_place}
-use Rattle.saa_word_proofs.specs.Alone.{Moment, IsCalledAlone, next_at, put, stepped}
+use Rattle.saa_word_proofs.specs.Alone.{IsCalledAlone, IsQuiet, Mirrors, Moment, next_at, put, stepped}
 use Rattle.saa_word_proofs.specs.Agrees.{Agrees}
-use Rattle.saa_word_proofs.specs.Mirrors.{Mirrors}
 use Rattle.saa_word_proofs.specs.Ends.{Ends}
 use Rattle.saa_word_proofs.proofs.SoloLemmas.Alone.{alone, rules-lawful}
 use Rattle.saa_word_proofs.proofs.SoloLemmas.Ends.{ends}
 use Rattle.saa_word.specs.declared.moves.Move.TheVariants.{Start, Go}
 use Rattle.saa_word.specs.Machine.{State, is_lock, place_of, row_of}
 use Rattle.saa_word.specs.Moves.{gone, is_quiet, step_of, found_by, operation_at, worked_at}
-use Rattle.saa_word.specs.Trace.{Trace, Tracks}
-use Rattle.saa_word.specs.Alone.{IsResting, moment_of}
+use Rattle.saa_word.specs.Trace.{IsQuiescent, Trace, Underway}
+use Rattle.saa_word.specs.Tracks.{IsIn, Tracks}
+use Rattle.saa_word.specs.Solo.{IsRepresented}
+use Rattle.saa_word_proofs.proofs.SoloLemmas.Books.{mirrored}
 use Rattle.saa_word.proofs.Keeping.{set-updated, stepped-by}
+
+-- the words and the places of a machine
+abbrev pub moment_of : State → Moment
+moment_of state = record { row = row_of state; standing = place_of state }
+
+-- while no place is in a call, each is quiet
+pub all-quiet : (state : State) (trace : Trace) → Tracks state trace → IsQuiescent trace → IsQuiet (place_of state)
+all-quiet state trace tracks quiescent =
+    λ place. subst (λ (u : Option Underway). IsIn (needs_of state.rules) u (place_of state place)) (quiescent place) (tracks.calls place)
+
+-- some sequential object represents each machine
+pub represented : (state : State) (trace : Trace) → (s : Object) × IsRepresented state trace s
+represented state trace =
+    let place : ℕ → Place = λ place. record idle_place { registration = trace.registered place } in
+    mirrored (needs_of state.rules) (length state.places) place trace.state
 
 -- a moment by its parts
 moment-same : (row other_row : ℕ → ℕ) (standing other : ℕ → Place) → row ≡ other_row → standing ≡ other
@@ -59,15 +77,15 @@ goes-alone state trace me tracks here busy =
       refl,
     )
 
-pub ends-alone : (state : State) (trace : Trace) (me : ℕ) (call : WordCall) → Tracks state trace → IsResting state → me < length state.places
+pub ends-alone : (state : State) (trace : Trace) (me : ℕ) (call : WordCall) → Tracks state trace → IsQuiescent trace → me < length state.places
     → is_taken (is_lock state) call ≡ true → (call ≡ Poll → is_in me trace.state.line ≡ false)
     → Ends (needs_of state.rules) (length state.places) me call (moment_of state) (8 * length trace.state.line + 24)
 ends-alone state trace me call tracks rests here taken absent =
     ends (needs_of state.rules) (rules-lawful state.rules) tracks.sized.wide (length state.places) (row_of state) (place_of state) trace.state me call
-    (omega (arith, tracks.sized.few)) here tracks.refines rests taken absent
+    (omega (arith, tracks.sized.few)) here tracks.refines (all-quiet state trace tracks rests) taken absent
 
 pub agrees-alone : (state : State) (trace : Trace) (me : ℕ) (is_sync : Bool) (call : WordCall) (s : Object) (steps : ℕ) (answer : Answer) (last : Moment)
-    → Tracks state trace → IsResting state → me < length state.places → is_taken (is_lock state) call ≡ true
+    → Tracks state trace → IsQuiescent trace → me < length state.places → is_taken (is_lock state) call ≡ true
     → Mirrors (needs_of state.rules) (length state.places) (place_of state) trace.state s
     → IsCalledAlone (needs_of state.rules) (length state.places) me call steps (moment_of state) answer last
     → Agrees (needs_of state.rules) (length state.places) me is_sync call s answer last
@@ -79,7 +97,7 @@ agrees-alone state trace me is_sync call s steps answer last tracks rests here t
       here = here;
       state = trace.state;
       stands = tracks.refines;
-      quiet = rests;
+      quiet = all-quiet state trace tracks rests;
       mirrors = mirrors;
     })
     steps answer last taken called

@@ -14,20 +14,24 @@ use Rattle.saa_word_steps.specs.declared.place.Next.{Next}
 use Rattle.saa_word_steps.specs.declared.place.Next.TheVariants.{Going as GoesOn, Waits as HasToWait, Done as IsDone}
 use Rattle.saa_word_steps.specs.declared.place.Stage.TheVariants.{Quiet}
 use Rattle.saa_word_steps.specs.declared.place.Registration.{Registration}
-use Rattle.saa_word_steps.specs.Needs.{Needs, permit_needs}
+use Rattle.saa_word_steps.specs.Needs.{Needs, needs_of, permit_needs}
 use Rattle.saa_word_steps.specs.AbstractState.{AbstractState, IsRun, after_event, opening}
 use Rattle.saa_word_proofs.proofs.ConservationLemmas.{opening-granted, run-balanced, run-never, run-pending, run-permits}
-use Rattle.saa_word_proofs.specs.Registering.{AreRegistered, IsLeft, IsStartedAs, begun_as, left_behind, starting_answer}
+use Rattle.saa_word_proofs.specs.Registering.{AreRegistered, begun_as, is_slot, left_behind, starting_answer}
+use Rattle.saa_word_proofs.specs.CallStages.{IsBegun, IsLeft, IsStartedAs, IsUnder, IsUnderNext}
 use Rattle.saa_word_proofs.proofs.SoloLemmas.Paths.{left-next}
 use Rattle.saa_word_proofs.proofs.SoloLemmas.Registered.{started-as}
 use Rattle.saa_word_proofs.proofs.SoloLemmas.Slots.{begun-registered-line, run-registered}
 use Rattle.saa_core_spec.specs.Object.{one_if}
 use Rattle.saa_word_steps.specs.declared.event.Event.{Event}
-use Rattle.saa_word_steps.specs.Steps.{is_taken, needs_of, next_of, started, word_at, written_by}
-use Rattle.saa_word_proofs.specs.Refinement.{is_slot, main_of, updated}
-use Rattle.saa_word_proofs.specs.StepRefinement.{named, named_at, of_place, place_after, row_after}
-use Rattle.saa_word_proofs.specs.Calls.{IsBegun, IsUnder, IsUnderNext, asked_by}
-use Rattle.saa_word_proofs.specs.Promises.{Observes, idle_place}
+use Rattle.saa_word_steps.specs.Steps.{next_of, started, word_at, written_by}
+use Rattle.saa_word_steps.specs.Readings.{is_taken}
+use Rattle.saa_word_proofs.specs.Rows.{main_of, updated}
+use Rattle.saa_word_proofs.specs.StepRefinement.{named_at, place_after, row_after}
+use Rattle.saa_word_proofs.specs.History.{named, of_place}
+use Rattle.saa_word_proofs.specs.Calls.{asked_by}
+use Rattle.saa_word_proofs.specs.Promises.{IsAtRest, Observes, idle_place}
+use Rattle.saa_word_proofs.proofs.SoloLemmas.Quiet.{at-rest}
 use Rattle.saa_word_proofs.proofs.RefinementLemmas.Lists.{all-same, updated-same}
 use Rattle.saa_word_proofs.proofs.RefinementLemmas.Calls.{under-next}
 use Rattle.saa_word_proofs.proofs.RefinementLemmas.Starting.{call-begun}
@@ -41,9 +45,10 @@ use Rattle.saa_word.specs.declared.moves.Move.{Move}
 use Rattle.saa_word.specs.declared.moves.Move.TheVariants.{Start, Go}
 use Rattle.saa_word.specs.declared.moves.Step.{Step}
 use Rattle.saa_word.specs.declared.moves.Step.TheVariants.{Idle, Busy, Done}
-use Rattle.saa_word.specs.Machine.{RefinesAs, State, is_lock, opened, place_in, place_of, row_of}
-use Rattle.saa_word.specs.Moves.{IsMove, found_by, gone, is_quiet, operation_at, followed, step_of, worked_at}
-use Rattle.saa_word.specs.Trace.{beginning, IsIn, Trace, Tracks, Underway}
+use Rattle.saa_word.specs.Machine.{HasMade, IsMove, State, is_lock, opened, place_in, place_of, row_of}
+use Rattle.saa_word.specs.Tracks.{IsIn, RefinesAs, Tracks}
+use Rattle.saa_word.specs.Moves.{found_by, gone, is_quiet, operation_at, followed, step_of, worked_at}
+use Rattle.saa_word.specs.Trace.{beginning, IsQuiescent, Trace, Underway}
 use Rattle.saa_word.specs.Simulation.{Conserves, IsRight, IsSilent, IsWaiting, Simulates, WaitsRightly, asked_in, call_after, holder_after, made_after, mine_after, mover, registered_after, started_step, trace_after}
 use Rattle.saa_word.proofs.Holding.{held-after, held-same, not-false}
 use Rattle.saa_word.proofs.Keeping.{opened-sized, opened-stands, other-place, quiet-stage, replicated, set-updated, work-stands, work-sized, start-stands, start-sized}
@@ -185,6 +190,12 @@ silent-next me (GoesOn place) events none = tt
 silent-next me HasToWait events none = none refl
 silent-next me (IsDone place answer) events none = tt
 
+-- While no place is in a call all is at rest
+pub rests : (state : State) (trace : Trace) → Tracks state trace → IsQuiescent trace → IsAtRest (needs_of state.rules) (row_of state) trace.state
+rests state trace tracks quiescent =
+    at-rest (needs_of state.rules) (length state.places) (row_of state) (place_of state) trace.state tracks.refines
+    (λ place. subst (λ (u : Option Underway). IsIn (needs_of state.rules) u (place_of state place)) (quiescent place) (tracks.calls place))
+
 -- A Go of a place in a call
 pub went : (state : State) (trace : Trace) (me : ℕ) → me < length state.places → Tracks state trace → is_quiet (place_of state me).stage ≡ false
     → Simulates state (Go me) (worked_at state me) trace
@@ -238,7 +249,27 @@ went state trace me here tracks busy =
     ∙ ap (left_behind (named events) (asked_in (trace.calls me))) (tracks.registered me)) in
     let shown_before : Observes needs (length state.places) (row_of state) trace.state =
     says-so needs (length state.places) (row_of state) (place_of state) trace.state tracks.refines in
+    let after : Trace = trace_after state (Go me) (worked_at state me) trace events stepped.last in
+    let then : Tracks machine after = record {
+      sized = work-sized state me tracks.sized;
+      run = run;
+      refines = refines;
+      registered = registered;
+      held = λ other. refines.seats.held other ∙ ap (λ (r : Registration). one_if (is_slot r)) (registered other);
+      asks = run-registered needs trace.state stepped.last me events (asked_in (trace.calls me)) trace.registered (trace.registered me) stepped.run
+          shown_before.once (λ poisoned. (tracks.refines.main.barren poisoned).1)
+          (subst (λ (f : ℕ → Registration). AreRegistered f trace.state.line) (sym (updated-same trace.registered me (trace.registered me) refl)) tracks.asks);
+      holder = held-after needs (length state.places) (length machine.places) (row_of state) (row_of machine) (place_of state) (place_of machine) trace.state stepped.last me
+          tracks.refines refines apart
+          ∙ ap (λ (h : ℕ). holder_after h me (main_of (row_of state)) (main_of (row_of machine))) tracks.holder;
+      calls = calls-next needs state.places trace.calls me (place_after place next)
+          (call_after (trace.registered me) (trace.calls me) (Go me) (named events) (step_of next)) here tracks.calls goes.0;
+      within = within;
+    } in
     (record {
+      operations = (omega arith, omega arith);
+      rules = refl;
+      places = length-set state.places me (place_after place next);
       events = events;
       last = stepped.last;
       run = stepped.run;
@@ -249,22 +280,8 @@ went state trace me here tracks busy =
       leads = record { last = stepped.last; run = run; shown = shown };
       conserved = conserves state (trace_after state (Go me) (worked_at state me) trace events stepped.last) run;
       few = λ one. omega (arith, within_here one);
-      tracks = record {
-        sized = work-sized state me tracks.sized;
-        run = run;
-        refines = refines;
-        registered = registered;
-        held = λ other. refines.seats.held other ∙ ap (λ (r : Registration). one_if (is_slot r)) (registered other);
-        asks = run-registered needs trace.state stepped.last me events (asked_in (trace.calls me)) trace.registered (trace.registered me) stepped.run
-            shown_before.once (λ poisoned. (tracks.refines.main.barren poisoned).1)
-            (subst (λ (f : ℕ → Registration). AreRegistered f trace.state.line) (sym (updated-same trace.registered me (trace.registered me) refl)) tracks.asks);
-        holder = held-after needs (length state.places) (length machine.places) (row_of state) (row_of machine) (place_of state) (place_of machine) trace.state stepped.last me
-            tracks.refines refines apart
-            ∙ ap (λ (h : ℕ). holder_after h me (main_of (row_of state)) (main_of (row_of machine))) tracks.holder;
-        calls = calls-next needs state.places trace.calls me (place_after place next)
-            (call_after (trace.registered me) (trace.calls me) (Go me) (named events) (step_of next)) here tracks.calls goes.0;
-        within = within;
-      };
+      quiet = rests machine after then;
+      tracks = then;
     })
 
 -- what the mover has made once it started a call
@@ -317,7 +334,28 @@ begun state trace me call here taken tracks quiet =
     (registered_after (trace.calls me) (Start me call) [] (step_of next) (trace.registered me)) here tracks.registered
     (started-left (starting_answer needs call place.registration) (begun_as call place.registration) place next answered
     ∙ ap (begun_as call) (tracks.registered me) ∙ sym (begun-registered (trace.calls me) me call [] (trace.registered me) next)) in
+    let behind_it : Trace = trace_after state (Start me call) (followed state me next) trace [] trace.state in
+    let then : Tracks after behind_it = record {
+      sized = start-sized state me behind tracks.sized;
+      run = run;
+      refines = refines;
+      registered = registered;
+      held = λ other. refines.seats.held other ∙ ap (λ (r : Registration). one_if (is_slot r)) (registered other);
+      asks = subst (λ (r : Registration). AreRegistered (updated trace.registered me r) trace.state.line)
+          (sym (begun-registered (trace.calls me) me call [] (trace.registered me) next))
+          (begun-registered-line trace.state trace.registered me call (tracks.held me) tracks.asks);
+      holder = held-after needs (length state.places) (length after.places) (row_of state) (row_of state) (place_of state) (place_of after) trace.state trace.state me
+          tracks.refines refines apart
+          ∙ ap (λ (h : ℕ). holder_after h me (main_of (row_of state)) (main_of (row_of state))) tracks.holder;
+      calls = calls-next needs state.places trace.calls me behind (call_after (trace.registered me) (trace.calls me) (Start me call) [] (step_of next)) here tracks.calls
+          (subst (λ (r : Registration). IsIn needs (call_after r (trace.calls me) (Start me call) [] (step_of next)) behind) (tracks.registered me)
+          (in-begun needs (trace.calls me) me call place next (tracks.calls me) starts none));
+      within = subst (λ n. AreWithin n (row_of state) (place_of after) made) (sym (length-set state.places me behind)) within_here;
+    } in
     (record {
+      operations = refl;
+      rules = refl;
+      places = length-set state.places me behind;
       events = [];
       last = trace.state;
       run = refl;
@@ -330,23 +368,8 @@ begun state trace me call here taken tracks quiet =
       leads = record { last = trace.state; run = run; shown = shown };
       conserved = conserves state (trace_after state (Start me call) (followed state me next) trace [] trace.state) run;
       few = λ one. omega (arith, within_here one);
-      tracks = record {
-        sized = start-sized state me behind tracks.sized;
-        run = run;
-        refines = refines;
-        registered = registered;
-        held = λ other. refines.seats.held other ∙ ap (λ (r : Registration). one_if (is_slot r)) (registered other);
-        asks = subst (λ (r : Registration). AreRegistered (updated trace.registered me r) trace.state.line)
-            (sym (begun-registered (trace.calls me) me call [] (trace.registered me) next))
-            (begun-registered-line trace.state trace.registered me call (tracks.held me) tracks.asks);
-        holder = held-after needs (length state.places) (length after.places) (row_of state) (row_of state) (place_of state) (place_of after) trace.state trace.state me
-            tracks.refines refines apart
-            ∙ ap (λ (h : ℕ). holder_after h me (main_of (row_of state)) (main_of (row_of state))) tracks.holder;
-        calls = calls-next needs state.places trace.calls me behind (call_after (trace.registered me) (trace.calls me) (Start me call) [] (step_of next)) here tracks.calls
-            (subst (λ (r : Registration). IsIn needs (call_after r (trace.calls me) (Start me call) [] (step_of next)) behind) (tracks.registered me)
-            (in-begun needs (trace.calls me) me call place next (tracks.calls me) starts none));
-        within = subst (λ n. AreWithin n (row_of state) (place_of after) made) (sym (length-set state.places me behind)) within_here;
-      };
+      quiet = rests after behind_it then;
+      tracks = then;
     })
   where
     start-right : (needs : Needs) (registered : Registration) (underway : Option Underway) (me : ℕ) (call : WordCall) (place : Place) (next : Next)
@@ -360,12 +383,15 @@ begun state trace me call here taken tracks quiet =
 pub idled : (state : State) (trace : Trace) (move : Move) (step : Step)
     → ((registered : Registration) (underway : Option Underway) → call_after registered underway move [] step ≡ underway)
     → ((underway : Option Underway) (was : Registration) → registered_after underway move [] step was ≡ was)
-    → ((made : ℕ) → mine_after made move step ≡ made)
+    → ((made : ℕ) → mine_after made move step ≡ made) → HasMade move state.operations state.operations
     → IsSilent move step [] → IsRight (needs_of state.rules) (trace.registered (mover move)) (trace.calls (mover move)) move [] step
     → WaitsRightly state state trace move step
     → Tracks state trace → Simulates state move (record { step = step; machine = state }) trace
-idled state trace move step calls registered made silent right waits tracks =
+idled state trace move step calls registered made none silent right waits tracks =
     record {
+      operations = none;
+      rules = refl;
+      places = refl;
       events = [];
       last = trace.state;
       run = refl;
@@ -376,6 +402,7 @@ idled state trace move step calls registered made silent right waits tracks =
       leads = record { last = trace.state; run = run; shown = shown };
       conserved = conserves state (trace_after state move (record { step = step; machine = state }) trace [] trace.state) run;
       few = λ one. subst (λ (m : ℕ → ℕ). m one ≤ 16 * length state.places + 48) (sym made_is) (omega (arith, tracks.within one));
+      quiet = rests state (trace_after state move (record { step = step; machine = state }) trace [] trace.state) (subst (λ (t : Trace). Tracks state t) (sym trace_is) tracks);
       tracks = subst (λ (t : Trace). Tracks state t) (sym trace_is) tracks;
     }
   where
@@ -426,7 +453,7 @@ pub simulates : (state : State) (move : Move) (trace : Trace) → IsMove (is_loc
 simulates state (Start me call) trace is tracks =
     elim (cases_Bool (is_quiet (place_of state me).stage)) [
       | inl quiet ↦ rw quiet (begun state trace me call is.0 is.1 tracks quiet)
-      | inr busy ↦ rw busy (idled state trace (Start me call) Busy (start-kept me call) (λ underway was. refl) (λ made. refl) refl
+      | inr busy ↦ rw busy (idled state trace (Start me call) Busy (start-kept me call) (λ underway was. refl) (λ made. refl) refl refl
           (start-busy (trace.registered me) (trace.calls me) me call (tracks.calls me) busy) tt tracks)
     ]
   where
@@ -440,7 +467,7 @@ simulates state (Start me call) trace is tracks =
     start-busy registered (Some underway) me call is busy = refl
 simulates state (Go me) trace is tracks =
     elim (cases_Bool (is_quiet (place_of state me).stage)) [
-      | inl quiet ↦ rw quiet (idled state trace (Go me) Idle (go-kept me) (λ underway was. refl) (λ made. refl) refl
+      | inl quiet ↦ rw quiet (idled state trace (Go me) Idle (go-kept me) (λ underway was. refl) (λ made. refl) (omega arith, omega arith) refl
           (go-idle (trace.registered me) (trace.calls me) me (tracks.calls me) (quiet-stage (place_of state me).stage quiet)) tt tracks)
       | inr busy ↦ rw busy (went state trace me is tracks busy)
     ]
@@ -483,11 +510,10 @@ simulated-as state machine move step trace step_is machine_is is tracks =
     subst (λ (n : Step). Simulates state move (record { step = n; machine = machine }) trace) (sym step_is)
     (subst (λ (m : State). Simulates state move (record { step = (gone state move).step; machine = m }) trace) (sym machine_is) (simulates state move trace is tracks))
 
-pub made-tracks : (rules : Rules) (row : List ℕ) (places : List Place) (operations count many : ℕ) → (needs_of rules).top < 2 ^ count_bits
-    → count ≤ (needs_of rules).top → many < 2 ^ 16 → row ≡ count ∷ replicate (2 * many) 0 → places ≡ replicate many idle_place → operations ≡ 0
-    → Tracks (record { rules = rules; row = row; places = places; operations = operations }) (beginning count)
-made-tracks rules row places operations count many wide small few row_is places_is operations_is =
-    subst (λ (r : List ℕ). Tracks (record { rules = rules; row = r; places = places; operations = operations }) (beginning count)) (sym row_is)
-    (subst (λ (p : List Place). Tracks (record { rules = rules; row = count ∷ replicate (2 * many) 0; places = p; operations = operations }) (beginning count))
-    (sym places_is) (subst (λ (n : ℕ). Tracks (record { rules = rules; row = count ∷ replicate (2 * many) 0; places = replicate many idle_place; operations = n }) (beginning count))
-    (sym operations_is) (opened-tracks rules count many wide small few)))
+pub made-tracks : (rules : Rules) (row : List ℕ) (places : List Place) (operations last_word count many : ℕ) → (needs_of rules).top < 2 ^ count_bits
+    → count ≤ (needs_of rules).top → many < 2 ^ 16 → row ≡ count ∷ replicate (2 * many) 0 → places ≡ replicate many idle_place → operations ≡ 0 → last_word ≡ 0
+    → Tracks (record { rules = rules; row = row; places = places; operations = operations; last_word = last_word }) (beginning count)
+made-tracks rules row places operations last_word count many wide small few row_is places_is operations_is last_is =
+    subst (λ (s : State). Tracks s (beginning count))
+    (λ i. record { rules = rules; row = sym row_is i; places = sym places_is i; operations = sym operations_is i; last_word = sym last_is i })
+    (opened-tracks rules count many wide small few)

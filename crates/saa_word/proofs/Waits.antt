@@ -1,5 +1,5 @@
 -- A place that has to wait is in a call that is blocked, and leaves words and places as they are.
-use Rattle.std.proofs.Common.{get_or, ◌≡◌, ◌≢◌, ℕ, ◌+◌, ◌<◌, ◌==◌, true, false, List, length, Option, Some, None, refl, sym, subst, ◌∙◌, ap, inl, inr}
+use Rattle.std.proofs.Common.{get_or, ◌≡◌, ◌≢◌, ℕ, ◌+◌, ◌<◌, ◌==◌, true, false, List, [], length, Option, Some, None, refl, sym, subst, ◌∙◌, ap, inl, inr}
 use Rattle.std.proofs.Math.ListN.{set}
 use Rattle.saa_word_steps.specs.declared.operation.Operation.{Operation}
 use Rattle.saa_word_steps.specs.declared.call.WordCall.{WordCall}
@@ -13,14 +13,16 @@ use Rattle.saa_word_steps.specs.declared.place.Back.{Back}
 use Rattle.saa_word_steps.specs.declared.place.Back.TheVariants.{Tells as TellsLine, Ends, Takes}
 use Rattle.saa_word_steps.specs.declared.place.Registration.{Registration}
 use Rattle.saa_core_words.specs.declared.word.Word.{Word}
-use Rattle.saa_word_steps.specs.Needs.{Needs}
+use Rattle.saa_word_steps.specs.Needs.{Needs, needs_of}
 use Rattle.saa_word_steps.specs.declared.event.Event.{Event}
 use Rattle.saa_word_steps.specs.AbstractState.{AbstractState}
 use Rattle.saa_core_spec.proofs.Counts.{number_same}
-use Rattle.saa_word_steps.specs.Steps.{needs_of, next_of, operation_of, word_at, written_by}
-use Rattle.saa_word_proofs.specs.Refinement.{IsAlone, IsLeaving, is_holder, is_slot, main_of}
+use Rattle.saa_word_steps.specs.Steps.{next_of, operation_of, word_at, written_by}
+use Rattle.saa_word_proofs.specs.Refinement.{IsAlone, IsLeaving, is_holder}
+use Rattle.saa_word_proofs.specs.Registering.{is_slot}
+use Rattle.saa_word_proofs.specs.Rows.{main_of}
 use Rattle.saa_word_proofs.specs.StepRefinement.{place_after}
-use Rattle.saa_word_proofs.specs.Calls.{IsLeavingLine, IsUnder, taken_by}
+use Rattle.saa_word_proofs.specs.CallStages.{IsLeavingLine, IsUnder, taken_by}
 use Rattle.saa_word_proofs.specs.Blocking.{IsBlockedAt}
 use Rattle.saa_word_proofs.specs.Promises.{idle_place}
 use Rattle.saa_word_proofs.proofs.RefinementLemmas.Lists.{updated-at}
@@ -29,7 +31,8 @@ use Rattle.saa_word_proofs.proofs.RefinementLemmas.Polls.{only-stalls}
 use Rattle.std.proofs.lemmas.List.{set-get_or}
 use Rattle.saa_word.specs.Machine.{State, place_of, row_of}
 use Rattle.saa_word.specs.Moves.{found_by, is_quiet, operation_at, worked_at}
-use Rattle.saa_word.specs.Trace.{IsIn, Trace, Tracks, Underway}
+use Rattle.saa_word.specs.Trace.{Trace, Underway}
+use Rattle.saa_word.specs.Tracks.{IsIn, Tracks}
 use Rattle.saa_word.specs.Simulation.{IsBlocked, IsHeldByAnother, IsWaiting}
 use Rattle.saa_word.proofs.Holding.{not-true}
 
@@ -119,14 +122,32 @@ held-up needs trace places me seen registration m call registered back PoisonLoa
 held-up needs trace places me seen registration m call registered back (PoisonExchange old) events under alone stalled =
     subst (λ (c : WordCall). IsBlocked trace places me seen 0 c) (sym under.0) (refl, stalled, m.held stalled.2)
 
+-- the call of a place that waits at its stage has named nothing yet
+none-leaving : (call : WordCall) (registered : Registration) (back : Back) (events : List Event) → IsLeavingLine call registered back events → events ≡ []
+none-leaving call registered TellsLine events leaves = absurd leaves
+none-leaving call registered Ends events leaves = absurd leaves
+none-leaving call registered (Takes request) events leaves = leaves.2
+
+none-named : (needs : Needs) (abstract : AbstractState) (me : ℕ) (seen : Word) (call : WordCall) (registered : Registration) (back : Back) (stage : Stage) (events : List Event)
+    → IsUnder needs call registered back stage events → IsBlockedAt abstract me seen stage → events ≡ []
+none-named needs abstract me seen call registered back (Take Tries) events under stalled = absurd stalled
+none-named needs abstract me seen call registered back (Take Awaits) events under stalled = under.1
+none-named needs abstract me seen call registered back (Take (Gives request)) events under stalled = under.2
+none-named needs abstract me seen call registered back FlagLoad events under stalled = none-leaving call registered back events under
+none-named needs abstract me seen call registered back (FlagExchange old) events under stalled = none-leaving call registered back events under
+none-named needs abstract me seen call registered back PoisonLoad events under stalled = under.2
+none-named needs abstract me seen call registered back (PoisonExchange old) events under stalled = under.2
+none-named needs abstract me seen call registered back stage events under stalled = absurd stalled
+
 -- and it is in a call
 held-in : (needs : Needs) (trace : Trace) (places me : ℕ) (seen : Word) (underway : Option Underway) (place : Place) → Moment trace me seen place.registration
     → IsIn needs underway place → is_quiet place.stage ≡ false → IsAlone needs place.registration place.back place.stage → IsBlockedAt trace.state me seen place.stage
-    → (u : Underway) × (underway ≡ Some u) × IsBlocked trace places me seen (word_at (operation_of needs places me place.stage)) u.call
+    → (u : Underway) × (underway ≡ Some u) × (u.events ≡ []) × IsBlocked trace places me seen (word_at (operation_of needs places me place.stage)) u.call
 held-in needs trace places me seen None place m is busy alone stalled = absurd (not-quiet place.stage busy is)
 held-in needs trace places me seen (Some underway) place m is busy alone stalled = (
   underway,
   refl,
+  none-named needs trace.state me seen underway.call underway.registered place.back place.stage underway.events is stalled,
   held-up needs trace places me seen place.registration m underway.call underway.registered place.back place.stage underway.events is alone stalled,
 )
 

@@ -1,4 +1,4 @@
--- Which kind of atomic step is made at each stage.
+-- Which kind of atomic step is made at each stage. A reader of `next_kind` has to believe this.
 use Rattle.std.specs.Prelude.{Option, Some, None}
 use Rattle.saa_word_steps.specs.declared.place.Stage.{Stage}
 use Rattle.saa_word_steps.specs.declared.place.Stage.TheVariants.{Quiet, ReadLoad, AskLoad, AskExchange, Prepare as Preparing, Join as Joining, ReleaseLoad, ReleaseExchange, BackLoad, BackStore, Forward, CutToClose, CutToGoRound, Close, Empty, GoRound, ShowLoad, ShowStore, Take as Taking, FlagLoad, FlagExchange, LookLoad, LookStore, Unlink as Unlinking, DropTail, PoisonLoad, PoisonExchange, Clear as Clearing}

@@ -1,7 +1,8 @@
--- What a move of a machine does, and a list of moves.
+-- What a move of a machine does.
 -- Internal: nobody has to believe this; contracts say what moves simulate.
+-- (Clauses that name `gone` say no more than that two calls do the same.)
 -- (An edit that turns a step puts its imports in the place of these lines.)
-use Rattle.std.specs.Prelude.{◌≡◌, ℕ, ◌+◌, ◌<◌, ◌≤◌, Bool, true, false, List, [], ◌∷◌, length, slice_index, slice_set, if◌then◌else◌}
+use Rattle.std.specs.Prelude.{ℕ, ◌+◌, Bool, true, false, length, slice_index, slice_set, if◌then◌else◌}
 use Rattle.saa_word_steps.specs.declared.call.WordCall.{WordCall}
 use Rattle.saa_word_steps.specs.declared.place.Place.{Place}
 use Rattle.saa_word_steps.specs.declared.place.Stage.{Stage}
@@ -9,24 +10,14 @@ use Rattle.saa_word_steps.specs.declared.place.Stage.TheVariants.{Quiet}
 use Rattle.saa_word_steps.specs.declared.place.Next.{Next}
 use Rattle.saa_word_steps.specs.declared.place.Next.TheVariants.{Going as GoesOn, Waits as HasToWait, Done as IsDone}
 use Rattle.saa_word_steps.specs.declared.operation.Operation.{Operation}
-use Rattle.saa_word_steps.specs.Needs.{Needs}
-use Rattle.saa_word_steps.specs.Steps.{is_taken, needs_of, next_of, operation_of, started, word_at, written_by}
+use Rattle.saa_word_steps.specs.Needs.{Needs, needs_of}
+use Rattle.saa_word_steps.specs.Steps.{next_of, operation_of, started, word_at, written_by}
 use Rattle.saa_word_proofs.specs.StepRefinement.{place_after}
 use Rattle.saa_word.specs.declared.moves.Move.{Move}
 use Rattle.saa_word.specs.declared.moves.Move.TheVariants.{Start, Go}
 use Rattle.saa_word.specs.declared.moves.Step.{Step}
 use Rattle.saa_word.specs.declared.moves.Step.TheVariants.{Idle, Busy, Going, Waits, Done}
-use Rattle.saa_word.specs.Machine.{State, place_of}
-
--- a move of a place that there is, and of a call that is taken, by a lock or by a semaphore
-abbrev pub IsMove : Bool → ℕ → Move → Type 0
-IsMove is_lock places (Start me call) = (me < places) × (is_taken is_lock call ≡ true)
-IsMove is_lock places (Go me) = me < places
-
--- what a move did, and the machine behind it
-pub record Moved : Type 0 where
-  pub step : Step
-  pub machine : State
+use Rattle.saa_word.specs.Machine.{Moved, State, place_of}
 
 -- what a place did that goes on so
 abbrev pub step_of : Next → Step
@@ -39,7 +30,9 @@ abbrev pub followed : State → ℕ → Next → Moved
 followed state me next =
     record { step = step_of next; machine = record state { places = slice_set state.places me (place_after (place_of state me) next) } }
 
--- whether a stage is that of a place in no call
+-- Whether a stage is that of a place in no call.
+-- (An edit by which a place rests at another stage
+-- says so in the place of these lines.)
 abbrev pub is_quiet : Stage → Bool
 is_quiet Quiet = true
 is_quiet _ = false
@@ -52,6 +45,7 @@ abbrev pub performed : State → Operation → State
 performed state operation = record state {
   row = slice_set state.row (word_at operation) (written_by operation (found_by state operation));
   operations = state.operations + 1;
+  last_word = word_at operation;
 }
 
 -- The steps of a place are stated here once for the machine,
@@ -100,19 +94,3 @@ started_at state me call =
 abbrev pub gone : State → Move → Moved
 gone state (Start me call) = started_at state me call
 gone state (Go me) = stepped_at state me
-
--- how many operations on words a move has made: a Start none, a Go one at most
-abbrev pub HasMade : Move → ℕ → ℕ → Type 0
-HasMade (Start me call) before after = after ≡ before
-HasMade (Go me) before after = after ≤ before + 1
-
--- what a list of moves did, each in its place, and the machine behind them
-pub record Run : Type 0 where
-  pub steps : List Step
-  pub machine : State
-
-abbrev pub ran : State → List Move → Run
-ran state [] = record { steps = []; machine = state }
-ran state (move ∷ moves) =
-    let behind : Run = ran (gone state move).machine moves in
-    record { steps = (gone state move).step ∷ behind.steps; machine = behind.machine }

@@ -1,4 +1,4 @@
--- How each move of a machine goes on with every trace that tracks it.
+-- How each move of a machine goes on with every trace that tracks it. A reader of the clauses has to believe this.
 use Rattle.std.specs.Prelude.{◌≡◌, ◌≢◌, ℕ, ◌⊎◌, ◌+◌, ◌*◌, ◌≤◌, ◌==◌, ◌||◌, Bool, true, List, [], ◌∷◌, ◌++◌, Option, Some, None, is_some, length, if◌then◌else◌}
 use Rattle.saa_core_spec.specs.Object.{one_if, times}
 use Rattle.saa_word_steps.specs.declared.call.Answer.{Answer}
@@ -8,25 +8,22 @@ use Rattle.saa_word_steps.specs.declared.event.Event.{Event}
 use Rattle.saa_word_steps.specs.declared.place.Ask.{Ask}
 use Rattle.saa_word_steps.specs.declared.place.Registration.{Registration}
 use Rattle.saa_word_steps.specs.declared.rules.Rules.TheVariants.{Permits}
-use Rattle.saa_word_steps.specs.Needs.{Needs, permit_needs}
+use Rattle.saa_word_steps.specs.Needs.{Needs, needs_of, permit_needs}
 use Rattle.saa_word_steps.specs.AbstractState.{AbstractState, IsRun, is_in}
-use Rattle.saa_word_steps.specs.Steps.{needs_of, word_at}
 use Rattle.saa_core_words.specs.declared.word.Word.{Word}
-use Rattle.saa_word_proofs.specs.Refinement.{is_slot, main_of, updated}
-use Rattle.saa_word_proofs.specs.Blocking.{IsOwnedAndFlagged}
-use Rattle.saa_word_proofs.specs.StepRefinement.{named, of_place}
+use Rattle.saa_word_proofs.specs.Rows.{IsOwnedAndFlagged, main_of, updated}
 use Rattle.saa_word_proofs.specs.Calls.{IsAnswered, asked_by}
-use Rattle.saa_word_proofs.specs.History.{LeadsTo}
-use Rattle.saa_word_proofs.specs.Promises.{Observes}
+use Rattle.saa_word_proofs.specs.History.{LeadsTo, named, of_place}
+use Rattle.saa_word_proofs.specs.Promises.{IsAtRest, Observes}
 use Rattle.saa_word_proofs.specs.Conservation.{AreOfPermits, ConservesPermits, tally_of}
-use Rattle.saa_word_proofs.specs.Registering.{begun_as, left_behind, starting_answer}
+use Rattle.saa_word_proofs.specs.Registering.{begun_as, is_slot, left_behind, starting_answer}
 use Rattle.saa_word.specs.declared.moves.Move.{Move}
 use Rattle.saa_word.specs.declared.moves.Move.TheVariants.{Start, Go}
 use Rattle.saa_word.specs.declared.moves.Step.{Step}
 use Rattle.saa_word.specs.declared.moves.Step.TheVariants.{Idle, Busy, Going, Waits, Done}
-use Rattle.saa_word.specs.Machine.{State, row_of}
-use Rattle.saa_word.specs.Moves.{Moved, gone, operation_at, ran}
-use Rattle.saa_word.specs.Trace.{Trace, Tracks, Underway}
+use Rattle.saa_word.specs.Machine.{HasMade, Moved, State, row_of}
+use Rattle.saa_word.specs.Trace.{IsQuiescent, Trace, Underway}
+use Rattle.saa_word.specs.Tracks.{Tracks}
 
 -- the place that moves
 abbrev pub mover : Move → ℕ
@@ -120,10 +117,11 @@ IsBlocked trace places me seen read Cancel =
 IsBlocked trace places me seen read PoisonLock = (read ≡ 0) × IsOwnedAndFlagged seen × IsHeldByAnother trace me
 IsBlocked trace places me seen read _ = ⊥
 
--- a place waits whose call is blocked; it doesn't hold the flag, and words and places are as they were
+-- A place that waits is in a call that is blocked and has named no event yet: it waits no more once its call has left the line, taken its answer or
+-- poisoned the lock, though it may still owe answers. It doesn't hold the flag, and words and places are as they were
 pub record IsWaiting (state after : State) (trace : Trace) (me : ℕ) : Type 0 where
-  pub blocked : (underway : Underway) × (trace.calls me ≡ Some underway)
-      × IsBlocked trace (length state.places) me (main_of (row_of state)) (word_at (operation_at state me)) underway.call
+  pub blocked : (underway : Underway) × (trace.calls me ≡ Some underway) × (underway.events ≡ [])
+      × IsBlocked trace (length state.places) me (main_of (row_of state)) after.last_word underway.call
   pub free : trace.holder ≢ me + 1
   pub row : after.row ≡ state.row
   pub places : after.places ≡ state.places
@@ -145,10 +143,14 @@ pub record IsConserved (needs : Needs) (trace : Trace) : Type 0 where
 abbrev pub Conserves : State → Trace → Type 0
 Conserves state trace = (bound : ℕ) → state.rules ≡ Permits bound → IsConserved (permit_needs bound) trace
 
--- A move simulates a list of events, none where it starts a call or waits, each enabled where it comes. What it answers is what its call and
--- events name; the words show the abstract state then, and all events so far lead to them; permits are conserved; no place has made too
--- many steps; and the trace behind the events tracks the machine
+-- A move makes one operation at most, and a Start none; rules and places stay. It simulates a list of events, none where it starts a call or
+-- waits, each enabled where it comes. What it answers is what its call and events name; the words show the abstract state then, and all events so
+-- far lead to them; permits are conserved; no place has made too many steps; if no place is in a call then, all is at rest; and the trace after the
+-- events tracks the machine
 pub record Simulates (state : State) (move : Move) (moved : Moved) (trace : Trace) : Type 0 where
+  pub operations : HasMade move state.operations moved.machine.operations
+  pub rules : moved.machine.rules ≡ state.rules
+  pub places : length moved.machine.places ≡ length state.places
   pub events : List Event
   pub last : AbstractState
   pub run : IsRun (needs_of state.rules) trace.state (of_place (mover move) events) last
@@ -159,36 +161,27 @@ pub record Simulates (state : State) (move : Move) (moved : Moved) (trace : Trac
   pub leads : LeadsTo (needs_of state.rules) (length state.places) trace.withheld (trace.history ++ of_place (mover move) events) (row_of moved.machine)
   pub conserved : Conserves state (trace_after state move moved trace events last)
   pub few : (place : ℕ) → (trace_after state move moved trace events last).made place ≤ 16 * length state.places + 48
+  pub quiet : IsQuiescent (trace_after state move moved trace events last) → IsAtRest (needs_of state.rules) (row_of moved.machine) last
   pub tracks : Tracks moved.machine (trace_after state move moved trace events last)
 
--- each of a list of moves does
-abbrev pub AllSimulate : State → List Move → Trace → Type 0
-AllSimulate state [] trace = Unit {0}
-AllSimulate state (move ∷ moves) trace =
-    (one : Simulates state move (gone state move) trace)
-    × AllSimulate (gone state move).machine moves (trace_after state move (gone state move) trace one.events one.last)
+-- Each of a list of moves simulates, in order: from a machine and its trace they lead, by these answers and these events, to a machine and its trace
+abbrev pub AllSimulate : State → Trace → List Move → List Step → List (ℕ × Event) → State → Trace → Type 0
+AllSimulate state trace [] steps events after last = (steps ≡ []) × (events ≡ []) × (after ≡ state) × (last ≡ trace)
+AllSimulate state trace (move ∷ moves) [] events after last = ⊥
+AllSimulate state trace (move ∷ moves) (step ∷ steps) events after last =
+    (machine : State) × (one : Simulates state move (record { step = step; machine = machine }) trace) × (rest : List (ℕ × Event))
+    × (events ≡ of_place (mover move) one.events ++ rest)
+    × AllSimulate machine (trace_after state move (record { step = step; machine = machine }) trace one.events one.last) moves steps rest after last
 
--- the trace behind a list of moves
-abbrev pub last_trace : (state : State) (moves : List Move) (trace : Trace) → AllSimulate state moves trace → Trace
-last_trace state [] trace all = trace
-last_trace state (move ∷ moves) trace all =
-    last_trace (gone state move).machine moves (trace_after state move (gone state move) trace all.0.events all.0.last) all.1
-
--- the events of a list of moves, each with its place
-abbrev pub events_of : (state : State) (moves : List Move) (trace : Trace) → AllSimulate state moves trace → List (ℕ × Event)
-events_of state [] trace all = []
-events_of state (move ∷ moves) trace all =
-    of_place (mover move) all.0.events
-    ++ events_of (gone state move).machine moves (trace_after state move (gone state move) trace all.0.events all.0.last) all.1
-
--- A list of moves simulates: each move does, and all their events are one run, which goes on with the history so far. The trace behind them
--- tracks the machine, all events so far lead to its words, and permits are conserved
-pub record SimulatesAll (state : State) (moves : List Move) (trace : Trace) : Type 0 where
-  pub each : AllSimulate state moves trace
-  pub run : IsRun (needs_of state.rules) trace.state (events_of state moves trace each) (last_trace state moves trace each).state
-  pub history : (last_trace state moves trace each).history ≡ trace.history ++ events_of state moves trace each
-  pub withheld : (last_trace state moves trace each).withheld ≡ trace.withheld
-  pub leads : LeadsTo (needs_of state.rules) (length state.places) trace.withheld (trace.history ++ events_of state moves trace each)
-      (row_of (ran state moves).machine)
-  pub conserved : Conserves state (last_trace state moves trace each)
-  pub tracks : Tracks (ran state moves).machine (last_trace state moves trace each)
+-- A list of moves that were answered so, and left this machine, simulates: each move does, and all their events are one run, which goes on with
+-- the history so far. The trace after them tracks the machine that is left, all events so far lead to its words, and permits are conserved
+pub record SimulatesAll (state : State) (moves : List Move) (steps : List Step) (after : State) (trace : Trace) : Type 0 where
+  pub events : List (ℕ × Event)
+  pub last : Trace
+  pub each : AllSimulate state trace moves steps events after last
+  pub run : IsRun (needs_of state.rules) trace.state events last.state
+  pub history : last.history ≡ trace.history ++ events
+  pub withheld : last.withheld ≡ trace.withheld
+  pub leads : LeadsTo (needs_of state.rules) (length state.places) trace.withheld (trace.history ++ events) (row_of after)
+  pub conserved : Conserves state last
+  pub tracks : Tracks after last

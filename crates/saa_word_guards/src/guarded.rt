@@ -1,7 +1,7 @@
 //! A value and the word's lock whose turns it is used in, and a worker at both: what the mutex and the reader-writer lock share.
 //!
 //! The value is in a lock of std, which gives it only to a guard. Only the owner of the turn takes that lock, and unlocks it before the
-//! turn is passed on, so nobody ever waits for it.
+//! turn is passed on, so it should never be contended. No clause says so.
 
 ghost use Rattle.std.specs.Prelude.{◌≡◌, All, IfOk, IfSome, vec_len};
 ghost use Rattle.saa_word_guards.specs.Turns.{HasLock, HasShare};

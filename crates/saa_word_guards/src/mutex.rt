@@ -12,14 +12,14 @@ use std::alloc::{AllocError, Global};
 use std::marker::Model;
 use std::sync::{RwLockWriteGuard as Writer, Wait};
 
-/// A value that one owner at a time uses, in the order of asking, taken by one atomic word.
+/// A value that one owner at a time uses, taken by one atomic word. Waiters are granted in FIFO order of joining the queue.
 ///
 /// `new` deals as many places as there may be workers; [`Self::worker`] makes one of a place. What holds of the value whenever nobody uses it is
 /// said by its type: a guard is given up only where every invariant of the type holds, and its holder may use them. Contracts see a mutex as the
 /// word's lock whose turns the value is used in. The lock's calls aren't handed out, so it is never poisoned.
 #[derive(Drop)]
 pub struct Mutex<T> {
-    guarded: Guarded<T>,
+    pub(crate) guarded: Guarded<T>,
 }
 
 impl<T> Model for Mutex<T> {
@@ -31,7 +31,7 @@ impl<T> Model for Mutex<T> {
 }
 
 impl<T> Mutex<T> {
-    /// A mutex that nobody has, and its places, in the order of their numbers. Costs O(`places`).
+    /// A mutex that nobody has, and its places, in the order of their numbers. Costs O(`places`). With 0 places no worker can be made.
     ///
     /// The error comes only where memory was refused; the value is dropped then. No other call takes memory.
     pub fn new(alloc: Global, value: T, places: u16) -> Result<(Self, Vec<Place>), AllocError>
@@ -95,9 +95,9 @@ impl<'l, T> Model for MutexWorker<'l, T> {
 }
 
 impl<'l, T> MutexWorker<'l, T> {
-    /// Takes the mutex, and waits for it in the line where it must.
+    /// Takes the mutex. It looks and yields a bounded number of times first, and then joins the queue where it must.
     ///
-    /// The worker is the guard's until that is dropped. It spins, yields and then parks. A thread that takes it with a second worker while it
+    /// The worker is the guard's until that is dropped. A waiter spins, yields and then parks. A thread that takes it with a second worker while it
     /// has the guard of a first waits for itself, so for ever.
     pub fn lock<'a, R: Wait>(&'a mut self, rt: &'a R) -> MutexGuard<'a, 'l, R, T> {
         let (turn, value) = self.worker.write(rt);

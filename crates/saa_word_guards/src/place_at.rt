@@ -1,7 +1,7 @@
 //! A place beside the lock that dealt it, and the calls of the lock that guards make there.
 //!
-//! What keeps the place at its lock is the type, so that nobody above has to carry that fact. A turn ends by `end_lock` or `end_share` alone:
-//! each asks for a `PutDown`, which only giving up a guard of the value makes, and which nothing else takes.
+//! What keeps the place at its lock is the type, so that nobody above has to carry that fact. A turn ends by `end_lock` or `end_share`, or
+//! is lowered by `lower`. The first two ask for a `PutDown`, which only dropping a guard of a value makes; the types don't say of which value.
 
 ghost use Rattle.std.specs.Prelude.{◌≡◌, true};
 ghost use Rattle.saa_word_steps.specs.declared.call.Answer.{Answer};
@@ -13,7 +13,7 @@ use saa_word_threads::lock::{Left, Lock, Place};
 use std::marker::PhantomData;
 use std::sync::{RwLock, RwLockReadGuard, RwLockWriteGuard, Wait};
 
-/// Says that a guard of the value was given up; only that makes one.
+/// Says that a guard of a value was dropped; only that makes one.
 pub struct PutDown {
     by: PhantomData<()>,
 }
@@ -134,7 +134,7 @@ impl<'l> PlaceAt<'l> {
     // Makes the lock of its one owner a share, and gives the value to read with it. Where the lock is no one owner's, as it never is in a turn, a
     // share is waited for.
     //
-    // The value comes first: while the turn is still one owner's alone no other task asks for the value, so taking it never blocks, and none
+    // The value comes first: while the turn is still one owner's alone no other task asks for the value, so taking it should not block, and none
     // writes in between. Were the turn lowered first, the readers that are let in beside it would have to wait for the writer's guard.
     pub(crate) fn lower<R: Wait, T>(
         &mut self,

@@ -12,15 +12,15 @@ use std::alloc::{AllocError, Global};
 use std::marker::Model;
 use std::sync::{RwLockReadGuard as Reader, RwLockWriteGuard as Writer, Wait};
 
-/// A value that up to 62 readers share, or one writer uses alone, in the order of asking, taken by one atomic word.
+/// A value that up to 62 readers share, or one writer uses alone, taken by one atomic word.
 ///
-/// Waiters are FIFO: no later request passes a waiter, a reader beside readers included. `new` deals as many places as there may be
+/// Waiters are granted in FIFO order of joining the queue: no later request passes a waiter, a reader beside readers included. `new` deals as many places as there may be
 /// workers; [`Self::worker`] makes one of a place. What holds of the value whenever nobody writes it is said by its type: a guard is given up
 /// only where every invariant of the type holds, and its holder may use them. Contracts see a lock round a value as the word's lock whose turns
 /// the value is used in. The lock's calls aren't handed out, so it is never poisoned.
 #[derive(Drop)]
 pub struct RwLock<T> {
-    guarded: Guarded<T>,
+    pub(crate) guarded: Guarded<T>,
 }
 
 impl<T> Model for RwLock<T> {
@@ -32,7 +32,7 @@ impl<T> Model for RwLock<T> {
 }
 
 impl<T> RwLock<T> {
-    /// A lock that nobody has, and its places, in the order of their numbers. Costs O(`places`).
+    /// A lock that nobody has, and its places, in the order of their numbers. Costs O(`places`). With 0 places no worker can be made.
     ///
     /// The error comes only where memory was refused; the value is dropped then. No other call takes memory.
     pub fn new(alloc: Global, value: T, places: u16) -> Result<(Self, Vec<Place>), AllocError>
@@ -96,9 +96,9 @@ impl<'l, T> Model for RwLockWorker<'l, T> {
 }
 
 impl<'l, T> RwLockWorker<'l, T> {
-    /// Takes the lock to read, and waits for it in the line where it must.
+    /// Takes the lock to read. It looks and yields a bounded number of times first, and then joins the queue where it must.
     ///
-    /// The worker is the guard's until that is dropped. It spins, yields and then parks. A thread that asks with a second worker while it has the
+    /// The worker is the guard's until that is dropped. A waiter spins, yields and then parks. A thread that asks with a second worker while it has the
     /// guard of a first may wait for itself, so for ever: behind a writer readers wait too.
     pub fn read<'a, R: Wait>(&'a mut self, rt: &'a R) -> RwLockReadGuard<'a, 'l, R, T> {
         let (turn, value) = self.worker.read(rt);
@@ -113,9 +113,9 @@ impl<'l, T> RwLockWorker<'l, T> {
         Some(RwLockReadGuard::new(turn, value))
     }
 
-    /// Takes the lock to write, and waits for it in the line where it must.
+    /// Takes the lock to write. It looks and yields a bounded number of times first, and then joins the queue where it must.
     ///
-    /// The worker is the guard's until that is dropped. It spins, yields and then parks. A thread that asks with a second worker while it has the
+    /// The worker is the guard's until that is dropped. A waiter spins, yields and then parks. A thread that asks with a second worker while it has the
     /// guard of a first waits for itself, so for ever.
     pub fn write<'a, R: Wait>(&'a mut self, rt: &'a R) -> RwLockWriteGuard<'a, 'l, R, T> {
         let cell = self.worker.value();

@@ -1,7 +1,7 @@
 //! The turn at a lock, of one owner alone or shared, and that it ends behind the value's guard.
 //!
-//! A turn has its place until it ends. It can't be dropped, so each that is taken is passed on, which asks for a `PutDown`, and for the proof that
-//! the place's last call took what the turn is of.
+//! A turn has its place until it ends. It can be neither dropped nor forgotten, so each that is taken is passed on or kept in a guard, which its
+//! holder may leak (`mem::forget`). Passing it on asks for a `PutDown`, and for the proof that the place's last call took what the turn is of.
 
 ghost use Rattle.std.specs.Prelude.{IfSome};
 ghost use Rattle.saa_word_guards.specs.Turns.{HasLock, HasShare, TookLock, TookShare};
@@ -14,7 +14,7 @@ pub trait PassesOn {
     // What was granted, which the turn is of.
     ghost granted: { Self → Type 0 };
 
-    /// Gives the turn up, to the oldest waiter.
+    /// Gives the turn up, and grants the oldest waiters while they fit.
     fn pass_on(self, value: PutDown)
         requires { ∥ granted self ∥₁ };
 }

@@ -19,3 +19,4 @@ pub mod Ends
 pub mod Books
 pub mod Ready
 pub mod Slots
+pub mod SameWords

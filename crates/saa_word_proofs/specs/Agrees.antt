@@ -1,16 +1,15 @@
--- What a call is that moves alone, from its start to its end.
+-- What a call is that moves alone, from its start to its end. Internal: nobody has to believe this.
 use Rattle.std.specs.Prelude.{◌^◌, ◌≡◌, ℕ, ◌<◌, Bool}
 use Rattle.saa_core_spec.specs.Object.{Object}
 use Rattle.saa_core_words.specs.Words.{count_bits}
 use Rattle.saa_word_steps.specs.declared.call.Answer.{Answer}
 use Rattle.saa_word_steps.specs.declared.call.WordCall.{WordCall}
 use Rattle.saa_word_steps.specs.declared.rules.Rules.{Rules}
-use Rattle.saa_word_steps.specs.Needs.{Needs}
+use Rattle.saa_word_steps.specs.Needs.{Needs, needs_of}
 use Rattle.saa_word_steps.specs.AbstractState.{AbstractState}
-use Rattle.saa_word_steps.specs.Steps.{needs_of}
 use Rattle.saa_word_proofs.specs.Refinement.{Refines}
-use Rattle.saa_word_proofs.specs.Alone.{Moment, IsQuiet}
-use Rattle.saa_word_proofs.specs.Mirrors.{Mirrors, called}
+use Rattle.saa_word_proofs.specs.Alone.{IsQuiet, Mirrors, Moment}
+use Rattle.saa_word_proofs.specs.Represents.{called}
 
 -- At the start no place is in a call, and a sequential object stands for the moment. There are no more permits than a word counts, no
 -- more places than it links, and `me` is one of them

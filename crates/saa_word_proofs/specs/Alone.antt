@@ -1,5 +1,7 @@
--- A call that moves alone, from a moment when no place is in a call.
-use Rattle.std.specs.Prelude.{◌≡◌, ℕ, zero, suc, false, None}
+-- A call that moves alone, from a moment when no place is in a call. Internal: nobody has to believe this, which reads the stages of places; what a
+-- solo run promises is said of the machine's trace.
+use Rattle.std.specs.Prelude.{◌≡◌, ℕ, zero, suc}
+use Rattle.saa_core_spec.specs.Object.{Object}
 use Rattle.saa_word_steps.specs.declared.place.Place.{Place}
 use Rattle.saa_word_steps.specs.declared.place.Next.{Next}
 use Rattle.saa_word_steps.specs.declared.place.Next.TheVariants.{Going, Waits, Done}
@@ -7,22 +9,19 @@ use Rattle.saa_word_steps.specs.declared.place.Stage.TheVariants.{Quiet}
 use Rattle.saa_word_steps.specs.declared.call.Answer.{Answer}
 use Rattle.saa_word_steps.specs.declared.call.WordCall.{WordCall}
 use Rattle.saa_word_steps.specs.Needs.{Needs}
-use Rattle.saa_word_steps.specs.AbstractState.{AbstractState, IsSettledAt}
+use Rattle.saa_word_steps.specs.AbstractState.{AbstractState}
 use Rattle.saa_word_steps.specs.Steps.{word_at, operation_of, next_of, started}
-use Rattle.saa_word_proofs.specs.Refinement.{main_of, line_of, IsBehind, updated}
+use Rattle.saa_word_proofs.specs.Rows.{updated}
 use Rattle.saa_word_proofs.specs.StepRefinement.{place_after, row_after}
+use Rattle.saa_word_proofs.specs.Represents.{Represents}
 
 -- no place is in a call
 abbrev pub IsQuiet : (ℕ → Place) → Type 0
 IsQuiet standing = (place : ℕ) → (standing place).stage ≡ Quiet
 
--- The flag is clear, no answer is due, the object isn't open, its line is settled, and the line words link all waiters
-pub record IsAtRest (needs : Needs) (row : ℕ → ℕ) (state : AbstractState) : Type 0 where
-  pub clear : (main_of row).is_flagged ≡ false
-  pub paid : (place : ℕ) → state.due place ≡ None
-  pub closed : state.unclosed ≡ false
-  pub settled : IsSettledAt needs state.count state.line
-  pub linked : IsBehind (line_of row) 0 state.line
+-- the sequential object represents the abstract state with what the places are registered as
+abbrev pub Mirrors : Needs → ℕ → (ℕ → Place) → AbstractState → Object → Type 0
+Mirrors needs places standing state s = Represents needs places (λ place. (standing place).registration) state s
 
 -- the row of words and the places at a moment
 pub record Moment : Type 0 where

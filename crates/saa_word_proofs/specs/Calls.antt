@@ -1,4 +1,4 @@
--- Which events a call has named so far where it stands at a stage, and which answer its events name.
+-- Which answer the events of a call name. A reader of the clauses has to believe this.
 use Rattle.std.specs.Prelude.{◌≡◌, ◌≢◌, ℕ, ◌⊎◌, Bool, true, false, not, ◌&&◌, ◌==◌, if◌then◌else◌, List, [], ◌∷◌, Option, Some, None, Ok, Err}
 use Rattle.saa_core_spec.specs.Lock.{try_answer}
 use Rattle.saa_core_spec.specs.Values.{granted_value}
@@ -10,24 +10,16 @@ use Rattle.saa_word_steps.specs.declared.call.Answer.TheVariants.{Bool as Says, 
 use Rattle.saa_word_steps.specs.declared.place.Ask.{Ask}
 use Rattle.saa_word_steps.specs.declared.place.Given.{Given}
 use Rattle.saa_word_steps.specs.declared.place.Given.TheVariants.{Asked, AllButAShare}
-use Rattle.saa_word_steps.specs.declared.place.Back.{Back}
-use Rattle.saa_word_steps.specs.declared.place.Back.TheVariants.{Tells, Ends, Takes}
 use Rattle.saa_word_steps.specs.declared.place.Reading.{Reading}
 use Rattle.saa_word_steps.specs.declared.place.Reading.TheVariants.{Available as ReadsAvailable, IsFree as ReadsFree, IsLocked as ReadsLocked, IsShared as ReadsShared, IsPoisoned as ReadsPoisoned}
 use Rattle.saa_word_steps.specs.declared.place.Registration.{Registration}
 use Rattle.saa_word_steps.specs.declared.place.Registration.TheVariants.{Once, Slot}
-use Rattle.saa_word_steps.specs.declared.place.Taking.{Taking}
-use Rattle.saa_word_steps.specs.declared.place.Taking.TheVariants.{Tries, Awaits, Gives}
-use Rattle.saa_word_steps.specs.declared.place.Stage.{Stage}
-use Rattle.saa_word_steps.specs.declared.place.Stage.TheVariants.{Quiet, ReadLoad, AskLoad, AskExchange, Prepare, Join, ReleaseLoad, ReleaseExchange, Take, FlagLoad, FlagExchange, LookLoad, LookStore, Unlink, DropTail, PoisonLoad, PoisonExchange, Clear}
-use Rattle.saa_word_steps.specs.declared.place.Next.{Next}
-use Rattle.saa_word_steps.specs.declared.place.Next.TheVariants.{Going, Waits, Done}
 use Rattle.saa_word_steps.specs.Needs.{Needs}
-use Rattle.saa_word_steps.specs.Steps.{mode_number, read_as, tried_answer}
+use Rattle.saa_word_steps.specs.Readings.{mode_number, read_as, tried_answer}
 use Rattle.saa_word_steps.specs.declared.event.Event.{Event}
 use Rattle.saa_word_steps.specs.declared.event.Event.TheVariants.{Got, Refused, AskedPoisoned, Joined, Left, Gave, GaveNothing, Lowered, NotLowered, Poisoned, NotPoisoned, Cleared, NotCleared, NotReady, Took, Read}
 
--- what a call asks for, gives back and reads
+-- what a call asks for
 abbrev pub asked_by : WordCall → Option Ask
 asked_by (Try count) = Some (record { request = count; joins = false })
 asked_by (Register count) = Some (record { request = count; joins = true })
@@ -35,21 +27,6 @@ asked_by TryLock = Some (record { request = 0; joins = false })
 asked_by TryShare = Some (record { request = 1; joins = false })
 asked_by (RegisterMode mode) = Some (record { request = mode_number mode; joins = true })
 asked_by _ = None
-
-abbrev pub given_by : WordCall → Option Given
-given_by (Release count) = Some (Asked count)
-given_by ReleaseLock = Some (Asked 0)
-given_by ReleaseShare = Some (Asked 1)
-given_by Downgrade = Some AllButAShare
-given_by _ = None
-
-abbrev pub read_by : WordCall → Option Reading
-read_by Available = Some ReadsAvailable
-read_by IsFree = Some ReadsFree
-read_by IsLocked = Some ReadsLocked
-read_by IsShared = Some ReadsShared
-read_by IsPoisoned = Some ReadsPoisoned
-read_by _ = None
 
 -- the answer that an event names for an ask: a registration is told that it was made
 abbrev pub ask_named : Needs → Ask → Event → Option Answer
@@ -131,72 +108,3 @@ IsCancelled needs _ events = ⊥
 abbrev pub IsAnswered : Needs → WordCall → Registration → List Event → Answer → Type 0
 IsAnswered needs Cancel registered events answer = (answer ≡ Ended) × IsCancelled needs registered events
 IsAnswered needs call registered events answer = (event : Event) × (events ≡ event ∷ []) × (answer_named needs call event ≡ Some answer)
-
--- a call that takes its answer
-abbrev pub taken_by : WordCall → Option Taking
-taken_by TryPoll = Some Tries
-taken_by Poll = Some Awaits
-taken_by _ = None
-
--- a cancel that gives back what its registration was granted has named that it took its answer, where it waited for that
-abbrev pub IsGivingUp : Needs → Registration → Given → List Event → Type 0
-IsGivingUp needs (Slot request) given events = (given ≡ Asked request) × (needs.takes request ≢ 0) × (events ≡ Took granted_value ∷ [])
-IsGivingUp needs (Once value request) given events = (given ≡ Asked request) × (is_taken_up needs request value ≡ true) × (events ≡ [])
-IsGivingUp needs _ given events = ⊥
-
--- a call that gives something back, all but a share too, by what it does once it is done with the line
-abbrev pub IsReleasing : Needs → WordCall → Registration → Back → Given → List Event → Type 0
-IsReleasing needs call registered Tells given events = (given_by call ≡ Some given) × (events ≡ [])
-IsReleasing needs call registered Ends given events = (call ≡ Cancel) × IsGivingUp needs registered given events
-IsReleasing needs call registered (Takes request) given events = ⊥
-
--- a place that works on the line or shows answers has given something back, or poisoned the lock, or left the line; or it takes its own answer
--- next, and has named nothing
-abbrev pub IsWorking : Needs → WordCall → Registration → Back → List Event → Type 0
-IsWorking needs call registered Tells events = (event : Event) × (events ≡ event ∷ []) × (answer_named needs call event ≡ Some (Says true)) × (call ≢ Cancel)
-IsWorking needs call registered Ends events = (call ≡ Cancel) × IsCancelled needs registered events
-IsWorking needs call registered (Takes request) events = (call ≡ Cancel) × (registered ≡ Slot request) × (events ≡ [])
-
--- a cancel that is to leave the line has named nothing
-abbrev pub IsLeavingLine : WordCall → Registration → Back → List Event → Type 0
-IsLeavingLine call registered (Takes request) events = (call ≡ Cancel) × (registered ≡ Slot request) × (events ≡ [])
-IsLeavingLine call registered _ events = ⊥
-
--- a poll, or a cancel that takes its own answer
-abbrev pub IsTaking : WordCall → Registration → Taking → List Event → Type 0
-IsTaking call registered (Gives request) events = (call ≡ Cancel) × (registered ≡ Slot request) × (events ≡ [])
-IsTaking call registered taking events = (taken_by call ≡ Some taking) × (events ≡ [])
-
--- a call of a place that was registered so stands at a stage, and has named these events so far
-abbrev pub IsUnder : Needs → WordCall → Registration → Back → Stage → List Event → Type 0
-IsUnder needs call registered back Quiet events = ⊥
-IsUnder needs call registered back (ReadLoad reading) events = (read_by call ≡ Some reading) × (events ≡ [])
-IsUnder needs call registered back (AskLoad ask) events = (asked_by call ≡ Some ask) × (events ≡ [])
-IsUnder needs call registered back (AskExchange ask seen) events = (asked_by call ≡ Some ask) × (events ≡ [])
-IsUnder needs call registered back (Prepare request seen) events = (asked_by call ≡ Some (record { request = request; joins = true })) × (events ≡ [])
-IsUnder needs call registered back (Join request seen) events = (asked_by call ≡ Some (record { request = request; joins = true })) × (events ≡ [])
-IsUnder needs call registered back (ReleaseLoad given) events = IsReleasing needs call registered back given events
-IsUnder needs call registered back (ReleaseExchange given seen) events = IsReleasing needs call registered back given events
-IsUnder needs call registered back (Take taking) events = IsTaking call registered taking events
-IsUnder needs call registered back FlagLoad events = IsLeavingLine call registered back events
-IsUnder needs call registered back (FlagExchange seen) events = IsLeavingLine call registered back events
-IsUnder needs call registered back (LookLoad seen current newer previous) events = IsLeavingLine call registered back events
-IsUnder needs call registered back (LookStore seen current newer line) events = IsLeavingLine call registered back events
-IsUnder needs call registered back (Unlink seen newer line older) events = IsLeavingLine call registered back events
-IsUnder needs call registered back (DropTail seen older) events = IsLeavingLine call registered back events
-IsUnder needs call registered back PoisonLoad events = (call ≡ PoisonLock) × (back ≡ Tells) × (events ≡ [])
-IsUnder needs call registered back (PoisonExchange seen) events = (call ≡ PoisonLock) × (back ≡ Tells) × (events ≡ [])
-IsUnder needs call registered back Clear events = (call ≡ ClearPoison) × (events ≡ [])
-IsUnder needs call registered back _ events = IsWorking needs call registered back events
-
--- how a call that stood at a stage goes on: at another, where it was, or done with the answer that its events name
-abbrev pub IsUnderNext : Needs → WordCall → Registration → Back → Stage → List Event → Next → Type 0
-IsUnderNext needs call registered back stage events (Going place) = IsUnder needs call registered place.back place.stage events
-IsUnderNext needs call registered back stage events Waits = IsUnder needs call registered back stage events
-IsUnderNext needs call registered back stage events (Done place answer) = IsAnswered needs call registered events answer
-
--- how a call goes on that has just started: it has named nothing yet, where it isn't done at once
-abbrev pub IsBegun : Needs → WordCall → Registration → Next → Type 0
-IsBegun needs call registered (Going place) = IsUnder needs call registered place.back place.stage []
-IsBegun needs call registered Waits = ⊥
-IsBegun needs call registered (Done place answer) = place.stage ≡ Quiet

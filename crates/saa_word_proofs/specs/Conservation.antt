@@ -1,4 +1,5 @@
--- What is counted along the events of the abstract state: what was got, what was given back, and what is granted and not taken yet.
+-- What is counted along the events of the abstract state: what was got, what was given back, and what is granted and not taken yet. A reader of
+-- the clauses has to believe this.
 use Rattle.std.specs.Prelude.{◌≡◌, ℕ, ◌+◌, ◌==◌, Bool, true, false, if◌then◌else◌, List, [], ◌∷◌, ◌++◌, take}
 use Rattle.saa_core_spec.specs.Values.{granted_value}
 use Rattle.saa_core_spec.specs.Object.{without}

@@ -1,4 +1,4 @@
--- That a call is done which moves alone.
+-- That a call is done which moves alone. Internal: nobody has to believe this.
 use Rattle.std.specs.Prelude.{ℕ, ◌≤◌}
 use Rattle.saa_word_steps.specs.declared.call.Answer.{Answer}
 use Rattle.saa_word_steps.specs.declared.call.WordCall.{WordCall}

@@ -1,9 +1,26 @@
--- Histories: lists of events, each with its place, and what they say of words and of each place.
-use Rattle.std.specs.Prelude.{◌≡◌, ℕ, Bool, false, ◌||◌, ◌==◌, if◌then◌else◌, List, [], ◌∷◌, ◌++◌}
+-- Histories: lists of events, each with its place, and what they say of words and of each place. A reader of the clauses has to believe this.
+use Rattle.std.specs.Prelude.{◌≡◌, ℕ, Bool, true, false, ◌||◌, ◌==◌, if◌then◌else◌, List, [], ◌∷◌, ◌++◌}
 use Rattle.saa_word_steps.specs.declared.event.Event.{Event}
+use Rattle.saa_word_steps.specs.declared.event.Event.TheVariants.{Granted, Closed, Showed}
 use Rattle.saa_word_steps.specs.Needs.{Needs}
 use Rattle.saa_word_steps.specs.AbstractState.{AbstractState, IsRun, opening}
 use Rattle.saa_word_proofs.specs.Promises.{Observes}
+
+-- the events of one place
+abbrev pub of_place : ℕ → List Event → List (ℕ × Event)
+of_place place [] = []
+of_place place (event ∷ rest) = (place, event) ∷ of_place place rest
+
+-- whether an answer names an event; none names what the holder of the flag does for others
+abbrev pub is_named : Event → Bool
+is_named (Granted askers) = false
+is_named Closed = false
+is_named (Showed shown_place) = false
+is_named _ = true
+
+abbrev pub named : List Event → List Event
+named [] = []
+named (event ∷ rest) = if is_named event then (event ∷ named rest) else named rest
 
 -- A place's part of a history: its events, in their order
 abbrev pub part_of : ℕ → List (ℕ × Event) → List Event

@@ -1,13 +1,15 @@
 pub mod Alone
-pub mod Mirrors
+pub mod Represents
 pub mod Agrees
 pub mod Ends
+pub mod Rows
 pub mod Registering
 pub mod Conservation
 pub mod StepBound
 pub mod Refinement
 pub mod StepRefinement
 pub mod Calls
+pub mod CallStages
 pub mod Promises
 pub mod Blocking
 pub mod History

@@ -1,5 +1,5 @@
--- What stands in the words at every moment, said of the numbers alone.
-use Rattle.std.specs.Prelude.{◌≡◌, ℕ, ◌+◌, ◌<◌, ◌≤◌, ◌==◌, ◌^◌, true, false, if◌then◌else◌, List, [], ◌∷◌, ◌++◌}
+-- What stands in the words at every moment, said of the numbers alone. A reader of the clauses has to believe this.
+use Rattle.std.specs.Prelude.{◌≡◌, ℕ, ◌+◌, ◌<◌, ◌≤◌, ◌==◌, ◌^◌, true, false, if◌then◌else◌, List, [], ◌∷◌, ◌++◌, None}
 use Rattle.saa_core_words.specs.declared.line_word.LineWord.{LineWord}
 use Rattle.saa_core_words.specs.Words.{answer_number, count_bits, word_number}
 use Rattle.saa_word_steps.specs.declared.place.Place.{Place}
@@ -7,9 +7,9 @@ use Rattle.saa_word_steps.specs.declared.place.Registration.TheVariants.{Idle}
 use Rattle.saa_word_steps.specs.declared.place.Stage.TheVariants.{Quiet}
 use Rattle.saa_word_steps.specs.declared.place.Back.TheVariants.{Tells}
 use Rattle.saa_word_steps.specs.Needs.{Needs}
-use Rattle.saa_word_steps.specs.Steps.{poisoned_word}
+use Rattle.saa_word_steps.specs.Readings.{poisoned_word}
 use Rattle.saa_word_steps.specs.AbstractState.{AbstractState, IsSettledAt, held_by}
-use Rattle.saa_word_proofs.specs.Refinement.{main_of, line_of}
+use Rattle.saa_word_proofs.specs.Rows.{IsBehind, main_of, line_of}
 
 -- a place in no call, that is registered as nothing
 abbrev pub idle_place : Place
@@ -50,3 +50,11 @@ pub record Observes (needs : Needs) (places : ℕ) (row : ℕ → ℕ) (state : 
   pub settled : (main_of row).is_flagged ≡ false → IsSettledAt needs state.count state.line
   pub bounded : state.count ≤ needs.top
   pub once : (place : ℕ) → held_by place state ≤ 1
+
+-- The flag is clear, no answer is due, the object isn't open, its line is settled, and the line words link all waiters
+pub record IsAtRest (needs : Needs) (row : ℕ → ℕ) (state : AbstractState) : Type 0 where
+  pub clear : (main_of row).is_flagged ≡ false
+  pub paid : (place : ℕ) → state.due place ≡ None
+  pub closed : state.unclosed ≡ false
+  pub settled : IsSettledAt needs state.count state.line
+  pub linked : IsBehind (line_of row) 0 state.line

@@ -3,12 +3,12 @@
 --
 -- The row is a function from indexes to numbers: 0 the main word, behind it the line word of each place, behind those the answer
 -- words. A place stands in a word by its link, its number plus 1.
-use Rattle.std.specs.Prelude.{◌≡◌, ℕ, ◌+◌, ◌<◌, ◌≤◌, pred, Bool, true, false, not, ◌||◌, ◌==◌, if◌then◌else◌, List, [], ◌∷◌, ◌++◌, Option, Some, is_some, ◌^◌}
+use Rattle.std.specs.Prelude.{◌≡◌, ℕ, ◌+◌, ◌<◌, ◌≤◌, pred, Bool, true, false, not, ◌||◌, ◌==◌, List, [], ◌∷◌, ◌++◌, Option, Some, is_some, ◌^◌}
 use Rattle.saa_core_spec.specs.Held.{Exclusive}
 use Rattle.saa_core_spec.specs.Object.{one_if, times}
 use Rattle.saa_core_words.specs.declared.word.Word.{Word}
 use Rattle.saa_core_words.specs.declared.line_word.LineWord.{LineWord}
-use Rattle.saa_core_words.specs.Words.{count_bits, word_of, line_word_of, answer_number, lock_count}
+use Rattle.saa_core_words.specs.Words.{count_bits, word_of, answer_number, lock_count}
 use Rattle.saa_word_steps.specs.declared.place.Place.{Place}
 use Rattle.saa_word_steps.specs.declared.place.Registration.{Registration}
 use Rattle.saa_word_steps.specs.declared.place.Registration.TheVariants.{Slot}
@@ -21,17 +21,8 @@ use Rattle.saa_word_steps.specs.declared.place.Stage.TheVariants.{Quiet, AskLoad
 use Rattle.saa_word_steps.specs.Needs.{Needs, fits_count}
 use Rattle.saa_word_steps.specs.AbstractState.{AbstractState, IsFront, IsSettledAt, is_empty, is_in, takes_of, held_by}
 use Rattle.saa_word_steps.specs.Steps.{IsRanged, left_from}
-
--- a function with another value at one number
-abbrev pub updated : {A : Type 0} → (ℕ → A) → ℕ → A → ℕ → A
-updated old at value other = if other == at then value else old other
-
--- the main word of a row, and the line word of a place
-abbrev pub main_of : (ℕ → ℕ) → Word
-main_of row = word_of count_bits (row 0)
-
-abbrev pub line_of : (ℕ → ℕ) → ℕ → LineWord
-line_of row place = line_word_of (row (place + 1))
+use Rattle.saa_word_proofs.specs.Registering.{is_slot}
+use Rattle.saa_word_proofs.specs.Rows.{IsBehind, line_of}
 
 -- the link to the newest of a line, and that to its older neighbour where the line is empty
 abbrev pub newest : ℕ → List (ℕ × ℕ) → ℕ
@@ -43,22 +34,11 @@ abbrev pub oldest : List (ℕ × ℕ) → ℕ
 oldest [] = 0
 oldest (asker ∷ rest) = asker.0 + 1
 
--- each of these stands right behind the one before it, the first behind a link, and asks what its line word says
-abbrev pub IsBehind : (ℕ → LineWord) → ℕ → List (ℕ × ℕ) → Type 0
-IsBehind words older [] = Unit {0}
-IsBehind words older (asker ∷ rest) =
-    ((words asker.0).request ≡ asker.1) × ((words asker.0).older ≡ older) × IsBehind words (asker.0 + 1) rest
-
 -- each of these but the last is linked to the one behind it
 abbrev pub IsAhead : (ℕ → LineWord) → List (ℕ × ℕ) → Type 0
 IsAhead words [] = Unit {0}
 IsAhead words (asker ∷ []) = Unit {0}
 IsAhead words (asker ∷ (next ∷ rest)) = ((words asker.0).newer ≡ next.0 + 1) × IsAhead words (next ∷ rest)
-
--- whether a registration holds a place of the line, or an answer that was waited for
-abbrev pub is_slot : Registration → Bool
-is_slot (Slot request) = true
-is_slot _ = false
 
 -- whether a place holds the flag
 abbrev pub is_holder : Stage → Bool

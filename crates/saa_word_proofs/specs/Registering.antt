@@ -1,14 +1,11 @@
 -- What a place is registered as behind the start of a call and behind each event, and what a call answers at its start: all read off the
--- call, the events and what the place was registered as.
-use Rattle.std.specs.Prelude.{◌≡◌, ℕ, ◌+◌, ◌<◌, true, false, if◌then◌else◌, nat_lt, ◌==◌, List, [], ◌∷◌, Option, Some, None, Ok, Err}
+-- call, the events and what the place was registered as. A reader of the clauses has to believe this.
+use Rattle.std.specs.Prelude.{◌≡◌, ℕ, Bool, true, false, if◌then◌else◌, nat_lt, ◌==◌, List, [], ◌∷◌, Option, Some, None, Ok, Err}
 use Rattle.saa_core_spec.specs.Values.{granted_value, poisoned_value}
 use Rattle.saa_core_spec.specs.declared.polling.Error.TheVariants.{NotRegistered}
 use Rattle.saa_word_steps.specs.declared.place.Ask.{Ask}
 use Rattle.saa_word_steps.specs.declared.place.Registration.{Registration}
 use Rattle.saa_word_steps.specs.declared.place.Registration.TheVariants.{Idle, Once, Slot}
-use Rattle.saa_word_steps.specs.declared.place.Stage.TheVariants.{Quiet}
-use Rattle.saa_word_steps.specs.declared.place.Next.{Next}
-use Rattle.saa_word_steps.specs.declared.place.Next.TheVariants.{Going, Waits, Done}
 use Rattle.saa_word_steps.specs.declared.call.Answer.{Answer}
 use Rattle.saa_word_steps.specs.declared.call.Answer.TheVariants.{Bool as Says, Taken, Unit as Ended}
 use Rattle.saa_word_steps.specs.declared.call.WordCall.{WordCall}
@@ -16,8 +13,12 @@ use Rattle.saa_word_steps.specs.declared.call.WordCall.TheVariants.{Try, Registe
 use Rattle.saa_word_steps.specs.declared.event.Event.{Event}
 use Rattle.saa_word_steps.specs.declared.event.Event.TheVariants.{Got, AskedPoisoned, Joined, Left, Took}
 use Rattle.saa_word_steps.specs.Needs.{Needs}
-use Rattle.saa_word_steps.specs.Steps.{IsRanged, operation_of, word_at}
 use Rattle.saa_word_proofs.specs.Calls.{is_taken_up}
+
+-- whether a registration holds a place of the line, or an answer that was waited for
+abbrev pub is_slot : Registration → Bool
+is_slot (Slot request) = true
+is_slot _ = false
 
 -- What a place is registered as behind an event of its call, which may ask for something. Got: a registration was answered at once, with
 -- that request. Asked a poisoned lock: it was answered at once that the lock is poisoned. Joined: it is in the line with that request.
@@ -34,12 +35,6 @@ left_by _ asks was = was
 abbrev pub left_behind : List Event → Option Ask → Registration → Registration
 left_behind [] asks was = was
 left_behind (event ∷ rest) asks was = left_behind rest asks (left_by event asks was)
-
--- a place is registered so where its call goes on or is done, and as before where it waits; a place that is done is at rest
-abbrev pub IsLeft : Registration → Registration → Next → Type 0
-IsLeft was now (Going place) = place.registration ≡ now
-IsLeft was now Waits = was ≡ now
-IsLeft was now (Done place answer) = (place.registration ≡ now) × (place.stage ≡ Quiet)
 
 -- What a place is registered as once a call has started: a poll and a cancel take what was answered at once, and it is idle then
 abbrev pub begun_as : WordCall → Registration → Registration
@@ -75,18 +70,7 @@ starting_answer needs Poll was = polling_answer was
 starting_answer needs Cancel was = cancelling_answer needs was
 starting_answer needs _ was = None
 
--- a call that starts answers so, or goes on where there is no answer, and its place is registered so
-abbrev pub IsStartedAs : Option Answer → Registration → Next → Type 0
-IsStartedAs None now (Going place) = place.registration ≡ now
-IsStartedAs (Some answer) now (Done place said) = (said ≡ answer) × (place.registration ≡ now) × (place.stage ≡ Quiet)
-IsStartedAs _ now _ = ⊥
-
 -- each of a line is registered in it with what it asks
 abbrev pub AreRegistered : (ℕ → Registration) → List (ℕ × ℕ) → Type 0
 AreRegistered registered [] = Unit {0}
 AreRegistered registered (asker ∷ rest) = (registered asker.0 ≡ Slot asker.1) × AreRegistered registered rest
-
--- A place can make its next step where it goes on: what it remembers is within the bits of a count, and its word is one of the row
-abbrev pub IsReadyNext : Needs → ℕ → ℕ → Next → Type 0
-IsReadyNext needs places me (Going place) = IsRanged needs place.stage × (word_at (operation_of needs places me place.stage) < places + places + 1)
-IsReadyNext needs places me _ = Unit {0}

@@ -1,3 +1,5 @@
+-- Internal: nobody has to believe this; it is an invariant of proofs. What the machine promises of steps is said of their numbers.
+--
 -- How many steps a call has left at most, as long as no other place changes the main word. It is read off the row of numbers and the
 -- stage: each quantity is how many places are met from a link along older links.
 use Rattle.std.specs.Prelude.{◌≡◌, ℕ, suc, zero, ◌+◌, ◌-◌, ◌*◌, ◌<◌, ◌≤◌, Bool, not, ◌&&◌, ◌==◌, if◌then◌else◌, nat_lt}
@@ -14,7 +16,8 @@ use Rattle.saa_word_steps.specs.declared.place.Next.{Next}
 use Rattle.saa_word_steps.specs.declared.place.Next.TheVariants.{Going, Waits, Done}
 use Rattle.saa_word_steps.specs.Needs.{Needs}
 use Rattle.saa_word_steps.specs.Steps.{word_at, operation_of, next_of}
-use Rattle.saa_word_proofs.specs.Refinement.{takes_back, updated}
+use Rattle.saa_word_proofs.specs.Refinement.{takes_back}
+use Rattle.saa_word_proofs.specs.Rows.{updated}
 use Rattle.saa_word_proofs.specs.StepRefinement.{row_after, place_after}
 
 -- whether a link leads to one of so many places

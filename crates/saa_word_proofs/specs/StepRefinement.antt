@@ -1,4 +1,5 @@
 -- What a step of a place is to the whole: events of the abstract state, after which words, places and object stand together again.
+-- Internal: nobody has to believe this; what a move promises is said of words and events.
 use Rattle.std.specs.Prelude.{◌≡◌, ℕ, ◌+◌, ◌%◌, ◌<◌, Bool, true, false, not, ◌||◌, ◌==◌, if◌then◌else◌, List, [], ◌∷◌, Option, Some, None}
 use Rattle.saa_core_spec.specs.Held.{Exclusive}
 use Rattle.saa_core_words.specs.declared.word.Word.{Word}
@@ -15,26 +16,13 @@ use Rattle.saa_word_steps.specs.declared.place.Next.TheVariants.{Going, Waits, D
 use Rattle.saa_word_steps.specs.declared.operation.Operation.{Operation}
 use Rattle.saa_word_steps.specs.Needs.{Needs}
 use Rattle.saa_word_steps.specs.declared.event.Event.{Event}
-use Rattle.saa_word_steps.specs.declared.event.Event.TheVariants.{Got, Refused, AskedPoisoned, Joined, Left, Gave, GaveNothing, Lowered, NotLowered, NotReady, Granted, Closed, Poisoned, NotPoisoned, Cleared, NotCleared, Showed, Took, Read}
+use Rattle.saa_word_steps.specs.declared.event.Event.TheVariants.{Got, Refused, AskedPoisoned, Joined, Left, Gave, GaveNothing, Lowered, NotLowered, NotReady, Poisoned, NotPoisoned, Cleared, NotCleared, Took, Read}
 use Rattle.saa_word_steps.specs.AbstractState.{AbstractState, IsRun}
-use Rattle.saa_word_steps.specs.Steps.{left_from, word_at, written_by, operation_of, next_of, poisoned_word}
-use Rattle.saa_word_proofs.specs.Refinement.{Refines, updated, waits_behind}
-
--- the events of one place
-abbrev pub of_place : ℕ → List Event → List (ℕ × Event)
-of_place place [] = []
-of_place place (event ∷ rest) = (place, event) ∷ of_place place rest
-
--- whether an answer names an event; none names what the holder of the flag does for others
-abbrev pub is_named : Event → Bool
-is_named (Granted askers) = false
-is_named Closed = false
-is_named (Showed shown_place) = false
-is_named _ = true
-
-abbrev pub named : List Event → List Event
-named [] = []
-named (event ∷ rest) = if is_named event then (event ∷ named rest) else named rest
+use Rattle.saa_word_steps.specs.Steps.{left_from, word_at, written_by, operation_of, next_of}
+use Rattle.saa_word_steps.specs.Readings.{poisoned_word}
+use Rattle.saa_word_proofs.specs.History.{named, of_place}
+use Rattle.saa_word_proofs.specs.Refinement.{Refines, waits_behind}
+use Rattle.saa_word_proofs.specs.Rows.{updated}
 
 -- nothing is poisoned by these
 abbrev pub never_poisons : List Event → Bool

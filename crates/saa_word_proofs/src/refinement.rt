@@ -8,12 +8,14 @@ ghost use Rattle.saa_word_steps.specs.declared.place.Registration.{Registration}
 ghost use Rattle.saa_word_steps.specs.Needs.{Needs, AreNeeds};
 ghost use Rattle.saa_word_steps.specs.declared.event.Event.{Event};
 ghost use Rattle.saa_word_steps.specs.AbstractState.{AbstractState, opening};
-ghost use Rattle.saa_word_steps.specs.Steps.{is_taken, next_of, operation_of, started, word_at};
+ghost use Rattle.saa_word_steps.specs.Steps.{next_of, operation_of, started, word_at};
+ghost use Rattle.saa_word_steps.specs.Readings.{is_taken};
 ghost use Rattle.saa_word_steps.specs.declared.place.Stage.TheVariants.{Quiet};
 ghost use Rattle.saa_word_steps.specs.declared.place.Next.TheVariants.{Waits};
-ghost use Rattle.saa_word_proofs.specs.Refinement.{Refines, updated};
+ghost use Rattle.saa_word_proofs.specs.Refinement.{Refines};
+ghost use Rattle.saa_word_proofs.specs.Rows.{updated};
 ghost use Rattle.saa_word_proofs.specs.StepRefinement.{StepRefines, named_at, place_after};
-ghost use Rattle.saa_word_proofs.specs.Calls.{IsBegun, IsUnder, IsUnderNext};
+ghost use Rattle.saa_word_proofs.specs.CallStages.{IsBegun, IsUnder, IsUnderNext};
 ghost use Rattle.saa_word_proofs.specs.History.{BeginsWith, part_of, seen_by};
 ghost use Rattle.saa_word_proofs.specs.Promises.{Observes, idle_place, opening_row};
 

@@ -6,7 +6,8 @@ ghost use Rattle.saa_word_steps.specs.declared.place.Next.TheVariants.{Waits};
 ghost use Rattle.saa_word_steps.specs.Needs.{Needs};
 ghost use Rattle.saa_word_steps.specs.AbstractState.{AbstractState};
 ghost use Rattle.saa_word_steps.specs.Steps.{word_at, operation_of, next_of};
-ghost use Rattle.saa_word_proofs.specs.Refinement.{Refines, main_of};
+ghost use Rattle.saa_word_proofs.specs.Refinement.{Refines};
+ghost use Rattle.saa_word_proofs.specs.Rows.{main_of};
 ghost use Rattle.saa_word_proofs.specs.StepRefinement.{row_after};
 ghost use Rattle.saa_word_proofs.specs.Blocking.{IsBlockedAt};
 

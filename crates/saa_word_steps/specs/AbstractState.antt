@@ -1,5 +1,5 @@
 -- The abstract state: what a form that is kept in words is at each moment. Between an ask that waits and its answer several steps
--- of several places lie, so answers are granted, shown and taken at steps of their own.
+-- of several places lie, so answers are granted, shown and taken at steps of their own. A reader of the clauses has to believe this.
 use Rattle.std.specs.Prelude.{◌≡◌, ℕ, ◌+◌, ◌<◌, ◌≤◌, Bool, true, false, not, ◌||◌, if◌then◌else◌, ◌==◌, List, [], ◌∷◌, ◌++◌, length, take, drop, Option, Some, None, is_some}
 use Rattle.saa_core_spec.specs.Held.{Exclusive, Shared}
 use Rattle.saa_core_spec.specs.Object.{one_if, times, without}

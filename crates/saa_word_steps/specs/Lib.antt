@@ -1,3 +1,4 @@
 pub mod Needs
+pub mod Readings
 pub mod AbstractState
 pub mod Steps

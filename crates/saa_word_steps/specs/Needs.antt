@@ -1,9 +1,11 @@
 -- What a form that is kept in words needs: what is held at a count, what a number asks, and what a request takes. Which request
--- fits, and what giving back leaves, are then read off the table of needs of the sequential object.
+-- fits, and what giving back leaves, are then read off the table of needs of the sequential object. A reader of the clauses has to believe this.
 use Rattle.std.specs.Prelude.{◌≡◌, ℕ, ◌+◌, ◌≤◌, Bool, true, false, ◌==◌, if◌then◌else◌, Option, Some, None}
 use Rattle.saa_core_spec.specs.declared.request.Request.{Request}
 use Rattle.saa_core_spec.specs.declared.request.Request.TheVariants.{Exclusive as AskExclusive, Shared as AskShared}
 use Rattle.saa_core_spec.specs.Held.{Held, OfSemaphore, OfLock, LockState, Free, Exclusive, Shared, fits, plus, less}
+use Rattle.saa_word_steps.specs.declared.rules.Rules.{Rules}
+use Rattle.saa_word_steps.specs.declared.rules.Rules.TheVariants.{Permits, Modes}
 use Rattle.saa_core_words.specs.Words.{held_count, lock_count, permits_of, mode_of}
 
 -- what is held at a count, what a number asks, how much a request adds to the count, the greatest count, and whether it is a lock:
@@ -65,3 +67,8 @@ lock_needs = record {
   top = lock_count Exclusive;
   is_lock = true;
 }
+
+-- the needs of these rules
+abbrev pub needs_of : Rules → Needs
+needs_of (Permits bound) = permit_needs bound
+needs_of Modes = lock_needs

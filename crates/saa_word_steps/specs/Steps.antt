@@ -1,17 +1,14 @@
 -- What a place is about to do, and how it goes on with the number that it finds: a clause for each stage. Internal: nobody has to believe
 -- this table, which says what the code does, branch for branch. What a reader has to believe is the abstract state with its events
 -- (`specs/AbstractState.antt`), and what a move simulates; a line that is changed together with its code is refused there.
-use Rattle.std.specs.Prelude.{◌≡◌, ℕ, ◌+◌, ◌-◌, ◌%◌, ◌^◌, ◌<◌, Bool, true, false, not, ◌&&◌, ◌||◌, ◌==◌, if◌then◌else◌, nat_lt, Option, Some, None, Ok, Err}
-use Rattle.saa_core_spec.specs.declared.lock.Mode.{Mode}
-use Rattle.saa_core_spec.specs.Held.{Free, Exclusive, Shared, request_number}
-use Rattle.saa_core_spec.specs.Lock.{mode_request, try_answer}
+use Rattle.std.specs.Prelude.{◌≡◌, ℕ, ◌+◌, ◌-◌, ◌%◌, ◌^◌, ◌<◌, true, false, not, ◌&&◌, ◌||◌, ◌==◌, if◌then◌else◌, nat_lt, Option, Some, None, Ok, Err}
+use Rattle.saa_core_spec.specs.Held.{Exclusive, Shared}
+use Rattle.saa_core_spec.specs.Lock.{try_answer}
 use Rattle.saa_core_spec.specs.Values.{granted_value, poisoned_value}
 use Rattle.saa_core_spec.specs.declared.polling.Error.TheVariants.{NotRegistered, NotReady}
 use Rattle.saa_core_words.specs.declared.word.Word.{Word}
 use Rattle.saa_core_words.specs.declared.line_word.LineWord.{LineWord}
 use Rattle.saa_core_words.specs.Words.{count_bits, word_number, word_of, line_number, line_word_of, answer_number, answer_of, lock_count}
-use Rattle.saa_word_steps.specs.declared.rules.Rules.{Rules}
-use Rattle.saa_word_steps.specs.declared.rules.Rules.TheVariants.{Permits, Modes}
 use Rattle.saa_word_steps.specs.declared.place.Place.{Place}
 use Rattle.saa_word_steps.specs.declared.place.Ask.{Ask}
 use Rattle.saa_word_steps.specs.declared.place.Registration.{Registration}
@@ -22,27 +19,22 @@ use Rattle.saa_word_steps.specs.declared.place.Given.{Given}
 use Rattle.saa_word_steps.specs.declared.place.Given.TheVariants.{Asked, AllButAShare}
 use Rattle.saa_word_steps.specs.declared.place.Back.{Back}
 use Rattle.saa_word_steps.specs.declared.place.Back.TheVariants.{Tells, Ends as EndsCall, Takes}
-use Rattle.saa_word_steps.specs.declared.place.Reading.{Reading}
 use Rattle.saa_word_steps.specs.declared.place.Reading.TheVariants.{Available as ReadsAvailable, IsFree as ReadsFree, IsLocked as ReadsLocked, IsShared as ReadsShared, IsPoisoned as ReadsPoisoned}
 use Rattle.saa_word_steps.specs.declared.place.Taking.{Taking}
 use Rattle.saa_word_steps.specs.declared.place.Taking.TheVariants.{Tries, Awaits, Gives}
 use Rattle.saa_word_steps.specs.declared.place.Stage.{Stage}
 use Rattle.saa_word_steps.specs.declared.place.Stage.TheVariants.{Quiet, ReadLoad, AskLoad, AskExchange, Prepare, Join, ReleaseLoad, ReleaseExchange, BackLoad, BackStore, Forward, CutToClose, CutToGoRound, Close, Empty, GoRound, ShowLoad, ShowStore, Take, FlagLoad, FlagExchange, LookLoad, LookStore, Unlink, DropTail, PoisonLoad, PoisonExchange, Clear}
 use Rattle.saa_word_steps.specs.declared.call.Answer.{Answer}
-use Rattle.saa_word_steps.specs.declared.call.Answer.TheVariants.{Bool as Says, Number, Tried, Taken, Unit as Ended}
+use Rattle.saa_word_steps.specs.declared.call.Answer.TheVariants.{Bool as Says, Tried, Taken, Unit as Ended}
 use Rattle.saa_word_steps.specs.declared.call.WordCall.{WordCall}
 use Rattle.saa_word_steps.specs.declared.call.WordCall.TheVariants.{Try, Register, Release, Available, TryLock, TryShare, RegisterMode, ReleaseLock, ReleaseShare, Downgrade, PoisonLock, ClearPoison, IsFree, IsLocked, IsShared, IsPoisoned, TryPoll, Poll, Cancel}
 use Rattle.saa_word_steps.specs.declared.place.Next.{Next}
 use Rattle.saa_word_steps.specs.declared.place.Next.TheVariants.{Going, Waits, Done}
 use Rattle.saa_word_steps.specs.declared.operation.Operation.{Operation}
 use Rattle.saa_word_steps.specs.declared.operation.Operation.TheVariants.{Load, Exchange, Add, Store, Swap}
-use Rattle.saa_word_steps.specs.Needs.{Needs, permit_needs, lock_needs, fits_count, left_count}
+use Rattle.saa_word_steps.specs.Needs.{Needs, fits_count, left_count}
+use Rattle.saa_word_steps.specs.Readings.{is_idle, mode_number, poisoned_word, read_as, tried_answer}
 use Rattle.saa_word_steps.specs.AbstractState.{count_or}
-
--- the needs of these rules
-abbrev pub needs_of : Rules → Needs
-needs_of (Permits bound) = permit_needs bound
-needs_of Modes = lock_needs
 
 -- a word whose count its bits hold
 abbrev pub IsSmall : Word → Type 0
@@ -129,10 +121,6 @@ flagged_word seen = record seen { is_flagged = true }
 abbrev pub dropped_word : Word → ℕ → Word
 dropped_word seen older = record seen { tail = older; is_flagged = not (older == 0) }
 
--- the main word of a poisoned lock
-abbrev pub poisoned_word : Word
-poisoned_word = record { count = 0; is_flagged = false; is_poisoned = true; tail = 0 }
-
 -- an exchange of the main word
 abbrev pub exchanged : Word → Word → Operation
 exchanged seen new = Exchange 0 (word_number count_bits seen) (word_number count_bits new)
@@ -196,10 +184,6 @@ abbrev pub finished : Place → Back → Next
 finished place Tells = done place (Says true)
 finished place EndsCall = done place Ended
 finished place (Takes request) = going place (Take (Gives request))
-
--- what a try answers that is granted or refused, of a semaphore and of a lock
-abbrev pub tried_answer : Needs → Bool → Answer
-tried_answer needs is_granted = if needs.is_lock then Tried (try_answer is_granted false) else Says is_granted
 
 -- an ask is granted at once
 abbrev pub granted : Needs → Place → Ask → Next
@@ -317,14 +301,6 @@ poisoning place seen =
     then done place (Says false)
     else (if seen.is_flagged then Waits else going place (PoisonExchange seen))
 
--- what a reading call answers of a count and poison
-abbrev pub read_as : Needs → Reading → ℕ → Bool → Answer
-read_as needs ReadsAvailable count poisoned = Number (needs.top - count)
-read_as needs ReadsFree count poisoned = Says ((count == lock_count Free) && not poisoned)
-read_as needs ReadsLocked count poisoned = Says (count == lock_count Exclusive)
-read_as needs ReadsShared count poisoned = Says (not (count == lock_count Free) && not (count == lock_count Exclusive))
-read_as needs ReadsPoisoned count poisoned = Says poisoned
-
 -- how a place of this number goes on with the number that it found
 abbrev pub next_of : Needs → ℕ → Place → Stage → ℕ → Next
 next_of needs me place Quiet found = Going place
@@ -386,22 +362,6 @@ next_of needs me place (PoisonExchange seen) found =
     else poisoning place (word_of count_bits found)
 next_of needs me place Clear found = done place (Says (found == word_number count_bits poisoned_word))
 
--- the calls that a semaphore takes, and those that a lock takes
-abbrev pub is_taken : Bool → WordCall → Bool
-is_taken is_lock (Try count) = not is_lock
-is_taken is_lock (Register count) = not is_lock
-is_taken is_lock (Release count) = not is_lock
-is_taken is_lock Available = not is_lock
-is_taken is_lock TryPoll = true
-is_taken is_lock Poll = true
-is_taken is_lock Cancel = true
-is_taken is_lock _ = is_lock
-
--- whether a place is idle
-abbrev pub is_idle : Registration → Bool
-is_idle Idle = true
-is_idle _ = false
-
 -- a poll as it starts: only a place that joined the line has a word to look at
 abbrev pub polled_as : Place → Taking → Registration → Next
 polled_as place taking Idle = Done place (Taken (Err NotRegistered))
@@ -424,10 +384,6 @@ registered_as place request =
 
 abbrev pub released_as : Place → Given → Next
 released_as place what = Going (record place { stage = ReleaseLoad what; back = Tells })
-
--- the number of a mode
-abbrev pub mode_number : Mode → ℕ
-mode_number mode = request_number (mode_request mode)
 
 -- a call as it starts, at a place that is in none: no word is looked at
 abbrev pub started : Needs → Place → WordCall → Next

@@ -5,7 +5,8 @@ ghost use Rattle.saa_core_words.specs.Words.{count_bits};
 ghost use Rattle.saa_word_steps.specs.declared.place.Place.{Place};
 ghost use Rattle.saa_word_steps.specs.Steps.{IsRanged, IsRangedNext, next_of};
 ghost use Rattle.saa_core_spec.specs.Held.{IsLockState};
-ghost use Rattle.saa_word_steps.specs.Needs.{Needs, AreNeeds, lock_at, lock_needs, permit_needs};
+ghost use Rattle.saa_word_steps.specs.declared.rules.Rules.TheVariants.{Permits, Modes};
+ghost use Rattle.saa_word_steps.specs.Needs.{Needs, AreNeeds, lock_at, lock_needs, needs_of, permit_needs};
 ghost use Rattle.saa_word_steps.specs.declared.event.Event.{Event};
 ghost use Rattle.saa_word_steps.specs.AbstractState.{AbstractState, IsRun, IsSettledAt, held_by, opening};
 
@@ -24,6 +25,12 @@ pub fn abstract_runs()
     ensures of_permits { (bound : ℕ) → AreNeeds (permit_needs bound) }
     ensures of_locks { AreNeeds lock_needs }
     ensures owners { (count : ℕ) → count ≤ lock_needs.top → IsLockState (lock_at count) }
+{}
+
+/// The rules of a semaphore need what a semaphore of that bound needs, and those of a lock what a lock needs.
+pub fn needs()
+    ensures permits { (bound : ℕ) → needs_of (Permits bound) ≡ permit_needs bound }
+    ensures modes { needs_of Modes ≡ lock_needs }
 {}
 
 /// What a place remembers stays within the bits of a count, whatever number it finds.

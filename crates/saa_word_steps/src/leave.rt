@@ -4,7 +4,8 @@ ghost use Rattle.std.specs.Prelude.{◌≡◌, ◌==◌, if◌then◌else◌};
 ghost use Rattle.saa_core_words.specs.Words.{count_bits, word_number, word_of};
 ghost use Rattle.saa_word_steps.specs.declared.call.Answer.TheVariants.{Unit as Ended};
 ghost use Rattle.saa_word_steps.specs.declared.place.Stage.TheVariants.{BackLoad, Forward, LookLoad};
-ghost use Rattle.saa_word_steps.specs.Steps.{needs_of, next_of, IsRanged, IsSmall, IsLeave, done, dropped_word, flagging, going, left_line, looked_for, looking, walking};
+ghost use Rattle.saa_word_steps.specs.Steps.{next_of, IsRanged, IsSmall, IsLeave, done, dropped_word, flagging, going, left_line, looked_for, looking, walking};
+ghost use Rattle.saa_word_steps.specs.Needs.{needs_of};
 
 use crate::call::Answer;
 use crate::operation::{dropped, flagged};

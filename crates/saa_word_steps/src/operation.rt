@@ -2,7 +2,9 @@
 
 ghost use Rattle.std.specs.Prelude.{◌^◌, ◌≡◌, ◌<◌};
 ghost use Rattle.saa_word_steps.specs.declared.operation.Operation.TheVariants.{Store};
-ghost use Rattle.saa_word_steps.specs.Steps.{needs_of, operation_of, exchanged, flagged_word, dropped_word, poisoned_word, released, settled_word, IsRanged, IsSmall};
+ghost use Rattle.saa_word_steps.specs.Steps.{operation_of, exchanged, flagged_word, dropped_word, released, settled_word, IsRanged, IsSmall};
+ghost use Rattle.saa_word_steps.specs.Needs.{needs_of};
+ghost use Rattle.saa_word_steps.specs.Readings.{poisoned_word};
 ghost use Rattle.saa_core_words.specs.Words.{count_bits, line_number};
 
 use crate::place::{Given, Stage};

@@ -1,7 +1,8 @@
 //! How a place goes on that poisons a lock, or makes a poisoned one free.
 
 ghost use Rattle.std.specs.Prelude.{◌≡◌};
-ghost use Rattle.saa_word_steps.specs.Steps.{needs_of, next_of, IsRanged, IsPoison, poisoning};
+ghost use Rattle.saa_word_steps.specs.Steps.{next_of, IsRanged, IsPoison, poisoning};
+ghost use Rattle.saa_word_steps.specs.Needs.{needs_of};
 
 use crate::call::Answer;
 use crate::operation::poisoned;

@@ -5,7 +5,9 @@ ghost use Rattle.saa_core_words.specs.Words.{count_bits, answer_of};
 ghost use Rattle.saa_core_spec.specs.Values.{granted_value};
 ghost use Rattle.saa_word_steps.specs.declared.place.Stage.TheVariants.{Join, ReleaseExchange, BackLoad, Forward, Empty, ShowLoad};
 ghost use Rattle.saa_word_steps.specs.declared.place.Afterwards.TheVariants.{Again};
-ghost use Rattle.saa_word_steps.specs.Steps.{needs_of, next_of, IsRanged, IsSmall, IsWork, IsLeave, IsPoison, closing, decided, done, dropped, finished, found_poisoned, gave_nothing, given, going, granted, looked_at, read_as, shown_all, taken_answer, tried_answer, walking};
+ghost use Rattle.saa_word_steps.specs.Steps.{next_of, IsRanged, IsSmall, IsWork, IsLeave, IsPoison, closing, decided, done, dropped, finished, found_poisoned, gave_nothing, given, going, granted, looked_at, shown_all, taken_answer, walking};
+ghost use Rattle.saa_word_steps.specs.Needs.{needs_of};
+ghost use Rattle.saa_word_steps.specs.Readings.{read_as, tried_answer};
 
 use crate::call::{Answer, Error, TryLockError};
 use crate::operation::released;

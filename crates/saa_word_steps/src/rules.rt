@@ -1,8 +1,8 @@
 //! What fits, what it takes, and what giving back leaves: of a semaphore and of a lock.
 
 ghost use Rattle.std.specs.Prelude.{◌≡◌, ◌+◌, ◌-◌, ◌≤◌, true, IfSome};
-ghost use Rattle.saa_word_steps.specs.Needs.{fits_count, left_count};
-ghost use Rattle.saa_word_steps.specs.Steps.{left_from, needs_of};
+ghost use Rattle.saa_word_steps.specs.Needs.{fits_count, left_count, needs_of};
+ghost use Rattle.saa_word_steps.specs.Steps.{left_from};
 
 use crate::place::Given;
 

@@ -1,7 +1,9 @@
 //! A call as it starts: it looks at no word.
 
 ghost use Rattle.std.specs.Prelude.{◌≡◌};
-ghost use Rattle.saa_word_steps.specs.Steps.{needs_of, cancelled_as, going, mode_number, polled_as, registered_as, released_as, started, tried_as};
+ghost use Rattle.saa_word_steps.specs.Steps.{cancelled_as, going, polled_as, registered_as, released_as, started, tried_as};
+ghost use Rattle.saa_word_steps.specs.Needs.{needs_of};
+ghost use Rattle.saa_word_steps.specs.Readings.{mode_number};
 ghost use Rattle.saa_word_steps.specs.declared.place.Stage.TheVariants.{ReadLoad};
 
 use crate::call::{Answer, Error, Mode, WordCall};

@@ -11,8 +11,10 @@ use Rattle.saa_word_steps.specs.declared.place.Stage.TheVariants.{Quiet}
 use Rattle.saa_word_steps.specs.declared.place.Taking.TheVariants.{Tries}
 use Rattle.saa_word_steps.specs.Needs.{Needs}
 use Rattle.saa_word_steps.specs.AbstractState.{AbstractState}
-use Rattle.saa_word_steps.specs.Steps.{is_idle, is_taken, polled_as, started}
-use Rattle.saa_word_proofs.specs.Refinement.{Refines, updated}
+use Rattle.saa_word_steps.specs.Steps.{polled_as, started}
+use Rattle.saa_word_steps.specs.Readings.{is_idle, is_taken}
+use Rattle.saa_word_proofs.specs.Refinement.{Refines}
+use Rattle.saa_word_proofs.specs.Rows.{updated}
 use Rattle.saa_word_proofs.specs.StepRefinement.{place_after}
 use Rattle.saa_word_proofs.proofs.RefinementLemmas.Lists.{all-same, updated-at, updated-same}
 use Rattle.saa_word_proofs.proofs.RefinementLemmas.Starting.{starts}

@@ -20,10 +20,13 @@ use Rattle.saa_word_steps.specs.declared.place.Taking.TheVariants.{Tries, Awaits
 use Rattle.saa_core_words.specs.Words.{answer_of}
 use Rattle.saa_word_steps.specs.declared.place.Back.{Back}
 use Rattle.saa_word_steps.specs.Needs.{Needs}
-use Rattle.saa_word_steps.specs.Steps.{cancelled_as, going, is_idle, is_taken, mode_number, next_of, polled_as, started, taken_answer}
-use Rattle.saa_word_proofs.specs.Calls.{IsBegun, IsUnderNext, asked_by, is_taken_up}
-use Rattle.saa_word_proofs.specs.Registering.{IsLeft, IsReadyNext, IsStartedAs, begun_as, left_behind, starting_answer}
-use Rattle.saa_word_proofs.specs.StepRefinement.{named, named_at, place_after}
+use Rattle.saa_word_steps.specs.Steps.{cancelled_as, going, next_of, polled_as, started, taken_answer}
+use Rattle.saa_word_steps.specs.Readings.{is_idle, is_taken, mode_number}
+use Rattle.saa_word_proofs.specs.Calls.{asked_by, is_taken_up}
+use Rattle.saa_word_proofs.specs.CallStages.{IsBegun, IsLeft, IsReadyNext, IsStartedAs, IsUnderNext}
+use Rattle.saa_word_proofs.specs.Registering.{begun_as, left_behind, starting_answer}
+use Rattle.saa_word_proofs.specs.StepRefinement.{named_at, place_after}
+use Rattle.saa_word_proofs.specs.History.{named}
 use Rattle.saa_word_proofs.proofs.RefinementLemmas.Calls.{under-next}
 use Rattle.saa_word_proofs.proofs.RefinementLemmas.Starting.{call-begun}
 use Rattle.saa_word_proofs.proofs.SoloLemmas.Paths.{left-append, left-next}

@@ -17,7 +17,8 @@ use Rattle.saa_word_steps.specs.declared.place.Back.TheVariants.{Tells}
 use Rattle.saa_word_steps.specs.declared.place.Given.TheVariants.{Asked}
 use Rattle.saa_word_steps.specs.declared.place.Stage.TheVariants.{Quiet, AskLoad, AskExchange, ReleaseLoad, ReleaseExchange}
 use Rattle.saa_word_steps.specs.Needs.{Needs, fits_count, left_count}
-use Rattle.saa_word_steps.specs.Steps.{decided, given, going, granted, is_taken, next_of, operation_of, released, started, tried_answer, word_at}
+use Rattle.saa_word_steps.specs.Steps.{decided, given, going, granted, next_of, operation_of, released, started, word_at}
+use Rattle.saa_word_steps.specs.Readings.{is_taken, tried_answer}
 use Rattle.saa_word_threads.specs.declared.table.View.{View}
 use Rattle.saa_word_threads.specs.Called.{HasEvents, Midway, MidwayNext}
 use Rattle.saa_word_threads.specs.Straight.{grants_at, lowers_to}

@@ -5,8 +5,7 @@ use Rattle.saa_core_spec.proofs.Counts.{number_same}
 use Rattle.saa_word_steps.specs.declared.event.Event.{Event}
 use Rattle.saa_word_steps.specs.Needs.{Needs}
 use Rattle.saa_word_steps.specs.AbstractState.{AbstractState, IsRun, after_event}
-use Rattle.saa_word_proofs.specs.History.{has_part, part_of, seen_by}
-use Rattle.saa_word_proofs.specs.StepRefinement.{is_named, named, of_place}
+use Rattle.saa_word_proofs.specs.History.{has_part, is_named, named, of_place, part_of, seen_by}
 use Rattle.saa_word_threads.specs.declared.table.View.{View}
 use Rattle.saa_word_threads.specs.Told.{Extends}
 

@@ -13,13 +13,14 @@ use Rattle.saa_word_steps.specs.declared.event.Event.{Event}
 use Rattle.saa_word_steps.specs.declared.operation.Operation.{Operation}
 use Rattle.saa_word_steps.specs.declared.place.Next.TheVariants.{Going}
 use Rattle.saa_word_steps.specs.declared.place.Place.{Place}
-use Rattle.saa_word_steps.specs.Needs.{AreNeeds, Needs}
+use Rattle.saa_word_steps.specs.Needs.{AreNeeds, Needs, needs_of}
 use Rattle.saa_word_steps.specs.AbstractState.{AbstractState, IsRun, opening}
-use Rattle.saa_word_steps.specs.Steps.{needs_of, next_of, operation_of, word_at, written_by}
-use Rattle.saa_word_proofs.specs.History.{has_part, part_of, seen_by}
-use Rattle.saa_word_proofs.specs.Refinement.{Refines, updated}
-use Rattle.saa_word_proofs.specs.Registering.{IsReadyNext}
-use Rattle.saa_word_proofs.specs.StepRefinement.{StepRefines, named, named_at, of_place, place_after, row_after}
+use Rattle.saa_word_steps.specs.Steps.{next_of, operation_of, word_at, written_by}
+use Rattle.saa_word_proofs.specs.History.{has_part, named, of_place, part_of, seen_by}
+use Rattle.saa_word_proofs.specs.Refinement.{Refines}
+use Rattle.saa_word_proofs.specs.Rows.{updated}
+use Rattle.saa_word_proofs.specs.CallStages.{IsReadyNext}
+use Rattle.saa_word_proofs.specs.StepRefinement.{StepRefines, named_at, place_after, row_after}
 use Rattle.saa_word_proofs.proofs.RefinementLemmas.Lists.{all-same, updated-at}
 use Rattle.saa_word_proofs.proofs.RefinementLemmas.Steps.{step}
 use Rattle.saa_word_proofs.proofs.SoloLemmas.Alone.{rules-lawful}

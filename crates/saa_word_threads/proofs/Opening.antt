@@ -13,7 +13,7 @@ use Rattle.saa_core_words.specs.Words.{count_bits}
 use Rattle.saa_word_steps.specs.declared.event.Event.{Event}
 use Rattle.saa_word_steps.specs.declared.place.Place.{Place as Position}
 use Rattle.saa_word_steps.specs.AbstractState.{opening}
-use Rattle.saa_word_steps.specs.Steps.{needs_of}
+use Rattle.saa_word_steps.specs.Needs.{needs_of}
 use Rattle.saa_word_proofs.specs.History.{BeginsWith}
 use Rattle.saa_word_proofs.specs.Promises.{Observes, opening_row}
 use Rattle.saa_word_proofs.specs.Refinement.{Refines}

@@ -9,9 +9,10 @@ use Rattle.saa_word_steps.specs.declared.place.Next.TheVariants.{Going, Waits, D
 use Rattle.saa_word_steps.specs.declared.place.Place.{Place}
 use Rattle.saa_word_steps.specs.declared.place.Registration.{Registration}
 use Rattle.saa_word_steps.specs.Needs.{Needs}
-use Rattle.saa_word_proofs.specs.Calls.{IsAnswered, IsUnder, asked_by}
-use Rattle.saa_word_proofs.specs.Registering.{IsReadyNext, begun_as, left_behind, starting_answer}
-use Rattle.saa_word_proofs.specs.StepRefinement.{named}
+use Rattle.saa_word_proofs.specs.Calls.{IsAnswered, asked_by}
+use Rattle.saa_word_proofs.specs.CallStages.{IsReadyNext, IsUnder}
+use Rattle.saa_word_proofs.specs.Registering.{begun_as, left_behind, starting_answer}
+use Rattle.saa_word_proofs.specs.History.{named}
 use Rattle.saa_word_threads.specs.declared.table.View.{View}
 use Rattle.saa_word_threads.specs.Told.{Begins, Extends, IsSince}
 

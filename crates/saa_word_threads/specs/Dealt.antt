@@ -3,7 +3,7 @@ use Rattle.std.specs.Prelude.{◌≡◌, ℕ, ◌+◌, nat_lt, if◌then◌else�
 use Rattle.std.specs.Slots.{slots_items}
 use Rattle.atomic_table.specs.Seated.{TableId}
 use Rattle.saa_word_steps.specs.declared.event.Event.{Event}
-use Rattle.saa_word_steps.specs.Steps.{needs_of}
+use Rattle.saa_word_steps.specs.Needs.{needs_of}
 use Rattle.saa_word_proofs.specs.History.{BeginsWith, LeadsTo, part_of, seen_by}
 use Rattle.saa_word_proofs.specs.Promises.{idle_place}
 use Rattle.saa_word_threads.specs.declared.table.About.{About}

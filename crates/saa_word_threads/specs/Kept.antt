@@ -6,7 +6,7 @@ use Rattle.atomic_table.specs.Table.{State}
 use Rattle.saa_word_steps.specs.declared.event.Event.{Event}
 use Rattle.saa_word_steps.specs.declared.place.Place.{Place}
 use Rattle.saa_word_steps.specs.AbstractState.{AbstractState, IsRun, opening}
-use Rattle.saa_word_steps.specs.Steps.{needs_of}
+use Rattle.saa_word_steps.specs.Needs.{needs_of}
 use Rattle.saa_word_proofs.specs.History.{has_part, part_of, seen_by}
 use Rattle.saa_word_proofs.specs.Promises.{idle_place}
 use Rattle.saa_word_proofs.specs.Refinement.{Refines}

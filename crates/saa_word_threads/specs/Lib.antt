@@ -6,3 +6,4 @@ pub mod Public
 pub mod Semaphores
 pub mod Locks
 pub mod Straight
+pub mod Patience

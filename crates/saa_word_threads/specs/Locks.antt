@@ -9,11 +9,12 @@ use Rattle.saa_word_steps.specs.Needs.{lock_needs}
 use Rattle.saa_word_threads.specs.declared.lock.Lock.{Lock}
 use Rattle.saa_word_threads.specs.declared.lock.Place.{Place}
 use Rattle.saa_word_threads.specs.declared.lock.Left.{Left}
+use Rattle.saa_word_threads.specs.declared.looking.Patience.{Patience}
 use Rattle.saa_word_threads.specs.declared.place.Place.{Place as FormPlace}
 use Rattle.saa_word_threads.specs.declared.table.About.{About}
 use Rattle.saa_word_threads.specs.declared.table.View.{View}
 use Rattle.saa_word_threads.specs.Dealt.{AreNew as FormAreNew}
-use Rattle.saa_word_threads.specs.Public.{HasLeft as FormHasLeft, IsMade as FormIsMade, IsWaited as FormIsWaited, view_left as form_view_left}
+use Rattle.saa_word_threads.specs.Public.{HasLeft as FormHasLeft, IsMade as FormIsMade, IsWaited as FormIsWaited, patience_of as form_patience_of, view_left as form_view_left}
 
 -- its rules, that nothing is held as it is made, and how many places it has
 abbrev pub about_of : Lock → About
@@ -54,3 +55,7 @@ HasLeft place left = FormHasLeft lock_needs place.inner left.inner
 -- what a place that has left has seen, and knows as its part
 abbrev pub view_left : Left → View
 view_left left = form_view_left left.inner
+
+-- the patience of the last call that asked at a place, or tried
+abbrev pub patience_of : Place → Patience
+patience_of place = form_patience_of place.inner

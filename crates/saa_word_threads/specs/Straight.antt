@@ -1,4 +1,4 @@
--- Which main words let a call go straight.
+-- Which main words let a call go straight. Internal: nobody has to believe this; private functions are held to it.
 use Rattle.std.specs.Prelude.{ℕ, Bool, not, ◌&&◌, ◌||◌, ◌==◌, if◌then◌else◌, Option, None}
 use Rattle.saa_core_words.specs.declared.word.Word.{Word}
 use Rattle.saa_word_steps.specs.declared.place.Ask.{Ask}

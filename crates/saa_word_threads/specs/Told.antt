@@ -10,12 +10,13 @@ use Rattle.saa_word_steps.specs.declared.place.Registration.{Registration}
 use Rattle.saa_word_steps.specs.declared.place.Registration.TheVariants.{Idle, Once}
 use Rattle.saa_word_steps.specs.declared.place.Stage.{Stage}
 use Rattle.saa_word_steps.specs.declared.place.Stage.TheVariants.{Quiet, Prepare}
-use Rattle.saa_word_steps.specs.Needs.{Needs}
+use Rattle.saa_word_steps.specs.Needs.{Needs, needs_of}
 use Rattle.saa_word_steps.specs.declared.operation.Operation.{Operation}
-use Rattle.saa_word_steps.specs.Steps.{is_idle, is_taken, needs_of, next_of, operation_of, started, word_at}
-use Rattle.saa_word_proofs.specs.History.{part_of, seen_by}
-use Rattle.saa_word_proofs.specs.Registering.{IsReadyNext}
-use Rattle.saa_word_proofs.specs.StepRefinement.{named, named_at, place_after}
+use Rattle.saa_word_steps.specs.Steps.{next_of, operation_of, started, word_at}
+use Rattle.saa_word_steps.specs.Readings.{is_idle, is_taken}
+use Rattle.saa_word_proofs.specs.History.{named, part_of, seen_by}
+use Rattle.saa_word_proofs.specs.CallStages.{IsReadyNext}
+use Rattle.saa_word_proofs.specs.StepRefinement.{named_at, place_after}
 use Rattle.saa_word_threads.specs.declared.table.View.{View}
 use Rattle.saa_word_threads.specs.declared.table.About.{About}
 

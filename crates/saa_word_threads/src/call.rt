@@ -1,7 +1,8 @@
 //! A whole call of a place: the steps from its start to its answer.
 
 ghost use Rattle.std.specs.Prelude.{◌≡◌, ◌<◌, true, false};
-ghost use Rattle.saa_word_steps.specs.Steps.{is_taken, needs_of};
+ghost use Rattle.saa_word_steps.specs.Readings.{is_taken};
+ghost use Rattle.saa_word_steps.specs.Needs.{needs_of};
 ghost use Rattle.saa_word_threads.specs.Told.{IsSince};
 ghost use Rattle.saa_word_threads.specs.Called.{HasEvents, IsCalled, Midway, is_single};
 ghost use Rattle.saa_word_threads.specs.Public.{HasLeft};
@@ -9,7 +10,7 @@ ghost use Rattle.saa_word_threads.specs.Public.{HasLeft};
 use crate::form::Form;
 use crate::place::{Left, Place};
 use crate::table::View;
-use crate::watch::Watch;
+use crate::watch::{Moment, Unwatched, Watch};
 use atomic_table::Seat;
 use saa_word_steps::call::{Answer, WordCall};
 use saa_word_steps::place::{Next, Place as Position, Registration, Stage};
@@ -52,6 +53,7 @@ impl Form {
         requires dealt { place.old.seat.table_id ≡ self.now.table.shared.table_id }
         requires taken { is_taken (needs_of self.now.rules).is_lock call ≡ true }
         ensures same { (place.new.seat.table_id ≡ place.old.seat.table_id) × (place.new.number ≡ place.old.number) }
+        ensures patience { place.new.patience ≡ place.old.patience }
         ensures called { IsCalled (needs_of self.now.rules) call place.old.position.registration result place.new.position.registration place.old.seat.me.0 place.new.seat.me.0 }
     {
         match place.position.start(self.rules, call) {
@@ -91,7 +93,7 @@ impl Form {
             }
             Next::Going(first) => {
                 let number = place.number;
-                match self.act::<Brand>(&mut place.seat, number, first) {
+                match self.act::<Brand, Unwatched>(&Unwatched, &mut place.seat, number, first) {
                     Next::Done(position, answer) => {
                         place.position = position;
                         answer
@@ -113,6 +115,7 @@ impl Form {
             seat,
             number,
             position: _,
+            patience: _,
         } = place;
         Left { seat, number }
     }
@@ -138,11 +141,11 @@ impl Form {
         let mut place = first;
         for _ in rt.forever() {
             if publishes(place.stage) {
-                watch.publishes();
+                watch.at(Moment::Publishes);
             }
-            match self.act::<Brand>(seat, me, place) {
+            match self.act::<Brand, W>(watch, seat, me, place) {
                 Next::Going(next) => place = next,
-                Next::Waits => self.wait(rt, me, place.stage),
+                Next::Waits => self.wait(rt, watch, me, place.stage),
                 Next::Done(behind, answer) => return (behind, answer),
             }
         }

@@ -5,13 +5,13 @@
 
 ghost use Rattle.std.specs.Prelude.{◌^◌, ◌≡◌, ◌+◌, ◌<◌, vec_len};
 ghost use Rattle.saa_core_words.specs.Words.{count_bits};
-ghost use Rattle.saa_word_steps.specs.Steps.{needs_of};
+ghost use Rattle.saa_word_steps.specs.Needs.{needs_of};
 
 use crate::table::{About, OneHistory, View};
 use atomic_table::Table;
 use saa_word_steps::rules::Rules;
 use std::alloc::Global;
-use std::sync::atomic::AtomicBool;
+use std::sync::atomic::{AtomicBool, Ordering};
 
 /// A form of these rules, with so many places. Of each place it remembers whether it may be parked.
 #[derive(Drop)]
@@ -26,4 +26,24 @@ pub struct Form {
     ghost wide: { (needs_of rules).top < 2 ^ count_bits },
     ghost few: { places < 65536 },
     ghost parking: { vec_len parked ≡ places },
+}
+
+impl Form {
+    // Whether the place of this number may be parked, by its mark.
+    pub(crate) fn is_parked(&self, place: u16) -> bool {
+        match self.parked.get(usize::from(place)) {
+            Some(mark) => mark.load(Ordering::SeqCst),
+            None => false,
+        }
+    }
+
+    // Whether an answer is written for the place of this number that it hasn't taken.
+    pub(crate) fn is_answered(&self, place: u16) -> bool {
+        place < self.places
+            && self
+                .table
+                .shared
+                .peek(usize::from(self.places) + usize::from(place) + 1)
+                != 0
+    }
 }

@@ -8,15 +8,16 @@ ghost use Rattle.saa_core_spec.specs.declared.lock.Mode.TheVariants.{Exclusive, 
 ghost use Rattle.saa_word_steps.specs.declared.call.Answer.{Answer};
 ghost use Rattle.saa_word_steps.specs.declared.call.WordCall.TheVariants.{TryLock, TryShare, RegisterMode, ReleaseLock, ReleaseShare, Downgrade, PoisonLock, ClearPoison, IsFree, IsLocked, IsShared, IsPoisoned, TryPoll, Poll, Cancel};
 ghost use Rattle.saa_word_steps.specs.declared.rules.Rules.TheVariants.{Modes};
-ghost use Rattle.saa_word_steps.specs.Steps.{mode_number};
+ghost use Rattle.saa_word_steps.specs.Readings.{mode_number};
 ghost use Rattle.saa_word_threads.specs.Dealt.{IsLedTo, numbers};
+ghost use Rattle.saa_word_threads.specs.Patience.{none, waiting};
 ghost use Rattle.saa_word_threads.specs.Public.{is_yes, polled_lock, tried};
 
 use crate::form::Form;
 use crate::looking::{NONE, Patience, WAITING};
 use crate::place::{Left as FormLeft, Place as FormPlace};
 use crate::straight::yes;
-use crate::watch::Unwatched;
+use crate::watch::{Unwatched, Watch};
 pub use crate::words::Words;
 pub use saa_word_steps::call::{Error, Mode, TryLockError};
 use saa_word_steps::call::{Answer, WordCall};
@@ -28,12 +29,12 @@ use std::sync::Wait;
 // The numbers of what the tries and the releases ask and give back.
 const EXCLUSIVE: u16 = 0;
 
-const SHARED: u16 = 1;
+pub(crate) const SHARED: u16 = 1;
 
 /// A lock in one atomic word: one owner alone, or up to 62 that share it; and poison.
 ///
-/// Waiters are FIFO: no later request passes a waiter. [`Self::lock`] and [`Self::share`] look for a bounded while before their place joins the
-/// waiters; [`Self::register`] joins at once. Each task has a [`Place`] of its own, which `new` deals; a place makes one call at a time. A
+/// Waiters are granted in FIFO order of joining: no later request passes a waiter. [`Self::lock`] and [`Self::share`] look and yield a bounded
+/// number of times before their place joins the waiters, and until then nothing orders them; [`Self::register`] joins at once. Each task has a [`Place`] of its own, which `new` deals; a place makes one call at a time. A
 /// waiter spins, yields and then parks. No call takes another lock, or memory but `new`. The lock doesn't know its owners: any caller may release.
 #[derive(Drop)]
 pub struct Lock {
@@ -44,7 +45,7 @@ pub struct Lock {
 /// A place of the lock that dealt it, between its calls.
 ///
 /// One task has it at a time, and makes one call after another with it. `leave` spends it. A place that is dropped instead stays as it is: one
-/// that waits is still served in its turn, and what it was granted isn't given back.
+/// that waits is still served in its turn, and what it is granted stays taken until another place gives it back.
 #[derive(Drop)]
 pub struct Place {
     pub(crate) inner: FormPlace,
@@ -82,14 +83,14 @@ impl Left {
 }
 
 impl Lock {
-    ghost use Rattle.saa_word_threads.specs.Locks.{AreNew, HasLeft, IsDealtBy, IsLeftOf, IsMade, IsWaited, about_of, table_of, view_left};
+    ghost use Rattle.saa_word_threads.specs.Locks.{AreNew, HasLeft, IsDealtBy, IsLeftOf, IsMade, IsWaited, about_of, patience_of, table_of, view_left};
 
     /// The most owners that share a lock.
     pub const MAX_SHARED_OWNERS: usize = 62;
 
     /// A free lock, and its places, in the order of their numbers.
     ///
-    /// Costs O(`places`). The error comes only where memory was refused.
+    /// Costs O(`places`). The error comes only where memory was refused. With 0 places no call can be made at it.
     pub fn new(alloc: Global, places: u16) -> Result<(Self, Vec<Place>), AllocError>
         ensures made { IfOk result (λ made. about_of made.0 ≡ record { rules = Modes; withheld = 0; places = places }) }
         ensures dealt { IfOk result (λ made. (vec_len made.1 ≡ places) × AreNew (table_of made.0) 0 made.1.items) }
@@ -106,7 +107,8 @@ impl Lock {
     /// one more for each other task that changed it meanwhile.
     pub fn try_lock<R: Wait>(&self, rt: &R, place: &mut Place) -> Result<(), TryLockError>
         requires { IsDealtBy self.now place.old }
-        ensures { (answer : Answer) × (result ≡ tried answer) × IsMade TryLock place.old answer place.new }
+        ensures called { (answer : Answer) × (result ≡ tried answer) × IsMade TryLock place.old answer place.new }
+        ensures patience { patience_of place.new ≡ none }
     {
         let ask = Ask {
             request: EXCLUSIVE,
@@ -130,7 +132,8 @@ impl Lock {
     /// [`Self::try_lock`].
     pub fn try_share<R: Wait>(&self, rt: &R, place: &mut Place) -> Result<(), TryLockError>
         requires { IsDealtBy self.now place.old }
-        ensures { (answer : Answer) × (result ≡ tried answer) × IsMade TryShare place.old answer place.new }
+        ensures called { (answer : Answer) × (result ≡ tried answer) × IsMade TryShare place.old answer place.new }
+        ensures patience { patience_of place.new ≡ none }
     {
         let ask = Ask {
             request: SHARED,
@@ -150,32 +153,48 @@ impl Lock {
 
     /// Takes the lock for one owner alone, and waits for it where it must.
     ///
-    /// It looks at the word for a bounded while first, some 50 microseconds, and takes the lock where it is free and there is no waiter; then
-    /// the place joins the waiters. To join at once, `register` and then `poll`. `false`: the lock is poisoned, as the place asked or while it
-    /// waited; or the place is registered already, which changes nothing. Costs two steps on the word where it is granted at once, and else some
+    /// It looks at the word, and yields, a bounded number of times first, and takes the lock where it is free and there is no waiter; then the
+    /// place joins the waiters. To join at once, `register` and then `poll`. `false`: the place found the lock poisoned, or it was poisoned
+    /// while the place was in the queue (of poison that is set and cleared again between two of its looks it is never told); or the place is registered
+    /// already, which changes nothing. Costs two steps on the word where it is granted at once, and else some
     /// more, and the wait.
     pub fn lock<R: Wait>(&self, rt: &R, place: &mut Place) -> bool
         requires { IsDealtBy self.now place.old }
-        ensures { IsWaited Exclusive place.old result place.new }
+        ensures waited { IsWaited Exclusive place.old result place.new }
+        ensures patience { patience_of place.new ≡ waiting }
     {
-        if !self.register_patiently(rt, place, Mode::Exclusive, WAITING) {
-            return false;
-        }
-        self.form.await_grant(rt, &Unwatched, &mut place.inner)
+        self.wait_patiently(rt, &Unwatched, place, Mode::Exclusive, WAITING)
     }
 
     /// Takes a share of the lock, and waits for it where it must.
     ///
-    /// `false`: the lock is poisoned, as the place asked or while it waited; or the place is registered already, which changes nothing. Costs as
-    /// [`Self::lock`].
+    /// Looks, waits, answers `false` and costs as [`Self::lock`].
     pub fn share<R: Wait>(&self, rt: &R, place: &mut Place) -> bool
         requires { IsDealtBy self.now place.old }
-        ensures { IsWaited Shared place.old result place.new }
+        ensures waited { IsWaited Shared place.old result place.new }
+        ensures patience { patience_of place.new ≡ waiting }
     {
-        if !self.register_patiently(rt, place, Mode::Shared, WAITING) {
+        self.wait_patiently(rt, &Unwatched, place, Mode::Shared, WAITING)
+    }
+
+    // Waits as `lock` and `share` do, in this mode, and joins the waiters once its patience is over.
+    #[inline(always)]
+    pub(crate) fn wait_patiently<R: Wait, W: Watch>(
+        &self,
+        rt: &R,
+        watch: &W,
+        place: &mut Place,
+        mode: Mode,
+        patience: Patience,
+    ) -> bool
+        requires { IsDealtBy self.now place.old }
+        ensures waited { IsWaited mode place.old result place.new }
+        ensures patience { patience_of place.new ≡ patience }
+    {
+        if !self.register_patiently(rt, watch, place, mode, patience) {
             return false;
         }
-        self.form.await_grant(rt, &Unwatched, &mut place.inner)
+        self.form.await_grant(rt, watch, &mut place.inner)
     }
 
     /// Gives the lock of one owner back, and grants the oldest waiters while they fit.
@@ -184,7 +203,7 @@ impl Lock {
     /// where there is no waiter, and else O(waiters).
     pub fn release_lock<R: Wait>(&self, rt: &R, place: &mut Place) -> bool
         requires { IsDealtBy self.now place.old }
-        ensures { (answer : Answer) × (result ≡ is_yes answer) × IsMade ReleaseLock place.old answer place.new }
+        ensures called { (answer : Answer) × (result ≡ is_yes answer) × IsMade ReleaseLock place.old answer place.new }
     {
         let call = WordCall::ReleaseLock;
         self.form
@@ -197,7 +216,7 @@ impl Lock {
     /// [`Self::release_lock`].
     pub fn release_share<R: Wait>(&self, rt: &R, place: &mut Place) -> bool
         requires { IsDealtBy self.now place.old }
-        ensures { (answer : Answer) × (result ≡ is_yes answer) × IsMade ReleaseShare place.old answer place.new }
+        ensures called { (answer : Answer) × (result ≡ is_yes answer) × IsMade ReleaseShare place.old answer place.new }
     {
         let call = WordCall::ReleaseShare;
         self.form
@@ -210,7 +229,7 @@ impl Lock {
     /// [`Self::release_lock`].
     pub fn downgrade<R: Wait>(&self, rt: &R, place: &mut Place) -> bool
         requires { IsDealtBy self.now place.old }
-        ensures { (answer : Answer) × (result ≡ is_yes answer) × IsMade Downgrade place.old answer place.new }
+        ensures called { (answer : Answer) × (result ≡ is_yes answer) × IsMade Downgrade place.old answer place.new }
     {
         yes(
             self.form
@@ -223,7 +242,7 @@ impl Lock {
     /// `false`, and nothing changes, where the lock isn't one owner's alone. It yields while another place works on the line. Costs O(waiters).
     pub fn poison_lock<R: Wait>(&self, rt: &R, place: &mut Place) -> bool
         requires { IsDealtBy self.now place.old }
-        ensures { (answer : Answer) × (result ≡ is_yes answer) × IsMade PoisonLock place.old answer place.new }
+        ensures called { (answer : Answer) × (result ≡ is_yes answer) × IsMade PoisonLock place.old answer place.new }
     {
         yes(
             self.form
@@ -234,7 +253,7 @@ impl Lock {
     /// Makes a poisoned lock free. `false`, and nothing changes, where it isn't poisoned. Costs one step.
     pub fn clear_poison<R: Wait>(&self, rt: &R, place: &mut Place) -> bool
         requires { IsDealtBy self.now place.old }
-        ensures { (answer : Answer) × (result ≡ is_yes answer) × IsMade ClearPoison place.old answer place.new }
+        ensures called { (answer : Answer) × (result ≡ is_yes answer) × IsMade ClearPoison place.old answer place.new }
     {
         yes(
             self.form
@@ -245,31 +264,35 @@ impl Lock {
     /// Asks for the lock in a mode: it is granted at once, or the place joins the waiters.
     ///
     /// `false`, and nothing changes, at a place that is registered. A poisoned lock answers the registration at once that it is poisoned. The
-    /// answer is taken by [`Self::poll`] or [`Self::try_poll`]; the wait modes only hear when the lock could be had, and take nothing. Costs as
+    /// answer is taken by [`Self::poll`] or [`Self::try_poll`]; the wait modes are answered once the lock could be had, or is poisoned, and take nothing. Costs as
     /// [`Self::try_lock`], and one step more to join.
     #[inline(always)]
     pub fn register<R: Wait>(&self, rt: &R, place: &mut Place, mode: Mode) -> bool
         requires { IsDealtBy self.now place.old }
-        ensures { (answer : Answer) × (result ≡ is_yes answer) × IsMade (RegisterMode mode) place.old answer place.new }
+        ensures called { (answer : Answer) × (result ≡ is_yes answer) × IsMade (RegisterMode mode) place.old answer place.new }
+        ensures patience { patience_of place.new ≡ none }
     {
-        self.register_patiently(rt, place, mode, NONE)
+        self.register_patiently(rt, &Unwatched, place, mode, NONE)
     }
 
     // Registers as `register` does, and joins the waiters once its patience is over.
     #[inline(always)]
-    pub(crate) fn register_patiently<R: Wait>(
+    pub(crate) fn register_patiently<R: Wait, W: Watch>(
         &self,
         rt: &R,
+        watch: &W,
         place: &mut Place,
         mode: Mode,
         patience: Patience,
     ) -> bool
         requires { IsDealtBy self.now place.old }
-        ensures { (answer : Answer) × (result ≡ is_yes answer) × IsMade (RegisterMode mode) place.old answer place.new }
+        ensures called { (answer : Answer) × (result ≡ is_yes answer) × IsMade (RegisterMode mode) place.old answer place.new }
+        ensures patience { patience_of place.new ≡ patience }
     {
         let call = WordCall::RegisterMode(mode);
         if !place.inner.is_idle() {
-            return yes(self.form.call(rt, &Unwatched, &mut place.inner, call));
+            place.inner.patience = patience;
+            return yes(self.form.call(rt, watch, &mut place.inner, call));
         }
         let ask = Ask {
             request: number(mode),
@@ -277,7 +300,7 @@ impl Lock {
         };
         yes(
             self.form
-                .ask(rt, &Unwatched, &mut place.inner, call, ask, patience),
+                .ask(rt, watch, &mut place.inner, call, ask, patience),
         )
     }
 
@@ -287,7 +310,7 @@ impl Lock {
     /// as nothing. Costs one step at most.
     pub fn try_poll(&self, place: &mut Place) -> Result<bool, Error>
         requires { IsDealtBy self.now place.old }
-        ensures { (answer : Answer) × (result ≡ polled_lock answer) × IsMade TryPoll place.old answer place.new }
+        ensures called { (answer : Answer) × (result ≡ polled_lock answer) × IsMade TryPoll place.old answer place.new }
     {
         polled(self.form.call_at_once(&mut place.inner, WordCall::TryPoll))
     }
@@ -298,7 +321,7 @@ impl Lock {
     /// comes. Costs no step where it was answered at once, and else one for each look, and the wait.
     pub fn poll<R: Wait>(&self, rt: &R, place: &mut Place) -> Result<bool, Error>
         requires { IsDealtBy self.now place.old }
-        ensures { (answer : Answer) × (result ≡ polled_lock answer) × IsMade Poll place.old answer place.new }
+        ensures called { (answer : Answer) × (result ≡ polled_lock answer) × IsMade Poll place.old answer place.new }
     {
         polled(
             self.form
@@ -311,7 +334,7 @@ impl Lock {
     /// It yields while another place works on the line. Costs O(waiters).
     pub fn cancel<R: Wait>(&self, rt: &R, place: &mut Place)
         requires { IsDealtBy self.now place.old }
-        ensures { (answer : Answer) × IsMade Cancel place.old answer place.new }
+        ensures called { (answer : Answer) × IsMade Cancel place.old answer place.new }
     {
         self.form
             .call(rt, &Unwatched, &mut place.inner, WordCall::Cancel);
@@ -388,7 +411,7 @@ fn number(mode: Mode) -> u16
 }
 
 // What a try answers.
-fn tried(answer: Answer) -> Result<(), TryLockError>
+pub(crate) fn tried(answer: Answer) -> Result<(), TryLockError>
     ensures { result ≡ tried answer }
 {
     match answer {

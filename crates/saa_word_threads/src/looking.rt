@@ -1,22 +1,24 @@
 //! A place that asks looks for a while before it joins the waiters.
 //!
-//! What it asks for may be there in a moment, and joining costs more than that: once one place waits, each turn is handed on to one that waits. So a
-//! call that may wait looks at the main word, takes what it asks for where the word grants it, and joins once its patience is over. Its order
-//! begins as it joins.
+//! What it asks for may be there in a moment, and joining costs more than that: once one place waits, each turn is handed on to one that waits. So
+//! `acquire_many`, `lock` and `share` look at the main word, take what they ask for where the word grants it, and join once their patience is over. Their order
+//! begins as they join.
 //!
 //! A look that finds that the place would have to join is no step of it: nothing has happened, and the place stands where it stood.
 
 ghost use Rattle.std.specs.Prelude.{◌≡◌, ◌+◌, ◌<◌, ◌==◌, ℕ, false, true};
 ghost use Rattle.saa_word_steps.specs.declared.operation.Operation.TheVariants.{Load, Exchange};
 ghost use Rattle.saa_word_steps.specs.declared.place.Next.TheVariants.{Going};
-ghost use Rattle.saa_word_steps.specs.Steps.{needs_of, next_of};
-ghost use Rattle.saa_word_proofs.specs.Registering.{IsReadyNext};
+ghost use Rattle.saa_word_steps.specs.Steps.{next_of};
+ghost use Rattle.saa_word_steps.specs.Needs.{needs_of};
+ghost use Rattle.saa_word_proofs.specs.CallStages.{IsReadyNext};
 ghost use Rattle.saa_word_threads.specs.Called.{Midway, MidwayNext};
 ghost use Rattle.saa_word_threads.specs.Told.{Begins, IsNext, IsSought, MovesOrStays, prepares, unless_joining};
 
 use crate::call::Begun;
 use crate::form::Form;
 use crate::table::{Mover, Sought, View};
+use crate::watch::{Moment, Watch};
 use atomic_table::Seat;
 use saa_core_words::word::Word;
 use saa_word_steps::place::{Next, Place as Position, Stage};
@@ -34,8 +36,9 @@ pub struct Patience {
     pub yields: u32,
 }
 
-/// The patience of a call that may wait. The looks last some 50 microseconds; where turns take a microsecond or less, mostly no place joins.
-pub(crate) const WAITING: Patience = Patience {
+/// The patience of a call that may wait. The rests of the looks are 10,232 spin hints, 50 to 60 microseconds on the machines where that was
+/// measured; a yield lasts as long as the scheduler makes it. Where turns take a microsecond or less, mostly no place joins.
+pub const WAITING: Patience = Patience {
     looks: 16,
     yields: 100,
 };
@@ -60,12 +63,15 @@ impl Patience {
     // Rests before a look, by its number from 0, and yields before the last ones.
     //
     // Each rest is longer than the one before, since each look takes the main word's cache line from the place that has its turn.
-    fn rest(self, turn: u32) {
+    fn rest<W: Watch>(self, watch: &W, turn: u32) {
         if turn >= self.looks {
+            watch.at(Moment::Yields);
             yield_now();
             return;
         }
-        for _spin in 0..FIRST_REST.saturating_mul(2u32.saturating_pow(turn.min(DOUBLINGS))) {
+        let spins = FIRST_REST.saturating_mul(2u32.saturating_pow(turn.min(DOUBLINGS)));
+        watch.at(Moment::Rests(spins));
+        for _spin in 0..spins {
             spin_loop();
         }
     }
@@ -73,8 +79,9 @@ impl Patience {
 
 impl Form {
     // Goes on with an ask for as long as its patience lasts, unless it would have to join.
-    pub(crate) fn look_on(
+    pub(crate) fn look_on<W: Watch>(
         &self,
+        watch: &W,
         seat: &mut Seat<(), View>,
         me: u16,
         first: Position,
@@ -90,11 +97,12 @@ impl Form {
     {
         let mut place = first;
         for turn in 0..patience.turns() {
-            patience.rest(turn);
+            patience.rest(watch, turn);
+            watch.at(Moment::Looks);
             if !self.may_get_on(place.stage) {
                 continue;
             }
-            match self.seek::<Brand>(seat, me, place) {
+            match self.seek::<Brand, W>(watch, seat, me, place) {
                 Next::Going(next) => place = next,
                 Next::Waits => continue,
                 Next::Done(behind, answer) => return Next::Done(behind, answer),
@@ -113,7 +121,13 @@ impl Form {
     }
 
     // Makes the operation of a place's stage and goes on with the number found, unless the place asks and would go on to join.
-    fn seek<M: Mover>(&self, seat: &mut Seat<(), View>, me: u16, place: Position) -> Next
+    fn seek<M: Mover, W: Watch>(
+        &self,
+        watch: &W,
+        seat: &mut Seat<(), View>,
+        me: u16,
+        place: Position,
+    ) -> Next
         requires table { seat.old.table_id ≡ self.now.table.shared.table_id }
         requires number { (seat.old.me.0.deals ≡ false) × (seat.old.me.0.number ≡ me) × (me < self.now.places) }
         requires told { (M.about ≡ self.now.table.shared.key) × (M.place ≡ place) × (M.me ≡ me) }
@@ -133,10 +147,11 @@ impl Form {
                 let old = seen.pack();
                 let raised = Word { count, ..seen };
                 let new = raised.pack();
+                watch.at(Moment::Takes);
                 let found = self.seek_by_exchange::<M>(seat, me, at, old, new);
                 unless_joining(place, place.resume(self.rules, me, found))
             }
-            _ => self.act::<M>(seat, me, place),
+            _ => self.act::<M, W>(watch, seat, me, place),
         }
     }
 

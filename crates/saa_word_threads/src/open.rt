@@ -2,11 +2,12 @@
 
 ghost use Rattle.std.specs.Prelude.{◌^◌, ◌≡◌, ◌+◌, ◌<◌, ◌≤◌, [], IfOk, replicate, slice_set, vec_capacity, vec_len};
 ghost use Rattle.saa_core_words.specs.Words.{count_bits};
-ghost use Rattle.saa_word_steps.specs.Steps.{needs_of};
+ghost use Rattle.saa_word_steps.specs.Needs.{needs_of};
 ghost use Rattle.saa_word_threads.specs.Kept.{dealer};
 ghost use Rattle.saa_word_threads.specs.Dealt.{AreNew, IsLedTo, IsNew, numbers};
 
 use crate::form::Form;
+use crate::looking::NONE;
 use crate::place::{Left, Place};
 use crate::table::{About, Dealt, View};
 use crate::words::Words;
@@ -83,6 +84,7 @@ impl Form {
             seat,
             number,
             position,
+            patience: NONE,
         }
     }
 

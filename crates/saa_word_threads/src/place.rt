@@ -4,9 +4,10 @@
 //! behind its last step, or has taken an answer that was given at once since.
 
 ghost use Rattle.std.specs.Prelude.{◌≡◌, ◌+◌, ◌<◌, false};
-ghost use Rattle.saa_word_steps.specs.Steps.{is_idle};
+ghost use Rattle.saa_word_steps.specs.Readings.{is_idle};
 ghost use Rattle.saa_word_threads.specs.Told.{IsSince};
 
+use crate::looking::Patience;
 use crate::table::View;
 use atomic_table::Seat;
 use saa_word_steps::place::{Place as Position, Registration};
@@ -14,12 +15,14 @@ use saa_word_steps::place::{Place as Position, Registration};
 /// A place of the object that dealt it, between its calls.
 ///
 /// One task has it at a time, and makes one call after another with it. `leave` spends it. A place that is dropped instead stays as it is: one
-/// that waits is still served in its turn, and what it was granted isn't given back.
+/// that waits is still served in its turn, and what it is granted stays taken until another place gives it back.
 #[derive(Drop)]
 pub struct Place {
     pub(crate) seat: Seat<(), View>,
     pub(crate) number: u16,
     pub(crate) position: Position,
+    // The patience of the last call that asked here, which only contracts read.
+    pub(crate) patience: Patience,
     ghost numbered: { (seat.me.0.deals ≡ false) × (seat.me.0.number ≡ number) },
     ghost within: { number + number + 1 < seat.table_id.words },
     ghost since: { IsSince seat.me.0.position position },

@@ -11,13 +11,14 @@ ghost use Rattle.saa_word_steps.specs.declared.call.Answer.TheVariants.{Number};
 ghost use Rattle.saa_word_steps.specs.declared.call.WordCall.TheVariants.{Try, Register, Release, Available, TryPoll, Poll, Cancel};
 ghost use Rattle.saa_word_steps.specs.declared.rules.Rules.TheVariants.{Permits};
 ghost use Rattle.saa_word_threads.specs.Dealt.{AreNew, IsLedTo, numbers};
-ghost use Rattle.saa_word_threads.specs.Public.{HasLeft, IsMade, IsWaited, is_yes, polled, view_left};
+ghost use Rattle.saa_word_threads.specs.Patience.{none, waiting};
+ghost use Rattle.saa_word_threads.specs.Public.{HasLeft, IsMade, IsWaited, is_yes, patience_of, polled, view_left};
 
 use crate::form::Form;
 use crate::looking::{NONE, Patience, WAITING};
 pub use crate::place::{Left, Place};
 use crate::straight::yes;
-use crate::watch::Unwatched;
+use crate::watch::{Unwatched, Watch};
 pub use crate::words::Words;
 pub use saa_word_steps::call::Error;
 use saa_word_steps::call::{Answer, WordCall};
@@ -28,9 +29,10 @@ use std::sync::Wait;
 
 /// Up to `MAX` permits, 1 to 65,535, in one atomic word.
 ///
-/// Waiters are FIFO: no later request passes a waiter. [`Self::acquire_many`] looks for a bounded while before its place joins the waiters;
-/// [`Self::register`] joins at once. Each task has a [`Place`] of its own, which `new` deals; a place makes one call at a time. A waiter spins, yields and then parks. No call
-/// takes a lock or memory but `new`: while one thread is stopped in the middle of a call, the others still take and give back permits.
+/// Waiters are granted in FIFO order of joining: no later request passes a waiter. [`Self::acquire_many`] looks and yields a bounded number of
+/// times before its place joins the waiters, and until then nothing orders it; [`Self::register`] joins at once. Each task has a [`Place`] of
+/// its own, which `new` deals; a place makes one call at a time. A waiter spins, yields and then parks. No call takes a lock or memory but
+/// `new`: while one thread is stopped in the middle of a call, the others still give back permits, and take them where there is no waiter.
 #[derive(Drop)]
 pub struct SemaphoreOf<const MAX: usize> {
     pub(crate) form: Form,
@@ -49,7 +51,8 @@ impl<const MAX: usize> SemaphoreOf<MAX> {
 
     /// A semaphore of which so many permits are withheld (all, where it is more), and its places, in the order of their numbers.
     ///
-    /// Withheld permits count as taken, and may be released. Costs O(`places`). The error comes only where memory was refused.
+    /// Withheld permits count as taken, and may be released. Costs O(`places`). The error comes only where memory was refused. With 0 places
+    /// no call can be made at it.
     pub fn new(
         alloc: Global,
         withheld: usize,
@@ -72,10 +75,12 @@ impl<const MAX: usize> SemaphoreOf<MAX> {
     /// other task that changed it meanwhile.
     pub fn try_acquire_many<R: Wait>(&self, rt: &R, place: &mut Place, count: usize) -> bool
         requires { IsDealtBy self.now place.old }
-        ensures { (answer : Answer) × (result ≡ is_yes answer) × IsMade (permit_needs MAX) (Try count) place.old answer place.new }
+        ensures called { (answer : Answer) × (result ≡ is_yes answer) × IsMade (permit_needs MAX) (Try count) place.old answer place.new }
+        ensures patience { patience_of place.new ≡ none }
     {
         let call = WordCall::Try(count);
         if count > MAX {
+            place.patience = NONE;
             return yes(self.form.call(rt, &Unwatched, place, call));
         }
         let ask = Ask {
@@ -87,17 +92,35 @@ impl<const MAX: usize> SemaphoreOf<MAX> {
 
     /// Takes `count` permits, and waits for them where it must.
     ///
-    /// It looks at the word for a bounded while first, some 50 microseconds, and takes the permits where they are available and there is no
+    /// It looks at the word, and yields, a bounded number of times first, and takes the permits where they are available and there is no
     /// waiter; then the place joins the waiters. To join at once, `register` and then `poll`. `false`, without waiting, for a count above
     /// [`Self::MAX_PERMITS`] and at a place that is registered.
     pub fn acquire_many<R: Wait>(&self, rt: &R, place: &mut Place, count: usize) -> bool
         requires { IsDealtBy self.now place.old }
-        ensures { IsWaited (permit_needs MAX) (Register count) place.old result place.new }
+        ensures waited { IsWaited (permit_needs MAX) (Register count) place.old result place.new }
+        ensures patience { patience_of place.new ≡ waiting }
     {
-        if !self.register_patiently(rt, place, count, WAITING) {
+        self.wait_patiently(rt, &Unwatched, place, count, WAITING)
+    }
+
+    // Waits as `acquire_many` does, and joins the waiters once its patience is over.
+    #[inline(always)]
+    pub(crate) fn wait_patiently<R: Wait, W: Watch>(
+        &self,
+        rt: &R,
+        watch: &W,
+        place: &mut Place,
+        count: usize,
+        patience: Patience,
+    ) -> bool
+        requires { IsDealtBy self.now place.old }
+        ensures waited { IsWaited (permit_needs MAX) (Register count) place.old result place.new }
+        ensures patience { patience_of place.new ≡ patience }
+    {
+        if !self.register_patiently(rt, watch, place, count, patience) {
             return false;
         }
-        self.form.await_grant(rt, &Unwatched, place)
+        self.form.await_grant(rt, watch, place)
     }
 
     /// Gives `count` permits back, and grants the oldest waiters while they fit.
@@ -105,7 +128,7 @@ impl<const MAX: usize> SemaphoreOf<MAX> {
     /// `false`, and nothing changes, where fewer are taken. Any place may give back what another one took.
     pub fn release_many<R: Wait>(&self, rt: &R, place: &mut Place, count: usize) -> bool
         requires { IsDealtBy self.now place.old }
-        ensures { (answer : Answer) × (result ≡ is_yes answer) × IsMade (permit_needs MAX) (Release count) place.old answer place.new }
+        ensures called { (answer : Answer) × (result ≡ is_yes answer) × IsMade (permit_needs MAX) (Release count) place.old answer place.new }
     {
         let call = WordCall::Release(count);
         if count == 0 || count > MAX {
@@ -120,32 +143,36 @@ impl<const MAX: usize> SemaphoreOf<MAX> {
     /// [`Self::poll`] or [`Self::try_poll`].
     pub fn register<R: Wait>(&self, rt: &R, place: &mut Place, count: usize) -> bool
         requires { IsDealtBy self.now place.old }
-        ensures { (answer : Answer) × (result ≡ is_yes answer) × IsMade (permit_needs MAX) (Register count) place.old answer place.new }
+        ensures called { (answer : Answer) × (result ≡ is_yes answer) × IsMade (permit_needs MAX) (Register count) place.old answer place.new }
+        ensures patience { patience_of place.new ≡ none }
     {
-        self.register_patiently(rt, place, count, NONE)
+        self.register_patiently(rt, &Unwatched, place, count, NONE)
     }
 
     // Registers as `register` does, and joins the waiters once its patience is over.
     #[inline(always)]
-    fn register_patiently<R: Wait>(
+    pub(crate) fn register_patiently<R: Wait, W: Watch>(
         &self,
         rt: &R,
+        watch: &W,
         place: &mut Place,
         count: usize,
         patience: Patience,
     ) -> bool
         requires { IsDealtBy self.now place.old }
-        ensures { (answer : Answer) × (result ≡ is_yes answer) × IsMade (permit_needs MAX) (Register count) place.old answer place.new }
+        ensures called { (answer : Answer) × (result ≡ is_yes answer) × IsMade (permit_needs MAX) (Register count) place.old answer place.new }
+        ensures patience { patience_of place.new ≡ patience }
     {
         let call = WordCall::Register(count);
         if count > MAX || !place.is_idle() {
-            return yes(self.form.call(rt, &Unwatched, place, call));
+            place.patience = patience;
+            return yes(self.form.call(rt, watch, place, call));
         }
         let ask = Ask {
             request: count as u16,
             joins: true,
         };
-        yes(self.form.ask(rt, &Unwatched, place, call, ask, patience))
+        yes(self.form.ask(rt, watch, place, call, ask, patience))
     }
 
     /// Takes the answer of a registration where it is there; never blocks.
@@ -153,7 +180,7 @@ impl<const MAX: usize> SemaphoreOf<MAX> {
     /// `NotReady` while the place waits, `NotRegistered` where it is registered as nothing. Costs one step at most.
     pub fn try_poll(&self, place: &mut Place) -> Result<(), Error>
         requires { IsDealtBy self.now place.old }
-        ensures { (answer : Answer) × (result ≡ polled answer) × IsMade (permit_needs MAX) TryPoll place.old answer place.new }
+        ensures called { (answer : Answer) × (result ≡ polled answer) × IsMade (permit_needs MAX) TryPoll place.old answer place.new }
     {
         taken(self.form.call_at_once(place, WordCall::TryPoll))
     }
@@ -163,7 +190,7 @@ impl<const MAX: usize> SemaphoreOf<MAX> {
     /// `NotRegistered` where the place is registered as nothing; no other error comes.
     pub fn poll<R: Wait>(&self, rt: &R, place: &mut Place) -> Result<(), Error>
         requires { IsDealtBy self.now place.old }
-        ensures { (answer : Answer) × (result ≡ polled answer) × IsMade (permit_needs MAX) Poll place.old answer place.new }
+        ensures called { (answer : Answer) × (result ≡ polled answer) × IsMade (permit_needs MAX) Poll place.old answer place.new }
     {
         taken(self.form.call(rt, &Unwatched, place, WordCall::Poll))
     }
@@ -173,7 +200,7 @@ impl<const MAX: usize> SemaphoreOf<MAX> {
     /// It yields while another place works on the line.
     pub fn cancel<R: Wait>(&self, rt: &R, place: &mut Place)
         requires { IsDealtBy self.now place.old }
-        ensures { (answer : Answer) × IsMade (permit_needs MAX) Cancel place.old answer place.new }
+        ensures called { (answer : Answer) × IsMade (permit_needs MAX) Cancel place.old answer place.new }
     {
         self.form.call(rt, &Unwatched, place, WordCall::Cancel);
     }

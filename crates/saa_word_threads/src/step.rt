@@ -4,14 +4,16 @@
 //! place's stage says.
 
 ghost use Rattle.std.specs.Prelude.{◌≡◌, ◌+◌, ◌<◌, ℕ, false};
-ghost use Rattle.saa_word_steps.specs.Steps.{needs_of, next_of};
+ghost use Rattle.saa_word_steps.specs.Steps.{next_of};
+ghost use Rattle.saa_word_steps.specs.Needs.{needs_of};
 ghost use Rattle.saa_word_steps.specs.declared.place.Next.TheVariants.{Going};
 ghost use Rattle.saa_word_steps.specs.declared.operation.Operation.TheVariants.{Load, Exchange, Add, Swap, Store};
-ghost use Rattle.saa_word_proofs.specs.Registering.{IsReadyNext};
+ghost use Rattle.saa_word_proofs.specs.CallStages.{IsReadyNext};
 ghost use Rattle.saa_word_threads.specs.Told.{Begins, IsNext, Moves};
 
 use crate::form::Form;
 use crate::table::{Moved, Mover, View};
+use crate::watch::{Moment, Watch};
 use atomic_table::Seat;
 use saa_word_steps::operation::Operation;
 use saa_word_steps::place::{Next, Place as Position};
@@ -19,7 +21,13 @@ use std::sync::atomic::Ordering;
 
 impl Form {
     // Makes the operation of a place's stage, and goes on with the number found.
-    pub(crate) fn act<M: Mover>(&self, seat: &mut Seat<(), View>, me: u16, place: Position) -> Next
+    pub(crate) fn act<M: Mover, W: Watch>(
+        &self,
+        watch: &W,
+        seat: &mut Seat<(), View>,
+        me: u16,
+        place: Position,
+    ) -> Next
         requires table { seat.old.table_id ≡ self.now.table.shared.table_id }
         requires number { (seat.old.me.0.deals ≡ false) × (seat.old.me.0.number ≡ me) × (me < self.now.places) }
         requires told { (M.about ≡ self.now.table.shared.key) × (M.place ≡ place) × (M.me ≡ me) }
@@ -29,12 +37,17 @@ impl Form {
         ensures moved { (found : ℕ) × (result ≡ next_of (needs_of self.now.rules) me place place.stage found) × Moves (needs_of self.now.rules) self.now.places place result found seat.old.me.0 seat.new.me.0 }
     {
         let operation = place.stage.operation(self.rules, self.places, me);
-        let found = self.perform::<M>(seat, operation);
+        let found = self.perform::<M, W>(watch, seat, operation);
         place.resume(self.rules, me, found)
     }
 
     // Makes an operation, and answers the number that it found.
-    fn perform<M: Mover>(&self, seat: &mut Seat<(), View>, operation: Operation) -> u64
+    fn perform<M: Mover, W: Watch>(
+        &self,
+        watch: &W,
+        seat: &mut Seat<(), View>,
+        operation: Operation,
+    ) -> u64
         requires table { (seat.old.table_id ≡ self.now.table.shared.table_id) × (M.about ≡ self.now.table.shared.key) }
         requires next { IsNext (needs_of self.now.rules) self.now.places M.me M.place operation seat.old.me.0 }
         ensures table { (seat.new.table_id ≡ seat.old.table_id) × (seat.new.id ≡ seat.old.id) }
@@ -44,7 +57,7 @@ impl Form {
             Operation::Load { index } => self.load::<M>(seat, index),
             Operation::Exchange { index, old, new } => self.exchange::<M>(seat, index, old, new),
             Operation::Add { index, number } => self.add::<M>(seat, index, number),
-            Operation::Store { index, number } => self.store::<M>(seat, index, number),
+            Operation::Store { index, number } => self.store::<M, W>(watch, seat, index, number),
             Operation::Swap { index, number } => self.swap::<M>(seat, index, number),
         }
     }
@@ -88,14 +101,21 @@ impl Form {
     }
 
     // Writes a word, and wakes the place that waits for it, if any does.
-    fn store<M: Mover>(&self, seat: &mut Seat<(), View>, index: usize, number: u64) -> u64
+    fn store<M: Mover, W: Watch>(
+        &self,
+        watch: &W,
+        seat: &mut Seat<(), View>,
+        index: usize,
+        number: u64,
+    ) -> u64
         requires table { (seat.old.table_id ≡ self.now.table.shared.table_id) × (M.about ≡ self.now.table.shared.key) }
         requires next { IsNext (needs_of self.now.rules) self.now.places M.me M.place (Store index number) seat.old.me.0 }
         ensures table { (seat.new.table_id ≡ seat.old.table_id) × (seat.new.id ≡ seat.old.id) }
         ensures moved { Moves (needs_of self.now.rules) self.now.places M.place (next_of (needs_of self.now.rules) M.me M.place M.place.stage result) result seat.old.me.0 seat.new.me.0 }
     {
+        self.tell(watch, index);
         let found = self.table.shared.swap::<Moved<M>>(seat, index, number);
-        self.wake(index);
+        self.wake(watch, index);
         found
     }
 
@@ -109,15 +129,31 @@ impl Form {
         self.table.shared.swap::<Moved<M>>(seat, index, number)
     }
 
+    // Tells that an answer is about to be written, where this is an answer word.
+    fn tell<W: Watch>(&self, watch: &W, index: usize)
+        requires { index < self.now.places + self.now.places + 1 }
+    {
+        let places = usize::from(self.places);
+        if index > places {
+            watch.at(Moment::Writes((index - places - 1) as u16));
+        }
+    }
+
     // Wakes the place whose answer word this is, where it may be parked there.
     //
     // Why this order: a waiter sets its mark before it looks at its word for the last time, and the answer was written before this look. So
     // one of the two sees the other.
-    fn wake(&self, index: usize)
+    fn wake<W: Watch>(&self, watch: &W, index: usize)
         requires { index < self.now.places + self.now.places + 1 }
     {
         let places = usize::from(self.places);
-        if index > places && self.parked[index - places - 1].load(Ordering::SeqCst) {
+        if index <= places {
+            return;
+        }
+        let place = index - places - 1;
+        watch.at(Moment::Answers(place as u16));
+        if self.parked[place].load(Ordering::SeqCst) {
+            watch.at(Moment::Wakes(place as u16));
             self.table.shared.wake_one(index);
         }
     }

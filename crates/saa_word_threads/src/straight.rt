@@ -11,7 +11,9 @@ ghost use Rattle.saa_word_steps.specs.declared.call.Answer.{Answer};
 ghost use Rattle.saa_word_steps.specs.declared.place.Back.TheVariants.{Tells};
 ghost use Rattle.saa_word_steps.specs.declared.place.Stage.TheVariants.{AskLoad, AskExchange, ReleaseLoad, ReleaseExchange};
 ghost use Rattle.saa_word_steps.specs.declared.place.Given.TheVariants.{Asked};
-ghost use Rattle.saa_word_steps.specs.Steps.{IsRanged, going, is_taken, needs_of, next_of, released_as, started, tried_answer};
+ghost use Rattle.saa_word_steps.specs.Steps.{IsRanged, going, next_of, released_as, started};
+ghost use Rattle.saa_word_steps.specs.Readings.{is_taken, tried_answer};
+ghost use Rattle.saa_word_steps.specs.Needs.{needs_of};
 ghost use Rattle.saa_word_threads.specs.Public.{is_granted, is_yes};
 ghost use Rattle.saa_word_threads.specs.Straight.{grants_at, lowers_to};
 ghost use Rattle.saa_word_threads.specs.Told.{IsNext, IsSince, Moves, unless_joining};
@@ -22,7 +24,7 @@ use crate::form::Form;
 use crate::looking::{Patience, unless_joining};
 use crate::place::Place;
 use crate::table::{Mover, View};
-use crate::watch::Watch;
+use crate::watch::{Moment, Watch};
 use atomic_table::Seat;
 use saa_core_words::word::Word;
 use saa_word_steps::call::{Answer, WordCall};
@@ -51,14 +53,17 @@ impl Form {
         requires taken { is_taken (needs_of self.now.rules).is_lock call ≡ true }
         requires starts { started (needs_of self.now.rules) place.old.position call ≡ going place.old.position (AskLoad ask) }
         ensures same { (place.new.seat.table_id ≡ place.old.seat.table_id) × (place.new.number ≡ place.old.number) }
+        ensures patience { place.new.patience ≡ patience }
         ensures called { IsCalled (needs_of self.now.rules) call place.old.position.registration result place.new.position.registration place.old.seat.me.0 place.new.seat.me.0 }
     {
+        place.patience = patience;
         let begun = Begun::of(call, place);
         let me = place.number;
         let looking = Snapshot::of(&Position {
             stage: Stage::AskLoad { ask },
             ..place.position
         });
+        watch.at(Moment::Looks);
         let found = self.seek_by_load::<Brand>(&mut place.seat, me, looking);
         let seen = Word::unpack(found);
         if !self.grants(seen, ask) {
@@ -73,6 +78,7 @@ impl Form {
         let old = seen.pack();
         let raised = Word { count, ..seen };
         let new = raised.pack();
+        watch.at(Moment::Takes);
         let other = self.seek_by_exchange::<Brand>(&mut place.seat, me, changing, old, new);
         if other != old {
             let (seat, position) = (&mut place.seat, &mut place.position);
@@ -97,6 +103,7 @@ impl Form {
     ) -> bool
         requires dealt { place.old.seat.table_id ≡ self.now.table.shared.table_id }
         ensures same { (place.new.seat.table_id ≡ place.old.seat.table_id) × (place.new.number ≡ place.old.number) }
+        ensures patience { place.new.patience ≡ place.old.patience }
         ensures called { (answer : Answer) × (result ≡ is_granted answer) × IsCalled (needs_of self.now.rules) Poll place.old.position.registration answer place.new.position.registration place.old.seat.me.0 place.new.seat.me.0 }
     {
         if let Registration::Once(value, _request) = place.position.registration {
@@ -405,7 +412,7 @@ impl Form {
         ensures since { IsSince seat.new.me.0.position result.0 }
         ensures events { HasEvents (needs_of self.now.rules) begun.call.value begun.registered.value result.1 result.0.registration begun.seat.value.me.0 seat.new.me.0 }
     {
-        match self.look_on(seat, me, place, patience, &begun) {
+        match self.look_on(watch, seat, me, place, patience, &begun) {
             Next::Going(next) => self.go_on(rt, watch, seat, me, next, begun),
             Next::Waits => self.go_on(rt, watch, seat, me, place, begun),
             Next::Done(behind, answer) => (behind, answer),

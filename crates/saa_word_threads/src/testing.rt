@@ -1,21 +1,21 @@
-//! For tests alone: calls beside somebody who looks on, or with another patience, and what a look at a lock would do.
+//! For tests alone: calls beside somebody who looks on, or with another patience, and what can be seen of a form beside its calls.
 //!
 //! A program has no use for this. Each call here is a public one of a semaphore or a lock, and is held to the same contract.
 
 ghost use Rattle.std.specs.Prelude.{◌≡◌};
 ghost use Rattle.saa_word_steps.specs.Needs.{permit_needs};
 ghost use Rattle.saa_word_steps.specs.declared.call.Answer.{Answer};
-ghost use Rattle.saa_word_steps.specs.declared.call.WordCall.TheVariants.{RegisterMode, Release, ReleaseShare};
-ghost use Rattle.saa_word_threads.specs.Locks.{IsDealtBy as IsDealtByLock, IsMade as IsMadeAtLock};
-ghost use Rattle.saa_word_threads.specs.Public.{IsMade, is_yes};
+ghost use Rattle.saa_word_steps.specs.declared.call.WordCall.TheVariants.{Cancel, Register, RegisterMode, Release, ReleaseShare, TryShare};
+ghost use Rattle.saa_word_threads.specs.Locks.{IsDealtBy as IsDealtByLock, IsMade as IsMadeAtLock, IsWaited as IsWaitedAtLock};
+ghost use Rattle.saa_word_threads.specs.Public.{IsMade, IsWaited, is_yes, tried};
 ghost use Rattle.saa_word_threads.specs.Semaphores.{IsDealtBy};
 
-use crate::lock::{Lock, Mode, Place as LockPlace};
-pub use crate::looking::{NONE, Patience};
+use crate::lock::{Lock, Mode, Place as LockPlace, SHARED, TryLockError, tried};
+pub use crate::looking::{NONE, Patience, WAITING};
 use crate::place::Place;
 use crate::semaphore::SemaphoreOf;
 use crate::straight::yes;
-pub use crate::watch::Watch;
+pub use crate::watch::{Moment, Watch};
 use saa_core_words::word::Word;
 use saa_word_steps::call::WordCall;
 use saa_word_steps::place::{Ask, Stage};
@@ -39,6 +39,34 @@ pub fn release_watched<R: Wait, W: Watch, const MAX: usize>(
     )
 }
 
+/// Cancels as [`SemaphoreOf::cancel`] does, beside somebody who looks on.
+pub fn cancel_watched<R: Wait, W: Watch, const MAX: usize>(
+    semaphore: &SemaphoreOf<MAX>,
+    rt: &R,
+    watch: &W,
+    place: &mut Place,
+)
+    requires { IsDealtBy semaphore.now place.old }
+    ensures { (answer : Answer) × IsMade (permit_needs MAX) Cancel place.old answer place.new }
+{
+    semaphore.form.call(rt, watch, place, WordCall::Cancel);
+}
+
+/// Waits for permits as [`SemaphoreOf::acquire_many`] does, beside somebody who looks on, and joins the waiters once this patience is over.
+pub fn acquire_patiently<R: Wait, W: Watch, const MAX: usize>(
+    semaphore: &SemaphoreOf<MAX>,
+    rt: &R,
+    watch: &W,
+    place: &mut Place,
+    count: usize,
+    patience: Patience,
+) -> bool
+    requires { IsDealtBy semaphore.now place.old }
+    ensures { IsWaited (permit_needs MAX) (Register count) place.old result place.new }
+{
+    semaphore.wait_patiently(rt, watch, place, count, patience)
+}
+
 /// Gives a share back as [`Lock::release_share`] does, step by step, beside somebody who looks on.
 pub fn release_share_watched<R: Wait, W: Watch>(
     lock: &Lock,
@@ -55,10 +83,29 @@ pub fn release_share_watched<R: Wait, W: Watch>(
     )
 }
 
-/// Registers as [`Lock::register`] does, and joins the waiters once this patience is over.
-pub fn register_patiently<R: Wait>(
+/// Tries for a share as [`Lock::try_share`] does, beside somebody who looks on.
+pub fn try_share_watched<R: Wait, W: Watch>(
     lock: &Lock,
     rt: &R,
+    watch: &W,
+    place: &mut LockPlace,
+) -> Result<(), TryLockError>
+    requires { IsDealtByLock lock.now place.old }
+    ensures { (answer : Answer) × (result ≡ tried answer) × IsMadeAtLock TryShare place.old answer place.new }
+{
+    let ask = Ask {
+        request: SHARED,
+        joins: false,
+    };
+    let call = WordCall::TryShare;
+    tried(lock.form.ask(rt, watch, &mut place.inner, call, ask, NONE))
+}
+
+/// Registers as [`Lock::register`] does, beside somebody who looks on, and joins the waiters once this patience is over.
+pub fn register_patiently<R: Wait, W: Watch>(
+    lock: &Lock,
+    rt: &R,
+    watch: &W,
     place: &mut LockPlace,
     mode: Mode,
     patience: Patience,
@@ -66,7 +113,22 @@ pub fn register_patiently<R: Wait>(
     requires { IsDealtByLock lock.now place.old }
     ensures { (answer : Answer) × (result ≡ is_yes answer) × IsMadeAtLock (RegisterMode mode) place.old answer place.new }
 {
-    lock.register_patiently(rt, place, mode, patience)
+    lock.register_patiently(rt, watch, place, mode, patience)
+}
+
+/// Waits as [`Lock::lock`] and [`Lock::share`] do, in this mode, beside somebody who looks on, and joins the waiters once this patience is over.
+pub fn wait_patiently<R: Wait, W: Watch>(
+    lock: &Lock,
+    rt: &R,
+    watch: &W,
+    place: &mut LockPlace,
+    mode: Mode,
+    patience: Patience,
+) -> bool
+    requires { IsDealtByLock lock.now place.old }
+    ensures { IsWaitedAtLock mode place.old result place.new }
+{
+    lock.wait_patiently(rt, watch, place, mode, patience)
 }
 
 /// Whether a place that asks for the lock, and is about to exchange a free word, would do so now. Another place may change that meanwhile.
@@ -82,4 +144,19 @@ pub fn may_exchange(lock: &Lock) -> bool {
         tail: 0,
     };
     lock.form.may_get_on(Stage::AskExchange { ask, seen })
+}
+
+/// Whether the place of this number is parked, or about to park: whether it has set its mark. `false` for a number of no place.
+pub fn is_parked(lock: &Lock, place: u16) -> bool {
+    lock.form.is_parked(place)
+}
+
+/// The same at a semaphore.
+pub fn is_parked_at<const MAX: usize>(semaphore: &SemaphoreOf<MAX>, place: u16) -> bool {
+    semaphore.form.is_parked(place)
+}
+
+/// Whether an answer is written for the place of this number that it hasn't taken yet. `false` for a number of no place.
+pub fn is_answered(lock: &Lock, place: u16) -> bool {
+    lock.form.is_answered(place)
 }

@@ -3,6 +3,7 @@
 ghost use Rattle.std.specs.Prelude.{◌<◌};
 
 use crate::form::Form;
+use crate::watch::{Moment, Watch};
 use saa_word_steps::place::Stage;
 use std::hint::spin_loop;
 use std::sync::Wait;
@@ -16,22 +17,24 @@ const YIELDS: u32 = 500;
 
 impl Form {
     // Waits a while at this stage: for the own answer, and else for the flag's holder, who has no word to park on.
-    pub(crate) fn wait<R: Wait>(&self, rt: &R, me: u16, stage: Stage)
+    pub(crate) fn wait<R: Wait, W: Watch>(&self, rt: &R, watch: &W, me: u16, stage: Stage)
         requires { me < self.now.places }
     {
         if let Stage::Take { .. } = stage {
-            self.await_answer(rt, me);
+            self.await_answer(rt, watch, me);
         } else {
+            watch.at(Moment::Defers);
             yield_now();
         }
     }
 
     // Waits until the answer word of a place may have changed.
-    fn await_answer<R: Wait>(&self, rt: &R, me: u16)
+    fn await_answer<R: Wait, W: Watch>(&self, rt: &R, watch: &W, me: u16)
         requires { me < self.now.places }
     {
         let index = usize::from(self.places) + usize::from(me) + 1;
         for _turn in 0..LOOKS {
+            watch.at(Moment::LooksForAnswer);
             if self.table.shared.peek(index) != 0 {
                 return;
             }
@@ -41,13 +44,16 @@ impl Form {
             if self.table.shared.peek(index) != 0 {
                 return;
             }
+            watch.at(Moment::YieldsForAnswer);
             yield_now();
         }
         // Why this order: the place that shows the answer looks at this mark once the answer is written, and parking looks at the word once the mark
         // is set. The other way round an answer between the two would wake nobody.
         let mark = &self.parked[usize::from(me)];
         mark.store(true, Ordering::SeqCst);
+        watch.at(Moment::Parks);
         self.table.shared.park(rt, index, 0);
+        watch.at(Moment::IsBack);
         mark.store(false, Ordering::SeqCst);
     }
 }

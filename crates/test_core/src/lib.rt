@@ -17,6 +17,10 @@ mod lock;
 #[cfg(test)]
 mod numbers;
 #[cfg(test)]
+mod printed;
+#[cfg(test)]
+mod progress;
+#[cfg(test)]
 mod semaphore;
 #[cfg(test)]
 mod stories;

@@ -6,7 +6,7 @@
 use crate::stories::Tasks;
 use crate::stories::Who::{First, Second};
 use crate::wakers::wakers::{Out, is_out};
-use crate::{callbacks, lines, wakes};
+use crate::{callbacks, lines, sharing, wakes};
 use std::alloc::AllocGlobal;
 use std::fs::Files;
 use std::io;
@@ -28,6 +28,7 @@ enum Fact {
     Executor,
     Exclusion,
     Meeting,
+    Sharing,
     // The waker of a slow task goes out with the lock free, in a room of this size.
     Wakes(u16, Out),
 }
@@ -57,7 +58,7 @@ static AT_TASKS: [(&str, Fact); 7] = [
     ),
 ];
 
-static BESIDE_THREADS: [(&str, Fact); 4] = [
+static BESIDE_THREADS: [(&str, Fact); 5] = [
     (
         "a task between two sleepers is served between them",
         Fact::Between,
@@ -68,6 +69,10 @@ static BESIDE_THREADS: [(&str, Fact); 4] = [
     ),
     ("tasks and threads exclude each other", Fact::Exclusion),
     ("tasks and threads meet at a barrier", Fact::Meeting),
+    (
+        "tasks share a lock, and each has it alone in turn",
+        Fact::Sharing,
+    ),
 ];
 
 static WITH_THE_LOCK_FREE: [(&str, Fact); 6] = [
@@ -116,6 +121,7 @@ fn is_so_by<H: Files + Threads + Wait + RandomSource + AllocGlobal + Sync>(
         Fact::Executor => lines::executor(rt),
         Fact::Exclusion => lines::exclusion(rt),
         Fact::Meeting => lines::meeting(rt),
+        Fact::Sharing => sharing::together(rt),
         Fact::Wakes(room, out) => is_out(rt, one, room, out),
     }
 }

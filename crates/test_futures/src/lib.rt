@@ -27,6 +27,8 @@ mod pagers;
 #[cfg(test)]
 mod semaphore_stories;
 #[cfg(test)]
+mod sharing;
+#[cfg(test)]
 mod stories;
 #[cfg(test)]
 mod values;

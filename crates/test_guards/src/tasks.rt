@@ -7,7 +7,7 @@ use crate::stories::{FULL, Row, Story};
 
 pub(crate) const STORIES: [Story; 6] = [
     Story {
-        name: "a mutex is had in the order of asking",
+        name: "a mutex is had in the order of joining",
         number: 0,
         room: 2,
         crowd: 0,

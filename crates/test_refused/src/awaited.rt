@@ -1,104 +1,56 @@
-//! Each future, awaited by `block_on` while another thread lets it be answered later: a waker that memory was refused for is a yield, and the
-//! answer is the same. Only where `block_on` itself is refused is there none, and then the future is awaited anew.
+//! Each future, awaited by `block_on` while another thread has what it asks for, and lets it have that only once its task sleeps.
+//!
+//! The task polls it twice before it sleeps, as where a poll gets no waker and asks for another one, and once when it was woken. So a
+//! future is noticed that is told too soon, that takes another poll for a wake, or that keeps no waker and has its task polled all the
+//! time. A wait takes no memory, nor does a waker, which is one more owner of what `block_on` has made: only `block_on` itself can be
+//! refused, and then the future is awaited anew. `scripts/refuse_everything` sees that each row takes as much as a future that is ready.
 
 use crate::anew;
-use crate::came::{Came, row};
-use futures::executor::block_on;
-use saa_sync::barrier::Barrier;
-use saa_sync::gate::{Gate, State};
-use saa_sync::lock::Lock;
-use saa_sync::lock_api::{Mutex, RwLock, lock_async, read_async, write_async};
-use saa_sync::pager::Pager;
-use saa_sync::semaphore::Semaphore;
-use std::alloc::{AllocError, AllocGlobal, Global};
+use crate::came::{Came, anew_if, only_if, row};
+use crate::forms::{Forms, NEW, What};
+use crate::paged::paged;
+use crate::watch::Watch;
+use futures::future::ready;
+use saa_sync::gate::State;
+use saa_sync::lock_api::{lock_async, read_async, write_async};
+use std::alloc::{AllocGlobal, Global};
 use std::io;
 use std::random::RandomSource;
 use std::rt::Runtime;
 use std::sync::Wait;
-use std::thread::{self, Threads, yield_now};
+use std::thread::{self, Threads};
 
-// How often the other thread yields before it lets the future be answered.
-const RESTS: u32 = 200;
-
-fn rest() {
-    for _turn in 0..RESTS {
-        yield_now();
-    }
-}
-
-// What is awaited.
-#[derive(Clone, Copy)]
-enum What {
-    Permit,
-    TwoPermits,
-    Turn,
-    Share,
-    Gate,
-    Barrier,
-    Mutex,
-    Reader,
-    Writer,
-}
-
-// What another thread lets be answered.
-static ANSWERED: [(&str, What); 6] = [
+// What is awaited, in the order of the rows.
+static ROWS: [(&str, What); 19] = [
     ("a permit awaited", What::Permit),
+    ("a permit awaited with a callback", What::PermitWith),
     ("two permits awaited", What::TwoPermits),
-    ("a lock awaited, taken before (true)", What::Turn),
+    ("two permits awaited with a callback", What::TwoPermitsWith),
+    ("a lock awaited", What::Turn),
+    ("a lock awaited with a callback", What::TurnWith),
     ("a share awaited", What::Share),
+    ("a share awaited with a callback", What::ShareWith),
     ("a gate awaited", What::Gate),
+    ("a gate awaited with a callback", What::GateWith),
     ("a barrier awaited", What::Barrier),
-];
-
-// These are answered at once: how long one waits is the lock's matter.
-static GUARDS: [(&str, What); 3] = [
+    ("a barrier awaited with a callback", What::BarrierWith),
+    ("a semaphore's pager awaited", What::SemaphorePager),
+    ("a lock's pager awaited", What::LockPager),
+    ("a gate's pager awaited", What::GatePager),
+    ("a barrier's pager awaited", What::BarrierPager),
     ("a mutex awaited", What::Mutex),
     ("a reader awaited", What::Reader),
     ("a writer awaited", What::Writer),
 ];
-
-// The forms whose futures are awaited.
-#[derive(Drop)]
-struct Forms<'r, R: Wait> {
-    semaphore: Semaphore<&'r R>,
-    lock: Lock<&'r R>,
-    gate: Gate<&'r R>,
-    barrier: Barrier<&'r R>,
-    mutex: Mutex<&'r R, u32>,
-    rwlock: RwLock<&'r R, u32>,
-}
-
-impl<'r, R: Wait> Forms<'r, R> {
-    fn new(rt: &'r R, alloc: Global) -> Result<Self, AllocError> {
-        Ok(Forms {
-            semaphore: Semaphore::with_permits(rt, alloc, 0, 4)?,
-            lock: Lock::new(rt, alloc, 4)?,
-            gate: Gate::new(rt, alloc, 4)?,
-            barrier: Barrier::with_count(rt, alloc, 2, 4)?,
-            mutex: Mutex::new(rt, alloc, 5u32, 4)?,
-            rwlock: RwLock::new(rt, alloc, 5u32, 4)?,
-        })
-    }
-
-    // Lets a future be answered.
-    fn answer(&self, what: What) {
-        match what {
-            What::Permit => drop(self.semaphore.release_many(1)),
-            What::TwoPermits => drop(self.semaphore.release_many(2)),
-            What::Turn | What::Share => drop(self.lock.release_lock()),
-            What::Gate => drop(self.gate.open()),
-            What::Barrier => drop(self.barrier.wait_sync()),
-            What::Mutex | What::Reader | What::Writer => {}
-        }
-    }
-}
 
 /// Awaits each, and prints a line for each.
 pub fn rows<R: Runtime + RandomSource + AllocGlobal + Threads + Wait + Sync>(
     rt: &R,
     alloc: Global,
 ) -> io::Result<()> {
-    let forms = anew!(Forms::new(rt, alloc));
+    row(rt, "what is ready awaited", ready_awaited(rt))?;
+    let (forms, came) = anew!(Forms::new(rt, alloc));
+    row(rt, "all forms", came)?;
     rows_of(rt, &forms)
 }
 
@@ -107,43 +59,65 @@ fn rows_of<R: Runtime + RandomSource + AllocGlobal + Threads + Wait + Sync>(
     rt: &R,
     forms: &Forms<'_, R>,
 ) -> io::Result<()> {
-    for (name, what) in &ANSWERED {
-        row(rt, name, answered_later(rt, forms, *what))?;
-    }
-    row(rt, "a pager awaited", awaited_pager(rt, &forms.semaphore))?;
-    for (name, what) in &GUARDS {
-        row(rt, name, awaited(rt, forms, *what))?;
+    for (name, what) in &ROWS {
+        row(rt, name, contended(rt, forms, *what))?;
     }
     Ok(())
 }
 
-// Awaits a future while another thread lets it be answered.
-fn answered_later<R: RandomSource + AllocGlobal + Threads + Wait + Sync>(
+// Awaits what is ready at once: all memory is `block_on`'s.
+fn ready_awaited<R: RandomSource + AllocGlobal + Wait>(rt: &R) -> Came {
+    let watch = Watch::new();
+    let came = match watch.awaited(rt, ready(5u32)) {
+        Some(answer) => only_if(answer == 5),
+        None => anew_if(watch.awaited(rt, ready(5u32)) == Some(5)),
+    };
+    came.and(only_if(watch.was_ready()))
+}
+
+// Awaits something in another thread once this one has it, which lets it go once the task there sleeps. Then all is as before.
+fn contended<R: RandomSource + AllocGlobal + Threads + Wait + Sync>(
     rt: &R,
     forms: &Forms<'_, R>,
     what: What,
 ) -> Came {
-    // The lock is another's.
-    if matches!(what, What::Turn) && forms.lock.try_lock().is_err() {
-        return Came::Wrong;
-    }
-    let answers = || {
-        rest();
-        forms.answer(what)
-    };
-    let (_, came) = thread::join(rt, answers, || awaited(rt, forms, what));
-    came
+    let watch = Watch::new();
+    let (came, is_let_go) = thread::join(
+        rt,
+        || {
+            watch.await_held(rt);
+            awaited(rt, forms, what, &watch)
+        },
+        || lets_go(rt, forms, what, &watch),
+    );
+    let is_given_back = forms.give_back(what);
+    came.and(only_if(is_let_go && is_given_back && watch.was_woken(what.callbacks())))
 }
 
-// Awaits a future, anew where that was refused.
-fn awaited<R: RandomSource + AllocGlobal + Wait>(rt: &R, forms: &Forms<'_, R>, what: What) -> Came {
-    match is_answered(rt, forms, what) {
-        Some(true) => Came::AtOnce,
-        Some(false) => Came::Wrong,
-        None => match is_answered(rt, forms, what) {
-            Some(true) => Came::Anew,
-            _ => Came::Wrong,
-        },
+// Has what is awaited until the task that awaits it sleeps, and lets it go then. Whether that told what it must.
+fn lets_go<R: Wait>(rt: &R, forms: &Forms<'_, R>, what: What, watch: &Watch) -> bool {
+    let held = forms.held(what);
+    watch.hold();
+    watch.await_asleep(rt);
+    match held {
+        Some(held) => forms.let_go(what, held),
+        None => false,
+    }
+}
+
+// Awaits it, anew where that was refused.
+fn awaited<R: RandomSource + AllocGlobal + Wait>(
+    rt: &R,
+    forms: &Forms<'_, R>,
+    what: What,
+    watch: &Watch,
+) -> Came {
+    if let Some(came) = paged(rt, forms, what, watch) {
+        return came;
+    }
+    match is_answered(rt, forms, what, watch) {
+        Some(is_right) => only_if(is_right),
+        None => anew_if(is_answered(rt, forms, what, watch) == Some(true)),
     }
 }
 
@@ -152,61 +126,70 @@ fn is_answered<R: RandomSource + AllocGlobal + Wait>(
     rt: &R,
     forms: &Forms<'_, R>,
     what: What,
+    watch: &Watch,
 ) -> Option<bool> {
     match what {
-        What::Permit => is_told(block_on(rt, forms.semaphore.acquire_async()), Ok(())),
-        What::TwoPermits => is_told(
-            block_on(rt, forms.semaphore.acquire_many_async(2)),
-            Ok(true),
+        What::Permit => Some(watch.awaited(rt, forms.semaphore.acquire_async())? == Ok(())),
+        What::TwoPermits => {
+            Some(watch.awaited(rt, forms.semaphore.acquire_many_async(2))? == Ok(true))
+        }
+        What::Turn => Some(watch.awaited(rt, forms.lock.lock_async())? == Ok(true)),
+        What::Share => Some(watch.awaited(rt, forms.lock.share_async())? == Ok(true)),
+        What::Gate => {
+            Some(watch.awaited(rt, forms.gate.enter_async())? == Ok(Ok(State::Controlled)))
+        }
+        What::Barrier => Some(watch.awaited(rt, forms.barrier.wait_async())? == Ok(false)),
+        What::Mutex | What::Reader | What::Writer => is_shown(rt, forms, what, watch),
+        _ => is_answered_with(rt, forms, what, watch),
+    }
+}
+
+// The same of a future with a callback.
+fn is_answered_with<R: RandomSource + AllocGlobal + Wait>(
+    rt: &R,
+    forms: &Forms<'_, R>,
+    what: What,
+    watch: &Watch,
+) -> Option<bool> {
+    let join = || watch.join();
+    match what {
+        What::PermitWith => {
+            Some(watch.awaited(rt, forms.semaphore.acquire_async_with(join))? == Ok(()))
+        }
+        What::TwoPermitsWith => Some(
+            watch.awaited(rt, forms.semaphore.acquire_many_async_with(2, join))? == Ok(true),
         ),
-        What::Turn => is_told(block_on(rt, forms.lock.lock_async()), Ok(true)),
-        What::Share => is_told(block_on(rt, forms.lock.share_async()), Ok(true)),
-        What::Gate => is_told(block_on(rt, forms.gate.enter_async()), Ok(Ok(State::Open))),
-        What::Barrier => is_had(block_on(rt, forms.barrier.wait_async())),
-        What::Mutex => is_had(block_on(rt, lock_async(&forms.mutex))),
-        What::Reader => is_had(block_on(rt, read_async(&forms.rwlock))),
-        What::Writer => is_had(block_on(rt, write_async(&forms.rwlock))),
+        What::TurnWith => Some(watch.awaited(rt, forms.lock.lock_async_with(join))? == Ok(true)),
+        What::ShareWith => Some(watch.awaited(rt, forms.lock.share_async_with(join))? == Ok(true)),
+        What::GateWith => Some(
+            watch.awaited(rt, forms.gate.enter_async_with(join))? == Ok(Ok(State::Controlled)),
+        ),
+        What::BarrierWith => {
+            Some(watch.awaited(rt, forms.barrier.wait_async_with(join))? == Ok(false))
+        }
+        _ => Some(false),
     }
 }
 
-// Whether this is what a future is answered; nothing where it was refused to await it.
-fn is_told<T: PartialEq + Drop, E: Drop>(answer: Result<T, E>, wanted: T) -> Option<bool> {
-    Some(answer.ok()? == wanted)
-}
-
-// Whether a future is answered with what was asked for; nothing where it was refused to await it.
-fn is_had<T: Drop, F: Drop, E: Drop>(answer: Result<Result<T, F>, E>) -> Option<bool> {
-    Some(answer.ok()?.is_ok())
-}
-
-// Registers a pager, and awaits its answer.
-fn awaited_pager<R: RandomSource + AllocGlobal + Threads + Wait + Sync>(
+// Whether a guard shows what the other wrote; nothing where it was refused to await it.
+fn is_shown<R: RandomSource + AllocGlobal + Wait>(
     rt: &R,
-    semaphore: &Semaphore<&R>,
-) -> Came {
-    let mut pager = Pager::new();
-    if semaphore.register_pager(&mut pager, 1, false) != Ok(true) {
-        return Came::Wrong;
-    }
-    let answers = || {
-        rest();
-        semaphore.release()
-    };
-    let (_, came) = thread::join(rt, answers, move || poll_pager(rt, pager));
-    came
-}
-
-// Polls a pager until it is answered, anew where that was refused.
-fn poll_pager<R: RandomSource + AllocGlobal + Wait, H: Wait + Drop>(
-    rt: &R,
-    mut pager: Pager<'_, Semaphore<H>>,
-) -> Came {
-    match block_on(rt, pager.poll_async()) {
-        Ok(answer) if answer == Ok(()) => Came::AtOnce,
-        Ok(_) => Came::Wrong,
-        Err(_) => match block_on(rt, pager.poll_async()) {
-            Ok(answer) if answer == Ok(()) => Came::Anew,
-            _ => Came::Wrong,
+    forms: &Forms<'_, R>,
+    what: What,
+    watch: &Watch,
+) -> Option<bool> {
+    Some(match what {
+        What::Mutex => match watch.awaited(rt, lock_async(&forms.mutex))? {
+            Ok(guard) => *guard == NEW,
+            Err(_full) => false,
         },
-    }
+        What::Reader => match watch.awaited(rt, read_async(&forms.rwlock))? {
+            Ok(guard) => *guard == NEW,
+            Err(_full) => false,
+        },
+        _ => match watch.awaited(rt, write_async(&forms.rwlock))? {
+            Ok(guard) => *guard == NEW,
+            Err(_full) => false,
+        },
+    })
 }

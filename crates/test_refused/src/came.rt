@@ -26,6 +26,16 @@ impl Came {
     }
 }
 
+/// Wrong but for this.
+pub fn only_if(is_right: bool) -> Came {
+    if is_right { Came::AtOnce } else { Came::Wrong }
+}
+
+/// Wrong but for this, which was refused before.
+pub fn anew_if(is_right: bool) -> Came {
+    Came::Anew.and(only_if(is_right))
+}
+
 /// Prints what came of something.
 pub fn row<R: Runtime>(rt: &R, name: &str, came: Came) -> io::Result<()> {
     println!(rt; "{name}: {came}")
@@ -41,13 +51,13 @@ impl Display for Came {
     }
 }
 
-/// Makes something that the rows need, anew where it was refused.
+/// Makes something that the rows need, anew where it was refused; and tells what came of that.
 #[macro_export]
 macro_rules! anew {
     ($make:expr) => {
         match $make {
-            Ok(made) => made,
-            Err(_) => $make?,
+            Ok(made) => (made, Came::AtOnce),
+            Err(_) => ($make?, Came::Anew),
         }
     };
 }

@@ -73,7 +73,8 @@ static ROWS: [(&str, What); 19] = [
 ///
 /// The value that guards stand round is dropped where nothing is made, and with what is made: one owner is left.
 pub fn rows<R: Runtime + Wait>(rt: &R, alloc: Global) -> io::Result<()> {
-    let value = anew!(Arc::new(alloc, 5u32));
+    let (value, came) = anew!(Arc::new(alloc, 5u32));
+    row(rt, "a value with several owners", came)?;
     rows_with(rt, alloc, &value)
 }
 

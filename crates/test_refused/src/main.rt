@@ -6,8 +6,11 @@
 
 mod awaited;
 mod came;
+mod forms;
 mod journalled;
 mod made;
+mod paged;
+mod watch;
 
 use std::alloc::Global;
 use std::{env, io};

@@ -80,7 +80,7 @@ impl ListedSemaphore {
         self.core.cancel(ticket);
     }
 
-    /// The oldest wake that is owed, which is told by this.
+    /// Takes out the oldest pending wake, and reports its slot.
     pub fn next_answered(&mut self) -> Option<u16> {
         self.core.next_answered()
     }

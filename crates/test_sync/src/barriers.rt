@@ -21,6 +21,7 @@ use std::sync::Wait;
 use std::sync::atomic::{AtomicU64, Ordering};
 use std::thread;
 use std::thread::Threads;
+use std::time::Clock;
 
 // A call at a barrier, or at a pager of it.
 #[derive(Clone, Copy)]
@@ -94,7 +95,7 @@ impl<R: Wait + Drop + Sync> MadeOn<R> for Barrier<R> {
 }
 
 // Plays a pair at this barrier.
-fn others_at<H: Wait + Threads + Sync, R: Wait + Drop + Sync>(
+fn others_at<H: Wait + Clock + Threads + Sync, R: Wait + Drop + Sync>(
     rt: &H,
     barrier: &Barrier<R>,
     pair: &Pair<BarrierCall>,
@@ -109,7 +110,7 @@ fn others_at<H: Wait + Threads + Sync, R: Wait + Drop + Sync>(
 }
 
 // Plays a pair.
-fn others<H: Wait + Threads + Sync + AllocGlobal>(
+fn others<H: Wait + Clock + Threads + Sync + AllocGlobal>(
     rt: &H,
     pair: &Pair<BarrierCall>,
 ) -> Result<Others, AllocError> {
@@ -118,7 +119,7 @@ fn others<H: Wait + Threads + Sync + AllocGlobal>(
 }
 
 // The first of these pairs in which a row was told otherwise.
-pub(crate) fn first_pair<H: Wait + Threads + Sync + AllocGlobal>(
+pub(crate) fn first_pair<H: Wait + Clock + Threads + Sync + AllocGlobal>(
     rt: &H,
     pairs: &[Pair<BarrierCall>],
 ) -> FirstPair {

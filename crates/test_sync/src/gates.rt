@@ -21,6 +21,7 @@ use std::sync::Wait;
 use std::sync::atomic::Ordering;
 use std::thread;
 use std::thread::Threads;
+use std::time::Clock;
 
 // A call at a gate, or at a pager of it.
 #[derive(Clone, Copy)]
@@ -106,7 +107,7 @@ impl<R: Wait + Drop + Sync> MadeOn<R> for Gate<R> {
 }
 
 // Plays a pair at this gate.
-fn others_at<H: Wait + Threads + Sync, R: Wait + Drop + Sync>(
+fn others_at<H: Wait + Clock + Threads + Sync, R: Wait + Drop + Sync>(
     rt: &H,
     gate: &Gate<R>,
     pair: &Pair<GateCall>,
@@ -121,7 +122,7 @@ fn others_at<H: Wait + Threads + Sync, R: Wait + Drop + Sync>(
 }
 
 // Plays a pair.
-fn others<H: Wait + Threads + Sync + AllocGlobal>(
+fn others<H: Wait + Clock + Threads + Sync + AllocGlobal>(
     rt: &H,
     pair: &Pair<GateCall>,
 ) -> Result<Others, AllocError> {
@@ -130,7 +131,7 @@ fn others<H: Wait + Threads + Sync + AllocGlobal>(
 }
 
 // The first of these pairs in which a row was told otherwise.
-pub(crate) fn first_pair<H: Wait + Threads + Sync + AllocGlobal>(
+pub(crate) fn first_pair<H: Wait + Clock + Threads + Sync + AllocGlobal>(
     rt: &H,
     pairs: &[Pair<GateCall>],
 ) -> FirstPair {

@@ -1,4 +1,4 @@
-//! Tests of what no contract says: that a threaded call reaches its core, that a wait waits, spins for a while, is woken, and ends in time.
+//! Tests of what no contract says: that a threaded call reaches its core, that a wait waits, spins for a while, and is woken.
 //!
 //! Every test joins its threads, ends by itself, and rests nothing on timing.
 #![tactic(auto)]
@@ -7,6 +7,8 @@
 mod barriers;
 #[cfg(test)]
 mod callbacks;
+#[cfg(test)]
+mod chaos;
 #[cfg(test)]
 mod crowds;
 #[cfg(test)]
@@ -33,7 +35,5 @@ mod semaphores;
 mod stories;
 #[cfg(test)]
 mod threads;
-#[cfg(test)]
-mod timed;
 #[cfg(test)]
 mod waits;

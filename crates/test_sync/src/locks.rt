@@ -23,6 +23,7 @@ use std::sync::Wait;
 use std::sync::atomic::{AtomicU64, Ordering};
 use std::thread;
 use std::thread::{Threads, yield_now};
+use std::time::Clock;
 
 // A call at a lock, or at a pager of it.
 #[derive(Clone, Copy)]
@@ -165,7 +166,7 @@ impl<R: Wait + Drop + Sync> MadeOn<R> for Lock<R> {
 }
 
 // Plays a pair at this lock.
-fn others_at<H: Wait + Threads + Sync, R: Wait + Drop + Sync>(
+fn others_at<H: Wait + Clock + Threads + Sync, R: Wait + Drop + Sync>(
     rt: &H,
     lock: &Lock<R>,
     pair: &Pair<LockCall>,
@@ -180,7 +181,7 @@ fn others_at<H: Wait + Threads + Sync, R: Wait + Drop + Sync>(
 }
 
 // Plays a pair.
-fn others<H: Wait + Threads + Sync + AllocGlobal>(
+fn others<H: Wait + Clock + Threads + Sync + AllocGlobal>(
     rt: &H,
     pair: &Pair<LockCall>,
 ) -> Result<Others, AllocError> {
@@ -189,7 +190,7 @@ fn others<H: Wait + Threads + Sync + AllocGlobal>(
 }
 
 // The first of these pairs in which a row was told otherwise.
-pub(crate) fn first_pair<H: Wait + Threads + Sync + AllocGlobal>(
+pub(crate) fn first_pair<H: Wait + Clock + Threads + Sync + AllocGlobal>(
     rt: &H,
     pairs: &[Pair<LockCall>],
 ) -> FirstPair {

@@ -20,6 +20,7 @@ use std::sync::Wait;
 use std::sync::atomic::Ordering;
 use std::thread;
 use std::thread::Threads;
+use std::time::Clock;
 
 // A call at a semaphore, or at a pager of it.
 #[derive(Clone, Copy)]
@@ -144,7 +145,7 @@ impl<R: Wait + Drop + Sync> MadeOn<R> for Semaphore<R> {
 }
 
 // Plays a pair at this semaphore.
-fn others_at<H: Wait + Threads + Sync, R: Wait + Drop + Sync>(
+fn others_at<H: Wait + Clock + Threads + Sync, R: Wait + Drop + Sync>(
     rt: &H,
     semaphore: &Semaphore<R>,
     pair: &Pair<SemaphoreCall>,
@@ -159,7 +160,7 @@ fn others_at<H: Wait + Threads + Sync, R: Wait + Drop + Sync>(
 }
 
 // Plays a pair.
-fn others<H: Wait + Threads + Sync + AllocGlobal>(
+fn others<H: Wait + Clock + Threads + Sync + AllocGlobal>(
     rt: &H,
     pair: &Pair<SemaphoreCall>,
 ) -> Result<Others, AllocError> {
@@ -168,7 +169,7 @@ fn others<H: Wait + Threads + Sync + AllocGlobal>(
 }
 
 // The first of these pairs in which a row was told otherwise.
-pub(crate) fn first_pair<H: Wait + Threads + Sync + AllocGlobal>(
+pub(crate) fn first_pair<H: Wait + Clock + Threads + Sync + AllocGlobal>(
     rt: &H,
     pairs: &[Pair<SemaphoreCall>],
 ) -> FirstPair {

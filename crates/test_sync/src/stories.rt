@@ -15,7 +15,8 @@ use saa_sync::semaphore::Semaphore;
 use std::alloc::{AllocError, AllocGlobal, Global};
 use std::sync::Wait;
 use std::sync::atomic::{AtomicBool, AtomicU64, Ordering};
-use std::thread::{Threads, yield_now};
+use std::thread::{self, Threads, yield_now};
+use std::time::{Clock, Duration};
 use test_asserts::same;
 
 // What a call tells.
@@ -100,8 +101,8 @@ pub(crate) type FirstPair = Result<Option<(&'static str, Others)>, AllocError>;
 // How often a row calls that must be told the same for a while.
 const TURNS: u32 = 10_000;
 
-// How often a row yields that has been told what it waited for.
-const RESTS: u32 = 2_000;
+// How long a row rests that has been told what it waited for, in milliseconds.
+const REST: u64 = 5;
 
 // What the threads and the callbacks of a story leave for one another.
 #[derive(Drop)]
@@ -241,7 +242,7 @@ pub(crate) fn first_other<S: Form>(
 }
 
 // The first of the rows of one of two threads that was told otherwise. All are played, so that the other thread isn't left waiting.
-fn first_row_at<H: Wait, S: Form>(
+fn first_row_at<H: Wait + Clock, S: Form>(
     rt: &H,
     desk: &mut Desk<'_, S>,
     rows: &[Row<S::Call>],
@@ -257,7 +258,7 @@ fn first_row_at<H: Wait, S: Form>(
 }
 
 // The same, with pagers of its own; then the thread has ended.
-pub(crate) fn first_at<H: Wait, S: Form>(
+pub(crate) fn first_at<H: Wait + Clock, S: Form>(
     rt: &H,
     form: &S,
     notes: &Notes,
@@ -270,12 +271,12 @@ pub(crate) fn first_at<H: Wait, S: Form>(
 }
 
 // Plays a row; whether it was told what it must be.
-fn is_told<H: Wait, S: Form>(rt: &H, desk: &mut Desk<'_, S>, row: &Row<S::Call>) -> bool {
+fn is_told<H: Wait + Clock, S: Form>(rt: &H, desk: &mut Desk<'_, S>, row: &Row<S::Call>) -> bool {
     match row {
         Row::Does(call, wanted) => tells(desk, *call, *wanted),
         Row::Until(call, wanted) => {
             await_told(rt, desk, *call, *wanted);
-            rest();
+            rest(rt);
             tells(desk, *call, *wanted)
         }
         Row::Stays(call, wanted) => stays(desk, *call, *wanted),
@@ -292,10 +293,9 @@ fn await_told<H: Wait, S: Form>(rt: &H, desk: &mut Desk<'_, S>, call: S::Call, w
     }
 }
 
-fn rest() {
-    for _turn in 0..RESTS {
-        yield_now();
-    }
+// Gives the other thread a while. One that yielded instead would rest for long where many threads wait for their turn.
+fn rest(clock: &impl Clock) {
+    thread::sleep(clock, Duration::from_millis(REST));
 }
 
 // Calls for a while; whether this was told each time, and the other thread hadn't ended.
@@ -360,7 +360,7 @@ fn stories_are_told(rt: HostRuntime) {
 // What was told otherwise first in each table of pairs.
 type FirstPairs = [FirstPair; 5];
 
-fn first_pairs<H: Wait + Threads + Sync + AllocGlobal>(rt: &H) -> FirstPairs {
+fn first_pairs<H: Wait + Clock + Threads + Sync + AllocGlobal>(rt: &H) -> FirstPairs {
     [
         semaphores::first_pair(rt, &threads::PAIRS),
         semaphores::first_pair(rt, &waits::PAIRS),

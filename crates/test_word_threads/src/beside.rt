@@ -6,69 +6,15 @@
 ghost use Rattle.saa_word_threads.specs.Locks.{IsDealtBy as IsDealtByLock};
 ghost use Rattle.saa_word_threads.specs.Semaphores.{IsDealtBy};
 
+use crate::gate::Gate;
+use crate::tally::Tally;
 use saa_word_threads::lock::{Lock, Mode, Place as LockPlace};
 use saa_word_threads::semaphore::{Error, Place, Semaphore};
-use saa_word_threads::testing::{Watch, release_share_watched, release_watched};
+use saa_word_threads::testing::{Moment, cancel_watched, release_share_watched, release_watched};
 use std::alloc::{AllocError, AllocGlobal};
 use std::sync::Wait;
-use std::sync::atomic::{AtomicBool, Ordering};
 use std::thread::{self, Threads, yield_now};
 use test_asserts::same;
-
-// How long a thread is held at most.
-const TURNS: u32 = 3_000_000;
-
-// Holds the flag's holder right before it publishes, until the others are answered.
-#[derive(Drop)]
-struct Gate {
-    is_held: AtomicBool,
-    is_answered: AtomicBool,
-    is_late: AtomicBool,
-}
-
-impl Gate {
-    // Nobody is held yet.
-    fn new() -> Gate {
-        Gate {
-            is_held: AtomicBool::new(false),
-            is_answered: AtomicBool::new(false),
-            is_late: AtomicBool::new(false),
-        }
-    }
-
-    // Waits until a thread is held here.
-    fn await_held(&self, rt: &impl Wait) {
-        for _turn in rt.forever() {
-            if self.is_held.load(Ordering::SeqCst) {
-                return;
-            }
-            yield_now();
-        }
-    }
-
-    // Lets the thread go on that is held here.
-    fn answer(&self) {
-        self.is_answered.store(true, Ordering::SeqCst);
-    }
-
-    // Whether the thread that was held here went on because the others were answered.
-    fn is_in_time(&self) -> bool {
-        !self.is_late.load(Ordering::SeqCst)
-    }
-}
-
-impl Watch for Gate {
-    fn publishes(&self) {
-        self.is_held.store(true, Ordering::SeqCst);
-        for _turn in 0..TURNS {
-            if self.is_answered.load(Ordering::SeqCst) {
-                return;
-            }
-            yield_now();
-        }
-        self.is_late.store(true, Ordering::SeqCst);
-    }
-}
 
 // Gives a share back, held at the gate.
 fn give_share_held(rt: &impl Wait, lock: &Lock, gate: &Gate, mut place: LockPlace) -> bool
@@ -106,7 +52,7 @@ fn shares_given<R: Wait + Threads + Sync>(
     if !is_shared {
         return false;
     }
-    let gate = Gate::new();
+    let gate = Gate::new(Moment::Publishes);
     let (one, other) = thread::join(
         rt,
         || give_share_held(rt, lock, &gate, first),
@@ -170,7 +116,7 @@ fn permits_given<R: Wait + Threads + Sync>(
     if !is_taken {
         return false;
     }
-    let gate = Gate::new();
+    let gate = Gate::new(Moment::Publishes);
     let (one, other) = thread::join(
         rt,
         || give_held(rt, semaphore, &gate, second),
@@ -196,9 +142,25 @@ fn permits_beside<R: Wait + Threads + Sync + AllocGlobal>(rt: &R) -> Result<bool
     Ok(is_given && semaphore.close(left).main() == 63)
 }
 
-// Makes a try, a registration, a poll, a release and a look beside the flag's holder, which is held until all of it is answered; whether each
-// is answered as it must be, and then what the registration comes to.
-fn call_beside(rt: &impl Wait, semaphore: &Semaphore, gate: &Gate, mut place: Place) -> bool
+// Waits until a place waits for the flag's holder: it yields.
+fn await_deferred(rt: &impl Wait, tally: &Tally) {
+    for _turn in rt.forever() {
+        if tally.defers() > 0 {
+            return;
+        }
+        yield_now();
+    }
+}
+
+// Makes a try, a registration, a poll, a release and a look beside the flag's holder, which is held until all of it is answered and a cancel waits;
+// whether each is answered as it must be, and then what the registration comes to.
+fn call_beside(
+    rt: &impl Wait,
+    semaphore: &Semaphore,
+    gate: &Gate,
+    tally: &Tally,
+    mut place: Place,
+) -> bool
     requires { IsDealtBy semaphore.now place }
 {
     gate.await_held(rt);
@@ -207,6 +169,7 @@ fn call_beside(rt: &impl Wait, semaphore: &Semaphore, gate: &Gate, mut place: Pl
         && semaphore.try_poll(&mut place) == Err(Error::NotReady)
         && semaphore.release_many(rt, &mut place, 6)
         && semaphore.available_permits(&mut place) == 11;
+    await_deferred(rt, tally);
     gate.answer();
     is_told && semaphore.poll(rt, &mut place) == Ok(())
 }
@@ -216,12 +179,13 @@ fn cancel_beside(
     rt: &impl Wait,
     semaphore: &Semaphore,
     gate: &Gate,
+    tally: &Tally,
     mut place: Place,
 ) -> Result<(), Error>
     requires { IsDealtBy semaphore.now place }
 {
     gate.await_held(rt);
-    semaphore.cancel(rt, &mut place);
+    cancel_watched(semaphore, rt, tally, &mut place);
     semaphore.try_poll(&mut place)
 }
 
@@ -236,10 +200,11 @@ fn both_beside<R: Wait + Threads + Sync>(
     requires last { IsDealtBy semaphore.now last }
     requires second { IsDealtBy semaphore.now second }
 {
+    let tally = Tally::new();
     let (is_told, polled) = thread::join(
         rt,
-        || call_beside(rt, semaphore, gate, last),
-        || cancel_beside(rt, semaphore, gate, second),
+        || call_beside(rt, semaphore, gate, &tally, last),
+        || cancel_beside(rt, semaphore, gate, &tally, second),
     );
     is_told && polled == Err(Error::NotRegistered)
 }
@@ -271,7 +236,7 @@ fn all_called<R: Wait + Threads + Sync>(
     requires third { IsDealtBy semaphore.now third }
     requires last { IsDealtBy semaphore.now last }
 {
-    let gate = Gate::new();
+    let gate = Gate::new(Moment::Publishes);
     let (is_given, is_right) = thread::join(
         rt,
         || give_held(rt, semaphore, &gate, third),

@@ -6,6 +6,7 @@
 
 mod crowd;
 mod inside;
+mod joins;
 mod owners;
 mod poisoned;
 mod rows;

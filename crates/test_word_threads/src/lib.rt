@@ -7,6 +7,8 @@
 #[cfg(test)]
 mod abstract_state;
 #[cfg(test)]
+mod asleep;
+#[cfg(test)]
 mod beside;
 #[cfg(test)]
 mod bounds;
@@ -17,6 +19,8 @@ mod crowd;
 #[cfg(test)]
 mod exclusion;
 #[cfg(test)]
+mod gate;
+#[cfg(test)]
 mod linearized;
 #[cfg(test)]
 mod locks;
@@ -25,10 +29,14 @@ mod looking;
 #[cfg(test)]
 mod owner;
 #[cfg(test)]
+mod parking;
+#[cfg(test)]
 mod queue;
 #[cfg(test)]
 mod rows;
 #[cfg(test)]
 mod sleepers;
+#[cfg(test)]
+mod tally;
 #[cfg(test)]
 mod worker;

@@ -3,6 +3,7 @@
 ghost use Rattle.saa_word_threads.specs.Locks.{IsDealtBy};
 
 use saa_word_threads::lock::{Error, Left, Lock, Mode, Place, TryLockError};
+use saa_word_threads::testing::is_parked;
 use std::sync::Wait;
 
 /// A call of a place.
@@ -135,6 +136,15 @@ impl<'l> Owner<'l> {
         let is_made = self.is(rt, Call::Register(mode));
         self.make(rt, Call::Cancel);
         is_made && self.make(rt, Call::TryPoll) == Told::Polled(Err(Error::NotRegistered))
+    }
+
+    /// How many of the first places of the lock have their mark set, so that they are parked or about to park.
+    pub fn parked(&self, places: u16) -> u16 {
+        let mut parked = 0u16;
+        for place in 0..places {
+            parked = parked.saturating_add(u16::from(is_parked(self.lock, place)));
+        }
+        parked
     }
 
     /// Leaves the lock.

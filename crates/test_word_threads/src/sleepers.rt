@@ -1,11 +1,13 @@
-//! Waiters that surely park, more than there are processors: each is woken by the answer that is its own, and nobody else ends.
+//! Waiters that park, more than there are processors: each is woken by the answer that is its own, and nobody else ends.
 //!
-//! A wake that is left out, or that goes to another place, leaves a waiter asleep, and the test never ends.
+//! They are answered once each has its mark set, so that it is parked or about to park. A wake that is left out, or that goes to another place,
+//! leaves a waiter asleep, and the test never ends; so it does where a waiter never sets its mark.
 
 ghost use Rattle.std.specs.Prelude.{◌<◌};
 
 use crate::worker::{Call, Told, Worker, last_of, main_of, workers_of};
 use saa_word_threads::semaphore::Semaphore;
+use saa_word_threads::testing::is_parked_at;
 use std::alloc::{AllocError, AllocGlobal};
 use std::sync::Wait;
 use std::sync::atomic::{AtomicU64, Ordering};
@@ -15,9 +17,6 @@ use test_asserts::same;
 
 // How many wait for a permit each.
 const SLEEPERS: u64 = 24;
-
-// How often the thread that answers yields first: much more often than a waiter does before it parks.
-const RESTS: u32 = 5_000;
 
 // How the sleepers are answered: by releases of so many permits, or by one who stands before them all and cancels.
 #[derive(Clone, Copy)]
@@ -53,13 +52,25 @@ fn sleep(rt: &impl Wait, mut worker: Worker<'_, 63>, turn: u64, way: Way, watche
     worker.leave(rt);
 }
 
-// Lets the sleepers park, and tells how many have ended beyond those that were answered.
-fn rest(watched: &Watched, answered: u64) -> u64 {
-    for _turn in 0..RESTS {
+// How many sleepers have their mark set. Their places have the numbers behind that of the giver, which is 0.
+fn parked(semaphore: &Semaphore) -> u64 {
+    let mut parked = 0u64;
+    for place in 1..=SLEEPERS {
+        parked = parked.saturating_add(u64::from(is_parked_at(semaphore, place as u16)));
+    }
+    parked
+}
+
+// Waits until all sleepers park that haven't ended, and tells how many have ended beyond those that were.
+fn await_parked(rt: &impl Wait, semaphore: &Semaphore, watched: &Watched, answered: u64) -> u64 {
+    for _turn in rt.forever() {
+        let ended = watched.ended.load(Ordering::SeqCst);
+        if parked(semaphore).saturating_add(ended) >= SLEEPERS {
+            return ended.saturating_sub(answered);
+        }
         yield_now();
     }
-    let ended = watched.ended.load(Ordering::SeqCst);
-    ended.saturating_sub(answered)
+    unreachable!()
 }
 
 // Waits until so many have ended.
@@ -73,14 +84,20 @@ fn await_ended(rt: &impl Wait, watched: &Watched, wanted: u64) {
 }
 
 // Answers all sleepers, some at a time; how many ended before they were answered.
-fn release_some(rt: &impl Wait, giver: &mut Worker<'_, 63>, count: u64, watched: &Watched) -> u64 {
+fn release_some(
+    rt: &impl Wait,
+    semaphore: &Semaphore,
+    giver: &mut Worker<'_, 63>,
+    count: u64,
+    watched: &Watched,
+) -> u64 {
     let mut early = 0u64;
     let mut answered = 0u64;
     for _turn in 0..SLEEPERS {
         if answered >= SLEEPERS {
             return early;
         }
-        early = early.max(rest(watched, answered));
+        early = early.max(await_parked(rt, semaphore, watched, answered));
         giver.make(rt, Call::Release(count as usize));
         answered = answered.saturating_add(count);
         await_ended(rt, watched, answered);
@@ -89,9 +106,14 @@ fn release_some(rt: &impl Wait, giver: &mut Worker<'_, 63>, count: u64, watched:
 }
 
 // Releases permits for all sleepers, which wait behind the giver, and lets them have these by a cancel; how many ended before that.
-fn cancel_before(rt: &impl Wait, giver: &mut Worker<'_, 63>, watched: &Watched) -> u64 {
+fn cancel_before(
+    rt: &impl Wait,
+    semaphore: &Semaphore,
+    giver: &mut Worker<'_, 63>,
+    watched: &Watched,
+) -> u64 {
     giver.make(rt, Call::Release(SLEEPERS as usize));
-    let early = rest(watched, 0);
+    let early = await_parked(rt, semaphore, watched, 0);
     giver.make(rt, Call::Cancel);
     await_ended(rt, watched, SLEEPERS);
     early
@@ -120,16 +142,23 @@ fn start<'s, R: Wait + Sync, E>(
 }
 
 // Answers the sleepers; how many ended before.
-fn answer(rt: &impl Wait, giver: &mut Worker<'_, 63>, way: Way, watched: &Watched) -> u64 {
+fn answer(
+    rt: &impl Wait,
+    semaphore: &Semaphore,
+    giver: &mut Worker<'_, 63>,
+    way: Way,
+    watched: &Watched,
+) -> u64 {
     match way {
-        Way::Releases(count) => release_some(rt, giver, count, watched),
-        Way::Cancel => cancel_before(rt, giver, watched),
+        Way::Releases(count) => release_some(rt, semaphore, giver, count, watched),
+        Way::Cancel => cancel_before(rt, semaphore, giver, watched),
     }
 }
 
 // The workers sleep until the giver answers them; how many ended before.
 fn answer_sleepers<R: Wait + Threads + Sync>(
     rt: &R,
+    semaphore: &Semaphore,
     giver: &mut Worker<'_, 63>,
     workers: Vec<Worker<'_, 63>>,
     way: Way,
@@ -137,13 +166,14 @@ fn answer_sleepers<R: Wait + Threads + Sync>(
 ) -> u64 {
     thread::scope(thread::scope_env(), rt, |scope| {
         start(scope, rt, workers, way, watched);
-        answer(rt, giver, way, watched)
+        answer(rt, semaphore, giver, way, watched)
     })
 }
 
 // The last worker gives, and all others sleep until it does; how many ended before.
 fn early_of<R: Wait + Threads + Sync>(
     rt: &R,
+    semaphore: &Semaphore,
     mut workers: Vec<Worker<'_, 63>>,
     way: Way,
     watched: &Watched,
@@ -154,7 +184,7 @@ fn early_of<R: Wait + Threads + Sync>(
     if matches!(way, Way::Cancel) {
         giver.make(rt, Call::Register(40));
     }
-    let early = answer_sleepers(rt, &mut giver, workers, way, watched);
+    let early = answer_sleepers(rt, semaphore, &mut giver, workers, way, watched);
     giver.leave(rt);
     early
 }
@@ -171,6 +201,7 @@ fn run<R: Wait + Threads + Sync + AllocGlobal>(
     let witness = last_of(&semaphore, &mut places);
     let early = early_of(
         rt,
+        &semaphore,
         workers_of(rt.alloc(), &semaphore, places)?,
         way,
         watched,

@@ -2,7 +2,7 @@
 //!
 //! Held to `specs/ScheduleCalls.antt`. The words of a lock's calls and of its modes are those of scripts, in `script::lock_words`.
 ghost use Rattle.std.specs.Prelude.{◌≡◌, Bool, true, false, IfSome};
-ghost use Rattle.saa_word_steps.specs.Steps.{is_taken};
+ghost use Rattle.saa_word_steps.specs.Readings.{is_taken};
 ghost use Rattle.saa_run.specs.ScheduleCalls.{call_of_both, counted_call_of, in_steps, lock_call, lone_call_of, mode_call_of, paired_call_of, semaphore_call};
 
 use crate::script::lock_words;

@@ -1,20 +1,22 @@
-//! A mutex that is taken in the order of asking, and its guard.
+//! A mutex whose waiters are FIFO, and its guard.
 
 ghost use Rattle.std.specs.Prelude.{◌≡◌, IfOk, IfSome, IsOk};
-ghost use Rattle.saa_sync.specs.Forms.{patience_of};
+ghost use Rattle.saa_sync.specs.Forms.{patience_of, waiter_patience_of};
 
 use crate::guarded::Guarded;
 use crate::lock_api::guard::Guard;
 use crate::patience::{Patience, UNREGISTERED};
+use crate::seat::PATIENCE;
 use crate::turn::Alone;
 use saa_core::ticket::Full;
 use std::alloc::{AllocError, Global};
 use std::marker::Model;
 use std::sync::{RwLockWriteGuard as Writer, Wait};
 
-/// A value that one owner at a time uses, in the order of asking.
+/// A value that one owner at a time uses.
 ///
-/// `R` is the permission to block, as a reference to the runtime. The value's type says what holds of it while it has no
+/// Waiters are granted in FIFO order of joining the queue. A call that may block, and isn't timed, first tries and spins for a bounded
+/// number of times ([`Patience`]); until it joins it is no waiter, and nothing orders it. `R` is the permission to block, as a reference to the runtime. The value's type says what holds of it while it has no
 /// guard: a guard ends only where every invariant of the type holds, and its holder may use them. Contracts see a mutex as
 /// the lock whose turns the value is used in.
 #[derive(Drop)]
@@ -39,12 +41,14 @@ impl<R: Wait + Drop, T> Mutex<R, T> {
     where
         T: Drop,
         ensures no_room { room ≡ 0 → IsOk result }
+        ensures patience { IfOk result (λ made. patience_of made ≡ UNREGISTERED) }
+        ensures waiter { IfOk result (λ made. waiter_patience_of made ≡ PATIENCE) }
     {
         Self::with_patience(rt, alloc, value, room, UNREGISTERED)
     }
 
     /// As [`Self::new`], with a patience of its own for calls that aren't registered yet; [`NONE`](crate::patience::NONE) has each
-    /// call register at once, so that the order of grants is that of the calls.
+    /// call register at its first turn at the mutex around the lock's core, so that grants come in the order of these turns.
     pub fn with_patience(
         rt: R,
         alloc: Global,
@@ -56,15 +60,16 @@ impl<R: Wait + Drop, T> Mutex<R, T> {
         T: Drop,
         ensures no_room { room ≡ 0 → IsOk result }
         ensures patience { IfOk result (λ made. patience_of made ≡ patience) }
+        ensures waiter { IfOk result (λ made. waiter_patience_of made ≡ PATIENCE) }
     {
         Ok(Mutex {
             guarded: Guarded::new(rt, alloc, value, room, patience)?,
         })
     }
 
-    /// Takes the mutex, and waits for it in the line where it must.
+    /// Takes the mutex. It spins for its patience first, and then waits in the queue where it must.
     ///
-    /// `Full`: it would have to wait, and as many slots are held as there is room; nothing is changed. A thread that has
+    /// `Full`: its patience is over, it would have to wait, and as many slots are held as there is room; nothing is changed. A thread that has
     /// the guard already waits for itself, so for ever, where there is room.
     pub fn lock(&self) -> Result<MutexGuard<'_, R, T>, Full>
         ensures { IfOk result (λ guard. guard.turn.now ≡ self.now) }

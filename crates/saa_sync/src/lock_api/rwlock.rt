@@ -1,20 +1,23 @@
-//! A reader-writer lock that is taken in the order of asking, and its two guards.
+//! A reader-writer lock whose waiters are FIFO, and its two guards.
 
 ghost use Rattle.std.specs.Prelude.{◌≡◌, IfOk, IfSome, IsOk};
-ghost use Rattle.saa_sync.specs.Forms.{patience_of};
+ghost use Rattle.saa_sync.specs.Forms.{patience_of, waiter_patience_of};
 
 use crate::guarded::Guarded;
 use crate::lock_api::guard::{Guard, PassesOn};
 use crate::patience::{Patience, UNREGISTERED};
+use crate::seat::PATIENCE;
 use crate::turn::{Alone, PutDown, Shared};
 use saa_core::ticket::Full;
 use std::alloc::{AllocError, Global};
 use std::marker::Model;
 use std::sync::{RwLockReadGuard as Reader, RwLockWriteGuard as Writer, Wait};
 
-/// A value that up to 62 readers share, or one writer uses alone, in the order of asking.
+/// A value that up to 62 readers share, or one writer uses alone.
 ///
-/// Waiters are FIFO: no later request passes a waiter, a reader beside readers included. `R` is the permission to block, as a
+/// Waiters are granted in FIFO order of joining the queue: no later request passes a waiter, a reader beside readers included. A call
+/// that may block, and isn't timed, first tries and spins for a bounded number of times ([`Patience`]); until it joins it is no
+/// waiter, and nothing orders it. `R` is the permission to block, as a
 /// reference to the runtime. The value's type says what holds of it while there is no writer: a guard ends only where every
 /// invariant of the type holds, and its holder may use them. Contracts see a lock around a value as the lock whose turns
 /// the value is used in.
@@ -40,12 +43,14 @@ impl<R: Wait + Drop, T> RwLock<R, T> {
     where
         T: Drop,
         ensures no_room { room ≡ 0 → IsOk result }
+        ensures patience { IfOk result (λ made. patience_of made ≡ UNREGISTERED) }
+        ensures waiter { IfOk result (λ made. waiter_patience_of made ≡ PATIENCE) }
     {
         Self::with_patience(rt, alloc, value, room, UNREGISTERED)
     }
 
     /// As [`Self::new`], with a patience of its own for calls that aren't registered yet; [`NONE`](crate::patience::NONE) has each
-    /// call register at once, so that the order of grants is that of the calls.
+    /// call register at its first turn at the mutex around the lock's core, so that grants come in the order of these turns.
     pub fn with_patience(
         rt: R,
         alloc: Global,
@@ -57,15 +62,16 @@ impl<R: Wait + Drop, T> RwLock<R, T> {
         T: Drop,
         ensures no_room { room ≡ 0 → IsOk result }
         ensures patience { IfOk result (λ made. patience_of made ≡ patience) }
+        ensures waiter { IfOk result (λ made. waiter_patience_of made ≡ PATIENCE) }
     {
         Ok(RwLock {
             guarded: Guarded::new(rt, alloc, value, room, patience)?,
         })
     }
 
-    /// Takes the lock to read, and waits for it in the line where it must.
+    /// Takes the lock to read. It spins for its patience first, and then waits in the queue where it must.
     ///
-    /// `Full`: it would have to wait, and as many slots are held as there is room; nothing is changed. A thread that has a
+    /// `Full`: its patience is over, it would have to wait, and as many slots are held as there is room; nothing is changed. A thread that has a
     /// guard and asks again may wait for itself, so for ever: behind a writer readers wait too.
     pub fn read(&self) -> Result<RwLockReadGuard<'_, R, T>, Full>
         ensures { IfOk result (λ guard. guard.turn.now ≡ self.now) }
@@ -84,9 +90,9 @@ impl<R: Wait + Drop, T> RwLock<R, T> {
         Some(RwLockReadGuard::new(turn, value))
     }
 
-    /// Takes the lock to write, and waits for it in the line where it must.
+    /// Takes the lock to write. It spins for its patience first, and then waits in the queue where it must.
     ///
-    /// `Full`: it would have to wait, and as many slots are held as there is room; nothing is changed. A thread that has a
+    /// `Full`: its patience is over, it would have to wait, and as many slots are held as there is room; nothing is changed. A thread that has a
     /// guard already waits for itself, so for ever, where there is room.
     pub fn write(&self) -> Result<RwLockWriteGuard<'_, R, T>, Full>
         ensures { IfOk result (λ guard. guard.turn.now ≡ self.now) }
@@ -169,7 +175,7 @@ impl<'a, R: Wait + Drop, T> Guard<Writer<'a, T>, Writing<'a, R, T>> {
     /// Becomes a reader's guard, and lets in the oldest readers while they may share, up to the first writer; no other task
     /// writes in between.
     ///
-    /// Never waits. The new guard reads what was written through this one. Readers behind a writer in the queue go on
+    /// Never waits for a turn. The new guard reads what was written through this one. Readers behind a writer in the queue go on
     /// waiting. Costs the mutex once, and a wake for each reader that is let in.
     pub fn downgrade(guard: Self) -> RwLockReadGuard<'a, R, T>
         ensures { result.turn ≡ guard.entry.turn }

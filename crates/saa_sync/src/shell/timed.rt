@@ -17,8 +17,8 @@ use std::sync::{MutexGuard, Wait};
 use std::time::Clock;
 
 impl<R: Wait + Clock + Drop, P: Tries> Shell<R, P> {
-    /// Asks, and waits for the answer as [`Shell::acquire`] does, until the deadline. `Ok(None)`: time is up, and nothing is
-    /// registered.
+    /// Registers at once, without a look before it, and waits for the answer until the deadline. `Ok(None)`: time is up, and nothing
+    /// is registered. Where the deadline has passed already it doesn't spin: it polls twice, and drops its registration.
     pub(crate) fn acquire_until(
         &self,
         ask: P::Ask,
@@ -94,7 +94,9 @@ impl<R: Wait + Clock + Drop, P: Tries> Shell<R, P> {
         ensures unanswered { IsNone result.1 → ticket.new ≡ ticket.old }
     {
         let seat = self.seat_of(ticket);
-        if let Some(seat) = seat {
+        if let Some(seat) = seat
+            && deadline.left(&self.rt).is_some()
+        {
             seat.linger_until(self.patience, &self.rt, deadline);
         }
         let mut inside = self.lock();

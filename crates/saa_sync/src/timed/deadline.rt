@@ -1,5 +1,7 @@
 //! When a wait ends that ends in time.
 
+ghost use Rattle.std.specs.Prelude.{◌≡◌, None, Some};
+
 use std::time::{Clock, Duration, Instant};
 
 /// When a wait ends, on the runtime's clock.
@@ -26,7 +28,10 @@ impl Deadline {
     }
 
     /// How much time there is yet; `None` where there is none, or the clock can't be read.
-    pub(crate) fn left(self, clock: &impl Clock) -> Option<Duration> {
+    pub(crate) fn left(self, clock: &impl Clock) -> Option<Duration>
+        ensures never { self ≡ Deadline.Never → result ≡ Some Duration.MAX }
+        ensures passed { self ≡ Deadline.Passed → result ≡ None }
+    {
         match self {
             Deadline::At(end) => {
                 let now = Instant::now(clock).ok()?;

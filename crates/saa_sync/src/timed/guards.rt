@@ -9,9 +9,10 @@ use std::sync::Wait;
 use std::time::{Clock, Duration, Instant};
 
 impl<R: Wait + Clock + Drop, T> Mutex<R, T> {
-    /// Takes the mutex as [`Self::lock`] does, and waits for it at most so long.
+    /// Takes the mutex, and waits for it in the queue at most so long; it joins at once, without a look before it.
     ///
-    /// `Ok(None)`: time is up, and nothing is changed. `Full` as there.
+    /// `Ok(None)`: time is up, and nothing is registered or taken; those behind are granted while they fit. `Full` comes at once, where it
+    /// would have to wait and as many slots are held as there is room.
     pub fn lock_for(&self, duration: Duration) -> Result<Option<MutexGuard<'_, R, T>>, Full>
         ensures { IfOk result (λ told. IfSome told (λ guard. guard.turn.now ≡ self.now)) }
     {
@@ -37,9 +38,10 @@ impl<R: Wait + Clock + Drop, T> Mutex<R, T> {
 }
 
 impl<R: Wait + Clock + Drop, T> RwLock<R, T> {
-    /// Takes the lock to read as [`Self::read`] does, and waits for it at most so long.
+    /// Takes the lock to read, and waits for it in the queue at most so long; it joins at once, without a look before it.
     ///
-    /// `Ok(None)`: time is up, and nothing is changed. `Full` as there.
+    /// `Ok(None)`: time is up, and nothing is registered or taken; those behind are granted while they fit. `Full` comes at once, where it
+    /// would have to wait and as many slots are held as there is room.
     pub fn read_for(&self, duration: Duration) -> Result<Option<RwLockReadGuard<'_, R, T>>, Full>
         ensures { IfOk result (λ told. IfSome told (λ guard. guard.turn.now ≡ self.now)) }
     {
@@ -53,9 +55,10 @@ impl<R: Wait + Clock + Drop, T> RwLock<R, T> {
         self.read_by(Deadline::At(deadline))
     }
 
-    /// Takes the lock to write as [`Self::write`] does, and waits for it at most so long.
+    /// Takes the lock to write, and waits for it in the queue at most so long; it joins at once, without a look before it.
     ///
-    /// `Ok(None)`: time is up, and nothing is changed. `Full` as there.
+    /// `Ok(None)`: time is up, and nothing is registered or taken; those behind are granted while they fit. `Full` comes at once, where it
+    /// would have to wait and as many slots are held as there is room.
     pub fn write_for(&self, duration: Duration) -> Result<Option<RwLockWriteGuard<'_, R, T>>, Full>
         ensures { IfOk result (λ told. IfSome told (λ guard. guard.turn.now ≡ self.now)) }
     {

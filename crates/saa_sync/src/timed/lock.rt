@@ -7,10 +7,11 @@ use std::sync::Wait;
 use std::time::{Clock, Duration, Instant};
 
 impl<R: Wait + Clock + Drop> Lock<R> {
-    /// Takes the lock for one owner alone as [`Self::lock_sync`] does, and waits for it at most so long.
+    /// Takes the lock for one owner alone, and waits for it in the queue at most so long; it joins at once, without a look before it.
     ///
     /// `Ok(Some(true))`: it is granted. `Ok(Some(false))`: the lock is poisoned, or was while this waited. `Ok(None)`: time is up,
-    /// and nothing is registered or taken; those behind are granted while they fit. `Full` as there.
+    /// and nothing is registered or taken; those behind are granted while they fit. `Full` comes at once, where it would have to wait and
+    /// as many slots are held as there is room.
     pub fn lock_sync_for(&self, duration: Duration) -> Result<Option<bool>, Full> {
         self.take_by(Mode::Exclusive, Deadline::after(self.rt(), duration))
     }

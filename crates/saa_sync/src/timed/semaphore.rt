@@ -11,10 +11,10 @@ use std::sync::Wait;
 use std::time::{Clock, Duration, Instant};
 
 impl<R: Wait + Clock + Drop, const MAX: usize> SemaphoreOn<R, SemaphoreCoreOf<MAX>> {
-    /// Takes one permit as [`Self::acquire_sync`] does, and waits for it at most so long.
+    /// Takes one permit, and waits for it in the queue at most so long; it joins at once, without a look before it.
     ///
     /// `Ok(Some(()))`: it is granted. `Ok(None)`: time is up, and nothing is registered or taken; those behind are granted while
-    /// they fit. `Full` as there.
+    /// they fit. `Full` comes at once, where it would have to wait and as many slots are held as there is room.
     pub fn acquire_sync_for(&self, duration: Duration) -> Result<Option<()>, Full> {
         self.acquire_by(Deadline::after(self.shell().rt(), duration))
     }
@@ -24,11 +24,11 @@ impl<R: Wait + Clock + Drop, const MAX: usize> SemaphoreOn<R, SemaphoreCoreOf<MA
         self.acquire_by(Deadline::At(deadline))
     }
 
-    /// Takes `count` permits as [`Self::acquire_many_sync`] does, and waits for them at most so long.
+    /// Takes `count` permits, all together, and waits for them in the queue at most so long; it joins at once, without a look before it.
     ///
     /// `Ok(Some(true))`: they are granted. `Ok(Some(false))` comes at once, exactly where the count is above
     /// [`Self::MAX_PERMITS`]. `Ok(None)`: time is up, and nothing is registered or taken; those behind are granted while they fit.
-    /// `Full` as there.
+    /// `Full` comes at once, where it would have to wait and as many slots are held as there is room.
     pub fn acquire_many_sync_for(
         &self,
         count: usize,

@@ -15,8 +15,11 @@ use Rattle.saa_word_steps.specs.Needs.{Needs, AreNeeds, fits_count}
 use Rattle.saa_word_steps.specs.declared.event.Event.{Event}
 use Rattle.saa_word_steps.specs.declared.event.Event.TheVariants.{AskedPoisoned, Got, Refused, Read}
 use Rattle.saa_word_steps.specs.AbstractState.{AbstractState, must_wait, is_empty, is_in}
-use Rattle.saa_word_steps.specs.Steps.{decided, found_poisoned, granted, tried_answer, going, done}
-use Rattle.saa_word_proofs.specs.Refinement.{updated, main_of, is_slot, is_holder, IsAlone, IsShowing, waits_behind, Refines}
+use Rattle.saa_word_steps.specs.Steps.{decided, found_poisoned, granted, going, done}
+use Rattle.saa_word_steps.specs.Readings.{tried_answer}
+use Rattle.saa_word_proofs.specs.Refinement.{is_holder, IsAlone, IsShowing, waits_behind, Refines}
+use Rattle.saa_word_proofs.specs.Rows.{main_of, updated}
+use Rattle.saa_word_proofs.specs.Registering.{is_slot}
 use Rattle.saa_word_proofs.specs.StepRefinement.{StepRefines, decided_events}
 use Rattle.saa_word_proofs.proofs.RefinementLemmas.Lists.{newest-empty, empty-nil}
 use Rattle.saa_word_proofs.proofs.RefinementLemmas.Rows.{moved, loaded, count-small, tail-small}

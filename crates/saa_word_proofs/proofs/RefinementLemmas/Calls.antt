@@ -12,9 +12,10 @@ use Rattle.saa_word_steps.specs.declared.place.Stage.TheVariants.{Quiet, ReadLoa
 use Rattle.saa_word_steps.specs.Needs.{Needs, fits_count}
 use Rattle.saa_word_steps.specs.declared.event.Event.{Event}
 use Rattle.saa_word_steps.specs.declared.event.Event.TheVariants.{Joined, Left, Poisoned, Cleared, NotCleared, Read}
-use Rattle.saa_word_steps.specs.Steps.{next_of, read_as, poisoned_word}
+use Rattle.saa_word_steps.specs.Steps.{next_of}
+use Rattle.saa_word_steps.specs.Readings.{poisoned_word, read_as}
 use Rattle.saa_word_proofs.specs.StepRefinement.{gave, named_at}
-use Rattle.saa_word_proofs.specs.Calls.{IsUnder, IsUnderNext}
+use Rattle.saa_word_proofs.specs.CallStages.{IsUnder, IsUnderNext}
 use Rattle.saa_word_proofs.proofs.RefinementLemmas.Naming.{ask-answered, read-answered, cancel-answered, unnamed, granted-under, decided-under, finished-under, shown-under, gave-working, given-under, taken-under, left-cancelled, left-working, flagging-under, poisoning-under, poison-working}
 
 -- A call at a stage goes on so, with the events that the stage names

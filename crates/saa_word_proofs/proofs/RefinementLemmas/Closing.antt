@@ -12,7 +12,8 @@ use Rattle.saa_word_steps.specs.declared.place.Stage.TheVariants.{Close, GoRound
 use Rattle.saa_word_steps.specs.Needs.{Needs, AreNeeds}
 use Rattle.saa_word_steps.specs.AbstractState.{AbstractState, IsFront, IsSettledAt, is_empty, is_in, takes_of}
 use Rattle.saa_word_steps.specs.Steps.{IsRanged, settled_word}
-use Rattle.saa_word_proofs.specs.Refinement.{updated, main_of, line_of, newest, is_holder, takes_back, IsAlone, IsShowing, Work, IsHolding, Refines}
+use Rattle.saa_word_proofs.specs.Refinement.{newest, is_holder, takes_back, IsAlone, IsShowing, Work, IsHolding, Refines}
+use Rattle.saa_word_proofs.specs.Rows.{line_of, main_of, updated}
 use Rattle.saa_word_proofs.specs.StepRefinement.{StepRefines}
 use Rattle.saa_word_proofs.proofs.RefinementLemmas.Rows.{main-found, count-small, tail-small, apart-at, moved, loaded}
 use Rattle.saa_word_proofs.proofs.RefinementLemmas.Granting.{granted, close-run, some-append, newest-rest, settled-append, settled-main, front-bounded, front-none, front-some, parts-linked, holder-none, nobody, granting}

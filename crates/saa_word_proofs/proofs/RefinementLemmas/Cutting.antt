@@ -13,7 +13,8 @@ use Rattle.saa_word_steps.specs.declared.place.Stage.TheVariants.{CutToClose, Cu
 use Rattle.saa_word_steps.specs.Needs.{Needs, AreNeeds, fits_count}
 use Rattle.saa_word_steps.specs.AbstractState.{AbstractState, IsSettledAt, is_in}
 use Rattle.saa_word_steps.specs.Steps.{IsRanged}
-use Rattle.saa_word_proofs.specs.Refinement.{updated, line_of, IsBehind, is_holder, gives_up, IsAlone, IsOwn, IsShowing, Work, IsAt, IsHolding, IsLine, AreSeats, Refines}
+use Rattle.saa_word_proofs.specs.Refinement.{is_holder, gives_up, IsAlone, IsOwn, IsShowing, Work, IsAt, IsHolding, IsLine, AreSeats, Refines}
+use Rattle.saa_word_proofs.specs.Rows.{IsBehind, line_of, updated}
 use Rattle.saa_word_proofs.specs.StepRefinement.{StepRefines}
 use Rattle.saa_word_proofs.proofs.RefinementLemmas.Lists.{behind-frame, behind-front, behind-rest}
 use Rattle.saa_word_proofs.proofs.RefinementLemmas.Frames.{oldest-stands, work-behind}

@@ -13,7 +13,8 @@ use Rattle.saa_word_steps.specs.declared.place.Stage.TheVariants.{CutToGoRound, 
 use Rattle.saa_word_steps.specs.Needs.{Needs, AreNeeds, fits_count}
 use Rattle.saa_word_steps.specs.AbstractState.{AbstractState, IsFront, is_empty, is_in, takes_of}
 use Rattle.saa_word_steps.specs.Steps.{IsRanged, settled_word}
-use Rattle.saa_word_proofs.specs.Refinement.{updated, main_of, line_of, newest, oldest, IsBehind, is_holder, gives_up, IsAlone, IsShowing, Work, IsHolding, Refines}
+use Rattle.saa_word_proofs.specs.Refinement.{newest, oldest, is_holder, gives_up, IsAlone, IsShowing, Work, IsHolding, Refines}
+use Rattle.saa_word_proofs.specs.Rows.{IsBehind, line_of, main_of, updated}
 use Rattle.saa_word_proofs.specs.StepRefinement.{StepRefines}
 use Rattle.saa_word_proofs.proofs.RefinementLemmas.Lists.{newest-in, newest-last, empty-nil, behind-rest, front-append, takes-append}
 use Rattle.saa_word_proofs.proofs.RefinementLemmas.Rows.{apart-at, main-found, moved, loaded}

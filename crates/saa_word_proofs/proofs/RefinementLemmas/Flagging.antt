@@ -15,7 +15,8 @@ use Rattle.saa_word_steps.specs.declared.place.Next.TheVariants.{Waits}
 use Rattle.saa_word_steps.specs.Needs.{Needs, AreNeeds}
 use Rattle.saa_word_steps.specs.AbstractState.{AbstractState, is_empty, is_in}
 use Rattle.saa_word_steps.specs.Steps.{IsRanged, flagged_word, going, finished, flagging, no_line}
-use Rattle.saa_word_proofs.specs.Refinement.{updated, line_of, main_of, newest, is_holder, IsReturning, IsLeaving, IsAlone, IsShowing, IsLine, AreDebts, AreStages, Refines}
+use Rattle.saa_word_proofs.specs.Refinement.{newest, is_holder, IsReturning, IsLeaving, IsAlone, IsShowing, IsLine, AreDebts, AreStages, Refines}
+use Rattle.saa_word_proofs.specs.Rows.{line_of, main_of, updated}
 use Rattle.saa_word_proofs.specs.StepRefinement.{StepRefines}
 use Rattle.saa_word_proofs.proofs.RefinementLemmas.Lists.{updated-same, newest-empty, empty-nil}
 use Rattle.saa_word_proofs.proofs.RefinementLemmas.Frames.{stages-next}

@@ -9,7 +9,8 @@ use Rattle.saa_word_steps.specs.declared.place.Stage.{Stage}
 use Rattle.saa_word_steps.specs.declared.place.Stage.TheVariants.{BackLoad, GoRound, ShowLoad}
 use Rattle.saa_word_steps.specs.Needs.{Needs, AreNeeds}
 use Rattle.saa_word_steps.specs.AbstractState.{AbstractState, IsFront, IsSettledAt, is_empty, takes_of}
-use Rattle.saa_word_proofs.specs.Refinement.{line_of, newest, is_holder, IsAlone, IsShowing, Work, IsHolding, IsMain, Refines}
+use Rattle.saa_word_proofs.specs.Refinement.{newest, is_holder, IsAlone, IsShowing, Work, IsHolding, IsMain, Refines}
+use Rattle.saa_word_proofs.specs.Rows.{line_of}
 use Rattle.saa_word_proofs.specs.StepRefinement.{StepRefines}
 use Rattle.saa_word_proofs.proofs.RefinementLemmas.Lists.{front-lower}
 use Rattle.saa_word_proofs.proofs.RefinementLemmas.Rows.{apart-at, count-small}

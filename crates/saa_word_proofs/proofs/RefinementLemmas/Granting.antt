@@ -15,8 +15,11 @@ use Rattle.saa_word_steps.specs.declared.event.Event.{Event}
 use Rattle.saa_word_steps.specs.declared.event.Event.TheVariants.{Granted, Closed}
 use Rattle.saa_word_steps.specs.AbstractState.{AbstractState, IsEnabled, after_event, IsRun, IsFront, IsSettledAt, is_empty, is_in, takes_of, answered_with, held_by}
 use Rattle.saa_word_steps.specs.Steps.{IsRanged, settled_word}
-use Rattle.saa_word_proofs.specs.Refinement.{updated, line_of, newest, IsBehind, is_slot, is_holder, gives_up, IsAlone, IsOwn, IsShowing, IsHolding, IsMain, IsLine, AreSeats, AreDebts, Refines}
-use Rattle.saa_word_proofs.specs.StepRefinement.{of_place, named, never_poisons}
+use Rattle.saa_word_proofs.specs.Refinement.{newest, is_holder, gives_up, IsAlone, IsOwn, IsShowing, IsHolding, IsMain, IsLine, AreSeats, AreDebts, Refines}
+use Rattle.saa_word_proofs.specs.Rows.{IsBehind, line_of, updated}
+use Rattle.saa_word_proofs.specs.Registering.{is_slot}
+use Rattle.saa_word_proofs.specs.StepRefinement.{never_poisons}
+use Rattle.saa_word_proofs.specs.History.{named, of_place}
 use Rattle.saa_word_proofs.proofs.RefinementLemmas.Lists.{each-updated, in-append, in-none, newest-append, newest-any, newest-empty, empty-nil, take-front, drop-front}
 use Rattle.saa_word_proofs.proofs.RefinementLemmas.Frames.{stages-next}
 use Rattle.saa_word_proofs.proofs.RefinementLemmas.Holders.{never-barren}

@@ -13,7 +13,8 @@ use Rattle.saa_word_steps.specs.declared.place.Stage.TheVariants.{Quiet, ReadLoa
 use Rattle.saa_word_steps.specs.Needs.{Needs}
 use Rattle.saa_word_steps.specs.AbstractState.{AbstractState, is_empty, IsSettledAt}
 use Rattle.saa_word_steps.specs.Steps.{IsSmall}
-use Rattle.saa_word_proofs.specs.Refinement.{updated, line_of, newest, Work, IsHolding, IsMain, Refines}
+use Rattle.saa_word_proofs.specs.Refinement.{newest, Work, IsHolding, IsMain, Refines}
+use Rattle.saa_word_proofs.specs.Rows.{line_of, updated}
 use Rattle.saa_word_proofs.proofs.RefinementLemmas.Rows.{word-whole, loaded}
 
 -- a line whose front or whose rest isn't empty isn't empty

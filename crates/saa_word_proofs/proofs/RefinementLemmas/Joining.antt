@@ -16,7 +16,9 @@ use Rattle.saa_word_steps.specs.declared.event.Event.TheVariants.{Got, Joined}
 use Rattle.saa_word_steps.specs.AbstractState.{AbstractState, is_empty, is_in, held_by, must_wait, IsSettledAt}
 use Rattle.saa_word_steps.specs.Steps.{IsRanged, IsSmall}
 use Rattle.saa_word_steps.proofs.AbstractRuns.{joined-settled}
-use Rattle.saa_word_proofs.specs.Refinement.{updated, main_of, line_of, newest, is_slot, is_holder, gives_up, IsAlone, IsOwn, IsShowing, waits_behind, IsMain, IsLine, AreSeats, AreDebts, AreStages, Refines}
+use Rattle.saa_word_proofs.specs.Refinement.{newest, is_holder, gives_up, IsAlone, IsOwn, IsShowing, waits_behind, IsMain, IsLine, AreSeats, AreDebts, AreStages, Refines}
+use Rattle.saa_word_proofs.specs.Rows.{line_of, main_of, updated}
+use Rattle.saa_word_proofs.specs.Registering.{is_slot}
 use Rattle.saa_word_proofs.specs.StepRefinement.{StepRefines}
 use Rattle.saa_word_proofs.proofs.RefinementLemmas.Lists.{each-updated, newest-empty, newest-append, newest-any, empty-nil, in-none, in-append, behind-frame, behind-append, in-some}
 use Rattle.saa_word_proofs.proofs.RefinementLemmas.Frames.{holding-frame, stages-next}

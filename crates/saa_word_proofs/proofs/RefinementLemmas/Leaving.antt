@@ -14,8 +14,10 @@ use Rattle.saa_word_steps.specs.Needs.{Needs}
 use Rattle.saa_word_steps.specs.declared.event.Event.TheVariants.{Left}
 use Rattle.saa_word_steps.specs.AbstractState.{AbstractState, IsRun, is_empty, is_in, held_by}
 use Rattle.saa_word_steps.specs.Steps.{IsRanged, left_line}
-use Rattle.saa_word_proofs.specs.Refinement.{updated, line_of, newest, IsBehind, is_slot, is_holder, gives_up, IsAlone, IsOwn, IsShowing, Work, IsFound, IsHolding, IsMain, AreSeats, AreDebts, Refines}
-use Rattle.saa_word_proofs.specs.StepRefinement.{of_place}
+use Rattle.saa_word_proofs.specs.Refinement.{newest, is_holder, gives_up, IsAlone, IsOwn, IsShowing, Work, IsFound, IsHolding, IsMain, AreSeats, AreDebts, Refines}
+use Rattle.saa_word_proofs.specs.Rows.{IsBehind, line_of, updated}
+use Rattle.saa_word_proofs.specs.Registering.{is_slot}
+use Rattle.saa_word_proofs.specs.History.{of_place}
 use Rattle.saa_word_proofs.proofs.RefinementLemmas.Lists.{each-updated, in-none, in-some, newest-append, newest-in, empty-nil, behind-append, behind-frame, behind-front, behind-rest}
 use Rattle.saa_word_proofs.proofs.RefinementLemmas.Frames.{stages-next}
 use Rattle.saa_word_proofs.proofs.RefinementLemmas.Rows.{row-other, own-any}

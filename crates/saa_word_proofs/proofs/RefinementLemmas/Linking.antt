@@ -11,7 +11,9 @@ use Rattle.saa_word_steps.specs.declared.place.Stage.{Stage}
 use Rattle.saa_word_steps.specs.Needs.{Needs}
 use Rattle.saa_word_steps.specs.AbstractState.{AbstractState, is_empty, is_in}
 use Rattle.saa_word_steps.specs.Steps.{IsRanged}
-use Rattle.saa_word_proofs.specs.Refinement.{updated, line_of, newest, oldest, IsBehind, IsAhead, is_slot, is_holder, gives_up, IsAlone, IsOwn, IsShowing, Work, IsHolding, IsAt, IsMain, IsLine, AreSeats, Refines}
+use Rattle.saa_word_proofs.specs.Refinement.{newest, oldest, IsAhead, is_holder, gives_up, IsAlone, IsOwn, IsShowing, Work, IsHolding, IsAt, IsMain, IsLine, AreSeats, Refines}
+use Rattle.saa_word_proofs.specs.Rows.{IsBehind, line_of, updated}
+use Rattle.saa_word_proofs.specs.Registering.{is_slot}
 use Rattle.saa_word_proofs.proofs.RefinementLemmas.Lists.{in-some, behind-frame, behind-rest, newest-append, newest-last, empty-nil}
 use Rattle.saa_word_proofs.proofs.RefinementLemmas.Frames.{stages-next, newest-stands, oldest-stands, work-behind}
 use Rattle.saa_word_proofs.proofs.RefinementLemmas.Rows.{line-other, row-other, own-any, seats-next}

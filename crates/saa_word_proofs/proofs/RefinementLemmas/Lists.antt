@@ -7,7 +7,8 @@ use Rattle.saa_core_spec.proofs.Counts.{number_same, same_number, one_if-same}
 use Rattle.saa_core_words.specs.declared.line_word.LineWord.{LineWord}
 use Rattle.saa_word_steps.specs.Needs.{Needs, AreNeeds}
 use Rattle.saa_word_steps.specs.AbstractState.{is_empty, is_in, IsFront, takes_of}
-use Rattle.saa_word_proofs.specs.Refinement.{updated, newest, oldest, IsBehind, IsAhead}
+use Rattle.saa_word_proofs.specs.Refinement.{newest, oldest, IsAhead}
+use Rattle.saa_word_proofs.specs.Rows.{IsBehind, updated}
 
 -- functions that agree everywhere are one
 pub all-same : {A : Type 0} (f g : ℕ → A) → ((n : ℕ) → f n ≡ g n) → f ≡ g

@@ -13,7 +13,8 @@ use Rattle.saa_word_steps.specs.declared.place.Stage.TheVariants.{Forward, LookL
 use Rattle.saa_word_steps.specs.Needs.{Needs, AreNeeds}
 use Rattle.saa_word_steps.specs.AbstractState.{AbstractState, is_empty, is_in}
 use Rattle.saa_word_steps.specs.Steps.{IsRanged}
-use Rattle.saa_word_proofs.specs.Refinement.{updated, line_of, newest, oldest, IsBehind, is_holder, gives_up, IsLeaving, IsAlone, IsOwn, IsShowing, Work, IsHolding, IsAdded, IsBack, IsPassed, IsFound, Refines}
+use Rattle.saa_word_proofs.specs.Refinement.{newest, oldest, is_holder, gives_up, IsLeaving, IsAlone, IsOwn, IsShowing, Work, IsHolding, IsAdded, IsBack, IsPassed, IsFound, Refines}
+use Rattle.saa_word_proofs.specs.Rows.{IsBehind, line_of, updated}
 use Rattle.saa_word_proofs.specs.StepRefinement.{StepRefines}
 use Rattle.saa_word_proofs.proofs.RefinementLemmas.Lists.{in-append, split-last, newest-last, newest-empty, empty-nil, behind-rest}
 use Rattle.saa_word_proofs.proofs.RefinementLemmas.Frames.{newest-stands, work-front}

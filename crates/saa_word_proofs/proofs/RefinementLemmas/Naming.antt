@@ -30,10 +30,12 @@ use Rattle.saa_word_steps.specs.declared.place.Stage.TheVariants.{Take}
 use Rattle.saa_word_steps.specs.Needs.{Needs}
 use Rattle.saa_word_steps.specs.declared.event.Event.{Event}
 use Rattle.saa_word_steps.specs.declared.event.Event.TheVariants.{Got, Refused, AskedPoisoned, Left, Poisoned, NotPoisoned, NotReady, Took}
-use Rattle.saa_word_steps.specs.Steps.{left_from, decided, granted, found_poisoned, finished, given, given_to, gave_nothing, dropped, taken_answer, shown_all, flagging, poisoning, tried_answer}
+use Rattle.saa_word_steps.specs.Steps.{left_from, decided, granted, found_poisoned, finished, given, given_to, gave_nothing, dropped, taken_answer, shown_all, flagging, poisoning}
+use Rattle.saa_word_steps.specs.Readings.{tried_answer}
 use Rattle.saa_word_proofs.specs.Refinement.{waits_behind}
 use Rattle.saa_word_proofs.specs.StepRefinement.{gave, gave_not, decided_events, given_events, left_events, taken_events, poisoning_events}
-use Rattle.saa_word_proofs.specs.Calls.{answer_named, ask_named, release_named, read_named, poll_named, asked_by, given_by, read_by, taken_by, is_taken_up, IsDropped, IsCancelled, IsAnswered, IsGivingUp, IsReleasing, IsWorking, IsLeavingLine, IsTaking, IsUnder, IsUnderNext}
+use Rattle.saa_word_proofs.specs.Calls.{answer_named, ask_named, release_named, read_named, poll_named, asked_by, is_taken_up, IsDropped, IsCancelled, IsAnswered}
+use Rattle.saa_word_proofs.specs.CallStages.{IsGivingUp, IsLeavingLine, IsReleasing, IsTaking, IsUnder, IsUnderNext, IsWorking, given_by, read_by, taken_by}
 
 -- Events that name an answer
 

@@ -8,8 +8,10 @@ use Rattle.saa_word_steps.specs.Needs.{Needs}
 use Rattle.saa_word_steps.specs.declared.event.Event.{Event}
 use Rattle.saa_word_steps.specs.AbstractState.{AbstractState, IsRun}
 use Rattle.saa_word_steps.specs.Steps.{word_at, written_by, operation_of, next_of}
-use Rattle.saa_word_proofs.specs.Refinement.{updated, is_holder, AreAnswers, Refines}
-use Rattle.saa_word_proofs.specs.StepRefinement.{StepRefines, of_place, named, named_at, never_poisons, place_after}
+use Rattle.saa_word_proofs.specs.Refinement.{is_holder, AreAnswers, Refines}
+use Rattle.saa_word_proofs.specs.Rows.{updated}
+use Rattle.saa_word_proofs.specs.StepRefinement.{StepRefines, named_at, never_poisons, place_after}
+use Rattle.saa_word_proofs.specs.History.{named, of_place}
 use Rattle.saa_word_proofs.proofs.RefinementLemmas.Rows.{loaded, row-other}
 
 -- a place that doesn't hold the flag isn't its holder

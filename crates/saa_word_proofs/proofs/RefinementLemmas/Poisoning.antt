@@ -17,8 +17,10 @@ use Rattle.saa_word_steps.specs.declared.place.Stage.TheVariants.{Quiet, ShowLoa
 use Rattle.saa_word_steps.specs.Needs.{Needs, AreNeeds}
 use Rattle.saa_word_steps.specs.declared.event.Event.TheVariants.{Poisoned, NotPoisoned, Cleared, NotCleared}
 use Rattle.saa_word_steps.specs.AbstractState.{AbstractState, IsOwned, is_empty, is_in, answered_with, held_by}
-use Rattle.saa_word_steps.specs.Steps.{IsRanged, going, poisoning, poisoned_word, settled_word}
-use Rattle.saa_word_proofs.specs.Refinement.{updated, main_of, line_of, newest, is_holder, takes_back, IsAlone, IsOwn, IsShowing, IsLine, AreDebts, AreStages, Refines}
+use Rattle.saa_word_steps.specs.Steps.{IsRanged, going, poisoning, settled_word}
+use Rattle.saa_word_steps.specs.Readings.{poisoned_word}
+use Rattle.saa_word_proofs.specs.Refinement.{newest, is_holder, takes_back, IsAlone, IsOwn, IsShowing, IsLine, AreDebts, AreStages, Refines}
+use Rattle.saa_word_proofs.specs.Rows.{line_of, main_of, updated}
 use Rattle.saa_word_proofs.specs.StepRefinement.{StepRefines, poisoning_events}
 use Rattle.saa_word_proofs.proofs.RefinementLemmas.Lists.{updated-same}
 use Rattle.saa_word_proofs.proofs.RefinementLemmas.Frames.{stages-next}

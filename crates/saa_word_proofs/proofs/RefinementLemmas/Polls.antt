@@ -26,11 +26,14 @@ use Rattle.saa_word_steps.specs.declared.place.Next.{Next}
 use Rattle.saa_word_steps.specs.declared.place.Next.TheVariants.{Waits}
 use Rattle.saa_word_steps.specs.Needs.{Needs, fits_count}
 use Rattle.saa_word_steps.specs.AbstractState.{AbstractState, is_in, held_by}
-use Rattle.saa_word_steps.specs.Steps.{left_from, word_at, operation_of, next_of, finished, granted, decided, gave_nothing, given_to, given, shown_all, dropped, looked_at, closing, taken_answer, flagging, poisoning, poisoned_word, flagged_word}
+use Rattle.saa_word_steps.specs.Steps.{left_from, word_at, operation_of, next_of, finished, granted, decided, gave_nothing, given_to, given, shown_all, dropped, looked_at, closing, taken_answer, flagging, poisoning, flagged_word}
+use Rattle.saa_word_steps.specs.Readings.{poisoned_word}
 use Rattle.saa_word_steps.proofs.AbstractRuns.{waits-none}
-use Rattle.saa_word_proofs.specs.Refinement.{main_of, is_slot, IsAlone, Refines}
+use Rattle.saa_word_proofs.specs.Refinement.{IsAlone, Refines}
+use Rattle.saa_word_proofs.specs.Rows.{IsOwnedAndFlagged, main_of}
+use Rattle.saa_word_proofs.specs.Registering.{is_slot}
 use Rattle.saa_word_proofs.specs.StepRefinement.{row_after}
-use Rattle.saa_word_proofs.specs.Blocking.{IsOwnedAndFlagged, IsBlockedAt}
+use Rattle.saa_word_proofs.specs.Blocking.{IsBlockedAt}
 use Rattle.saa_word_proofs.proofs.RefinementLemmas.Lists.{updated-same}
 use Rattle.saa_word_proofs.proofs.RefinementLemmas.Rows.{apart-at}
 

@@ -7,7 +7,9 @@ use Rattle.saa_core_words.specs.Words.{count_bits}
 use Rattle.saa_word_steps.specs.declared.place.Place.{Place}
 use Rattle.saa_word_steps.specs.Needs.{Needs}
 use Rattle.saa_word_steps.specs.AbstractState.{AbstractState, opening}
-use Rattle.saa_word_proofs.specs.Refinement.{main_of, line_of, newest, IsBehind, is_slot, Refines}
+use Rattle.saa_word_proofs.specs.Refinement.{newest, Refines}
+use Rattle.saa_word_proofs.specs.Rows.{IsBehind, line_of, main_of}
+use Rattle.saa_word_proofs.specs.Registering.{is_slot}
 use Rattle.saa_word_proofs.specs.Promises.{idle_place, opening_row, AreAsking, IsMet, newest_first, Observes}
 use Rattle.saa_word_proofs.proofs.RefinementLemmas.Poisoning.{poisoned-number}
 

@@ -16,8 +16,10 @@ use Rattle.saa_word_steps.specs.Needs.{Needs, AreNeeds}
 use Rattle.saa_word_steps.specs.AbstractState.{AbstractState, IsEnabled, after_event, is_empty, count_or, IsSettledAt}
 use Rattle.saa_word_steps.specs.Steps.{IsRanged, left_from, gave_nothing, given_to, released}
 use Rattle.saa_word_steps.proofs.Giving.{left-share, left-shrinks}
-use Rattle.saa_word_proofs.specs.Refinement.{updated, main_of, line_of, newest, is_holder, takes_back, gives_up, IsAlone, IsOwn, IsShowing, IsHolding, IsLine, AreDebts, AreStages, Refines}
-use Rattle.saa_word_proofs.specs.StepRefinement.{StepRefines, gave, gave_not, left_events, named, never_poisons, place_after}
+use Rattle.saa_word_proofs.specs.Refinement.{newest, is_holder, takes_back, gives_up, IsAlone, IsOwn, IsShowing, IsHolding, IsLine, AreDebts, AreStages, Refines}
+use Rattle.saa_word_proofs.specs.Rows.{line_of, main_of, updated}
+use Rattle.saa_word_proofs.specs.StepRefinement.{StepRefines, gave, gave_not, left_events, never_poisons, place_after}
+use Rattle.saa_word_proofs.specs.History.{named}
 use Rattle.saa_word_proofs.proofs.RefinementLemmas.Lists.{newest-empty}
 use Rattle.saa_word_proofs.proofs.RefinementLemmas.Frames.{holding-frame, stages-next}
 use Rattle.saa_word_proofs.proofs.RefinementLemmas.Rows.{moved, main-found, line-main, seats-next, count-small, tail-small}

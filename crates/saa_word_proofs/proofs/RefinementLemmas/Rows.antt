@@ -16,7 +16,9 @@ use Rattle.saa_word_steps.specs.declared.place.Stage.TheVariants.{Quiet, ReadLoa
 use Rattle.saa_word_steps.specs.Needs.{Needs}
 use Rattle.saa_word_steps.specs.AbstractState.{AbstractState, is_in, held_by}
 use Rattle.saa_word_steps.specs.Steps.{IsRanged, IsSmall}
-use Rattle.saa_word_proofs.specs.Refinement.{updated, line_of, is_slot, is_holder, gives_up, IsAlone, IsOwn, IsShowing, IsHolding, AreSeats, Refines}
+use Rattle.saa_word_proofs.specs.Refinement.{is_holder, gives_up, IsAlone, IsOwn, IsShowing, IsHolding, AreSeats, Refines}
+use Rattle.saa_word_proofs.specs.Rows.{line_of, updated}
+use Rattle.saa_word_proofs.specs.Registering.{is_slot}
 use Rattle.saa_word_proofs.proofs.RefinementLemmas.Lists.{each-updated, all-same, updated-same, updated-at, updated-other}
 use Rattle.saa_word_proofs.proofs.RefinementLemmas.Frames.{stages-next}
 

@@ -15,7 +15,9 @@ use Rattle.saa_word_steps.specs.Needs.{Needs, AreNeeds}
 use Rattle.saa_word_steps.specs.AbstractState.{AbstractState, is_in, held_by, with_answer}
 use Rattle.saa_word_steps.specs.Steps.{IsRanged}
 use Rattle.saa_word_steps.proofs.AbstractRuns.{waits-some}
-use Rattle.saa_word_proofs.specs.Refinement.{updated, line_of, newest, IsBehind, is_slot, is_holder, gives_up, IsAlone, IsOwn, IsShowing, IsHolding, IsMain, IsLine, AreSeats, AreAnswers, AreDebts, Refines}
+use Rattle.saa_word_proofs.specs.Refinement.{newest, is_holder, gives_up, IsAlone, IsOwn, IsShowing, IsHolding, IsMain, IsLine, AreSeats, AreAnswers, AreDebts, Refines}
+use Rattle.saa_word_proofs.specs.Rows.{IsBehind, line_of, updated}
+use Rattle.saa_word_proofs.specs.Registering.{is_slot}
 use Rattle.saa_word_proofs.specs.StepRefinement.{StepRefines}
 use Rattle.saa_word_proofs.proofs.RefinementLemmas.Lists.{each-updated, updated-at, updated-other, newest-last, in-some, in-append, split-last, behind-frame, behind-front, behind-rest}
 use Rattle.saa_word_proofs.proofs.RefinementLemmas.Frames.{holding-frame, stages-next}

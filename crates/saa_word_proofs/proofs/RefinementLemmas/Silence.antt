@@ -13,7 +13,8 @@ use Rattle.saa_word_steps.specs.declared.place.Next.TheVariants.{Going, Waits, D
 use Rattle.saa_word_steps.specs.Needs.{Needs, AreNeeds}
 use Rattle.saa_word_steps.specs.AbstractState.{AbstractState}
 use Rattle.saa_word_steps.specs.Steps.{word_at, operation_of, next_of, taken_answer, poisoning}
-use Rattle.saa_word_proofs.specs.Refinement.{updated, Refines}
+use Rattle.saa_word_proofs.specs.Refinement.{Refines}
+use Rattle.saa_word_proofs.specs.Rows.{updated}
 use Rattle.saa_word_proofs.specs.StepRefinement.{StepRefines, named_at, place_after, poisoning_events, row_after, taken_events}
 use Rattle.saa_word_proofs.proofs.RefinementLemmas.Lists.{updated-same}
 use Rattle.saa_word_proofs.proofs.RefinementLemmas.Polls.{says_wait, either, on-finished, on-some, goes-on, second-waits, only-stalls}

@@ -21,10 +21,14 @@ use Rattle.saa_word_steps.specs.declared.place.Taking.TheVariants.{Tries, Awaits
 use Rattle.saa_word_steps.specs.declared.place.Stage.TheVariants.{Quiet, ReadLoad, AskLoad, ReleaseLoad, Take, FlagLoad, PoisonLoad, Clear}
 use Rattle.saa_word_steps.specs.Needs.{Needs}
 use Rattle.saa_word_steps.specs.AbstractState.{AbstractState}
-use Rattle.saa_word_steps.specs.Steps.{IsRanged, is_taken, is_idle, mode_number, polled_as, cancelled_as, registered_as, started}
-use Rattle.saa_word_proofs.specs.Refinement.{updated, line_of, is_slot, is_holder, gives_up, IsAlone, IsOwn, IsShowing, Refines}
+use Rattle.saa_word_steps.specs.Steps.{IsRanged, polled_as, cancelled_as, registered_as, started}
+use Rattle.saa_word_steps.specs.Readings.{is_idle, is_taken, mode_number}
+use Rattle.saa_word_proofs.specs.Refinement.{is_holder, gives_up, IsAlone, IsOwn, IsShowing, Refines}
+use Rattle.saa_word_proofs.specs.Rows.{line_of, updated}
+use Rattle.saa_word_proofs.specs.Registering.{is_slot}
 use Rattle.saa_word_proofs.specs.StepRefinement.{place_after}
-use Rattle.saa_word_proofs.specs.Calls.{asked_by, is_taken_up, IsTaking, IsBegun}
+use Rattle.saa_word_proofs.specs.Calls.{asked_by, is_taken_up}
+use Rattle.saa_word_proofs.specs.CallStages.{IsBegun, IsTaking}
 use Rattle.saa_word_proofs.proofs.RefinementLemmas.Lists.{updated-same}
 use Rattle.saa_word_proofs.proofs.RefinementLemmas.Rows.{moved}
 use Rattle.saa_word_proofs.proofs.RefinementLemmas.Outcomes.{not-holder}

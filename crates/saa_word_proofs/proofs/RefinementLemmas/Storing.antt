@@ -10,7 +10,8 @@ use Rattle.saa_core_spec.specs.Object.{times}
 use Rattle.saa_word_steps.specs.declared.place.Place.{Place}
 use Rattle.saa_word_steps.specs.Needs.{Needs}
 use Rattle.saa_word_steps.specs.AbstractState.{AbstractState}
-use Rattle.saa_word_proofs.specs.Refinement.{updated, line_of, newest, IsBehind, Work, IsAt, IsBack, IsPassed, IsLine, Refines}
+use Rattle.saa_word_proofs.specs.Refinement.{newest, Work, IsAt, IsBack, IsPassed, IsLine, Refines}
+use Rattle.saa_word_proofs.specs.Rows.{IsBehind, line_of, updated}
 use Rattle.saa_word_proofs.proofs.RefinementLemmas.Lists.{split-last, newest-last, behind-frame, behind-rest, ahead-frame, ahead-cons}
 use Rattle.saa_word_proofs.proofs.RefinementLemmas.Frames.{newest-stands, work-front}
 use Rattle.saa_word_proofs.proofs.RefinementLemmas.Rows.{line-at, line-other}

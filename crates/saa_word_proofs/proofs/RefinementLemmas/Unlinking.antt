@@ -18,8 +18,10 @@ use Rattle.saa_word_steps.specs.Needs.{Needs, AreNeeds}
 use Rattle.saa_word_steps.specs.declared.event.Event.TheVariants.{Left}
 use Rattle.saa_word_steps.specs.AbstractState.{AbstractState, IsRun, IsSettledAt, is_empty}
 use Rattle.saa_word_steps.specs.Steps.{IsRanged, no_line, dropped_word, left_line, done, walking}
-use Rattle.saa_word_proofs.specs.Refinement.{updated, main_of, line_of, newest, IsBehind, IsAhead, is_holder, IsAlone, IsShowing, Work, IsAdded, IsAt, IsFound, IsHolding, IsMain, IsLeaving, IsOwn, gives_up, Refines}
-use Rattle.saa_word_proofs.specs.StepRefinement.{StepRefines, of_place, place_after}
+use Rattle.saa_word_proofs.specs.Refinement.{newest, IsAhead, is_holder, IsAlone, IsShowing, Work, IsAdded, IsAt, IsFound, IsHolding, IsMain, IsLeaving, IsOwn, gives_up, Refines}
+use Rattle.saa_word_proofs.specs.Rows.{IsBehind, line_of, main_of, updated}
+use Rattle.saa_word_proofs.specs.StepRefinement.{StepRefines, place_after}
+use Rattle.saa_word_proofs.specs.History.{of_place}
 use Rattle.saa_word_proofs.proofs.RefinementLemmas.Lists.{newest-any, newest-last, behind-front, ahead-frame}
 use Rattle.saa_word_proofs.proofs.RefinementLemmas.Frames.{oldest-stands, work-behind}
 use Rattle.saa_word_proofs.proofs.RefinementLemmas.Rows.{main-found, count-small, line-main, line-at, line-other, row-other, moved, loaded}

@@ -12,7 +12,8 @@ use Rattle.saa_word_steps.specs.Needs.{Needs, AreNeeds, fits_count}
 use Rattle.saa_word_steps.specs.AbstractState.{AbstractState, IsSettledAt, takes_of, is_empty}
 use Rattle.saa_word_steps.specs.Steps.{IsRanged, IsRangedNext, next_of}
 use Rattle.saa_word_steps.proofs.Ranges.{next-ranged}
-use Rattle.saa_word_proofs.specs.Refinement.{updated, line_of, newest, is_holder, IsAlone, IsShowing, Work, IsAdded, IsAt, Refines}
+use Rattle.saa_word_proofs.specs.Refinement.{newest, is_holder, IsAlone, IsShowing, Work, IsAdded, IsAt, Refines}
+use Rattle.saa_word_proofs.specs.Rows.{line_of, updated}
 use Rattle.saa_word_proofs.specs.StepRefinement.{place_after, StepRefines}
 use Rattle.saa_word_proofs.proofs.RefinementLemmas.Lists.{newest-empty, empty-nil, front-append, takes-append}
 use Rattle.saa_word_proofs.proofs.RefinementLemmas.Frames.{newest-stands, oldest-stands, work-front, work-behind}

@@ -23,17 +23,20 @@ use Rattle.saa_word_steps.specs.declared.call.Answer.{Answer}
 use Rattle.saa_word_steps.specs.declared.call.Answer.TheVariants.{Bool as Says, Taken, Unit as SaysNothing}
 use Rattle.saa_word_steps.specs.declared.call.WordCall.{WordCall}
 use Rattle.saa_word_steps.specs.declared.call.WordCall.TheVariants.{Try, Register, Release, Available, TryLock, TryShare, RegisterMode, ReleaseLock, ReleaseShare, Downgrade, PoisonLock, ClearPoison, IsFree, IsLocked, IsShared, IsPoisoned, TryPoll, Poll, Cancel}
-use Rattle.saa_word_steps.specs.Needs.{Needs, AreNeeds}
+use Rattle.saa_word_steps.specs.Needs.{AreNeeds, Needs, needs_of}
 use Rattle.saa_word_steps.specs.declared.event.Event.{Event}
-use Rattle.saa_word_steps.specs.Steps.{needs_of, is_taken, is_idle, going, started, tried_as, registered_as, released_as, polled_as, cancelled_as, mode_number}
+use Rattle.saa_word_steps.specs.Steps.{going, started, tried_as, registered_as, released_as, polled_as, cancelled_as}
+use Rattle.saa_word_steps.specs.Readings.{is_idle, is_taken, mode_number}
 use Rattle.saa_word_steps.proofs.AbstractRuns.{permits-lawful}
 use Rattle.saa_word_steps.proofs.LockNeeds.{locks-lawful}
-use Rattle.saa_word_proofs.specs.Refinement.{updated, Refines}
+use Rattle.saa_word_proofs.specs.Refinement.{Refines}
+use Rattle.saa_word_proofs.specs.Rows.{updated}
 use Rattle.saa_word_proofs.specs.StepRefinement.{place_after}
-use Rattle.saa_word_proofs.specs.Calls.{asked_by, given_by, read_by, taken_by, ask_named, release_named, read_named, is_taken_up, IsAnswered, IsBegun, IsCancelled, IsDropped}
+use Rattle.saa_word_proofs.specs.Calls.{asked_by, ask_named, release_named, read_named, is_taken_up, IsAnswered, IsCancelled, IsDropped}
+use Rattle.saa_word_proofs.specs.CallStages.{IsBegun, given_by, read_by, taken_by}
 use Rattle.saa_word_proofs.proofs.RefinementLemmas.Starting.{starts, call-begun}
-use Rattle.saa_word_proofs.specs.Alone.{IsQuiet, Moment, put, IsEither, IsDoneIn, IsCalledAlone}
-use Rattle.saa_word_proofs.specs.Mirrors.{Mirrors, called}
+use Rattle.saa_word_proofs.specs.Alone.{IsCalledAlone, IsDoneIn, IsEither, IsQuiet, Mirrors, Moment, put}
+use Rattle.saa_word_proofs.specs.Represents.{called}
 use Rattle.saa_word_proofs.specs.Agrees.{Begins, Agrees}
 use Rattle.saa_word_proofs.proofs.SoloLemmas.Quiet.{at-rest}
 use Rattle.saa_word_proofs.proofs.SoloLemmas.Mirroring.{Starts, Answers}

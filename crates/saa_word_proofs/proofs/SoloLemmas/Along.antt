@@ -14,17 +14,21 @@ use Rattle.saa_word_steps.specs.declared.call.WordCall.{WordCall}
 use Rattle.saa_word_steps.specs.Needs.{Needs, AreNeeds}
 use Rattle.saa_word_steps.specs.declared.event.Event.{Event}
 use Rattle.saa_word_steps.specs.AbstractState.{AbstractState, IsRun}
-use Rattle.saa_word_steps.specs.Steps.{is_taken, word_at, operation_of, started}
-use Rattle.saa_word_proofs.specs.Refinement.{updated, Refines}
-use Rattle.saa_word_proofs.specs.StepRefinement.{StepRefines, of_place, named, named_at, place_after, row_after}
-use Rattle.saa_word_proofs.specs.Calls.{asked_by, IsAnswered, IsUnder, IsUnderNext, IsBegun}
+use Rattle.saa_word_steps.specs.Steps.{word_at, operation_of, started}
+use Rattle.saa_word_steps.specs.Readings.{is_taken}
+use Rattle.saa_word_proofs.specs.Refinement.{Refines}
+use Rattle.saa_word_proofs.specs.Rows.{updated}
+use Rattle.saa_word_proofs.specs.StepRefinement.{StepRefines, named_at, place_after, row_after}
+use Rattle.saa_word_proofs.specs.History.{named, of_place}
+use Rattle.saa_word_proofs.specs.Calls.{asked_by, IsAnswered}
+use Rattle.saa_word_proofs.specs.CallStages.{IsBegun, IsLeft, IsUnder, IsUnderNext}
 use Rattle.saa_word_proofs.proofs.RefinementLemmas.Lists.{all-same, updated-at}
 use Rattle.saa_word_proofs.proofs.RefinementLemmas.Steps.{step}
 use Rattle.saa_word_proofs.proofs.RefinementLemmas.Calls.{under-next}
 use Rattle.saa_word_proofs.proofs.RefinementLemmas.Starting.{starts, call-begun}
 use Rattle.saa_word_proofs.specs.Alone.{Moment, put, next_at, IsEither, IsDoneIn}
 use Rattle.saa_word_proofs.proofs.SoloLemmas.Events.{run-append, named-append}
-use Rattle.saa_word_proofs.specs.Registering.{left_behind, IsLeft}
+use Rattle.saa_word_proofs.specs.Registering.{left_behind}
 use Rattle.saa_word_proofs.proofs.SoloLemmas.Paths.{left-append, left-next}
 
 updated-twice : {A : Type 0} (old : ℕ → A) (at : ℕ) (one two : A) → updated (updated old at one) at two ≡ updated old at two

@@ -19,13 +19,14 @@ use Rattle.saa_word_steps.specs.declared.call.Answer.{Answer}
 use Rattle.saa_word_steps.specs.declared.call.Answer.TheVariants.{Bool as Says, Tried}
 use Rattle.saa_word_steps.specs.declared.call.WordCall.{WordCall}
 use Rattle.saa_word_steps.specs.declared.call.WordCall.TheVariants.{Try, Register}
-use Rattle.saa_word_steps.specs.Needs.{Needs, lock_at, fits_count}
+use Rattle.saa_word_steps.specs.Needs.{Needs, fits_count, lock_at, needs_of}
 use Rattle.saa_word_steps.specs.declared.event.Event.TheVariants.{Got, Refused, Joined, AskedPoisoned}
 use Rattle.saa_word_steps.specs.AbstractState.{AbstractState, IsEnabled, after_event, is_empty, must_wait}
-use Rattle.saa_word_steps.specs.Steps.{needs_of, is_taken, tried_answer, is_idle as is_free}
-use Rattle.saa_word_proofs.specs.Refinement.{updated}
+use Rattle.saa_word_steps.specs.Readings.{is_idle as is_free, is_taken, tried_answer}
+use Rattle.saa_word_proofs.specs.Rows.{updated}
 use Rattle.saa_word_proofs.specs.Calls.{asked_by}
-use Rattle.saa_word_proofs.specs.Mirrors.{waiters, entry_of, held_at, Mirrors}
+use Rattle.saa_word_proofs.specs.Represents.{entry_of, held_at, waiters}
+use Rattle.saa_word_proofs.specs.Alone.{Mirrors}
 use Rattle.saa_word_proofs.proofs.SoloLemmas.HeldAt.{plus-at, asks-at, answer-at, held-calm, held-poisoned}
 use Rattle.saa_word_proofs.proofs.SoloLemmas.Fronts.{waiters-append}
 use Rattle.saa_word_proofs.proofs.SoloLemmas.Commands.{trying_says, tried_by, try-call, registered_by, register-call}

@@ -6,7 +6,8 @@ use Rattle.saa_word_steps.specs.declared.place.Registration.{Registration}
 use Rattle.saa_word_steps.specs.declared.place.Registration.TheVariants.{Idle as IsIdle}
 use Rattle.saa_word_steps.specs.Needs.{Needs}
 use Rattle.saa_word_steps.specs.AbstractState.{AbstractState, opening}
-use Rattle.saa_word_proofs.specs.Mirrors.{waiters, entry_of, held_at, Mirrors}
+use Rattle.saa_word_proofs.specs.Represents.{entry_of, held_at, waiters}
+use Rattle.saa_word_proofs.specs.Alone.{Mirrors}
 
 -- the entries of so many places, from a place on
 abbrev book_from : Needs → (ℕ → Place) → (ℕ → Option ℕ) → ℕ → ℕ → List Entry

@@ -15,13 +15,15 @@ use Rattle.saa_word_steps.specs.declared.place.Registration.{Registration}
 use Rattle.saa_word_steps.specs.declared.place.Registration.TheVariants.{Idle as IsIdle, Once, Slot}
 use Rattle.saa_word_steps.specs.declared.call.Answer.TheVariants.{Unit as SaysNothing}
 use Rattle.saa_word_steps.specs.declared.call.WordCall.TheVariants.{Cancel}
-use Rattle.saa_word_steps.specs.Needs.{Needs, lock_at, left_count}
+use Rattle.saa_word_steps.specs.Needs.{Needs, left_count, lock_at, needs_of}
 use Rattle.saa_word_steps.specs.declared.event.Event.TheVariants.{Took, GaveNothing}
 use Rattle.saa_word_steps.specs.AbstractState.{AbstractState, IsEnabled, after_event, is_in, with_answer}
-use Rattle.saa_word_steps.specs.Steps.{needs_of}
-use Rattle.saa_word_proofs.specs.Refinement.{updated, is_slot, AreSeats}
+use Rattle.saa_word_proofs.specs.Refinement.{AreSeats}
+use Rattle.saa_word_proofs.specs.Rows.{updated}
+use Rattle.saa_word_proofs.specs.Registering.{is_slot}
 use Rattle.saa_word_proofs.specs.Calls.{is_taken_up}
-use Rattle.saa_word_proofs.specs.Mirrors.{waiters, entry_of, held_at, Mirrors}
+use Rattle.saa_word_proofs.specs.Represents.{entry_of, held_at, waiters}
+use Rattle.saa_word_proofs.specs.Alone.{Mirrors}
 use Rattle.saa_word_proofs.proofs.SoloLemmas.HeldAt.{held-calm}
 use Rattle.saa_word_proofs.proofs.SoloLemmas.Commands.{dropped_by, cancel-call}
 use Rattle.saa_word_proofs.proofs.SoloLemmas.Mirroring.{Starts, Settles, Answers, answers-by, mirrors-same, mirrors-set, mirrors-idle, taken-other, idle-entry, once-entry, shown-entry, waiting-entry, waits-slot}

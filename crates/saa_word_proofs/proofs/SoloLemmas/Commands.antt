@@ -21,9 +21,11 @@ use Rattle.saa_word_steps.specs.declared.call.Answer.{Answer}
 use Rattle.saa_word_steps.specs.declared.call.Answer.TheVariants.{Bool as Says, Tried, Taken, Unit as SaysNothing}
 use Rattle.saa_word_steps.specs.declared.call.WordCall.{WordCall}
 use Rattle.saa_word_steps.specs.declared.call.WordCall.TheVariants.{Try, Register, Release, TryLock, TryShare, RegisterMode, ReleaseLock, ReleaseShare, TryPoll, Poll, Cancel}
-use Rattle.saa_word_steps.specs.Steps.{needs_of, is_taken, mode_number}
-use Rattle.saa_word_proofs.specs.Calls.{asked_by, given_by, taken_by}
-use Rattle.saa_word_proofs.specs.Mirrors.{called, registering_says}
+use Rattle.saa_word_steps.specs.Needs.{needs_of}
+use Rattle.saa_word_steps.specs.Readings.{is_taken, mode_number}
+use Rattle.saa_word_proofs.specs.Calls.{asked_by}
+use Rattle.saa_word_proofs.specs.CallStages.{given_by, taken_by}
+use Rattle.saa_word_proofs.specs.Represents.{called, registering_says}
 
 -- what a try answers
 abbrev pub trying_says : (is_lock is_granted is_poison : Bool) → Answer

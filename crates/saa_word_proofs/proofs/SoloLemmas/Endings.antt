@@ -19,14 +19,16 @@ use Rattle.saa_word_steps.specs.declared.call.Answer.{Answer}
 use Rattle.saa_word_steps.specs.declared.call.Answer.TheVariants.{Bool as Says, Tried, Taken, Unit as SaysNothing}
 use Rattle.saa_word_steps.specs.declared.call.WordCall.{WordCall}
 use Rattle.saa_word_steps.specs.declared.call.WordCall.TheVariants.{Downgrade, PoisonLock, ClearPoison, TryPoll, Poll, Cancel}
-use Rattle.saa_word_steps.specs.Needs.{Needs}
+use Rattle.saa_word_steps.specs.Needs.{Needs, needs_of}
 use Rattle.saa_word_steps.specs.declared.event.Event.{Event}
 use Rattle.saa_word_steps.specs.declared.event.Event.TheVariants.{Got, Refused, AskedPoisoned, Joined, Left, Gave, GaveNothing, Lowered, NotLowered, Poisoned, NotPoisoned, Cleared, NotCleared, NotReady, Took, Read}
 use Rattle.saa_word_steps.specs.AbstractState.{AbstractState, IsEnabled, after_event, count_or, is_in}
-use Rattle.saa_word_steps.specs.Steps.{is_taken, needs_of, tried_answer, read_as}
-use Rattle.saa_word_proofs.specs.Refinement.{updated}
-use Rattle.saa_word_proofs.specs.Calls.{asked_by, given_by, read_by, taken_by, ask_named, release_named, read_named, poll_named, poison_named, clear_named, is_taken_up, IsDropped, IsCancelled}
-use Rattle.saa_word_proofs.specs.Alone.{IsAtRest, Moment}
+use Rattle.saa_word_steps.specs.Readings.{is_taken, read_as, tried_answer}
+use Rattle.saa_word_proofs.specs.Rows.{updated}
+use Rattle.saa_word_proofs.specs.Calls.{asked_by, ask_named, release_named, read_named, poll_named, poison_named, clear_named, is_taken_up, IsDropped, IsCancelled}
+use Rattle.saa_word_proofs.specs.CallStages.{given_by, read_by, taken_by}
+use Rattle.saa_word_proofs.specs.Alone.{Moment}
+use Rattle.saa_word_proofs.specs.Promises.{IsAtRest}
 use Rattle.saa_word_proofs.proofs.SoloLemmas.Mirroring.{Starts, Settles, Answers}
 use Rattle.saa_word_proofs.proofs.SoloLemmas.Asks.{try-got, try-refused, try-poisoned, register-got, register-joined, register-poisoned}
 use Rattle.saa_word_proofs.proofs.SoloLemmas.Givings.{release-gave, release-nothing}

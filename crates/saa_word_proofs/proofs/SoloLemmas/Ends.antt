@@ -21,11 +21,15 @@ use Rattle.saa_word_steps.specs.declared.place.Taking.TheVariants.{Tries, Awaits
 use Rattle.saa_word_steps.specs.Needs.{Needs, AreNeeds}
 use Rattle.saa_word_steps.specs.declared.event.Event.{Event}
 use Rattle.saa_word_steps.specs.AbstractState.{AbstractState, is_in}
-use Rattle.saa_word_steps.specs.Steps.{is_taken, is_idle, going, operation_of, mode_number, polled_as, cancelled_as, registered_as, started}
+use Rattle.saa_word_steps.specs.Steps.{going, operation_of, polled_as, cancelled_as, registered_as, started}
+use Rattle.saa_word_steps.specs.Readings.{is_idle, is_taken, mode_number}
 use Rattle.saa_word_steps.proofs.AbstractRuns.{waits-none}
-use Rattle.saa_word_proofs.specs.Refinement.{Refines, main_of, is_slot}
+use Rattle.saa_word_proofs.specs.Refinement.{Refines}
+use Rattle.saa_word_proofs.specs.Rows.{main_of}
+use Rattle.saa_word_proofs.specs.Registering.{is_slot}
 use Rattle.saa_word_proofs.specs.StepRefinement.{place_after, row_after}
-use Rattle.saa_word_proofs.specs.Calls.{is_taken_up, IsUnder, IsBegun}
+use Rattle.saa_word_proofs.specs.Calls.{is_taken_up}
+use Rattle.saa_word_proofs.specs.CallStages.{IsBegun, IsUnder}
 use Rattle.saa_word_proofs.proofs.RefinementLemmas.Lists.{updated-at}
 use Rattle.saa_word_proofs.proofs.RefinementLemmas.Starting.{call-begun}
 use Rattle.saa_word_proofs.specs.StepBound.{IsLower, step_bound, way}

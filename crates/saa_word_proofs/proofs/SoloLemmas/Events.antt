@@ -7,9 +7,9 @@ use Rattle.saa_word_steps.specs.Needs.{Needs}
 use Rattle.saa_word_steps.specs.declared.event.Event.{Event}
 use Rattle.saa_word_steps.specs.declared.event.Event.TheVariants.{Closed, Granted, Showed, Poisoned}
 use Rattle.saa_word_steps.specs.AbstractState.{AbstractState, IsEnabled, after_event, IsRun, IsFront, is_in, takes_of, answered_with}
-use Rattle.saa_word_proofs.specs.StepRefinement.{of_place, is_named, named}
+use Rattle.saa_word_proofs.specs.History.{is_named, named, of_place}
 use Rattle.saa_word_proofs.proofs.RefinementLemmas.Lists.{in-append, front-append, takes-append}
-use Rattle.saa_word_proofs.specs.Alone.{IsAtRest}
+use Rattle.saa_word_proofs.specs.Promises.{IsAtRest}
 use Rattle.saa_word_proofs.proofs.SoloLemmas.Mirroring.{Settles}
 
 -- Lists of events

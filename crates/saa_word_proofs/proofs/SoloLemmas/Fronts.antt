@@ -9,10 +9,9 @@ use Rattle.saa_core_spec.specs.Settling.{fitting_front, plus_all, answered_entry
 use Rattle.saa_core_spec.proofs.Counts.{same_number, other_number}
 use Rattle.saa_core_spec.proofs.FittingFronts.{fitting_front-fits, fitting_front-blocked}
 use Rattle.saa_word_steps.specs.declared.rules.Rules.{Rules}
-use Rattle.saa_word_steps.specs.Needs.{Needs, fits_count}
+use Rattle.saa_word_steps.specs.Needs.{Needs, fits_count, needs_of}
 use Rattle.saa_word_steps.specs.AbstractState.{is_in, IsFront, IsSettledAt, takes_of}
-use Rattle.saa_word_steps.specs.Steps.{needs_of}
-use Rattle.saa_word_proofs.specs.Mirrors.{waiters}
+use Rattle.saa_word_proofs.specs.Represents.{waiters}
 use Rattle.saa_word_proofs.proofs.SoloLemmas.HeldAt.{plus-at}
 
 -- Lines with the requests themselves

@@ -15,14 +15,17 @@ use Rattle.saa_word_steps.specs.declared.place.Registration.{Registration}
 use Rattle.saa_word_steps.specs.declared.call.Answer.TheVariants.{Bool as Says}
 use Rattle.saa_word_steps.specs.declared.call.WordCall.{WordCall}
 use Rattle.saa_word_steps.specs.declared.call.WordCall.TheVariants.{Release, ReleaseLock, ReleaseShare}
-use Rattle.saa_word_steps.specs.Needs.{Needs, lock_needs, left_count}
+use Rattle.saa_word_steps.specs.Needs.{Needs, left_count, lock_needs, needs_of}
 use Rattle.saa_word_steps.specs.declared.event.Event.TheVariants.{GaveNothing}
 use Rattle.saa_word_steps.specs.AbstractState.{AbstractState, IsEnabled, IsSettledAt, is_in, takes_of, answered_with}
-use Rattle.saa_word_steps.specs.Steps.{needs_of, is_taken}
-use Rattle.saa_word_proofs.specs.Refinement.{updated, is_slot, AreSeats}
-use Rattle.saa_word_proofs.specs.Calls.{given_by}
+use Rattle.saa_word_steps.specs.Readings.{is_taken}
+use Rattle.saa_word_proofs.specs.Refinement.{AreSeats}
+use Rattle.saa_word_proofs.specs.Rows.{updated}
+use Rattle.saa_word_proofs.specs.Registering.{is_slot}
+use Rattle.saa_word_proofs.specs.CallStages.{given_by}
 use Rattle.saa_word_proofs.proofs.RefinementLemmas.Lists.{in-append}
-use Rattle.saa_word_proofs.specs.Mirrors.{waiters, entry_of, held_at, Mirrors}
+use Rattle.saa_word_proofs.specs.Represents.{entry_of, held_at, waiters}
+use Rattle.saa_word_proofs.specs.Alone.{Mirrors}
 use Rattle.saa_word_proofs.proofs.SoloLemmas.HeldAt.{held_of, less-at, for-something, held-calm, held-poisoned}
 use Rattle.saa_word_proofs.proofs.SoloLemmas.Fronts.{entry-answered, length-answered, settled-front}
 use Rattle.saa_word_proofs.proofs.SoloLemmas.Commands.{given_back_by, release-call}

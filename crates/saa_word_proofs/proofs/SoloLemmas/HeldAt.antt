@@ -12,10 +12,9 @@ use Rattle.saa_core_spec.proofs.Counts.{same_number}
 use Rattle.saa_core_words.specs.Words.{mode_of}
 use Rattle.saa_word_steps.specs.declared.rules.Rules.{Rules}
 use Rattle.saa_word_steps.specs.declared.rules.Rules.TheVariants.{Permits, Modes}
-use Rattle.saa_word_steps.specs.Needs.{Needs, lock_needs, lock_at, mode_takes, fits_count, left_count, counted}
+use Rattle.saa_word_steps.specs.Needs.{Needs, counted, fits_count, left_count, lock_at, lock_needs, mode_takes, needs_of}
 use Rattle.saa_word_steps.specs.AbstractState.{AbstractState}
-use Rattle.saa_word_steps.specs.Steps.{needs_of}
-use Rattle.saa_word_proofs.specs.Mirrors.{held_at}
+use Rattle.saa_word_proofs.specs.Represents.{held_at}
 
 -- Grants
 

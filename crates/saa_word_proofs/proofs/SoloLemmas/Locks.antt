@@ -17,13 +17,14 @@ use Rattle.saa_word_steps.specs.declared.call.Answer.{Answer}
 use Rattle.saa_word_steps.specs.declared.call.Answer.TheVariants.{Bool as Says, Number}
 use Rattle.saa_word_steps.specs.declared.call.WordCall.{WordCall}
 use Rattle.saa_word_steps.specs.declared.call.WordCall.TheVariants.{Available, IsFree, IsLocked, IsShared, IsPoisoned, Downgrade, PoisonLock, ClearPoison}
-use Rattle.saa_word_steps.specs.Needs.{Needs, lock_needs, lock_at}
+use Rattle.saa_word_steps.specs.Needs.{Needs, lock_at, lock_needs, needs_of}
 use Rattle.saa_word_steps.specs.declared.event.Event.TheVariants.{Lowered, NotLowered, Read, Poisoned as IsPoisonedNow, NotPoisoned, Cleared, NotCleared}
 use Rattle.saa_word_steps.specs.AbstractState.{AbstractState, IsEnabled, IsOwned, after_event, answered_with}
-use Rattle.saa_word_steps.specs.Steps.{needs_of, is_taken, read_as}
-use Rattle.saa_word_proofs.specs.Refinement.{updated}
-use Rattle.saa_word_proofs.specs.Calls.{read_by}
-use Rattle.saa_word_proofs.specs.Mirrors.{waiters, held_at, Mirrors, called}
+use Rattle.saa_word_steps.specs.Readings.{is_taken, read_as}
+use Rattle.saa_word_proofs.specs.Rows.{updated}
+use Rattle.saa_word_proofs.specs.CallStages.{read_by}
+use Rattle.saa_word_proofs.specs.Represents.{called, held_at, waiters}
+use Rattle.saa_word_proofs.specs.Alone.{Mirrors}
 use Rattle.saa_word_proofs.proofs.SoloLemmas.HeldAt.{held-calm, held-poisoned, lock-free, lock-alone, lock-shared}
 use Rattle.saa_word_proofs.proofs.SoloLemmas.Fronts.{length-answered}
 use Rattle.saa_word_proofs.proofs.SoloLemmas.Givings.{answered-entries, settling, waiting-same}

@@ -13,10 +13,13 @@ use Rattle.saa_word_steps.specs.declared.call.Answer.{Answer}
 use Rattle.saa_word_steps.specs.declared.call.WordCall.{WordCall}
 use Rattle.saa_word_steps.specs.Needs.{Needs}
 use Rattle.saa_word_steps.specs.AbstractState.{AbstractState, IsFront, IsSettledAt, takes_of, answered_with, is_in, with_answer}
-use Rattle.saa_word_proofs.specs.Refinement.{updated, is_slot, AreSeats}
+use Rattle.saa_word_proofs.specs.Refinement.{AreSeats}
+use Rattle.saa_word_proofs.specs.Rows.{updated}
+use Rattle.saa_word_proofs.specs.Registering.{is_slot}
 use Rattle.saa_word_proofs.proofs.RefinementLemmas.Lists.{each-updated}
 use Rattle.saa_word_proofs.proofs.RefinementLemmas.Granting.{in-waits}
-use Rattle.saa_word_proofs.specs.Mirrors.{waiters, entry_of, held_at, Mirrors, called}
+use Rattle.saa_word_proofs.specs.Represents.{called, entry_of, held_at, waiters}
+use Rattle.saa_word_proofs.specs.Alone.{Mirrors}
 use Rattle.saa_word_proofs.proofs.SoloLemmas.Fronts.{entry-set, entry-other}
 
 -- What is known of a moment when no place is in a call, of a place that makes one

@@ -23,11 +23,13 @@ use Rattle.saa_word_steps.specs.declared.call.WordCall.{WordCall}
 use Rattle.saa_word_steps.specs.Needs.{Needs, fits_count}
 use Rattle.saa_word_steps.specs.declared.event.Event.{Event}
 use Rattle.saa_word_steps.specs.declared.event.Event.TheVariants.{Got}
-use Rattle.saa_word_steps.specs.Steps.{left_from, next_of, decided, granted, given, given_to, gave_nothing, finished, taken_answer, looked_at, closing, shown_all, flagging, poisoning, poisoned_word}
+use Rattle.saa_word_steps.specs.Steps.{left_from, next_of, decided, granted, given, given_to, gave_nothing, finished, taken_answer, looked_at, closing, shown_all, flagging, poisoning}
+use Rattle.saa_word_steps.specs.Readings.{poisoned_word}
 use Rattle.saa_word_proofs.specs.Refinement.{waits_behind}
 use Rattle.saa_word_proofs.specs.StepRefinement.{gave, gave_not, named_at, decided_events, given_events, left_events, taken_events, poisoning_events}
-use Rattle.saa_word_proofs.specs.Calls.{asked_by, IsUnder}
-use Rattle.saa_word_proofs.specs.Registering.{left_by, left_behind, IsLeft}
+use Rattle.saa_word_proofs.specs.Calls.{asked_by}
+use Rattle.saa_word_proofs.specs.CallStages.{IsLeft, IsUnder}
+use Rattle.saa_word_proofs.specs.Registering.{left_by, left_behind}
 
 pub left-append : (first second : List Event) (asks : Option Ask) (was : Registration)
     → left_behind (first ++ second) asks was ≡ left_behind second asks (left_behind first asks was)

@@ -14,13 +14,14 @@ use Rattle.saa_word_steps.specs.declared.call.Answer.{Answer}
 use Rattle.saa_word_steps.specs.declared.call.Answer.TheVariants.{Taken}
 use Rattle.saa_word_steps.specs.declared.call.WordCall.{WordCall}
 use Rattle.saa_word_steps.specs.declared.call.WordCall.TheVariants.{TryPoll, Poll}
-use Rattle.saa_word_steps.specs.Needs.{Needs}
+use Rattle.saa_word_steps.specs.Needs.{Needs, needs_of}
 use Rattle.saa_word_steps.specs.declared.event.Event.TheVariants.{Took, NotReady}
 use Rattle.saa_word_steps.specs.AbstractState.{AbstractState, IsEnabled, after_event, is_in}
-use Rattle.saa_word_steps.specs.Steps.{needs_of}
-use Rattle.saa_word_proofs.specs.Refinement.{updated, AreSeats}
-use Rattle.saa_word_proofs.specs.Calls.{taken_by}
-use Rattle.saa_word_proofs.specs.Mirrors.{held_at, Mirrors, called}
+use Rattle.saa_word_proofs.specs.Refinement.{AreSeats}
+use Rattle.saa_word_proofs.specs.Rows.{updated}
+use Rattle.saa_word_proofs.specs.CallStages.{taken_by}
+use Rattle.saa_word_proofs.specs.Represents.{called, held_at}
+use Rattle.saa_word_proofs.specs.Alone.{Mirrors}
 use Rattle.saa_word_proofs.proofs.SoloLemmas.Commands.{polled_by, poll-call}
 use Rattle.saa_word_proofs.proofs.SoloLemmas.Mirroring.{Starts, Answers, answers-by, mirrors-same, mirrors-idle, taken-other, idle-entry, once-entry, shown-entry, slot-is, shown-slot, waiting-entry}
 

@@ -7,8 +7,10 @@ use Rattle.saa_word_steps.specs.declared.place.Place.{Place}
 use Rattle.saa_word_steps.specs.declared.place.Stage.{Stage}
 use Rattle.saa_word_steps.specs.Needs.{Needs}
 use Rattle.saa_word_steps.specs.AbstractState.{AbstractState, is_in}
-use Rattle.saa_word_proofs.specs.Refinement.{line_of, IsBehind, is_holder, IsShowing, Refines}
-use Rattle.saa_word_proofs.specs.Alone.{IsQuiet, IsAtRest}
+use Rattle.saa_word_proofs.specs.Refinement.{is_holder, IsShowing, Refines}
+use Rattle.saa_word_proofs.specs.Rows.{IsBehind, line_of}
+use Rattle.saa_word_proofs.specs.Alone.{IsQuiet}
+use Rattle.saa_word_proofs.specs.Promises.{IsAtRest}
 
 -- nobody holds the flag
 pub quiet-holder : (needs : Needs) (places : ℕ) (row : ℕ → ℕ) (standing : ℕ → Place) (state : AbstractState) (s : Refines needs places row standing state)

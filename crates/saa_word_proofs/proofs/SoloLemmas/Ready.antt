@@ -12,9 +12,10 @@ use Rattle.saa_word_steps.specs.declared.place.Stage.TheVariants.{AskLoad}
 use Rattle.saa_word_steps.specs.declared.place.Taking.{Taking}
 use Rattle.saa_word_steps.specs.declared.place.Taking.TheVariants.{Tries, Awaits}
 use Rattle.saa_word_steps.specs.Needs.{Needs}
-use Rattle.saa_word_steps.specs.Steps.{cancelled_as, going, is_idle, mode_number, polled_as, started}
+use Rattle.saa_word_steps.specs.Steps.{cancelled_as, going, polled_as, started}
+use Rattle.saa_word_steps.specs.Readings.{is_idle, mode_number}
 use Rattle.saa_word_proofs.specs.Calls.{is_taken_up}
-use Rattle.saa_word_proofs.specs.Registering.{IsReadyNext}
+use Rattle.saa_word_proofs.specs.CallStages.{IsReadyNext}
 
 registering-ready : (needs : Needs) (places me : ℕ) (place : Place) (request : ℕ) (registration : Registration)
     → IsReadyNext needs places me

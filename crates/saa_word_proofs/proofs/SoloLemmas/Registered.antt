@@ -12,9 +12,11 @@ use Rattle.saa_word_steps.specs.declared.place.Stage.TheVariants.{Quiet, AskLoad
 use Rattle.saa_word_steps.specs.declared.place.Taking.{Taking}
 use Rattle.saa_word_steps.specs.declared.place.Taking.TheVariants.{Tries, Awaits}
 use Rattle.saa_word_steps.specs.Needs.{Needs}
-use Rattle.saa_word_steps.specs.Steps.{cancelled_as, going, is_idle, mode_number, polled_as, started}
+use Rattle.saa_word_steps.specs.Steps.{cancelled_as, going, polled_as, started}
+use Rattle.saa_word_steps.specs.Readings.{is_idle, mode_number}
 use Rattle.saa_word_proofs.specs.Calls.{is_taken_up}
-use Rattle.saa_word_proofs.specs.Registering.{IsStartedAs, begun_as, cancelling_answer, polling_answer, registering_answer, starting_answer}
+use Rattle.saa_word_proofs.specs.Registering.{begun_as, cancelling_answer, polling_answer, registering_answer, starting_answer}
+use Rattle.saa_word_proofs.specs.CallStages.{IsStartedAs}
 
 registering : (place : Place) (request : ℕ) (registration : Registration) → place.registration ≡ registration → place.stage ≡ Quiet
     → IsStartedAs (registering_answer registration) place.registration

@@ -14,10 +14,10 @@ use Rattle.saa_word_steps.specs.declared.place.Registration.TheVariants.{Idle, O
 use Rattle.saa_word_steps.specs.Needs.{Needs}
 use Rattle.saa_word_steps.specs.AbstractState.{AbstractState, IsEnabled, after_event, IsRun, is_in, held_by}
 use Rattle.saa_word_steps.proofs.AbstractRuns.{run-once, waits-some}
-use Rattle.saa_word_proofs.specs.Refinement.{is_slot, updated}
-use Rattle.saa_word_proofs.specs.StepRefinement.{is_named, named, of_place}
+use Rattle.saa_word_proofs.specs.Rows.{updated}
+use Rattle.saa_word_proofs.specs.History.{is_named, named, of_place}
 use Rattle.saa_word_proofs.proofs.RefinementLemmas.Lists.{updated-same}
-use Rattle.saa_word_proofs.specs.Registering.{AreRegistered, begun_as, left_behind, left_by}
+use Rattle.saa_word_proofs.specs.Registering.{AreRegistered, begun_as, is_slot, left_behind, left_by}
 
 -- Lines
 

@@ -18,10 +18,13 @@ use Rattle.saa_word_steps.specs.declared.call.WordCall.TheVariants.{Poll}
 use Rattle.saa_word_steps.specs.Needs.{Needs, AreNeeds}
 use Rattle.saa_word_steps.specs.declared.event.Event.{Event}
 use Rattle.saa_word_steps.specs.AbstractState.{AbstractState, is_in}
-use Rattle.saa_word_steps.specs.Steps.{word_at, operation_of, next_of, going, polled_as, started, taken_answer, is_taken}
-use Rattle.saa_word_proofs.specs.Refinement.{main_of, updated, is_slot, is_holder, IsShowing, AreSeats, Refines}
+use Rattle.saa_word_steps.specs.Steps.{word_at, operation_of, next_of, going, polled_as, started, taken_answer}
+use Rattle.saa_word_steps.specs.Readings.{is_taken}
+use Rattle.saa_word_proofs.specs.Refinement.{is_holder, IsShowing, AreSeats, Refines}
+use Rattle.saa_word_proofs.specs.Rows.{main_of, updated}
+use Rattle.saa_word_proofs.specs.Registering.{is_slot}
 use Rattle.saa_word_proofs.specs.StepRefinement.{named_at, place_after, row_after}
-use Rattle.saa_word_proofs.specs.Calls.{taken_by, IsUnder, IsUnderNext, IsBegun}
+use Rattle.saa_word_proofs.specs.CallStages.{IsBegun, IsUnder, IsUnderNext, taken_by}
 use Rattle.saa_word_proofs.proofs.RefinementLemmas.Lists.{updated-at, updated-other, updated-same, in-some}
 use Rattle.saa_word_proofs.proofs.RefinementLemmas.Steps.{step}
 use Rattle.saa_word_proofs.proofs.RefinementLemmas.Calls.{under-next}

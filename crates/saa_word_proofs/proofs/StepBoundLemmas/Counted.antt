@@ -18,7 +18,8 @@ use Rattle.saa_word_steps.specs.declared.place.Stage.TheVariants.{Quiet, ReadLoa
 use Rattle.saa_word_steps.specs.Needs.{Needs, AreNeeds, fits_count}
 use Rattle.saa_word_steps.specs.AbstractState.{AbstractState}
 use Rattle.saa_word_steps.specs.Steps.{left_from, word_at, operation_of, next_of, finished, granted, decided, gave_nothing, given_to, given, shown_all}
-use Rattle.saa_word_proofs.specs.Refinement.{updated, Refines}
+use Rattle.saa_word_proofs.specs.Refinement.{Refines}
+use Rattle.saa_word_proofs.specs.Rows.{updated}
 use Rattle.saa_word_proofs.specs.StepRefinement.{row_after, place_after}
 use Rattle.saa_word_proofs.proofs.RefinementLemmas.Lists.{each-updated, updated-same}
 use Rattle.saa_word_proofs.proofs.RefinementLemmas.Rows.{row-other}

@@ -9,7 +9,8 @@ use Rattle.saa_core_words.specs.Words.{line_number, line_word_of}
 use Rattle.saa_word_steps.specs.declared.place.Place.{Place}
 use Rattle.saa_word_steps.specs.Needs.{Needs}
 use Rattle.saa_word_steps.specs.AbstractState.{AbstractState, is_empty}
-use Rattle.saa_word_proofs.specs.Refinement.{updated, main_of, line_of, newest, oldest, IsBehind, IsAhead, Work, Refines}
+use Rattle.saa_word_proofs.specs.Refinement.{newest, oldest, IsAhead, Work, Refines}
+use Rattle.saa_word_proofs.specs.Rows.{IsBehind, line_of, main_of, updated}
 use Rattle.saa_word_proofs.proofs.RefinementLemmas.Lists.{updated-at, behind-frame, behind-front, behind-rest, newest-append, newest-last}
 use Rattle.saa_word_proofs.proofs.RefinementLemmas.Rows.{row-other, line-at, line-other}
 use Rattle.saa_word_proofs.specs.StepBound.{way, waiting}

@@ -8,7 +8,8 @@ use Rattle.saa_word_steps.specs.declared.place.Stage.TheVariants.{Quiet, ReadLoa
 use Rattle.saa_word_steps.specs.Needs.{Needs}
 use Rattle.saa_word_steps.specs.AbstractState.{AbstractState}
 use Rattle.saa_word_steps.specs.Steps.{operation_of}
-use Rattle.saa_word_proofs.specs.Refinement.{updated, is_holder, IsAlone, Refines}
+use Rattle.saa_word_proofs.specs.Refinement.{is_holder, IsAlone, Refines}
+use Rattle.saa_word_proofs.specs.Rows.{updated}
 use Rattle.saa_word_proofs.specs.StepRefinement.{row_after}
 use Rattle.saa_word_proofs.proofs.RefinementLemmas.Lists.{updated-same}
 use Rattle.saa_word_proofs.proofs.RefinementLemmas.Frames.{newest-stands}

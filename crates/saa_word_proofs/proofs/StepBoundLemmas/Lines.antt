@@ -8,7 +8,9 @@ use Rattle.saa_word_steps.specs.declared.place.Place.{Place}
 use Rattle.saa_word_steps.specs.declared.place.Stage.{Stage}
 use Rattle.saa_word_steps.specs.Needs.{Needs}
 use Rattle.saa_word_steps.specs.AbstractState.{AbstractState, is_empty, held_by}
-use Rattle.saa_word_proofs.specs.Refinement.{main_of, line_of, newest, is_slot, is_holder, IsShowing, Work, IsHolding, Refines}
+use Rattle.saa_word_proofs.specs.Refinement.{newest, is_holder, IsShowing, Work, IsHolding, Refines}
+use Rattle.saa_word_proofs.specs.Rows.{line_of, main_of}
+use Rattle.saa_word_proofs.specs.Registering.{is_slot}
 use Rattle.saa_word_proofs.proofs.RefinementLemmas.Lists.{newest-any, newest-append, newest-last, in-some}
 use Rattle.saa_word_proofs.specs.StepBound.{way, waiting}
 use Rattle.saa_word_proofs.proofs.StepBoundLemmas.Ways.{IsWay, way-length, way-front}

@@ -11,7 +11,8 @@ use Rattle.saa_word_steps.specs.declared.place.Stage.TheVariants.{BackLoad, Forw
 use Rattle.saa_word_steps.specs.Needs.{Needs}
 use Rattle.saa_word_steps.specs.AbstractState.{AbstractState}
 use Rattle.saa_word_steps.specs.Steps.{flagged_word, dropped_word, going, done, walking, flagging, looking, looked_for, left_line, next_of}
-use Rattle.saa_word_proofs.specs.Refinement.{updated, line_of, newest, Refines}
+use Rattle.saa_word_proofs.specs.Refinement.{newest, Refines}
+use Rattle.saa_word_proofs.specs.Rows.{line_of, updated}
 use Rattle.saa_word_proofs.proofs.RefinementLemmas.Frames.{newest-stands}
 use Rattle.saa_word_proofs.specs.StepBound.{way, waiting, steps_left, step_bound, IsLower, IsLowered}
 use Rattle.saa_word_proofs.proofs.StepBoundLemmas.Bounds.{more-most}

@@ -9,7 +9,8 @@ use Rattle.saa_word_steps.specs.declared.place.Afterwards.TheVariants.{Ends}
 use Rattle.saa_word_steps.specs.declared.place.Stage.TheVariants.{ShowLoad, PoisonExchange}
 use Rattle.saa_word_steps.specs.Needs.{Needs}
 use Rattle.saa_word_steps.specs.AbstractState.{AbstractState}
-use Rattle.saa_word_steps.specs.Steps.{poisoned_word, finished, going, poisoning}
+use Rattle.saa_word_steps.specs.Steps.{finished, going, poisoning}
+use Rattle.saa_word_steps.specs.Readings.{poisoned_word}
 use Rattle.saa_word_proofs.specs.Refinement.{Refines}
 use Rattle.saa_word_proofs.specs.StepBound.{way, waiting, IsLowered}
 use Rattle.saa_word_proofs.proofs.StepBoundLemmas.Bounds.{end-none}

@@ -11,7 +11,8 @@ use Rattle.saa_word_steps.specs.declared.place.Stage.TheVariants.{BackLoad, Back
 use Rattle.saa_word_steps.specs.Needs.{Needs}
 use Rattle.saa_word_steps.specs.AbstractState.{AbstractState, is_empty}
 use Rattle.saa_word_steps.specs.Steps.{going, looked_at, next_of}
-use Rattle.saa_word_proofs.specs.Refinement.{updated, line_of, newest, Refines}
+use Rattle.saa_word_proofs.specs.Refinement.{newest, Refines}
+use Rattle.saa_word_proofs.specs.Rows.{line_of, updated}
 use Rattle.saa_word_proofs.proofs.RefinementLemmas.Lists.{split-last, newest-last}
 use Rattle.saa_word_proofs.proofs.RefinementLemmas.Frames.{newest-stands}
 use Rattle.saa_word_proofs.specs.StepBound.{way, waiting, more_to_walk, more_to_end, steps_left, step_bound, IsLower, IsLowered}

@@ -24,8 +24,10 @@ use Rattle.saa_word_steps.specs.Needs.{Needs, fits_count}
 use Rattle.saa_core_spec.specs.Held.{Exclusive}
 use Rattle.saa_core_spec.specs.Values.{granted_value}
 use Rattle.saa_word_steps.specs.AbstractState.{AbstractState}
-use Rattle.saa_word_steps.specs.Steps.{left_from, IsRanged, IsSmall, exchanged, going, done, finished, tried_answer, granted, found_poisoned, decided, gave_nothing, given_to, given, walking, shown_all, dropped, taken_answer, looked_at, flagging, looking, looked_for, poisoning}
-use Rattle.saa_word_proofs.specs.Refinement.{updated, IsAlone, Refines}
+use Rattle.saa_word_steps.specs.Steps.{left_from, IsRanged, IsSmall, exchanged, going, done, finished, granted, found_poisoned, decided, gave_nothing, given_to, given, walking, shown_all, dropped, taken_answer, looked_at, flagging, looking, looked_for, poisoning}
+use Rattle.saa_word_steps.specs.Readings.{tried_answer}
+use Rattle.saa_word_proofs.specs.Refinement.{IsAlone, Refines}
+use Rattle.saa_word_proofs.specs.Rows.{updated}
 use Rattle.saa_word_proofs.specs.StepRefinement.{row_after}
 use Rattle.saa_word_proofs.proofs.RefinementLemmas.Lists.{updated-same}
 use Rattle.saa_word_proofs.proofs.RefinementLemmas.Rows.{row-other, main-found}

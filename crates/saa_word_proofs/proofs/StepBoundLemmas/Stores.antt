@@ -16,7 +16,9 @@ use Rattle.saa_word_steps.specs.declared.place.Stage.{Stage}
 use Rattle.saa_word_steps.specs.declared.place.Stage.TheVariants.{Quiet, ReadLoad, AskLoad, AskExchange, Prepare, Join, ReleaseLoad, ReleaseExchange, BackLoad, BackStore, Forward, CutToClose, CutToGoRound, Close, Empty, GoRound, ShowLoad, ShowStore, Take, FlagLoad, FlagExchange, LookLoad, LookStore, Unlink, DropTail, PoisonLoad, PoisonExchange, Clear}
 use Rattle.saa_word_steps.specs.Needs.{Needs}
 use Rattle.saa_word_steps.specs.AbstractState.{AbstractState, is_empty, held_by}
-use Rattle.saa_word_proofs.specs.Refinement.{updated, main_of, newest, oldest, is_slot, is_holder, Work, IsFound, Refines}
+use Rattle.saa_word_proofs.specs.Refinement.{newest, oldest, is_holder, Work, IsFound, Refines}
+use Rattle.saa_word_proofs.specs.Rows.{main_of, updated}
+use Rattle.saa_word_proofs.specs.Registering.{is_slot}
 use Rattle.saa_word_proofs.proofs.RefinementLemmas.Lists.{updated-at, newest-last}
 use Rattle.saa_word_proofs.proofs.RefinementLemmas.Rows.{row-other}
 use Rattle.saa_word_proofs.specs.StepBound.{way, by_seen, waiting, more_to_end, left_afterwards, steps_left, step_bound}

@@ -6,7 +6,8 @@ use Rattle.saa_core_spec.specs.Object.{one_if, times}
 use Rattle.saa_core_spec.proofs.Counts.{number_same, same_number, number_other, below_true, times-append}
 use Rattle.saa_core_words.specs.Words.{line_word_of}
 use Rattle.saa_word_steps.specs.AbstractState.{is_empty}
-use Rattle.saa_word_proofs.specs.Refinement.{updated, line_of, newest, IsBehind}
+use Rattle.saa_word_proofs.specs.Refinement.{newest}
+use Rattle.saa_word_proofs.specs.Rows.{IsBehind, line_of, updated}
 use Rattle.saa_word_proofs.proofs.RefinementLemmas.Lists.{all-same, newest-last, empty-nil, split-last, behind-front, behind-rest}
 use Rattle.saa_word_proofs.proofs.RefinementLemmas.Rows.{row-other}
 use Rattle.saa_word_proofs.specs.StepBound.{is_link, met, way}

@@ -92,7 +92,7 @@ fn told_behind<R: Wait + Threads + Sync>(
     Ok((told, is_owned && is_done, has_turn))
 }
 
-// With no patience a call that came first is granted first, and so is one whose patience is over, which registers beside a lock
+// With no patience a call that registered first is granted first, and so is one whose patience is over, which registers beside a lock
 // that is never free for it. One that still looks isn't registered.
 #[test]
 fn the_order_is_that_of_registrations(rt: HostRuntime) -> Result<(), Fail> {

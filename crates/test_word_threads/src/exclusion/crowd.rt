@@ -1,6 +1,6 @@
 //! Threads with a worker each at a reader-writer lock: a writer is alone while readers share, and what one wrote the next one finds.
 
-ghost use Rattle.std.specs.Prelude.{All};
+ghost use Rattle.std.specs.Prelude.{All, IfSome};
 ghost use Rattle.saa_word_threads.specs.Locks.{IsDealtBy};
 
 use crate::exclusion::inside::Inside;
@@ -140,16 +140,27 @@ fn take_all_turns<R: Wait + Threads + Sync>(
     Ok(added)
 }
 
+// Takes the last of places that the lock dealt.
+fn last_of(rwlock: &RwLock<u64>, places: &mut Vec<Place>) -> Option<Place>
+    requires { All (IsDealtBy rwlock.now) places.old.items }
+    ensures rest { All (IsDealtBy rwlock.now) places.new.items }
+    ensures last { IfSome result (λ place. IsDealtBy rwlock.now place) }
+{
+    let _shared = rwlock;
+    places.pop()
+}
+
 // How a crowd ended: the number behind the lock, how much was added, and the main word once all have left.
 fn end_of<R: Wait + Threads + Sync + AllocGlobal>(
     rt: &R,
     crowd: &Crowd,
 ) -> Result<[u64; 3], AllocError> {
     let (rwlock, mut places) = RwLock::new(rt.alloc(), 0u64, crowd.threads.saturating_add(1))?;
-    let Some(witness) = places.pop() else {
-        unreachable!()
-    };
+    let witness = last_of(&rwlock, &mut places);
     let added = take_all_turns(rt, &rwlock, places, crowd)?;
+    let Some(witness) = witness else {
+        return Ok([0, 0, u64::MAX]);
+    };
     let left = rwlock.worker(witness).leave(rt);
     let (value, words) = rwlock.close(left);
     Ok([value, added, words.main()])

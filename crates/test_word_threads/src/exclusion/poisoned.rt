@@ -1,6 +1,7 @@
-//! Poison reaches each of 32 places that surely park, in all four modes: each wait ends, and answers that the lock is poisoned.
+//! Poison reaches each of 32 places that park, in all four modes: each wait ends, and answers that the lock is poisoned.
 //!
-//! A waiter that poison leaves in the queue, or doesn't wake, never ends, and the test with it.
+//! The lock is poisoned once each of them has its mark set. A waiter that poison leaves in the queue, or doesn't wake, never ends, and the test
+//! with it.
 
 use crate::owner::{Call, Owner, Told};
 use saa_word_threads::lock::Mode;
@@ -14,15 +15,11 @@ pub const SLEEPERS: u16 = 32;
 // The way to take the lock that never waits.
 const TRIES: u32 = 2;
 
-// How often the owner yields before it poisons: much more often than a waiter does before it parks.
-const RESTS: u32 = 5_000;
-
-/// Counts of the waiters: how many have asked, have joined the queue, have ended, and have ended as poisoned; and of the owners: how many
+/// Counts of the waiters: how many have asked, have ended, and have ended as poisoned; and of the owners: how many
 /// poisoned the lock, and how many waiters had ended before.
 #[derive(Drop)]
 pub struct Watched {
     asked: AtomicU64,
-    joined: AtomicU64,
     ended: AtomicU64,
     poisoned: AtomicU64,
     poisons: AtomicU64,
@@ -34,7 +31,6 @@ impl Watched {
     pub fn new() -> Self {
         Watched {
             asked: AtomicU64::new(0),
-            joined: AtomicU64::new(0),
             ended: AtomicU64::new(0),
             poisoned: AtomicU64::new(0),
             poisons: AtomicU64::new(0),
@@ -61,7 +57,6 @@ fn sleep(rt: &impl Wait, owner: &mut Owner<'_>, watched: &Watched) {
         _ => Mode::WaitShared,
     };
     let is_made = owner.is(rt, Call::Register(mode));
-    watched.joined.fetch_add(1, Ordering::SeqCst);
     let told = owner.make(rt, Call::Poll);
     watched.ended.fetch_add(1, Ordering::SeqCst);
     if is_made && told == Told::Polled(Ok(false)) {
@@ -69,22 +64,19 @@ fn sleep(rt: &impl Wait, owner: &mut Owner<'_>, watched: &Watched) {
     }
 }
 
-// Waits until all sleep.
-fn await_asleep(rt: &impl Wait, watched: &Watched) {
+// Waits until all others park.
+fn await_parked(rt: &impl Wait, owner: &Owner<'_>) {
     for _turn in rt.forever() {
-        if watched.joined.load(Ordering::SeqCst) == u64::from(SLEEPERS) {
-            break;
+        if owner.parked(SLEEPERS.saturating_add(1)) >= SLEEPERS {
+            return;
         }
-        yield_now();
-    }
-    for _turn in 0..RESTS {
         yield_now();
     }
 }
 
-// Poisons the lock once all sleep.
+// Poisons the lock once all others park.
 fn poison(rt: &impl Wait, owner: &mut Owner<'_>, watched: &Watched) {
-    await_asleep(rt, watched);
+    await_parked(rt, owner);
     let early = watched.ended.load(Ordering::SeqCst);
     if owner.is(rt, Call::Poison) {
         watched.early.fetch_add(early, Ordering::SeqCst);

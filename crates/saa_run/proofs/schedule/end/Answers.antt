@@ -1,5 +1,5 @@
 use Rattle.std.proofs.Common.{◌≡◌, ◌<◌, ◌+◌, ◌-◌, ap, sym, ◌∙◌, arith}
-use Rattle.saa_word.specs.Moves.{Moved}
+use Rattle.saa_word.specs.Machine.{Moved}
 use Rattle.saa_run.specs.Scheduled.{ended, most_steps}
 use Rattle.saa_run.proofs.ScheduleLemmas.{ended-going, ended-out, ended-stops}
 use Rattle.saa_run.proofs.schedule.end.Goals as goal

@@ -1,5 +1,5 @@
 use Rattle.std.proofs.Common.{◌≡◌, ◌++◌, length, take, drop}
-use Rattle.saa_word.specs.Moves.{ran}
+use Rattle.saa_word.specs.Runs.{ran}
 use Rattle.saa_word.proofs.machine.Machine.run.Given as goal
 
 -- what was done so far and what the moves that are left do is what all of them do

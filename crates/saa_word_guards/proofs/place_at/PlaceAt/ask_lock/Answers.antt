@@ -6,4 +6,4 @@ use Rattle.saa_word_guards.proofs.place_at.PlaceAt.ask_lock.Goals as goal
 pub returns : goal.returns
 returns g c = λ yes.
     let P : Bool → Type 0 = λ granted. IsWaited Exclusive c.args.self.now.place granted c.lock.new.place in
-    ∣ (c.args.self.now.place, inr (subst P yes c.lock.ensures)) ∣₁
+    ∣ (c.args.self.now.place, inr (subst P yes c.lock.ensures.waited)) ∣₁

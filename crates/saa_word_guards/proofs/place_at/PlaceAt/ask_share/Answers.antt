@@ -6,4 +6,4 @@ use Rattle.saa_word_guards.proofs.place_at.PlaceAt.ask_share.Goals as goal
 pub returns : goal.returns
 returns g c = λ yes.
     let P : Bool → Type 0 = λ granted. IsWaited Shared c.args.self.now.place granted c.share.new.place in
-    ∣ (c.args.self.now.place, inr (inl (subst P yes c.share.ensures))) ∣₁
+    ∣ (c.args.self.now.place, inr (inl (subst P yes c.share.ensures.waited))) ∣₁

@@ -3,4 +3,4 @@ use Rattle.saa_word_guards.proofs.place_at.PlaceAt.try_lock.Goals as goal
 
 pub returns-in-Ok : goal.returns-in-Ok
 returns-in-Ok g c = λ yes.
-    ∣ (c.args.self.now.place, inl (c.try_lock.ensures.0, sym c.try_lock.ensures.1 ∙ c.in-Ok.is, c.try_lock.ensures.2)) ∣₁
+    ∣ (c.args.self.now.place, inl (c.try_lock.ensures.called.0, sym c.try_lock.ensures.called.1 ∙ c.in-Ok.is, c.try_lock.ensures.called.2)) ∣₁

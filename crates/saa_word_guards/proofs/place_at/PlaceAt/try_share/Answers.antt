@@ -3,4 +3,4 @@ use Rattle.saa_word_guards.proofs.place_at.PlaceAt.try_share.Goals as goal
 
 pub returns-in-Ok : goal.returns-in-Ok
 returns-in-Ok g c = λ yes.
-    ∣ (c.args.self.now.place, inl (c.try_share.ensures.0, sym c.try_share.ensures.1 ∙ c.in-Ok.is, c.try_share.ensures.2)) ∣₁
+    ∣ (c.args.self.now.place, inl (c.try_share.ensures.called.0, sym c.try_share.ensures.called.1 ∙ c.in-Ok.is, c.try_share.ensures.called.2)) ∣₁

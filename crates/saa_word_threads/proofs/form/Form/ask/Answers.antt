@@ -6,7 +6,9 @@ use Rattle.saa_word_steps.specs.declared.call.Answer.TheVariants.{Bool as Says}
 use Rattle.saa_word_steps.specs.declared.place.Registration.TheVariants.{Once}
 use Rattle.saa_word_steps.specs.declared.operation.Operation.TheVariants.{Exchange}
 use Rattle.saa_word_steps.specs.declared.place.Stage.TheVariants.{AskLoad, AskExchange}
-use Rattle.saa_word_steps.specs.Steps.{needs_of, next_of, tried_answer}
+use Rattle.saa_word_steps.specs.Steps.{next_of}
+use Rattle.saa_word_steps.specs.Needs.{needs_of}
+use Rattle.saa_word_steps.specs.Readings.{tried_answer}
 use Rattle.saa_word_threads.specs.Called.{MidwayNext}
 use Rattle.saa_word_threads.specs.Straight.{grants_at}
 use Rattle.saa_word_threads.specs.Told.{unless_joining}

@@ -1,4 +1,4 @@
-use Rattle.saa_word_steps.specs.Steps.{needs_of}
+use Rattle.saa_word_steps.specs.Needs.{needs_of}
 use Rattle.saa_word_threads.proofs.Calling.{once-polled}
 use Rattle.saa_word_threads.proofs.form.Form.await_grant.Goals as goal
 

@@ -1,5 +1,5 @@
 use Rattle.std.proofs.Common.{rules, ◌∙◌, refl, sym, ◌<◌}
-use Rattle.saa_word_steps.specs.Steps.{needs_of}
+use Rattle.saa_word_steps.specs.Needs.{needs_of}
 use Rattle.saa_word_threads.proofs.Calling.{done-called, going-called, midway-done, midway-first, midway-since, since-started, single-done}
 use Rattle.saa_word_threads.proofs.form.Form.call_at_once.Goals as goal
 

@@ -6,7 +6,8 @@ use Rattle.saa_word_steps.specs.declared.operation.Operation.TheVariants.{Exchan
 use Rattle.saa_word_steps.specs.declared.place.Back.TheVariants.{Tells}
 use Rattle.saa_word_steps.specs.declared.place.Given.TheVariants.{Asked}
 use Rattle.saa_word_steps.specs.declared.place.Stage.TheVariants.{ReleaseLoad, ReleaseExchange}
-use Rattle.saa_word_steps.specs.Steps.{exchanged, needs_of, next_of}
+use Rattle.saa_word_steps.specs.Steps.{exchanged, next_of}
+use Rattle.saa_word_steps.specs.Needs.{needs_of}
 use Rattle.saa_word_threads.specs.Called.{MidwayNext}
 use Rattle.saa_word_threads.specs.Straight.{lowers_to}
 use Rattle.saa_word_threads.proofs.Calling.{going-called}

@@ -1,5 +1,5 @@
 use Rattle.std.proofs.Common.{rules, ◌∙◌}
-use Rattle.saa_word_steps.specs.Steps.{needs_of}
+use Rattle.saa_word_steps.specs.Needs.{needs_of}
 use Rattle.saa_word_threads.proofs.Calling.{midway-done, midway-going, midway-since, midway-waits}
 use Rattle.saa_word_threads.proofs.form.Form.go_on.Goals as goal
 

@@ -1,5 +1,5 @@
 use Rattle.std.proofs.Common.{◌≡◌, false}
-use Rattle.saa_word_steps.specs.Steps.{needs_of}
+use Rattle.saa_word_steps.specs.Needs.{needs_of}
 use Rattle.saa_word_threads.specs.Called.{Midway}
 use Rattle.saa_word_threads.proofs.form.Form.go_on.Given as goal
 

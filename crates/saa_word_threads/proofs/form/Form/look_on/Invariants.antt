@@ -1,14 +1,14 @@
 use Rattle.std.proofs.Common.{◌≡◌, false}
-use Rattle.saa_word_steps.specs.Steps.{needs_of}
+use Rattle.saa_word_steps.specs.Needs.{needs_of}
 use Rattle.saa_word_threads.specs.Called.{Midway}
 use Rattle.saa_word_threads.proofs.form.Form.look_on.Given as goal
 
 -- each look is of the place as it stands
 abbrev pub ghosts-seek : goal.ghosts-seek
-ghosts-seek a = record { about = a.self.now.table.shared.key; place = a.place; me = a.me }
+ghosts-seek g a = record { about = a.self.now.table.shared.key; place = a.place; me = a.me }
 
 abbrev pub invariant-loop-turn : goal.invariant-loop-turn
-invariant-loop-turn l = record {
+invariant-loop-turn g l = record {
   table : l.seat.table_id ≡ l.fn.seat.table_id;
   same : l.seat.id ≡ l.fn.seat.id;
   deals : l.seat.me.0.deals ≡ false;

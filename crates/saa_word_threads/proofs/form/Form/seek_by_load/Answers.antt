@@ -1,5 +1,5 @@
 use Rattle.std.proofs.Common.{◌<◌, refl, subst, sym, ◌∙◌}
-use Rattle.saa_word_steps.specs.Steps.{needs_of}
+use Rattle.saa_word_steps.specs.Needs.{needs_of}
 use Rattle.saa_word_steps.specs.declared.operation.Operation.TheVariants.{Load}
 use Rattle.saa_word_threads.proofs.Moving.{allowed-look}
 use Rattle.saa_word_threads.proofs.Calling.{sought-same}

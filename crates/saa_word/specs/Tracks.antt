@@ -1,0 +1,49 @@
+-- How a trace tracks a machine. Internal: nobody has to believe this; it is an invariant of proofs, which every move goes on with. What a reader
+-- concludes of a trace that tracks a machine is said in `specs/Simulation.antt`, of words, replies and events.
+use Rattle.std.specs.Prelude.{◌≡◌, ℕ, ◌+◌, ◌*◌, ◌<◌, ◌^◌, Option, Some, None, length}
+use Rattle.saa_core_spec.specs.Object.{one_if}
+use Rattle.saa_core_words.specs.Words.{count_bits}
+use Rattle.saa_word_steps.specs.declared.place.Place.{Place}
+use Rattle.saa_word_steps.specs.declared.place.Stage.TheVariants.{Quiet}
+use Rattle.saa_word_steps.specs.Needs.{Needs, needs_of}
+use Rattle.saa_word_steps.specs.AbstractState.{AbstractState, IsRun, held_by, opening}
+use Rattle.saa_word_proofs.specs.CallStages.{IsUnder}
+use Rattle.saa_word_proofs.specs.Refinement.{Refines}
+use Rattle.saa_word_proofs.specs.Registering.{AreRegistered, is_slot}
+use Rattle.saa_word_proofs.specs.StepBound.{AreWithin}
+use Rattle.saa_word.specs.Machine.{State, place_of, row_of}
+use Rattle.saa_word.specs.Trace.{Trace, Underway}
+
+-- a machine that stands together with an abstract state
+abbrev pub RefinesAs : State → AbstractState → Type 0
+RefinesAs state abstract = Refines (needs_of state.rules) (length state.places) (row_of state) (place_of state) abstract
+
+-- a machine is of few places, each with its words
+pub record IsSized (state : State) : Type 0 where
+  pub wide : (needs_of state.rules).top < 2 ^ count_bits
+  pub few : length state.places < 2 ^ 16
+  pub words : length state.row ≡ 1 + 2 * length state.places
+
+-- a place is in this call
+abbrev pub IsIn : Needs → Option Underway → Place → Type 0
+IsIn needs None place = place.stage ≡ Quiet
+IsIn needs (Some underway) place = IsUnder needs underway.call underway.registered place.back place.stage underway.events
+
+-- A trace tracks a machine: its events lead to the abstract state that words and places refine; each place is registered as the trace says,
+-- in the line exactly where the abstract state holds it, and with what it asks there; the flag's holder is the one that the trace says; each
+-- place is in the call that it says; and what each place has made and what it has left are at most 16 steps for each place and 48 more
+pub record Tracks (state : State) (trace : Trace) : Type 0 where
+  pub sized : IsSized state
+  pub run : IsRun (needs_of state.rules) (opening trace.withheld) trace.history trace.state
+  pub refines : RefinesAs state trace.state
+  pub registered : (place : ℕ) → (place_of state place).registration ≡ trace.registered place
+  pub held : (place : ℕ) → held_by place trace.state ≡ one_if (is_slot (trace.registered place))
+  pub asks : AreRegistered trace.registered trace.state.line
+  pub holder : refines.holder ≡ trace.holder
+  pub calls : (place : ℕ) → IsIn (needs_of state.rules) (trace.calls place) (place_of state place)
+  pub within : AreWithin (length state.places) (row_of state) (place_of state) trace.made
+
+-- What a machine always is: some trace tracks it
+pub record IsMachine (state : State) : Type 0 where
+  pub trace : Trace
+  pub tracks : Tracks state trace

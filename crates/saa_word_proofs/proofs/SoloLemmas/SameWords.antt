@@ -1,0 +1,91 @@
+-- While the flag is clear the words say all of an abstract state that a sequential object represents.
+use Rattle.std.proofs.Common.{◌≡◌, ℕ, ◌<◌, false, List, [], ◌∷◌, ◌++◌, Option, Some, None, refl, sym, ap, subst, ◌∙◌, arith}
+use Rattle.saa_core_spec.specs.Object.{Object}
+use Rattle.saa_core_words.specs.declared.line_word.LineWord.{LineWord}
+use Rattle.saa_core_words.specs.Words.{answer_number}
+use Rattle.saa_word_steps.specs.declared.place.Registration.{Registration}
+use Rattle.saa_word_steps.specs.Needs.{Needs}
+use Rattle.saa_word_steps.specs.AbstractState.{AbstractState}
+use Rattle.saa_word_proofs.specs.Rows.{line_of, main_of}
+use Rattle.saa_word_proofs.specs.Promises.{AreAsking, IsMet, Observes, newest_first}
+use Rattle.saa_word_proofs.specs.Represents.{Represents, entry_of, held_at, waiters}
+
+-- two answers of one number are one
+same-answer : (one other : Option ℕ) → answer_number one ≡ answer_number other → one ≡ other
+same-answer None None same = refl
+same-answer None (Some value) same = absurd (omega (arith, same))
+same-answer (Some value) None same = absurd (omega (arith, same))
+same-answer (Some value) (Some other) same = (let is : value ≡ other = omega (arith, same) in ap (λ (n : ℕ). let answer : Option ℕ = Some n in answer) is)
+
+-- two lists of places that are met from one link are one
+same-met : (words : ℕ → LineWord) (link : ℕ) (one other : List ℕ) → IsMet words link one → IsMet words link other → one ≡ other
+same-met words link [] [] met also = refl
+same-met words link [] (place ∷ rest) met also = absurd (omega (arith, met, also.0))
+same-met words link (place ∷ rest) [] met also = absurd (omega (arith, met.0, also))
+same-met words link (place ∷ rest) (other ∷ others) met also =
+    let is : place ≡ other = omega (arith, met.0, also.0) in
+    let tails : rest ≡ others =
+    same-met words (words place).older rest others met.1 (subst (λ (n : ℕ). IsMet words (words n).older others) (sym is) also.1) in
+    λ i. is i ∷ tails i
+
+-- so are two lists that end with one place each
+abbrev last-of : List ℕ → ℕ
+last-of [] = 0
+last-of (place ∷ []) = place
+last-of (place ∷ (next ∷ rest)) = last-of (next ∷ rest)
+
+abbrev but-last : List ℕ → List ℕ
+but-last [] = []
+but-last (place ∷ []) = []
+but-last (place ∷ (next ∷ rest)) = place ∷ but-last (next ∷ rest)
+
+last-is : (front : List ℕ) (place : ℕ) → last-of (front ++ place ∷ []) ≡ place
+last-is [] place = refl
+last-is (one ∷ []) place = refl
+last-is (one ∷ (next ∷ rest)) place = last-is (next ∷ rest) place
+
+but-last-is : (front : List ℕ) (place : ℕ) → but-last (front ++ place ∷ []) ≡ front
+but-last-is [] place = refl
+but-last-is (one ∷ []) place = refl
+but-last-is (one ∷ (next ∷ rest)) place = ap (λ (l : List ℕ). one ∷ l) (but-last-is (next ∷ rest) place)
+
+never-none : (front : List ℕ) (place : ℕ) → front ++ place ∷ [] ≡ [] → ⊥
+never-none [] place same = absurd (cc)
+never-none (one ∷ rest) place same = absurd (cc)
+
+-- two lines of the same places, each asking what its line word says, are one
+same-line : (words : ℕ → LineWord) (one other : List (ℕ × ℕ)) → newest_first one ≡ newest_first other → AreAsking words one → AreAsking words other → one ≡ other
+same-line words [] [] same asks also = refl
+same-line words [] (asker ∷ rest) same asks also = absurd (never-none (newest_first rest) asker.0 (sym same))
+same-line words (asker ∷ rest) [] same asks also = absurd (never-none (newest_first rest) asker.0 same)
+same-line words (asker ∷ rest) (other ∷ others) same asks also =
+    let place : asker.0 ≡ other.0 =
+    sym (last-is (newest_first rest) asker.0) ∙ ap last-of same ∙ last-is (newest_first others) other.0 in
+    let tails : rest ≡ others =
+    same-line words rest others (sym (but-last-is (newest_first rest) asker.0) ∙ ap but-last same ∙ but-last-is (newest_first others) other.0) asks.1 also.1 in
+    let request : asker.1 ≡ other.1 = sym asks.0 ∙ ap (λ (n : ℕ). (words n).request) place ∙ also.0 in
+    λ i. (place i, request i) ∷ tails i
+
+-- An object that represents one abstract state represents another that the same words show, while the flag is clear
+pub represents-same : (needs : Needs) (places : ℕ) (row : ℕ → ℕ) (registered : ℕ → Registration) (one other : AbstractState) (s : Object)
+    → (main_of row).is_flagged ≡ false → Observes needs places row one → Observes needs places row other
+    → Represents needs places registered one s → Represents needs places registered other s
+represents-same needs places row registered one other s clear shows also was =
+    let line : one.line ≡ other.line =
+    same-line (line_of row) one.line other.line
+    (same-met (line_of row) (main_of row).tail (newest_first one.line) (newest_first other.line) (shows.line clear) (also.line clear))
+    shows.requests also.requests in
+    let count : one.count ≡ other.count = sym shows.count ∙ also.count in
+    let poisoned : one.poisoned ≡ other.poisoned = sym shows.poisoned ∙ also.poisoned in
+    let shown : (place : ℕ) → place < places → one.shown place ≡ other.shown place =
+    λ place here. same-answer (one.shown place) (other.shown place) (sym (shows.shown place here) ∙ also.shown place here) in
+    record {
+      held = was.held ∙ (λ i. held_at needs (record one { count = count i; poisoned = poisoned i }));
+      line = was.line ∙ ap (waiters needs) line;
+      names = was.names;
+      entries = λ place here.
+          let entry = was.entries place here in
+          (entry.0, entry.1 ∙ ap (λ (answer : Option ℕ). entry_of needs (registered place) answer entry.0) (shown place here));
+      room = was.room;
+      alone = was.alone;
+    }

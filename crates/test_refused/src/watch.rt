@@ -1,0 +1,118 @@
+//! A future whose polls are counted, so that its waits are seen; and that is polled once more while it waits.
+
+use futures::Future;
+use futures::executor::block_on;
+use futures::task::{Context, Poll};
+use std::alloc::AllocGlobal;
+use std::random::RandomSource;
+use std::sync::Wait;
+use std::sync::atomic::{AtomicBool, AtomicU64, Ordering};
+use std::thread::yield_now;
+
+// How often a future that waits is polled before its task sleeps: the first poll asks for another one, as one does that gets no waker.
+const WAITING: u64 = 2;
+
+// How often another thread yields once the task is about to sleep: one that doesn't sleep polls again meanwhile. A yield may take a slice
+// of each task that shares the processor.
+const RESTS: u32 = 20;
+
+/// What is counted of one wait.
+#[derive(Drop)]
+pub struct Watch {
+    // How often the future's poll has returned.
+    polls: AtomicU64,
+    // How often it has called back that it joined the queue.
+    joins: AtomicU64,
+    // Whether another thread has what is awaited.
+    is_held: AtomicBool,
+}
+
+// A future whose polls are counted. The first poll that stays pending asks for another one at once.
+#[derive(Drop)]
+struct Counted<'c, F> {
+    inner: F,
+    polls: &'c AtomicU64,
+}
+
+impl<F: Future> Future for Counted<'_, F> {
+    type Output = F::Output;
+
+    ghost can_poll = { λ counted. F.can_poll counted.inner };
+
+    ghost needs = { λ counted. F.needs counted.inner };
+
+    fn poll(&mut self, cx: &mut Context<'_>) -> Poll<F::Output> {
+        let polled = self.inner.poll(cx);
+        let is_first = self.polls.fetch_add(1, Ordering::SeqCst) == 0;
+        match polled {
+            Poll::Pending if is_first => cx.yield_now(),
+            _ => polled,
+        }
+    }
+}
+
+impl Watch {
+    /// Nothing has been counted.
+    pub fn new() -> Watch {
+        Watch {
+            polls: AtomicU64::new(0),
+            joins: AtomicU64::new(0),
+            is_held: AtomicBool::new(false),
+        }
+    }
+
+    /// Another thread has what is awaited.
+    pub fn hold(&self) {
+        self.is_held.store(true, Ordering::SeqCst);
+    }
+
+    /// Waits until another thread has what is to be awaited.
+    pub fn await_held<R: Wait>(&self, rt: &R) {
+        for _ in rt.forever() {
+            if self.is_held.load(Ordering::SeqCst) {
+                return;
+            }
+            yield_now();
+        }
+    }
+
+    /// The future has joined the queue; for a callback.
+    pub fn join(&self) {
+        self.joins.fetch_add(1, Ordering::SeqCst);
+    }
+
+    /// Awaits a future; nothing where `block_on` was refused.
+    pub fn awaited<R, F>(&self, rt: &R, inner: F) -> Option<F::Output>
+    where
+        R: RandomSource + AllocGlobal + Wait,
+        F: Future,
+        requires { F.can_poll inner }
+    {
+        let polls = &self.polls;
+        block_on(rt, Counted { inner, polls }).ok()
+    }
+
+    /// Waits until the future has been polled for the last time before its task sleeps, and then for a while.
+    pub fn await_asleep<R: Wait>(&self, rt: &R) {
+        for _ in rt.forever() {
+            if self.polls.load(Ordering::SeqCst) >= WAITING {
+                break;
+            }
+            yield_now();
+        }
+        for _rest in 0..RESTS {
+            yield_now();
+        }
+    }
+
+    /// Whether the future was ready at its first poll.
+    pub fn was_ready(&self) -> bool {
+        self.polls.load(Ordering::SeqCst) == 1
+    }
+
+    /// Whether the future waited, was polled again only where it was woken, and called back so often.
+    pub fn was_woken(&self, joins: u64) -> bool {
+        self.polls.load(Ordering::SeqCst) == WAITING + 1
+            && self.joins.load(Ordering::SeqCst) == joins
+    }
+}

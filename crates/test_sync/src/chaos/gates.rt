@@ -1,0 +1,170 @@
+//! A gate that threads enter again, round after round, while all are let in, rejected, opened for, sealed out and left by others.
+
+use crate::chaos::{Left, Line, ROOM, ROUNDS, THREADS, Tally, WHOLE, left_by};
+use crate::crowds::{Crowd, gathered};
+use saa_core::ticket::Full;
+use saa_sync::gate::{Error, Gate, State};
+use saa_sync::pager::Pager;
+use std::alloc::{AllocError, AllocGlobal};
+use std::sync::Wait;
+use std::sync::atomic::{AtomicU64, Ordering};
+use std::thread::{Threads, yield_now};
+use std::time::{Clock, Duration};
+use test_asserts::same;
+
+// The gate, and how often it was said of somebody that it is let in, or kept out, and how often somebody was told so.
+#[derive(Drop)]
+struct Passings<R: Wait + Drop> {
+    gate: Gate<R>,
+    let_in: AtomicU64,
+    kept_out: AtomicU64,
+    came_in: AtomicU64,
+    stayed_out: AtomicU64,
+    // How many pagers were dropped that weren't told.
+    untold: AtomicU64,
+    // How many threads have ended.
+    ended: AtomicU64,
+    tally: Tally,
+}
+
+impl<R: Wait + Drop> Line for Gate<R> {
+    fn joins<'s>(&'s self, pager: &mut Pager<'s, Self>) -> bool {
+        self.register_pager(pager, true) == Ok(true)
+    }
+}
+
+fn add(counter: &AtomicU64, count: usize) {
+    counter.fetch_add(count as u64, Ordering::SeqCst);
+}
+
+impl<R: Wait + Clock + Drop> Passings<R> {
+    // What one was told that waited; whether it is something that may be. Who finds the gate open or sealed was counted by nobody.
+    fn is_told(&self, told: Result<State, Error>) -> bool {
+        match told {
+            Ok(State::Controlled) => add(&self.came_in, 1),
+            Err(Error::Rejected) => add(&self.stayed_out, 1),
+            Ok(State::Open) | Err(Error::Sealed) | Err(Error::SpuriousFailure) => {}
+            _ => return false,
+        }
+        true
+    }
+
+    // Enters by a call that may wait for ever, or by one that may be late.
+    fn enters(&self, round: u64) -> bool {
+        let told: Result<Option<Result<State, Error>>, Full> = if round % 4 == 3 {
+            self.gate.enter_sync_for(Duration::from_micros(round))
+        } else {
+            self.gate.enter_sync().map(Some)
+        };
+        match told {
+            Ok(Some(answer)) => self.is_told(answer),
+            Ok(None) => true,
+            Err(_full) => false,
+        }
+    }
+
+    // Registers a pager, which is dropped, answered or not, after it was polled or not.
+    fn drops(&self, round: u64) -> bool {
+        let mut pager = Pager::new();
+        if self.gate.register_pager(&mut pager, round % 2 == 0) != Ok(true) {
+            return false;
+        }
+        let told = if round % 3 == 0 {
+            pager.try_poll()
+        } else {
+            Err(Error::NotReady)
+        };
+        if told == Err(Error::NotReady) {
+            add(&self.untold, 1);
+            return true;
+        }
+        self.is_told(told)
+    }
+
+    // Answers all waiters, now in this way and now in that.
+    fn answers(&self, turn: u64) {
+        match turn % 16 {
+            5 | 13 => {
+                if let Ok(count) = self.gate.reject() {
+                    add(&self.kept_out, count);
+                }
+            }
+            7 => {
+                self.gate.open();
+                self.gate.reset();
+            }
+            11 => {
+                self.gate.seal();
+                self.gate.reset();
+            }
+            _ => {
+                if let Ok(count) = self.gate.permit() {
+                    add(&self.let_in, count);
+                }
+            }
+        }
+    }
+
+    // Whether what was said of those that waited was told each of them once, but for pagers that were dropped before.
+    fn is_sound(&self) -> bool {
+        let mo = Ordering::SeqCst;
+        let (let_in, kept_out) = (self.let_in.load(mo), self.kept_out.load(mo));
+        let (came_in, stayed_out) = (self.came_in.load(mo), self.stayed_out.load(mo));
+        let said = let_in.saturating_add(kept_out);
+        let told = came_in.saturating_add(stayed_out);
+        came_in <= let_in
+            && stayed_out <= kept_out
+            && said <= told.saturating_add(self.untold.load(mo))
+    }
+}
+
+impl<R: Wait + Clock + Drop + Sync> Crowd for Passings<R> {
+    fn works<H: Wait>(&self, _rt: &H, number: u64) {
+        for round in 0..ROUNDS {
+            let turn = round.saturating_add(number);
+            let is_right = if turn % 3 == 0 {
+                self.drops(turn)
+            } else {
+                self.enters(turn)
+            };
+            self.tally.count(is_right);
+        }
+        self.ended.fetch_add(1, Ordering::SeqCst);
+    }
+
+    // Goes on until all have ended, so that nobody waits for ever.
+    fn leads<H: Wait>(&self, _rt: &H, started: u64) {
+        for turn in 0..u64::MAX {
+            if self.ended.load(Ordering::SeqCst) >= started {
+                return;
+            }
+            self.answers(turn);
+            yield_now();
+        }
+    }
+}
+
+// What is left, once the gate is controlled again, where nobody waits.
+fn left<H: Wait + Clock + Threads + Sync + AllocGlobal>(rt: &H) -> Result<Left, AllocError> {
+    let crowd = Passings {
+        gate: Gate::new(rt, rt.alloc(), ROOM)?,
+        let_in: AtomicU64::new(0),
+        kept_out: AtomicU64::new(0),
+        came_in: AtomicU64::new(0),
+        stayed_out: AtomicU64::new(0),
+        untold: AtomicU64::new(0),
+        ended: AtomicU64::new(0),
+        tally: Tally::new(),
+    };
+    let threads = gathered(rt, &crowd, THREADS);
+    crowd.gate.reset();
+    crowd
+        .tally
+        .meet(!crowd.is_sound() || crowd.gate.permit() != Ok(0));
+    left_by(rt.alloc(), &crowd.gate, threads, &crowd.tally)
+}
+
+#[test]
+fn each_entry_is_answered_once_beside_pagers_that_are_dropped(rt: HostRuntime) {
+    same!(rt; left(&rt), Ok(WHOLE));
+}

@@ -1,0 +1,442 @@
+//! How often each call looks and tries before it registers, and how long a waiter stays awake: just as its patience says.
+
+use saa_core::barrier::BarrierCore;
+use saa_core::gate::GateCore;
+use saa_core::lock::LockCore;
+use saa_core::semaphore::SemaphoreCore;
+use saa_sync::barrier::Barrier;
+use saa_sync::gate::Gate;
+use saa_sync::lock::{Lock, Mode};
+use saa_sync::lock_api::{Mutex, RwLock};
+use saa_sync::pager::Pager;
+use saa_sync::patience::{NONE, Patience};
+use saa_sync::semaphore::Semaphore;
+use saa_sync::testing::{Shell, call_untold, mutex_on, rwlock_on, shell_of_mutex, shell_of_rwlock};
+use std::alloc::{AllocError, Global};
+use std::sync::Wait;
+use std::sync::atomic::{AtomicBool, Ordering};
+use std::test::Fail;
+use std::thread;
+use std::thread::{Threads, yield_now};
+use std::time::{Clock, Duration, Instant};
+use test_asserts::same;
+
+// Three looks, and four that yield.
+const FEW: Patience = Patience {
+    looks: 3,
+    yields: 4,
+};
+
+// Stays awake for the whole test, by looks or by yields.
+const LOOKS_ON: Patience = Patience {
+    looks: u32::MAX,
+    yields: 0,
+};
+
+const YIELDS_ON: Patience = Patience {
+    looks: 0,
+    yields: u32::MAX,
+};
+
+// How often a test gives way to a call before it says what it sees. A call needs a few turns of its thread.
+const MOST_TURNS: u32 = 3_000_000;
+
+// How often a test gives way to a waiter that has to stay awake.
+const AWAKE_TURNS: u32 = 20_000;
+
+// A long time, in seconds.
+const LONG: u64 = 1_000;
+
+// The forms, each with one patience of calls that haven't registered.
+#[derive(Drop)]
+struct Forms<R: Wait + Drop> {
+    semaphore: Semaphore<R>,
+    lock: Lock<R>,
+    mutex: Mutex<R, u32>,
+    rwlock: RwLock<R, u32>,
+    gate: Gate<R>,
+    barrier: Barrier<R>,
+}
+
+// The forms on one runtime, with room for one waiter each, which parks at once.
+fn forms_of<R: Wait + Copy + Drop>(
+    rt: R,
+    alloc: Global,
+    patience: Patience,
+) -> Result<Forms<R>, AllocError> {
+    let permits = SemaphoreCore::with_permits(alloc, 63, 1)?;
+    let permits = Shell::new(rt, alloc, permits, 1, NONE)?.with_patience(patience);
+    let gate = Shell::new(rt, alloc, GateCore::new(alloc, 1)?, 1, NONE)?;
+    let barrier = BarrierCore::with_count(alloc, 2, 1)?;
+    Ok(Forms {
+        semaphore: Semaphore::on_shell(permits),
+        lock: Lock::on_shell(turns_of(rt, alloc, patience)?),
+        mutex: mutex_on(turns_of(rt, alloc, patience)?, 5),
+        rwlock: rwlock_on(turns_of(rt, alloc, patience)?, 5),
+        gate: Gate::on_shell(gate),
+        barrier: Barrier::on_shell(Shell::new(rt, alloc, barrier, 1, NONE)?),
+    })
+}
+
+// What a lock stands on whose waiters park at once.
+fn turns_of<R: Wait + Drop>(
+    rt: R,
+    alloc: Global,
+    patience: Patience,
+) -> Result<Shell<R, LockCore>, AllocError> {
+    let shell = Shell::new(rt, alloc, LockCore::new(alloc, 1)?, 1, NONE)?;
+    Ok(shell.with_patience(patience))
+}
+
+// A call that may block.
+#[derive(Clone, Copy, Debug, Eq, PartialEq)]
+enum Call {
+    Acquire,
+    AcquireMany,
+    AcquireWith,
+    AcquireManyWith,
+    AcquirePermit,
+    Lock,
+    Share,
+    LockWith,
+    ShareWith,
+    MutexLock,
+    Read,
+    Write,
+    Enter,
+    Arrive,
+    AcquireFor,
+    LockFor,
+    MutexLockFor,
+    ReadFor,
+}
+
+// Whether the call looks before it registers.
+fn looks_first(call: Call) -> bool {
+    !matches!(
+        call,
+        Call::Enter
+            | Call::Arrive
+            | Call::AcquireFor
+            | Call::LockFor
+            | Call::MutexLockFor
+            | Call::ReadFor
+    )
+}
+
+// A long time from now on.
+fn long() -> Duration {
+    Duration::from_secs(LONG)
+}
+
+// Makes the call, and gives back what it takes; whether it was granted.
+fn make_call<R: Wait + Clock + Drop>(forms: &Forms<R>, call: Call) -> bool {
+    match call {
+        Call::Acquire => forms.semaphore.acquire_sync() == Ok(()) && forms.semaphore.release(),
+        Call::AcquireMany => forms.semaphore.acquire_many_sync(63) == Ok(true)
+            && forms.semaphore.release_many(63),
+        Call::AcquireWith => forms.semaphore.acquire_sync_with(|| ()) == Ok(())
+            && forms.semaphore.release(),
+        Call::AcquireManyWith => forms.semaphore.acquire_many_sync_with(63, || ()) == Ok(true)
+            && forms.semaphore.release_many(63),
+        Call::AcquireFor => forms.semaphore.acquire_sync_for(long()) == Ok(Some(()))
+            && forms.semaphore.release(),
+        Call::AcquirePermit => forms.semaphore.acquire_permit().is_ok(),
+        Call::Lock => forms.lock.lock_sync() == Ok(true) && forms.lock.release_lock(),
+        Call::Share => forms.lock.share_sync() == Ok(true) && forms.lock.release_share(),
+        Call::LockWith => forms.lock.lock_sync_with(|| ()) == Ok(true) && forms.lock.release_lock(),
+        Call::ShareWith => forms.lock.share_sync_with(|| ()) == Ok(true)
+            && forms.lock.release_share(),
+        Call::LockFor => forms.lock.lock_sync_for(long()) == Ok(Some(true))
+            && forms.lock.release_lock(),
+        Call::MutexLock => forms.mutex.lock().is_ok(),
+        Call::MutexLockFor => matches!(forms.mutex.lock_for(long()), Ok(Some(_))),
+        Call::Read => forms.rwlock.read().is_ok(),
+        Call::Write => forms.rwlock.write().is_ok(),
+        Call::ReadFor => matches!(forms.rwlock.read_for(long()), Ok(Some(_))),
+        Call::Enter => forms.gate.enter_sync().is_ok(),
+        Call::Arrive => forms.barrier.wait_sync() == Ok(false),
+    }
+}
+
+// How often calls looked at the form of this call, and tried, and how many of its waiters are parked.
+fn looked_at<R: Wait + Drop>(forms: &Forms<R>, call: Call) -> (u64, u64) {
+    match call {
+        Call::Lock | Call::Share | Call::LockWith | Call::ShareWith | Call::LockFor => {
+            forms.lock.shell().looked()
+        }
+        Call::MutexLock | Call::MutexLockFor => shell_of_mutex(&forms.mutex).looked(),
+        Call::Read | Call::Write | Call::ReadFor => shell_of_rwlock(&forms.rwlock).looked(),
+        Call::Enter => forms.gate.shell().looked(),
+        Call::Arrive => forms.barrier.shell().looked(),
+        _ => forms.semaphore.shell().looked(),
+    }
+}
+
+fn asleep_at<R: Wait + Drop>(forms: &Forms<R>, call: Call) -> usize {
+    match call {
+        Call::Lock | Call::Share | Call::LockWith | Call::ShareWith | Call::LockFor => {
+            forms.lock.shell().asleep()
+        }
+        Call::MutexLock | Call::MutexLockFor => shell_of_mutex(&forms.mutex).asleep(),
+        Call::Read | Call::Write | Call::ReadFor => shell_of_rwlock(&forms.rwlock).asleep(),
+        Call::Enter => forms.gate.shell().asleep(),
+        Call::Arrive => forms.barrier.shell().asleep(),
+        _ => forms.semaphore.shell().asleep(),
+    }
+}
+
+// Gives way until calls have looked so often. Takes no turn at the mutex, so that each look that is due to try can.
+fn await_looks<R: Wait + Drop>(forms: &Forms<R>, call: Call, looks: u64) {
+    for _turn in 0..MOST_TURNS {
+        if looked_at(forms, call).0 >= looks {
+            return;
+        }
+        yield_now();
+    }
+}
+
+// Gives way until the call has joined the queue and is parked.
+fn await_sleeper<R: Wait + Drop>(forms: &Forms<R>, call: Call) {
+    for _turn in 0..MOST_TURNS {
+        if asleep_at(forms, call) == 1 {
+            return;
+        }
+        yield_now();
+    }
+}
+
+// What is seen of a call beside a holder: how often it looked and tried, how many waiters are parked then, and whether the holder had
+// all that the call may ask for.
+type Seen = (u64, u64, usize, bool);
+
+// Takes all that calls may ask for, lets the call come, and ends that once the call has looked so often and is parked.
+fn hold_and_see<R: Wait + Drop>(
+    forms: &Forms<R>,
+    call: Call,
+    looks: u64,
+    may_come: &AtomicBool,
+) -> Seen {
+    let has_all = forms.semaphore.try_acquire_many(63) && forms.lock.try_lock().is_ok();
+    let held = forms.mutex.try_lock();
+    let written = forms.rwlock.try_write();
+    let is_held = has_all && held.is_some() && written.is_some();
+    may_come.store(true, Ordering::SeqCst);
+    await_looks(forms, call, looks);
+    await_sleeper(forms, call);
+    let (looked, tried) = looked_at(forms, call);
+    let asleep = asleep_at(forms, call);
+    drop(held);
+    drop(written);
+    let is_ended = let_in(forms, call);
+    (looked, tried, asleep, is_held && is_ended)
+}
+
+// Ends what keeps the call from what it asks for.
+fn let_in<R: Wait + Drop>(forms: &Forms<R>, call: Call) -> bool {
+    let is_released = forms.semaphore.release_many(63) && forms.lock.release_lock();
+    match call {
+        Call::Enter => forms.gate.permit() == Ok(1) && is_released,
+        Call::Arrive => forms.barrier.wait_sync() == Ok(true) && is_released,
+        _ => is_released,
+    }
+}
+
+// Makes the call once it may come.
+fn call_once_let<R: Wait + Clock + Drop>(
+    rt: &impl Wait,
+    forms: &Forms<R>,
+    call: Call,
+    may_come: &AtomicBool,
+) -> bool {
+    for _ in rt.forever() {
+        if may_come.load(Ordering::SeqCst) {
+            break;
+        }
+        yield_now();
+    }
+    make_call(forms, call)
+}
+
+// What is seen of a call beside a holder, which looks until calls have looked so often there in all; and whether it was granted then.
+fn seen_once<R>(rt: &R, forms: &Forms<&R>, call: Call, looks: u64) -> (Seen, bool)
+where
+    R: Wait + Clock + Threads + Sync,
+{
+    let may_come = AtomicBool::new(false);
+    let (is_granted, seen) = thread::join(
+        rt,
+        || call_once_let(rt, forms, call, &may_come),
+        || hold_and_see(forms, call, looks, &may_come),
+    );
+    (seen, is_granted)
+}
+
+// What is seen of a call beside a holder, twice at the same forms of this patience, and whether it was granted both times. The hint that
+// the first call leaves says that the form is held, and is of no use to the second.
+fn seen<R>(
+    rt: &R,
+    alloc: Global,
+    patience: Patience,
+    call: Call,
+) -> Result<([Seen; 2], bool), AllocError>
+where
+    R: Wait + Clock + Threads + Sync,
+{
+    let forms = forms_of(rt, alloc, patience)?;
+    let looks = wanted(patience, call).0;
+    let (first, is_first_granted) = seen_once(rt, &forms, call, looks);
+    let (second, is_granted) = seen_once(rt, &forms, call, looks.saturating_mul(2));
+    Ok(([first, second], is_first_granted && is_granted))
+}
+
+// How often a call of few looks looks and tries: it tries before its first look, and again at it, since no other call kept the hint up
+// meanwhile; then the hint says that it is in vain. One of no patience, or that never looks, does neither.
+fn wanted(patience: Patience, call: Call) -> (u64, u64) {
+    if patience == FEW && looks_first(call) {
+        (7, 2)
+    } else {
+        (0, 0)
+    }
+}
+
+// All the calls.
+static CALLS: [Call; 18] = [
+    Call::Acquire,
+    Call::AcquireMany,
+    Call::AcquireWith,
+    Call::AcquireManyWith,
+    Call::AcquirePermit,
+    Call::Lock,
+    Call::Share,
+    Call::LockWith,
+    Call::ShareWith,
+    Call::MutexLock,
+    Call::Read,
+    Call::Write,
+    Call::Enter,
+    Call::Arrive,
+    Call::AcquireFor,
+    Call::LockFor,
+    Call::MutexLockFor,
+    Call::ReadFor,
+];
+
+// The first call that looks or tries oftener or less than it should, or that doesn't park then, and what was seen of it.
+fn first_wrong<R>(
+    rt: &R,
+    alloc: Global,
+    patience: Patience,
+) -> Result<Option<(Call, [Seen; 2])>, AllocError>
+where
+    R: Wait + Clock + Threads + Sync,
+{
+    for call in &CALLS {
+        let (seen, is_granted) = seen(rt, alloc, patience, *call)?;
+        let (looks, tries) = wanted(patience, *call);
+        let twice = (looks.saturating_mul(2), tries.saturating_mul(2), 1, true);
+        if !is_granted || seen != [(looks, tries, 1, true), twice] {
+            return Ok(Some((*call, seen)));
+        }
+    }
+    Ok(None)
+}
+
+#[test]
+fn each_call_looks_as_often_as_its_patience_says(rt: HostRuntime) -> Result<(), Fail> {
+    same!(rt; first_wrong(&rt, rt.alloc(), FEW)?, None);
+    same!(rt; first_wrong(&rt, rt.alloc(), NONE)?, None);
+    Ok(())
+}
+
+// A lock whose calls register at once, and whose waiters stay awake for so long.
+fn lock_of<R: Wait + Drop>(rt: R, alloc: Global, waiter: Patience) -> Result<Lock<R>, AllocError> {
+    let core = LockCore::new(alloc, 1)?;
+    Ok(Lock::on_shell(Shell::new(rt, alloc, core, 1, waiter)?))
+}
+
+// Whether a locked lock has a waiter: then its number is larger than that of one owner alone.
+fn has_waiter(core: &mut LockCore) -> bool {
+    core.word() > 63
+}
+
+// Gives way until the lock has a waiter.
+fn await_waiter<R: Wait + Drop>(lock: &Lock<R>) -> bool {
+    for _turn in 0..MOST_TURNS {
+        if call_untold(lock.shell(), has_waiter) {
+            return true;
+        }
+        yield_now();
+    }
+    false
+}
+
+// Whether no waiter is parked for a while.
+fn stays_awake<R: Wait + Drop>(lock: &Lock<R>) -> bool {
+    for _turn in 0..AWAKE_TURNS {
+        if lock.shell().asleep() != 0 {
+            return false;
+        }
+        yield_now();
+    }
+    true
+}
+
+// Whether a call waits in the queue, and stays awake there; then it is let in.
+fn see_awake<R: Wait + Drop>(lock: &Lock<R>) -> [bool; 3] {
+    let waits = await_waiter(lock);
+    [waits, stays_awake(lock), lock.release_lock()]
+}
+
+// Takes the lock in one of two ways; whether it was granted.
+fn take<R: Wait + Clock + Drop>(lock: &Lock<R>, is_timed: bool) -> bool {
+    if is_timed {
+        lock.lock_sync_for(long()) == Ok(Some(true))
+    } else {
+        lock.lock_sync() == Ok(true)
+    }
+}
+
+// Whether a waiter of this patience stays awake beside an owner, and is granted then.
+fn awake_beside<R>(
+    rt: &R,
+    alloc: Global,
+    waiter: Patience,
+    is_timed: bool,
+) -> Result<([bool; 3], bool), AllocError>
+where
+    R: Wait + Clock + Threads + Sync,
+{
+    let lock = lock_of(rt, alloc, waiter)?;
+    let is_owned = lock.try_lock().is_ok();
+    let (is_granted, seen) = thread::join(rt, || take(&lock, is_timed), || see_awake(&lock));
+    Ok((seen, is_owned && is_granted))
+}
+
+#[test]
+fn a_waiter_stays_awake_as_long_as_its_patience_says(rt: HostRuntime) -> Result<(), Fail> {
+    let awake = ([true; 3], true);
+    same!(rt; awake_beside(&rt, rt.alloc(), LOOKS_ON, false)?, awake);
+    same!(rt; awake_beside(&rt, rt.alloc(), YIELDS_ON, false)?, awake);
+    same!(rt; awake_beside(&rt, rt.alloc(), LOOKS_ON, true)?, awake);
+    same!(rt; awake_beside(&rt, rt.alloc(), YIELDS_ON, true)?, awake);
+    Ok(())
+}
+
+// What calls of no time tell beside an owner, where a waiter of this form would look for a minute before it parks; and whether the lock
+// can be taken once the owner has gone.
+#[test]
+fn a_call_of_no_time_does_not_spin(rt: HostRuntime) -> Result<(), Fail> {
+    let lock = lock_of(&rt, rt.alloc(), LOOKS_ON)?;
+    same!(rt; lock.try_lock(), Ok(()));
+    let past = Instant::now(&rt)?;
+    same!(rt; lock.lock_sync_for(Duration::ZERO), Ok(None));
+    same!(rt; lock.share_sync_until(past), Ok(None));
+    let mut pager = Pager::new();
+    same!(rt; lock.register_pager(&mut pager, Mode::Shared, true), Ok(true));
+    same!(rt; pager.poll_sync_for(Duration::ZERO), None);
+    same!(rt; lock.release_lock(), true);
+    same!(rt; pager.poll_sync_for(Duration::ZERO), Some(Ok(true)));
+    same!(rt; lock.release_share(), true);
+    Ok(())
+}

@@ -1,0 +1,139 @@
+//! Each timed call in one thread: granted at once, time that is up, and what stays behind.
+
+use crate::clock::BROKEN;
+use crate::forms::Time::{Ever, Later, Past, Zero};
+use crate::forms::{MADE, Made};
+use crate::stories::Act::{
+    Available, Count, DropPermit, IsFree, Open, PoisonLock, Release, ReleaseLock, ReleaseShare,
+    Seal,
+};
+use crate::stories::Ask::{Acquire, AcquireMany, Arrive, Enter, Lock, Permit, Share};
+use crate::stories::Row::{Does, Has, In};
+use crate::stories::Sign::Clock;
+use crate::stories::{Row, Story};
+use saa_core::ticket::Full;
+use saa_sync::gate::{Error, State};
+
+// A story of one thread, at a clock of which each reading is later than the last.
+pub(crate) const ALONE: Story = Story {
+    name: "",
+    step: 1,
+    made: MADE,
+    rows: &[],
+    rescue: &[],
+    beside: &[],
+    third: &[],
+    after: &[],
+};
+
+pub(crate) static STORIES: [Story; 6] = [
+    Story {
+        name: "permits in time",
+        made: Made { permits: 3, ..MADE },
+        rows: &PERMITS,
+        ..ALONE
+    },
+    Story {
+        name: "a broken clock ends a wait",
+        step: 0,
+        made: Made { permits: 1, ..MADE },
+        rows: &BROKEN_CLOCK,
+        ..ALONE
+    },
+    Story {
+        name: "a full room is told",
+        made: Made { room: 0, ..MADE },
+        rows: &NO_ROOM,
+        ..ALONE
+    },
+    Story {
+        name: "locks in time",
+        rows: &TURNS,
+        ..ALONE
+    },
+    Story {
+        name: "gates and barriers in time",
+        rows: &GATHERINGS,
+        ..ALONE
+    },
+    Story {
+        name: "a barrier of one in time",
+        made: Made { count: 1, ..MADE },
+        rows: &BARRIER_OF_ONE,
+        ..ALONE
+    },
+];
+
+const PERMITS: [Row; 14] = [
+    In(Zero, Acquire(Ok(Some(())))),
+    In(Zero, AcquireMany(1, Ok(Some(true)))),
+    In(Ever, AcquireMany(1_001, Ok(Some(false)))),
+    In(Zero, AcquireMany(2, Ok(None))),
+    Does(Available(1)),
+    In(Past, AcquireMany(1_000, Ok(None))),
+    In(Past, Acquire(Ok(Some(())))),
+    In(Past, Acquire(Ok(None))),
+    Does(Available(0)),
+    // A permit of its own goes back, and none is there where time is up.
+    Does(Release),
+    In(Zero, Permit(Ok(true))),
+    In(Past, Permit(Ok(false))),
+    Does(DropPermit),
+    Does(Available(1)),
+];
+
+const BROKEN_CLOCK: [Row; 8] = [
+    Has(Clock(BROKEN)),
+    In(Ever, Acquire(Ok(Some(())))),
+    In(Ever, Acquire(Ok(None))),
+    Has(Clock(0)),
+    Has(Clock(BROKEN)),
+    In(Later, Acquire(Ok(None))),
+    Does(Release),
+    Does(Available(1)),
+];
+
+const NO_ROOM: [Row; 6] = [
+    In(Ever, Acquire(Err(Full))),
+    In(Ever, AcquireMany(2, Err(Full))),
+    In(Ever, Lock(Ok(Some(true)))),
+    In(Ever, Share(Err(Full))),
+    In(Ever, Enter(Err(Full))),
+    In(Ever, Arrive(Err(Full))),
+];
+
+const TURNS: [Row; 16] = [
+    In(Zero, Lock(Ok(Some(true)))),
+    In(Zero, Lock(Ok(None))),
+    In(Zero, Share(Ok(None))),
+    Does(ReleaseLock),
+    In(Past, Share(Ok(Some(true)))),
+    In(Past, Lock(Ok(None))),
+    In(Past, Share(Ok(Some(true)))),
+    In(Zero, Share(Ok(Some(true)))),
+    Does(ReleaseShare),
+    Does(ReleaseShare),
+    Does(ReleaseShare),
+    Does(IsFree),
+    In(Past, Lock(Ok(Some(true)))),
+    Does(PoisonLock),
+    In(Zero, Lock(Ok(Some(false)))),
+    In(Past, Share(Ok(Some(false)))),
+];
+
+const GATHERINGS: [Row; 9] = [
+    In(Zero, Enter(Ok(None))),
+    In(Past, Enter(Ok(None))),
+    Does(Open(State::Controlled)),
+    In(Zero, Enter(Ok(Some(Ok(State::Open))))),
+    Does(Seal),
+    In(Past, Enter(Ok(Some(Err(Error::Sealed))))),
+    In(Zero, Arrive(Ok(None))),
+    In(Past, Arrive(Ok(None))),
+    Does(Count(2)),
+];
+
+const BARRIER_OF_ONE: [Row; 2] = [
+    In(Zero, Arrive(Ok(Some(true)))),
+    In(Past, Arrive(Ok(Some(true)))),
+];

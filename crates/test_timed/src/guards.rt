@@ -1,0 +1,69 @@
+//! Guards that are waited for in time.
+
+use crate::calls::ALONE;
+use crate::forms::Time::{Ever, Past, Short, Zero};
+use crate::forms::Way::{Lock, Read, Write};
+use crate::forms::{MADE, Made};
+use crate::stories::Act::{DropGuards, Hold, KeepToRead, Put};
+use crate::stories::Ask::Take;
+use crate::stories::Row::{Does, In};
+use crate::stories::{Row, Story};
+use saa_core::ticket::Full;
+
+pub(crate) static STORIES: [Story; 4] = [
+    Story {
+        name: "a mutex in time",
+        rows: &MUTEX,
+        ..ALONE
+    },
+    Story {
+        name: "readers and writers in time",
+        rows: &READERS_AND_WRITERS,
+        ..ALONE
+    },
+    Story {
+        name: "a reader that is late leaves the others what they have",
+        rows: &ALL_READ,
+        ..ALONE
+    },
+    Story {
+        name: "a mutex of no room",
+        made: Made { room: 0, ..MADE },
+        rows: &NO_ROOM,
+        ..ALONE
+    },
+];
+
+const MUTEX: [Row; 6] = [
+    In(Zero, Take(Lock, Ok(Some(5)))),
+    Does(Put(6)),
+    In(Short, Take(Lock, Ok(None))),
+    In(Past, Take(Lock, Ok(None))),
+    Does(DropGuards),
+    In(Past, Take(Lock, Ok(Some(6)))),
+];
+
+const READERS_AND_WRITERS: [Row; 11] = [
+    In(Zero, Take(Write, Ok(Some(5)))),
+    Does(Put(6)),
+    In(Short, Take(Read, Ok(None))),
+    In(Past, Take(Read, Ok(None))),
+    In(Zero, Take(Write, Ok(None))),
+    Does(DropGuards),
+    // Two readers at the same time.
+    In(Past, Take(Read, Ok(Some(6)))),
+    In(Zero, Take(Read, Ok(Some(6)))),
+    In(Past, Take(Write, Ok(None))),
+    Does(DropGuards),
+    In(Past, Take(Write, Ok(Some(6)))),
+];
+
+// No more than 62 share a lock.
+const ALL_READ: [Row; 4] = [
+    Does(KeepToRead(62)),
+    In(Zero, Take(Read, Ok(None))),
+    In(Short, Take(Read, Ok(None))),
+    In(Past, Take(Read, Ok(None))),
+];
+
+const NO_ROOM: [Row; 2] = [Does(Hold(Lock, 5)), In(Ever, Take(Lock, Err(Full)))];

@@ -1,0 +1,34 @@
+//! Tests of waits that end in time: what a call is told whose time is up, and what it leaves.
+//!
+//! Where time decides, the clock is a test's own: it moves when the test says so, or by a step at each reading; or it is the runtime's,
+//! by which a call is told only that it isn't early. So no test depends on how fast the machine is. Every test joins its threads, and
+//! ends by itself.
+//!
+//! What is told is in tables of rows (`calls`, `pagers`, `guards`, `order`, `crowd`), which `stories` plays; and each call has a row of
+//! `table`, which `every` plays.
+#![tactic(auto)]
+
+#[cfg(test)]
+mod calls;
+#[cfg(test)]
+mod clock;
+#[cfg(test)]
+mod crowd;
+#[cfg(test)]
+mod every;
+#[cfg(test)]
+mod forms;
+#[cfg(test)]
+mod guards;
+#[cfg(test)]
+mod order;
+#[cfg(test)]
+mod pagers;
+#[cfg(test)]
+mod races;
+#[cfg(test)]
+mod stories;
+#[cfg(test)]
+mod table;
+#[cfg(test)]
+mod whole;
