@@ -7,7 +7,7 @@ use crate::takers::{At, AtPlace, Enter};
 use saa_sync::lock::Lock;
 use saa_sync::lock_api;
 use saa_sync::patience::{NONE, Patience, UNREGISTERED};
-use saa_word_guards::mutex::Mutex as WordMutex;
+use saa_word_forms::mutex::Mutex as WordMutex;
 use saa_word_threads::lock::Lock as WordLock;
 use std::alloc::Global;
 use std::sync::{Mutex, RwLock, Wait};

@@ -6,7 +6,7 @@ use crate::meeting::How;
 use saa_sync::lock::{Lock, Mode};
 use saa_sync::lock_api;
 use saa_sync::pager::Pager;
-use saa_word_guards::mutex::MutexWorker;
+use saa_word_forms::mutex::MutexWorker;
 use saa_word_threads::lock::{Lock as WordLock, Mode as WordMode, Place};
 use std::sync::atomic::{AtomicU64, Ordering};
 use std::sync::{Mutex, RwLock, Wait};

@@ -35,7 +35,7 @@ pub use Rattle.saa_core.specs.Tickets
 pub use Rattle.saa_core.specs.Beginning
 pub use Rattle.saa_sync.specs.Forms
 pub use Rattle.saa_sync.specs.Waits
-pub use Rattle.saa_sync.specs.Futures as NamedFutures
+pub use Rattle.saa_sync.specs.NamedFutures
 pub use Rattle.saa_sync.specs.BarrierAnswers
 pub use Rattle.saa_sync.specs.GateAnswers
 pub use Rattle.saa_sync.specs.LockAnswers
@@ -66,5 +66,5 @@ pub use Rattle.saa_word_threads.specs.Called as WordEvents
 pub use Rattle.saa_word_threads.specs.Told as WordViews
 pub use Rattle.saa_word_threads.specs.Dealt as WordPlaces
 pub use Rattle.saa_word_threads.specs.Kept as WordHistory
-pub use Rattle.saa_word_guards.specs.Turns as WordTurns
-pub use Rattle.saa_word_guards.specs.Workers as WordWorkers
+pub use Rattle.saa_word_forms.specs.Turns as WordTurns
+pub use Rattle.saa_word_forms.specs.Workers as WordWorkers

@@ -1,24 +1,20 @@
 //! Fair synchronization for threads and tasks that are polled: every public name, under one crate.
 //!
-//! A user's crate stands on this one alone. Nothing is defined here. The locks round a value are also at the root; the
-//! other types stand in the modules that bear their names, since a module and a type whose names differ only in case
-//! can't stand beside each other.
+//! Nothing is defined here. A program that takes the threaded forms alone may name `saa_sync`, and one that takes the word forms alone
+//! `saa_word_forms`: each has the same names, and less to prove below it.
 #![tactic(auto)]
 
-pub mod barrier;
 pub mod bench;
-pub mod future;
-pub mod gate;
-pub mod lock;
 pub mod request;
-pub mod semaphore;
 pub mod word;
 
-pub use saa_core::lock::TryLockError;
-pub use saa_core::{journal, line, ticket, words};
 pub use saa_core_laws::laws;
-pub use saa_sync::lock_api::{
-    Guard, Lends, Mutex, MutexGuard, PassesOn, RwLock, RwLockReadGuard, RwLockWriteGuard, Shows,
+pub use saa_sync::{
+    Barrier, Full, Gate, Guard, Lends, Lock, Mutex, MutexGuard, Pager, PassesOn, Permit, PermitOf,
+    RwLock, RwLockReadGuard, RwLockWriteGuard, Semaphore, SemaphoreOf, Shows, TryLockError,
     Writing, lock_async, read_async, write_async,
 };
-pub use saa_sync::{lock_api, pager, patience, timed};
+pub use saa_sync::{
+    barrier, future, gate, journal, line, lock, lock_api, pager, patience, semaphore, ticket,
+    timed, words,
+};

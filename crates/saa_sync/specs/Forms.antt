@@ -13,7 +13,7 @@ use Rattle.saa_core_spec.specs.declared.polling.Error.{Error}
 use Rattle.saa_core.specs.Tickets.{Core}
 use Rattle.saa_sync.specs.declared.patience.Patience.{Patience}
 use Rattle.saa_sync.specs.declared.shell.Shell.{Shell}
-use Rattle.saa_sync.specs.Futures.{FutureState}
+use Rattle.saa_sync.specs.NamedFutures.{FutureState}
 
 -- A form is the shell that it stands on, whose core is told by the types of its calls, of what is asked, of its answers, and of
 -- what these are read as

@@ -19,7 +19,7 @@ use crate::patience::NONE;
 use crate::seat::PATIENCE;
 use crate::shell::Shell;
 use futures::task::{Context, Poll};
-use saa_core::barrier::BarrierCore;
+pub use saa_core::barrier::{BarrierAnswer, BarrierCall, BarrierCore};
 use saa_core::bench::Primitive;
 use saa_core::ticket::{Error, Full, How, Ticket};
 use std::alloc::{AllocError, Global};
@@ -39,7 +39,7 @@ const LEADER: u8 = 1;
 /// Each ticket and pager is used with the barrier that it was registered in.
 #[derive(Drop)]
 pub struct Barrier<R: Wait + Drop> {
-    shell: Shell<R, BarrierCore>,
+    pub(crate) shell: Shell<R, BarrierCore>,
 }
 
 impl<R: Wait + Drop> Model for Barrier<R> {
@@ -66,23 +66,8 @@ impl<R: Wait + Drop> Barrier<R> {
         ensures waiter { IfOk result (λ barrier. waiter_patience_of barrier ≡ PATIENCE) }
     {
         let core = BarrierCore::with_count(alloc, count, room)?;
-        Ok(Self::on_shell(Shell::new(rt, alloc, core, room, PATIENCE)?))
-    }
-
-    /// The barrier on a shell that is handed in, for who wants another patience of its waiters, or has a core in use.
-    ///
-    /// Its room and its patience are the shell's. Takes no memory.
-    pub fn on_shell(shell: Shell<R, BarrierCore>) -> Self
-        ensures { result ≡ shell }
-    {
-        Barrier { shell }
-    }
-
-    /// What it stands on; for tests and measurements.
-    pub fn shell(&self) -> &Shell<R, BarrierCore>
-        ensures { result.now ≡ self.now }
-    {
-        &self.shell
+        let shell = Shell::new(rt, alloc, core, room, PATIENCE)?;
+        Ok(Barrier { shell })
     }
 
     /// How many arrivals the round still waits for: the size less the waiters, and 0 at a barrier of size 0. Every

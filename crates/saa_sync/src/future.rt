@@ -1,4 +1,4 @@
-//! The named futures of every form, under one name.
+//! The named futures of every form, of pagers and of guards, under one name, and the pure future below them.
 
 pub mod asked;
 pub mod barrier;
@@ -14,3 +14,6 @@ pub use crate::future::semaphore::{
     Acquire, AcquireMany, AcquireManyOf, AcquireManyWith, AcquireManyWithOf, AcquireOf,
     AcquireWith, AcquireWithOf, ManyPermits, ManyPermitsOf, OnePermit, OnePermitOf,
 };
+pub use crate::lock_api::{MutexFuture, ReadFuture, WriteFuture};
+pub use crate::pager::PollPager;
+pub use saa_core::future::Asking;

@@ -25,8 +25,7 @@ use crate::seat::PATIENCE;
 use crate::shell::Shell;
 use futures::task::{Context, Poll};
 use saa_core::bench::Primitive;
-use saa_core::gate::GateCore;
-pub use saa_core::gate::{Error, State};
+pub use saa_core::gate::{Error, GateAnswer, GateCall, GateCore, State};
 use saa_core::ticket::{Full, How, Ticket};
 use saa_core_spec::polling;
 use std::alloc::{AllocError, Global};
@@ -43,7 +42,7 @@ use std::sync::atomic::Ordering;
 /// Each ticket and pager is used with the gate that it was registered in.
 #[derive(Drop)]
 pub struct Gate<R: Wait + Drop> {
-    shell: Shell<R, GateCore>,
+    pub(crate) shell: Shell<R, GateCore>,
 }
 
 impl<R: Wait + Drop> Model for Gate<R> {
@@ -65,23 +64,8 @@ impl<R: Wait + Drop> Gate<R> {
         ensures waiter { IfOk result (λ gate. waiter_patience_of gate ≡ PATIENCE) }
     {
         let core = GateCore::new(alloc, room)?;
-        Ok(Self::on_shell(Shell::new(rt, alloc, core, room, PATIENCE)?))
-    }
-
-    /// The gate on a shell that is handed in, for who wants another patience of its waiters, or has a core in use.
-    ///
-    /// Its room and its patience are the shell's. Takes no memory.
-    pub fn on_shell(shell: Shell<R, GateCore>) -> Self
-        ensures { result ≡ shell }
-    {
-        Gate { shell }
-    }
-
-    /// What it stands on; for tests and measurements.
-    pub fn shell(&self) -> &Shell<R, GateCore>
-        ensures { result.now ≡ self.now }
-    {
-        &self.shell
+        let shell = Shell::new(rt, alloc, core, room, PATIENCE)?;
+        Ok(Gate { shell })
     }
 
     /// How the gate treats a call that enters. Every ordering acts as the sequentially consistent one; none panics.

@@ -1,5 +1,7 @@
 //! The forms that threads and tasks share, each one mutex round a core, with pagers, named futures and guards.
 //!
+//! A program that takes no word form may name this crate alone: it has all of `saa` but the word forms and the laws, under the same names.
+//!
 //! `shell` is the mutex round any core, `seat` where a thread parks, `wakers` what tasks are woken by. A form (`semaphore`, `lock`,
 //! `gate`, `barrier`) is a thin type over a `Shell`; `future` has the futures that they hand out, `permit` a semaphore's permits as
 //! values, `pager` waits that are kept outside a call, and `lock_api` mutexes and reader-writer locks. `testing` has what tests alone
@@ -24,3 +26,16 @@ pub mod timed;
 pub mod tries;
 mod turn;
 mod wakers;
+
+pub use barrier::Barrier;
+pub use gate::Gate;
+pub use lock::{Lock, TryLockError};
+pub use lock_api::{
+    Guard, Lends, Mutex, MutexGuard, PassesOn, RwLock, RwLockReadGuard, RwLockWriteGuard, Shows,
+    Writing, lock_async, read_async, write_async,
+};
+pub use pager::Pager;
+pub use permit::{Permit, PermitOf};
+pub use saa_core::ticket::Full;
+pub use saa_core::{bench, journal, line, ticket, words};
+pub use semaphore::{Semaphore, SemaphoreOf};

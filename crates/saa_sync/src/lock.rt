@@ -24,8 +24,7 @@ use crate::seat::PATIENCE;
 use crate::shell::Shell;
 use futures::task::{Context, Poll};
 use saa_core::bench::Primitive;
-use saa_core::lock::LockCore;
-pub use saa_core::lock::{Mode, TryLockError};
+pub use saa_core::lock::{LockAnswer, LockCall, LockCore, Mode, TryLockError};
 use saa_core::ticket::{Error, Full, How, Ticket};
 use std::alloc::{AllocError, Global};
 use std::marker::Model;
@@ -43,7 +42,7 @@ use std::sync::atomic::Ordering;
 /// Each ticket and pager is used with the lock that it was registered in.
 #[derive(Drop)]
 pub struct Lock<R: Wait + Drop> {
-    shell: Shell<R, LockCore>,
+    pub(crate) shell: Shell<R, LockCore>,
 }
 
 impl<R: Wait + Drop> Model for Lock<R> {
@@ -83,29 +82,13 @@ impl<R: Wait + Drop> Lock<R> {
         ensures waiter { IfOk result (λ lock. waiter_patience_of lock ≡ PATIENCE) }
     {
         let core = LockCore::new(alloc, room)?;
-        let shell = Shell::new(rt, alloc, core, room, PATIENCE)?;
-        Ok(Self::on_shell(shell.with_patience(patience)))
-    }
-
-    /// The lock on a shell that is handed in, for who wants another patience of its waiters, or has a core in use.
-    ///
-    /// Its room and its patience are the shell's. Takes no memory.
-    pub fn on_shell(shell: Shell<R, LockCore>) -> Self
-        ensures { result ≡ shell }
-    {
-        Lock { shell }
+        let shell = Shell::new(rt, alloc, core, room, PATIENCE)?.with_patience(patience);
+        Ok(Lock { shell })
     }
 
     // The permission to block, for waits in a turn.
     pub(crate) fn rt(&self) -> &R {
         self.shell.rt()
-    }
-
-    /// What it stands on; for tests and measurements.
-    pub fn shell(&self) -> &Shell<R, LockCore>
-        ensures { result.now ≡ self.now }
-    {
-        &self.shell
     }
 
     /// Whether nobody has the lock and it isn't poisoned. Every ordering acts as the sequentially consistent one; none

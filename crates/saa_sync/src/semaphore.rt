@@ -23,8 +23,9 @@ use crate::patience::{Patience, UNREGISTERED};
 use crate::seat::PATIENCE;
 use crate::shell::Shell;
 use futures::task::{Context, Poll};
+pub use crate::permit::{Permit, PermitFrom, PermitOf, TakesBack};
 use saa_core::bench::Primitive;
-use saa_core::semaphore::SemaphoreCoreOf;
+pub use saa_core::semaphore::{SemaphoreAnswer, SemaphoreCall, SemaphoreCore, SemaphoreCoreOf};
 use saa_core::ticket::{Error, Full, How, Ticket};
 use std::alloc::{AllocError, Global};
 use std::marker::Model;
@@ -34,7 +35,7 @@ use std::sync::atomic::Ordering;
 /// Permits that threads share, on a core that says how many there are at most; named [`SemaphoreOf`] and [`Semaphore`].
 #[derive(Drop)]
 pub struct SemaphoreOn<R: Wait + Drop, C: Primitive> {
-    shell: Shell<R, C>,
+    pub(crate) shell: Shell<R, C>,
 }
 
 /// Up to `MAX` permits that threads share, 1 to 65,535.
@@ -119,24 +120,8 @@ impl<R: Wait + Drop, const MAX: usize> SemaphoreOn<R, SemaphoreCoreOf<MAX>> {
         ensures waiter { IfOk result (λ semaphore. waiter_patience_of semaphore ≡ PATIENCE) }
     {
         let core = SemaphoreCoreOf::with_permits(alloc, permits, room)?;
-        let shell = Shell::new(rt, alloc, core, room, PATIENCE)?;
-        Ok(Self::on_shell(shell.with_patience(patience)))
-    }
-
-    /// The semaphore on a shell that is handed in, for who wants another patience of its waiters, or has a core in use.
-    ///
-    /// Its room and its patience are the shell's. Takes no memory.
-    pub fn on_shell(shell: Shell<R, SemaphoreCoreOf<MAX>>) -> Self
-        ensures { result ≡ shell }
-    {
-        SemaphoreOn { shell }
-    }
-
-    /// What it stands on; for tests and measurements.
-    pub fn shell(&self) -> &Shell<R, SemaphoreCoreOf<MAX>>
-        ensures { result.now ≡ self.now }
-    {
-        &self.shell
+        let shell = Shell::new(rt, alloc, core, room, PATIENCE)?.with_patience(patience);
+        Ok(SemaphoreOn { shell })
     }
 
     /// Whether a permit is available. Every ordering acts as the sequentially consistent one; none panics.

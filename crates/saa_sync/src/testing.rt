@@ -8,17 +8,112 @@ ghost use Rattle.saa_core.specs.Tickets.{Polled, is_busy, is_not_ready, is_yes, 
 ghost use Rattle.saa_core_spec.specs.declared.polling.How.TheVariants.{Sync};
 ghost use Rattle.saa_sync.specs.Waits.{IsTold};
 
+use crate::barrier::Barrier;
+use crate::gate::Gate;
 use crate::guarded::Guarded;
 use crate::lock::Lock;
 use crate::lock_api::{Mutex, RwLock};
 use crate::pager::{How, Pager, SyncResult, Ticket};
 pub use crate::seat::{PATIENCE, Patience, Seat};
+use crate::semaphore::SemaphoreOn;
 pub use crate::shell::Shell;
 use crate::tries::Tries;
 use crate::turn::Turns;
+use saa_core::barrier::BarrierCore;
+use saa_core::gate::GateCore;
 use saa_core::lock::LockCore;
+use saa_core::semaphore::SemaphoreCoreOf;
 use saa_core::ticket::Full;
 use std::sync::Wait;
+
+/// A form, on a shell that is handed in: for tests that want another patience of its waiters, or have a core in use.
+///
+/// Its room and its patience are the shell's. Takes no memory.
+pub trait OnShell: Sized {
+    /// The permission to block.
+    type Runtime: Wait + Drop;
+
+    /// The core.
+    type Core: Tries;
+
+    /// The form on this shell.
+    fn on_shell(shell: Shell<Self::Runtime, Self::Core>) -> Self;
+
+    /// What it stands on.
+    fn shell(&self) -> &Shell<Self::Runtime, Self::Core>;
+}
+
+impl<R: Wait + Drop, const MAX: usize> OnShell for SemaphoreOn<R, SemaphoreCoreOf<MAX>> {
+    type Runtime = R;
+
+    type Core = SemaphoreCoreOf<MAX>;
+
+    fn on_shell(shell: Shell<R, SemaphoreCoreOf<MAX>>) -> Self
+        ensures { result ≡ shell }
+    {
+        SemaphoreOn { shell }
+    }
+
+    fn shell(&self) -> &Shell<R, SemaphoreCoreOf<MAX>>
+        ensures { result.now ≡ self.now }
+    {
+        &self.shell
+    }
+}
+
+impl<R: Wait + Drop> OnShell for Lock<R> {
+    type Runtime = R;
+
+    type Core = LockCore;
+
+    fn on_shell(shell: Shell<R, LockCore>) -> Self
+        ensures { result ≡ shell }
+    {
+        Lock { shell }
+    }
+
+    fn shell(&self) -> &Shell<R, LockCore>
+        ensures { result.now ≡ self.now }
+    {
+        &self.shell
+    }
+}
+
+impl<R: Wait + Drop> OnShell for Gate<R> {
+    type Runtime = R;
+
+    type Core = GateCore;
+
+    fn on_shell(shell: Shell<R, GateCore>) -> Self
+        ensures { result ≡ shell }
+    {
+        Gate { shell }
+    }
+
+    fn shell(&self) -> &Shell<R, GateCore>
+        ensures { result.now ≡ self.now }
+    {
+        &self.shell
+    }
+}
+
+impl<R: Wait + Drop> OnShell for Barrier<R> {
+    type Runtime = R;
+
+    type Core = BarrierCore;
+
+    fn on_shell(shell: Shell<R, BarrierCore>) -> Self
+        ensures { result ≡ shell }
+    {
+        Barrier { shell }
+    }
+
+    fn shell(&self) -> &Shell<R, BarrierCore>
+        ensures { result.now ≡ self.now }
+    {
+        &self.shell
+    }
+}
 
 /// The slot in which a pager waits, or its answer stands. `None` where it is idle or was answered at once.
 pub fn slot_of<S: SyncResult>(pager: &Pager<'_, S>) -> Option<u16>
@@ -61,7 +156,7 @@ pub fn mutex_on<R: Wait + Drop, T>(shell: Shell<R, LockCore>, value: T) -> Mutex
     ensures { result ≡ shell }
 {
     Mutex {
-        guarded: Guarded::of(Turns::of(Lock::on_shell(shell)), value),
+        guarded: Guarded::of(Turns::of(Lock { shell }), value),
     }
 }
 
@@ -70,7 +165,7 @@ pub fn rwlock_on<R: Wait + Drop, T>(shell: Shell<R, LockCore>, value: T) -> RwLo
     ensures { result ≡ shell }
 {
     RwLock {
-        guarded: Guarded::of(Turns::of(Lock::on_shell(shell)), value),
+        guarded: Guarded::of(Turns::of(Lock { shell }), value),
     }
 }
 

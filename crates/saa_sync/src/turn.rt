@@ -129,7 +129,7 @@ impl<R: Wait + Drop> Turns<R> {
     pub(crate) fn shell(&self) -> &Shell<R, LockCore>
         ensures { result.now ≡ self.now }
     {
-        self.lock.shell()
+        &self.lock.shell
     }
 }
 

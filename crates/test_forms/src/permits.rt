@@ -12,6 +12,7 @@ use saa_core::ticket::Full;
 use saa_sync::pager::{Error, Pager};
 use saa_sync::permit::Permit;
 use saa_sync::semaphore::{Semaphore, SemaphoreOf};
+use saa_sync::testing::OnShell;
 use std::alloc::{AllocError, AllocGlobal, Global};
 use std::sync::Wait;
 use std::sync::atomic::{AtomicBool, Ordering};

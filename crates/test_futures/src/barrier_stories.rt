@@ -12,6 +12,7 @@ use crate::{drops, faults, pagers, ready, values, wakes};
 use futures::test::MockTask;
 use saa_sync::barrier::Barrier;
 use saa_sync::future::Arrival;
+use saa_sync::testing::OnShell;
 use std::alloc::AllocGlobal;
 use std::io;
 use std::random::RandomSource;

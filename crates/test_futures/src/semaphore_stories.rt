@@ -16,6 +16,7 @@ use futures::test::MockTask;
 use saa_sync::future::{ManyPermits, OnePermit};
 use saa_sync::pager::Pager;
 use saa_sync::semaphore::Semaphore;
+use saa_sync::testing::OnShell;
 use std::alloc::{AllocError, AllocGlobal, Global};
 use std::io;
 use std::random::RandomSource;

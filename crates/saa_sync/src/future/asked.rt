@@ -54,7 +54,7 @@ pub struct Asked<'s, R: Wait + Drop, Q: Question> {
 }
 
 impl<'s, R: Wait + Drop, Q: Question> Model for Asked<'s, R, Q> {
-    ghost use Rattle.saa_sync.specs.Futures.{FutureState};
+    ghost use Rattle.saa_sync.specs.NamedFutures.{FutureState};
     ghost use Rattle.saa_sync.specs.Forms.{source_of};
 
     ghost Value = { FutureState };
@@ -174,7 +174,7 @@ pub struct AskedWith<'s, R: Wait + Drop, Q: Question, F: FnOnce() + Drop> {
 }
 
 impl<'s, R: Wait + Drop, Q: Question, F: FnOnce() + Drop> Model for AskedWith<'s, R, Q, F> {
-    ghost use Rattle.saa_sync.specs.Futures.{FutureWithState};
+    ghost use Rattle.saa_sync.specs.NamedFutures.{FutureWithState};
 
     ghost Value = { FutureWithState F };
 

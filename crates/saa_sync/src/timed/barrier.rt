@@ -12,7 +12,7 @@ impl<R: Wait + Clock + Drop> Barrier<R> {
     /// `Ok(Some(is_leader))` with the answer of that call. `Ok(None)`: time is up, and the arrival is taken back: the round waits for
     /// one more again. `Full` as there.
     pub fn wait_sync_for(&self, duration: Duration) -> Result<Option<bool>, Full> {
-        self.wait_by(Deadline::after(self.shell().rt(), duration))
+        self.wait_by(Deadline::after(self.shell.rt(), duration))
     }
 
     /// Arrives as [`Self::wait_sync_for`] does, and waits until this instant.
@@ -22,7 +22,7 @@ impl<R: Wait + Clock + Drop> Barrier<R> {
 
     // Arrives, and waits until then.
     fn wait_by(&self, deadline: Deadline) -> Result<Option<bool>, Full> {
-        match self.shell().acquire_until((), deadline)? {
+        match self.shell.acquire_until((), deadline)? {
             Some(value) => Ok(Some(is_leader(value))),
             None => Ok(None),
         }

@@ -17,7 +17,7 @@ impl<R: Wait + Clock + Drop> Gate<R> {
     pub fn enter_sync_for(&self, duration: Duration) -> Result<Option<Result<State, Error>>, Full>
         ensures { IfOk result (λ told. IfSome told (λ answer. gate_fault answer ≡ None)) }
     {
-        self.enter_by(Deadline::after(self.shell().rt(), duration))
+        self.enter_by(Deadline::after(self.shell.rt(), duration))
     }
 
     /// Passes the gate as [`Self::enter_sync_for`] does, and waits until this instant.
@@ -31,7 +31,7 @@ impl<R: Wait + Clock + Drop> Gate<R> {
     fn enter_by(&self, deadline: Deadline) -> Result<Option<Result<State, Error>>, Full>
         ensures { IfOk result (λ told. IfSome told (λ answer. gate_fault answer ≡ None)) }
     {
-        match self.shell().acquire_until((), deadline)? {
+        match self.shell.acquire_until((), deadline)? {
             Some(value) => Ok(Some(read_value(value))),
             None => Ok(None),
         }

@@ -65,11 +65,11 @@ impl<'s, S: Timed> Pager<'s, S> {
 
 impl<R: Wait + Clock + Drop, const MAX: usize> Timed for SemaphoreOn<R, SemaphoreCoreOf<MAX>> {
     fn after(&self, duration: Duration) -> Deadline {
-        Deadline::after(self.shell().rt(), duration)
+        Deadline::after(self.shell.rt(), duration)
     }
 
     fn take_until(&self, ticket: &mut Ticket, deadline: Deadline) -> Option<Result<(), Error>> {
-        let answer = self.shell().take_until(ticket, deadline)?;
+        let answer = self.shell.take_until(ticket, deadline)?;
         Some(SemaphoreCoreOf::<MAX>::value_of(answer))
     }
 }
@@ -80,14 +80,14 @@ impl<R: Wait + Clock + Drop> Timed for Lock<R> {
     }
 
     fn take_until(&self, ticket: &mut Ticket, deadline: Deadline) -> Option<Result<bool, Error>> {
-        let answer = self.shell().take_until(ticket, deadline)?;
+        let answer = self.shell.take_until(ticket, deadline)?;
         Some(LockCore::value_of(answer))
     }
 }
 
 impl<R: Wait + Clock + Drop> Timed for Gate<R> {
     fn after(&self, duration: Duration) -> Deadline {
-        Deadline::after(self.shell().rt(), duration)
+        Deadline::after(self.shell.rt(), duration)
     }
 
     fn take_until(
@@ -95,18 +95,18 @@ impl<R: Wait + Clock + Drop> Timed for Gate<R> {
         ticket: &mut Ticket,
         deadline: Deadline,
     ) -> Option<Result<gate::State, gate::Error>> {
-        let answer = self.shell().take_until(ticket, deadline)?;
+        let answer = self.shell.take_until(ticket, deadline)?;
         Some(read_answer(answer))
     }
 }
 
 impl<R: Wait + Clock + Drop> Timed for Barrier<R> {
     fn after(&self, duration: Duration) -> Deadline {
-        Deadline::after(self.shell().rt(), duration)
+        Deadline::after(self.shell.rt(), duration)
     }
 
     fn take_until(&self, ticket: &mut Ticket, deadline: Deadline) -> Option<Result<bool, Error>> {
-        let answer = self.shell().take_until(ticket, deadline)?;
+        let answer = self.shell.take_until(ticket, deadline)?;
         Some(BarrierCore::value_of(answer))
     }
 }

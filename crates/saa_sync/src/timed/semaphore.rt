@@ -16,7 +16,7 @@ impl<R: Wait + Clock + Drop, const MAX: usize> SemaphoreOn<R, SemaphoreCoreOf<MA
     /// `Ok(Some(()))`: it is granted. `Ok(None)`: time is up, and nothing is registered or taken; those behind are granted while
     /// they fit. `Full` comes at once, where it would have to wait and as many slots are held as there is room.
     pub fn acquire_sync_for(&self, duration: Duration) -> Result<Option<()>, Full> {
-        self.acquire_by(Deadline::after(self.shell().rt(), duration))
+        self.acquire_by(Deadline::after(self.shell.rt(), duration))
     }
 
     /// Takes one permit as [`Self::acquire_sync_for`] does, and waits for it until this instant.
@@ -37,7 +37,7 @@ impl<R: Wait + Clock + Drop, const MAX: usize> SemaphoreOn<R, SemaphoreCoreOf<MA
         ensures answer { IfOk result (λ told. IfSome told (λ is_granted. IsTrue is_granted ↔ (count ≤ MAX))) }
         ensures too_many { MAX < count → result ≡ Ok (Some false) }
     {
-        self.acquire_many_by(count, Deadline::after(self.shell().rt(), duration))
+        self.acquire_many_by(count, Deadline::after(self.shell.rt(), duration))
     }
 
     /// Takes `count` permits as [`Self::acquire_many_sync_for`] does, and waits for them until this instant.
@@ -80,7 +80,7 @@ impl<R: Wait + Clock + Drop, const MAX: usize> SemaphoreOn<R, SemaphoreCoreOf<MA
 
     // One permit, by this time.
     fn acquire_by(&self, deadline: Deadline) -> Result<Option<()>, Full> {
-        match self.shell().acquire_until(1, deadline)? {
+        match self.shell.acquire_until(1, deadline)? {
             Some(_granted) => Ok(Some(())),
             None => Ok(None),
         }
@@ -94,7 +94,7 @@ impl<R: Wait + Clock + Drop, const MAX: usize> SemaphoreOn<R, SemaphoreCoreOf<MA
         if is_too_many::<MAX>(count) {
             return Ok(Some(false));
         }
-        match self.shell().acquire_until(count, deadline)? {
+        match self.shell.acquire_until(count, deadline)? {
             Some(_granted) => Ok(Some(true)),
             None => Ok(None),
         }

@@ -10,6 +10,7 @@ use saa_sync::gate::Gate;
 use saa_sync::lock::{Lock, Mode};
 use saa_sync::pager::{Pager, SyncResult};
 use saa_sync::semaphore::Semaphore;
+use saa_sync::testing::OnShell;
 use std::alloc::{AllocError, AllocGlobal, Global};
 use std::io;
 use std::random::RandomSource;

@@ -4,6 +4,7 @@ use futures::test::MockTask;
 use saa_sync::lock::{Lock, Mode};
 use saa_sync::pager::Pager;
 use saa_sync::patience::Patience;
+use saa_sync::testing::OnShell;
 use std::alloc::AllocGlobal;
 use std::random::RandomSource;
 use std::sync::Wait;

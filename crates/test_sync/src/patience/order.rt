@@ -3,6 +3,7 @@
 use saa_sync::lock::{Lock, Mode};
 use saa_sync::pager::{Error, Pager};
 use saa_sync::patience::{NONE, Patience, UNREGISTERED};
+use saa_sync::testing::OnShell;
 use std::alloc::{AllocError, Global};
 use std::sync::Wait;
 use std::sync::atomic::{AtomicBool, Ordering};

@@ -4,7 +4,7 @@ ghost use Rattle.std.specs.Prelude.{All, IfSome};
 ghost use Rattle.saa_word_threads.specs.Locks.{IsDealtBy};
 
 use crate::exclusion::inside::Inside;
-use saa_word_guards::rw_lock::{RwLock, RwLockWorker, RwLockWriteGuard};
+use saa_word_forms::rw_lock::{RwLock, RwLockWorker, RwLockWriteGuard};
 use saa_word_threads::lock::Place;
 use std::alloc::{AllocError, AllocGlobal};
 use std::sync::Wait;

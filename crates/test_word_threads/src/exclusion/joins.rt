@@ -3,9 +3,9 @@
 //!
 //! A call that only tries again and again never parks, and the test never ends.
 
-use saa_word_guards::mutex::{Mutex, MutexWorker};
-use saa_word_guards::rw_lock::{RwLock, RwLockWorker, RwLockWriteGuard};
-use saa_word_guards::testing::{lock_of_mutex, lock_of_rw_lock};
+use saa_word_forms::mutex::{Mutex, MutexWorker};
+use saa_word_forms::rw_lock::{RwLock, RwLockWorker, RwLockWriteGuard};
+use saa_word_forms::testing::{lock_of_mutex, lock_of_rw_lock};
 use saa_word_threads::lock::Lock;
 use saa_word_threads::testing::is_parked;
 use std::alloc::{AllocError, AllocGlobal};

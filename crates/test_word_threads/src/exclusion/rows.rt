@@ -1,8 +1,8 @@
 //! A mutex and a reader-writer lock with two workers in one thread: what their guards show, and which calls they let in.
 
-use saa_word_guards::guard::Guard;
-use saa_word_guards::mutex::{Mutex, MutexWorker};
-use saa_word_guards::rw_lock::{RwLock, RwLockWorker, RwLockWriteGuard};
+use saa_word_forms::guard::Guard;
+use saa_word_forms::mutex::{Mutex, MutexWorker};
+use saa_word_forms::rw_lock::{RwLock, RwLockWorker, RwLockWriteGuard};
 use std::alloc::{AllocError, AllocGlobal, Global};
 use std::sync::Wait;
 use test_asserts::same;

@@ -87,7 +87,7 @@ pub struct MutexWorker<'l, T> {
 }
 
 impl<'l, T> Model for MutexWorker<'l, T> {
-    ghost use Rattle.saa_word_guards.specs.Workers.{WorkerState};
+    ghost use Rattle.saa_word_forms.specs.Workers.{WorkerState};
 
     ghost Value = { WorkerState };
 

@@ -88,7 +88,7 @@ pub struct RwLockWorker<'l, T> {
 }
 
 impl<'l, T> Model for RwLockWorker<'l, T> {
-    ghost use Rattle.saa_word_guards.specs.Workers.{WorkerState};
+    ghost use Rattle.saa_word_forms.specs.Workers.{WorkerState};
 
     ghost Value = { WorkerState };
 

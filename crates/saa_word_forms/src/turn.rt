@@ -4,7 +4,7 @@
 //! holder may leak (`mem::forget`). Passing it on asks for a `PutDown`, and for the proof that the place's last call took what the turn is of.
 
 ghost use Rattle.std.specs.Prelude.{IfSome};
-ghost use Rattle.saa_word_guards.specs.Turns.{HasLock, HasShare, TookLock, TookShare};
+ghost use Rattle.saa_word_forms.specs.Turns.{HasLock, HasShare, TookLock, TookShare};
 
 use crate::place_at::{Lowered, PlaceAt, PutDown};
 use std::sync::{RwLock, RwLockReadGuard, RwLockWriteGuard, Wait};

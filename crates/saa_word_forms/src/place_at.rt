@@ -7,7 +7,7 @@ ghost use Rattle.std.specs.Prelude.{◌≡◌, true};
 ghost use Rattle.saa_word_steps.specs.declared.call.Answer.{Answer};
 ghost use Rattle.saa_word_steps.specs.declared.call.WordCall.TheVariants.{ReleaseLock, ReleaseShare};
 ghost use Rattle.saa_word_threads.specs.Locks.{IsDealtBy, IsMade};
-ghost use Rattle.saa_word_guards.specs.Turns.{HasLock, HasShare};
+ghost use Rattle.saa_word_forms.specs.Turns.{HasLock, HasShare};
 
 use saa_word_threads::lock::{Left, Lock, Place};
 use std::marker::PhantomData;

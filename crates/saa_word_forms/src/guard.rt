@@ -87,7 +87,7 @@ pub struct Guard<V: Shows, U: PassesOn> {
 }
 
 impl<V: Shows, U: PassesOn> Model for Guard<V, U> {
-    ghost use Rattle.saa_word_guards.specs.Workers.{GuardState};
+    ghost use Rattle.saa_word_forms.specs.Workers.{GuardState};
 
     ghost Value = { GuardState V U };
 
@@ -145,8 +145,8 @@ impl<V: Shows, U: PassesOn> Deref for Guard<V, U> {
 }
 
 impl<V: Lends, U: PassesOn> DerefMut for Guard<V, U> {
-    ghost use Rattle.saa_word_guards.specs.Workers.{written_through};
-    ghost use Rattle.saa_word_guards.specs.contracts.guard.Guard.{the_row};
+    ghost use Rattle.saa_word_forms.specs.Workers.{written_through};
+    ghost use Rattle.saa_word_forms.specs.contracts.guard.Guard.{the_row};
 
     ghost deref_mut_gives = { λ guard value. value ≡ V.shown guard.value };
 

@@ -4,7 +4,7 @@
 //! turn is passed on, so it should never be contended. No clause says so.
 
 ghost use Rattle.std.specs.Prelude.{◌≡◌, All, IfOk, IfSome, vec_len};
-ghost use Rattle.saa_word_guards.specs.Turns.{HasLock, HasShare};
+ghost use Rattle.saa_word_forms.specs.Turns.{HasLock, HasShare};
 ghost use Rattle.saa_word_threads.specs.Dealt.{IsLedTo, numbers};
 ghost use Rattle.saa_word_threads.specs.Locks.{AreNew, HasLeft, IsDealtBy, IsLeftOf, about_of, table_of, view_left};
 

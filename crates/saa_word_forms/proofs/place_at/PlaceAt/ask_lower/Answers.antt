@@ -1,5 +1,5 @@
 use Rattle.std.proofs.Common.{sym, ◌∙◌, inr}
-use Rattle.saa_word_guards.proofs.place_at.PlaceAt.ask_lower.Goals as goal
+use Rattle.saa_word_forms.proofs.place_at.PlaceAt.ask_lower.Goals as goal
 
 pub returns : goal.returns
 returns g c = λ yes.

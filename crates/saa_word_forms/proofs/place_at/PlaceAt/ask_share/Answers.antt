@@ -1,7 +1,7 @@
 use Rattle.std.proofs.Common.{Bool, inl, inr, subst}
 use Rattle.saa_core_spec.specs.declared.lock.Mode.TheVariants.{Shared}
 use Rattle.saa_word_threads.specs.Locks.{IsWaited}
-use Rattle.saa_word_guards.proofs.place_at.PlaceAt.ask_share.Goals as goal
+use Rattle.saa_word_forms.proofs.place_at.PlaceAt.ask_share.Goals as goal
 
 pub returns : goal.returns
 returns g c = λ yes.

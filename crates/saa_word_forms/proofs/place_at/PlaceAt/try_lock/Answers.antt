@@ -1,5 +1,5 @@
 use Rattle.std.proofs.Common.{sym, ◌∙◌, inl}
-use Rattle.saa_word_guards.proofs.place_at.PlaceAt.try_lock.Goals as goal
+use Rattle.saa_word_forms.proofs.place_at.PlaceAt.try_lock.Goals as goal
 
 pub returns-in-Ok : goal.returns-in-Ok
 returns-in-Ok g c = λ yes.

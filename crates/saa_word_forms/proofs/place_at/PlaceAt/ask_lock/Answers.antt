@@ -1,7 +1,7 @@
 use Rattle.std.proofs.Common.{Bool, inr, subst}
 use Rattle.saa_core_spec.specs.declared.lock.Mode.TheVariants.{Exclusive}
 use Rattle.saa_word_threads.specs.Locks.{IsWaited}
-use Rattle.saa_word_guards.proofs.place_at.PlaceAt.ask_lock.Goals as goal
+use Rattle.saa_word_forms.proofs.place_at.PlaceAt.ask_lock.Goals as goal
 
 pub returns : goal.returns
 returns g c = λ yes.
