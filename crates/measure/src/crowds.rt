@@ -3,7 +3,7 @@
 use crate::meeting::{Adds, How, Meeting};
 use crate::places::{Kind, meet_at};
 use crate::takers::Work;
-use crate::times::{Case, PASSES, figure, nanos_since};
+use crate::times::{Case, Figure, PASSES, figure_of, nanos_since};
 use std::alloc::Global;
 use std::sync::Wait;
 use std::thread::Threads;
@@ -25,34 +25,34 @@ pub fn crowd<R: Clock + Threads + Wait + Sync>(
     how: How,
     case: Case,
     adds: u64,
-) -> Option<[u64; WORKS]> {
-    let mut medians = [0; WORKS];
+) -> Option<[Figure; WORKS]> {
+    let mut medians = [Figure::of_one(0); WORKS];
     for (median, (inside, outside)) in medians.iter_mut().zip(TENTHS) {
         let adds = Adds {
             inside: adds.saturating_mul(inside) / 10,
             outside: adds.saturating_mul(outside) / 10,
         };
-        *median = median_nanos(rt, alloc, kind, how, case, adds)?;
+        *median = median_of(rt, alloc, kind, how, case, adds)?;
     }
     Some(medians)
 }
 
 // How long so many turns take as the case says: the median of all passes.
-fn median_nanos<R: Clock + Threads + Wait + Sync>(
+fn median_of<R: Clock + Threads + Wait + Sync>(
     rt: &R,
     alloc: Global,
     kind: Kind,
     how: How,
     case: Case,
     adds: Adds,
-) -> Option<u64> {
+) -> Option<Figure> {
     let mut times = [0; PASSES];
     for pass in 0..PASSES {
         let meeting = Meeting::new(alloc, threads_of(case), how, adds, false);
         meet_at(rt, alloc, kind, &meeting);
         times[pass] = meeting.figure(case.times)?;
     }
-    Some(figure(times, false))
+    Some(figure_of(times, false))
 }
 
 /// How long a thread waits for a turn with nothing inside that it takes so, while others take turns of so many adds: the median, the 99th
@@ -64,14 +64,19 @@ pub fn waits<R: Clock + Threads + Wait + Sync>(
     how: How,
     case: Case,
     adds: u64,
-) -> Option<[u64; 3]> {
+) -> Option<[Figure; 3]> {
     let adds = Adds {
         inside: adds,
         outside: 0,
     };
     let meeting = Meeting::new(alloc, threads_of(case), how, adds, true);
     meet_at(rt, alloc, kind, &meeting);
-    meeting.waits(rt)
+    let [median, percentile, longest] = meeting.waits(rt)?;
+    Some([
+        Figure::of_one(median),
+        Figure::of_one(percentile),
+        Figure::of_one(longest),
+    ])
 }
 
 // How many threads meet.

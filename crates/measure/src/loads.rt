@@ -5,7 +5,7 @@
 use crate::cores::core_timed;
 use crate::lines::{Action, core_line_nanos, task_nanos};
 use crate::rounds::{Rounds, passings_nanos};
-use crate::times::{Case, PASSES, Timed, figure};
+use crate::times::{Case, Figure, PASSES, Timed, figure_of};
 use crate::turns::{Counter, TwoTurns, turns_nanos};
 use crate::words::words_nanos;
 use saa_core::semaphore::SemaphoreCore;
@@ -67,11 +67,11 @@ pub enum Load {
     Listed { waits: bool },
 }
 
-/// What two loads cost that are measured in turn, in nanoseconds, and what the last turn of each took or asked for.
+/// What two loads cost that are measured in turn, and what the last turn of each took or asked for.
 #[derive(Clone, Copy)]
 pub struct Compared {
     /// The figures of the first and of the second.
-    pub nanos: [u64; 2],
+    pub figures: [Figure; 2],
     /// Their last turns.
     pub last: [usize; 2],
 }
@@ -97,7 +97,7 @@ pub fn beside<R: Clock + RandomSource + AllocGlobal + Threads + Wait + Sync>(
     }
     let is_best = case.count == 1;
     Some(Compared {
-        nanos: [figure(first, is_best), figure(second, is_best)],
+        figures: [figure_of(first, is_best), figure_of(second, is_best)],
         last,
     })
 }

@@ -1,7 +1,7 @@
 //! How a line is printed.
 
 use crate::loads::Compared;
-use crate::times::Case;
+use crate::times::{Case, Figure};
 use std::io::{self, Print};
 
 /// Prints a line of this text alone.
@@ -19,8 +19,9 @@ pub fn print_compared<R: Print>(
     let Some(compared) = compared else {
         return print_refused(rt, case);
     };
-    print_cells(rt, case, "  ", &compared.nanos)?;
-    print_ratio(rt, compared.nanos)?;
+    print_cells(rt, case, "  ", &compared.figures)?;
+    let [first, second] = compared.figures;
+    print_ratio(rt, [first.nanos, second.nanos])?;
     if did.is_empty() {
         return Ok(());
     }
@@ -31,7 +32,7 @@ pub fn print_compared<R: Print>(
 pub fn print_figures<R: Print, const N: usize>(
     rt: &R,
     case: Case,
-    figures: Option<[u64; N]>,
+    figures: Option<[Figure; N]>,
 ) -> io::Result<()> {
     let Some(figures) = figures else {
         return print_refused(rt, case);
@@ -62,15 +63,26 @@ fn print_refused<R: Print>(rt: &R, case: Case) -> io::Result<()> {
     println!(rt; "{text}, {count}: memory, a thread or the clock was refused")
 }
 
-// Prints the beginning of a row: its text, its count, and, each behind a gap, what one takes by each of these times.
-fn print_cells<R: Print>(rt: &R, case: Case, gap: &str, all_nanos: &[u64]) -> io::Result<()> {
+// Prints the beginning of a row: its text, its count, and, each behind a gap, what one takes by each of these figures.
+fn print_cells<R: Print>(rt: &R, case: Case, gap: &str, figures: &[Figure]) -> io::Result<()> {
     let (text, count) = (case.text, case.count);
     print!(rt; "{text:<22}  {count:>7}")?;
-    for nanos in all_nanos {
-        let (whole, part) = quotient(*nanos, case.times, 10);
+    for figure in figures {
+        let (whole, part) = quotient(figure.nanos, case.times, 10);
         print!(rt; "{gap}{whole:>8}.{part}")?;
+        print_range(rt, *figure, case.times)?;
     }
     Ok(())
+}
+
+// Prints the least and the most of a figure's passes, where they differ.
+fn print_range<R: Print>(rt: &R, figure: Figure, times: u64) -> io::Result<()> {
+    if figure.least == figure.most {
+        return Ok(());
+    }
+    let (least, part_of_least) = quotient(figure.least, times, 10);
+    let (most, part_of_most) = quotient(figure.most, times, 10);
+    print!(rt; " ({least}.{part_of_least}..{most}.{part_of_most})")
 }
 
 // Prints the end of a row: how often the second is in the first.

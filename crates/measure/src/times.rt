@@ -36,8 +36,33 @@ pub fn nanos_since<R: Clock>(rt: &R, start: Instant) -> Option<u64> {
     u64::try_from(elapsed.as_nanos()).ok()
 }
 
-/// The median of all passes, or the best of them.
-pub fn figure(mut times: Times, is_best: bool) -> u64 {
+/// What all passes gave, in nanoseconds.
+#[derive(Clone, Copy)]
+pub struct Figure {
+    /// The median of them, or the best.
+    pub nanos: u64,
+    /// The least of them, and the most.
+    pub least: u64,
+    pub most: u64,
+}
+
+impl Figure {
+    /// What is measured once.
+    pub fn of_one(nanos: u64) -> Self {
+        Figure {
+            nanos,
+            least: nanos,
+            most: nanos,
+        }
+    }
+}
+
+/// The median of all passes, or the best of them, with their range.
+pub fn figure_of(mut times: Times, is_best: bool) -> Figure {
     times.sort_unstable();
-    times[if is_best { 0 } else { PASSES / 2 }]
+    Figure {
+        nanos: times[if is_best { 0 } else { PASSES / 2 }],
+        least: times[0],
+        most: times[PASSES - 1],
+    }
 }
