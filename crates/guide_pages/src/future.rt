@@ -2,7 +2,7 @@
 #![tactic(auto)]
 
 use futures::executor::block_on;
-use saa::semaphore::Semaphore;
+use saa::semaphore::SemaphoreOf;
 use std::alloc::AllocGlobal;
 use std::random::RandomSource;
 use std::sync::Wait;
@@ -11,13 +11,16 @@ use std::{io, thread};
 #[test]
 fn main(rt: HostRuntime) -> io::Result<()> {
     // One permit, and room for two waiters.
-    let permits = Semaphore::with_permits(&rt, rt.alloc(), 1, 2)?;
+    let permits = SemaphoreOf::<_, 1>::new(&rt, rt.alloc(), 2)?;
     let (polled, slept) = thread::join(&rt, || poll(&rt, &permits), || sleep(&permits));
     println!(rt; "{} turns by polling, {slept} by sleeping", polled?)
 }
 
 // Takes fifty turns as a task: the executor sleeps while the future is pending.
-fn poll<R: Wait + AllocGlobal + RandomSource>(rt: &R, permits: &Semaphore<&R>) -> io::Result<u64> {
+fn poll<R: Wait + AllocGlobal + RandomSource>(
+    rt: &R,
+    permits: &SemaphoreOf<&R, 1>,
+) -> io::Result<u64> {
     let mut turns = 0u64;
     for _turn in 0..50 {
         if block_on(rt, permits.acquire_async())? == Ok(()) {
@@ -29,7 +32,7 @@ fn poll<R: Wait + AllocGlobal + RandomSource>(rt: &R, permits: &Semaphore<&R>) -
 }
 
 // Takes fifty turns as a thread.
-fn sleep<R: Wait + Drop>(permits: &Semaphore<R>) -> u64 {
+fn sleep<R: Wait + Drop>(permits: &SemaphoreOf<R, 1>) -> u64 {
     let mut turns = 0u64;
     for _turn in 0..50 {
         if permits.acquire_sync() == Ok(()) {

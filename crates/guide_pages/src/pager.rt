@@ -2,7 +2,7 @@
 #![tactic(auto)]
 
 use saa::pager::{Error, Pager};
-use saa::semaphore::Semaphore;
+use saa::semaphore::SemaphoreOf;
 use saa::ticket::Full;
 use std::io;
 use std::sync::Wait;
@@ -10,7 +10,7 @@ use std::sync::Wait;
 #[test]
 fn main(rt: HostRuntime) -> io::Result<()> {
     // One permit, which is out, and room for two waiters.
-    let printer = Semaphore::with_permits(&rt, rt.alloc(), 0, 2)?;
+    let printer = SemaphoreOf::<_, 1>::with_permits(&rt, rt.alloc(), 0, 2)?;
     match queue(&printer) {
         Ok(is_granted) => println!(rt; "the second has the printer: {is_granted}"),
         Err(Full) => println!(rt; "nobody else can wait here"),
@@ -18,7 +18,7 @@ fn main(rt: HostRuntime) -> io::Result<()> {
 }
 
 // Puts two pagers into the line, takes the first out of it, and gives the printer back.
-fn queue<R: Wait + Drop>(printer: &Semaphore<R>) -> Result<bool, Full> {
+fn queue<R: Wait + Drop>(printer: &SemaphoreOf<R, 1>) -> Result<bool, Full> {
     let (mut first, mut second) = (Pager::new(), Pager::new());
     let _ = printer.register_pager(&mut first, 1, true)?;
     let _ = printer.register_pager(&mut second, 1, true)?;

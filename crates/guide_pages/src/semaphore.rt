@@ -1,7 +1,7 @@
 //! Four threads that work at two desks, two at a time.
 #![tactic(auto)]
 
-use saa::semaphore::Semaphore;
+use saa::semaphore::SemaphoreOf;
 use std::sync::Wait;
 use std::sync::atomic::{AtomicU64, Ordering};
 use std::{io, thread};
@@ -9,7 +9,7 @@ use std::{io, thread};
 #[test]
 fn main(rt: HostRuntime) -> io::Result<()> {
     // Two permits, and room for four waiters.
-    let desks = Semaphore::with_permits(&rt, rt.alloc(), 2, 4)?;
+    let desks = SemaphoreOf::<_, 2>::new(&rt, rt.alloc(), 4)?;
     let busy = AtomicU64::new(0);
     let done = thread::map_indices(&rt, rt.alloc(), 4, &|_worker| work(&desks, &busy))?;
     let mut jobs = 0u64;
@@ -20,7 +20,7 @@ fn main(rt: HostRuntime) -> io::Result<()> {
 }
 
 // Does fifty jobs, and counts those at which no more than two were at work.
-fn work<R: Wait + Drop>(desks: &Semaphore<R>, busy: &AtomicU64) -> u64 {
+fn work<R: Wait + Drop>(desks: &SemaphoreOf<R, 2>, busy: &AtomicU64) -> u64 {
     let mut jobs = 0u64;
     for _job in 0..50 {
         // Waits in line while both desks are taken; the permit gives itself back as it goes.
