@@ -1,7 +1,7 @@
 -- Places that are new at a table are dealt by the semaphore whose table it is.
 use Rattle.std.specs.Prelude.{◌≡◌, ℕ, ◌+◌, [], ◌∷◌, All}
 use Rattle.std.proofs.lemmas.List.Elements.{All-nil, All-cons}
-use Rattle.saa.specs.WordPlaces.{AreNew}
+use Rattle.saa_word_forms.specs.WordPlaces.{AreNew}
 
 pub new_dealt : (table : _) (number : ℕ) (places : _) → AreNew table number places → All (λ place. place.seat.table_id ≡ table) places
 new_dealt table number [] are = All-nil (λ place. place.seat.table_id ≡ table)

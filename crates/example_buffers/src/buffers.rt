@@ -1,9 +1,9 @@
 //! A pool of buffers without a lock: a permit for each in one atomic word, and a mark on each while somebody has it.
 
 ghost use Rattle.std.specs.Prelude.{◌≡◌, ◌<◌, All, IfOk, vec_len};
-ghost use Rattle.saa.specs.WordSemaphores.{IsDealtBy};
+ghost use Rattle.saa_word_forms.specs.WordSemaphores.{IsDealtBy};
 
-use saa::word::{Place, SemaphoreOf};
+use saa_word_forms::{Place, SemaphoreOf};
 use std::alloc::{AllocError, Global};
 use std::sync::Wait;
 use std::sync::atomic::{AtomicBool, AtomicU64, Ordering};

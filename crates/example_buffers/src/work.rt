@@ -1,7 +1,7 @@
 //! Workers that take a buffer again and again, each at a place of its own.
 
 ghost use Rattle.std.specs.Prelude.{◌<◌};
-ghost use Rattle.saa.specs.WordSemaphores.{IsDealtBy};
+ghost use Rattle.saa_word_forms.specs.WordSemaphores.{IsDealtBy};
 
 use crate::buffers::{Desk, Pool};
 use std::alloc::{AllocError, Global};

@@ -3,8 +3,7 @@
 ghost use Rattle.std.specs.Prelude.{◌<◌};
 
 use crate::ring::{CELLS, Ring};
-use saa::barrier::Barrier;
-use saa::gate::Gate;
+use saa_sync::{Barrier, Gate};
 use std::alloc::{AllocError, Global};
 use std::sync::Wait;
 use std::thread::{self, Threads};

@@ -2,8 +2,7 @@
 
 ghost use Rattle.std.specs.Prelude.{◌≡◌, ◌+◌, ◌≤◌, ◌<◌, ◌↔◌, All, IfErr, IfSome, IsOk, IsSome, false, length, true, vec_capacity};
 
-use saa::semaphore::{PermitOf, SemaphoreOf};
-use saa::ticket::Full;
+use saa_sync::{Full, PermitOf, SemaphoreOf};
 use std::alloc::{AllocError, Global};
 use std::sync::{Mutex, Wait};
 use std::time::{Clock, Duration};

@@ -1,7 +1,7 @@
 //! Threads that push and pop, and what they count.
 
 use crate::queue::{Popped, Queue, Refused};
-use saa::Mutex;
+use saa_sync::Mutex;
 use std::alloc::{AllocError, Global};
 use std::sync::Wait;
 use std::thread::{self, Threads};

@@ -6,9 +6,7 @@ ghost use Rattle.std.specs.Prelude.{◌≡◌, ◌++◌, ◌∷◌, [], ◌<◌,
 ghost use Rattle.example_queue.specs.declared.queue.Refused.TheVariants.{Closed};
 
 use circular_buffer::HeapCircularBuffer;
-use saa::Mutex;
-use saa::semaphore::{Permit, Semaphore};
-use saa::ticket::Full;
+use saa_sync::{Full, Mutex, Permit, Semaphore};
 use std::alloc::{AllocError, Global};
 use std::sync::Wait;
 use std::time::{Clock, Duration};

@@ -2,7 +2,7 @@
 
 use crate::exchange::{Tally, exchange};
 use crate::queue::{Popped, Queue, Refused};
-use saa::ticket::Full;
+use saa_sync::Full;
 use std::alloc::{AllocError, Global};
 use std::process::Abort;
 use std::sync::Wait;

@@ -1,8 +1,8 @@
 //! Workers that ask a gate before they work, and somebody who starts and stops the service.
 
 use futures::executor::block_on;
-use saa::barrier::Barrier;
-use saa::gate::{Error, Gate, State};
+use saa_sync::Barrier;
+use saa_sync::gate::{Error, Gate, State};
 use std::alloc::{AllocError, AllocGlobal, Global};
 use std::random::RandomSource;
 use std::sync::Wait;

@@ -1,9 +1,9 @@
 //! Workers that write a row each, and read the whole table.
 
-ghost use Rattle.saa.specs.WordLocks.{IsDealtBy};
+ghost use Rattle.saa_word_forms.specs.WordLocks.{IsDealtBy};
 
 use crate::table::Table;
-use saa::word::{RwLock, RwLockWorker, RwLockWriteGuard};
+use saa_word_forms::{RwLock, RwLockWorker, RwLockWriteGuard};
 use std::alloc::{AllocError, Global};
 use std::sync::Wait;
 use std::sync::atomic::{AtomicU64, Ordering};

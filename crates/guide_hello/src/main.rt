@@ -1,7 +1,7 @@
 //! Two threads that add to one number behind a fair mutex.
 #![tactic(auto)]
 
-use saa::Mutex;
+use saa_sync::Mutex;
 use std::sync::Wait;
 use std::{io, thread};
 

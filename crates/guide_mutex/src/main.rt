@@ -3,8 +3,7 @@
 
 ghost use Rattle.std.specs.Prelude.{◌≡◌, ◌+◌, IfOk};
 
-use saa::RwLock;
-use saa::ticket::Full;
+use saa_sync::{Full, RwLock};
 use std::sync::Wait;
 use std::{io, thread};
 

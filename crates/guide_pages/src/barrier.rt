@@ -1,7 +1,7 @@
 //! Two threads that go on to the next round only when both have come, with one leader in each.
 #![tactic(auto)]
 
-use saa::barrier::Barrier;
+use saa_sync::Barrier;
 use std::sync::Wait;
 use std::sync::atomic::{AtomicU64, Ordering};
 use std::{io, thread};

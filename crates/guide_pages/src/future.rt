@@ -2,7 +2,7 @@
 #![tactic(auto)]
 
 use futures::executor::block_on;
-use saa::semaphore::SemaphoreOf;
+use saa_sync::SemaphoreOf;
 use std::alloc::AllocGlobal;
 use std::random::RandomSource;
 use std::sync::Wait;

@@ -1,7 +1,7 @@
 //! Two workers that start together when a gate opens, and are turned away once it is sealed.
 #![tactic(auto)]
 
-use saa::gate::{Gate, State};
+use saa_sync::gate::{Gate, State};
 use std::sync::Wait;
 use std::{io, thread};
 

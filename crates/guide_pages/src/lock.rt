@@ -1,7 +1,7 @@
 //! Two threads that take turns at a lock, and what a poisoned lock answers.
 #![tactic(auto)]
 
-use saa::lock::Lock;
+use saa_sync::Lock;
 use std::sync::Wait;
 use std::sync::atomic::{AtomicU64, Ordering};
 use std::{io, thread};

@@ -1,9 +1,8 @@
 //! Two pagers that wait in one line while their owner does other things; one gives up.
 #![tactic(auto)]
 
-use saa::pager::{Error, Pager};
-use saa::semaphore::SemaphoreOf;
-use saa::ticket::Full;
+use saa_sync::pager::{Error, Pager};
+use saa_sync::{Full, SemaphoreOf};
 use std::io;
 use std::sync::Wait;
 

@@ -1,7 +1,7 @@
 //! Four threads that work at two desks, two at a time.
 #![tactic(auto)]
 
-use saa::semaphore::SemaphoreOf;
+use saa_sync::SemaphoreOf;
 use std::sync::Wait;
 use std::sync::atomic::{AtomicU64, Ordering};
 use std::{io, thread};

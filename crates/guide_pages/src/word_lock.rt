@@ -3,7 +3,7 @@
 
 ghost use Rattle.std.specs.Prelude.{◌≡◌, ◌+◌};
 
-use saa::word::{RwLock, RwLockWorker};
+use saa_word_forms::{RwLock, RwLockWorker};
 use std::sync::Wait;
 use std::{io, thread};
 

@@ -1,9 +1,9 @@
 //! Two threads that take permits of one atomic word, each at a place of its own.
 #![tactic(auto)]
 
-ghost use Rattle.saa.specs.WordSemaphores.{IsDealtBy};
+ghost use Rattle.saa_word_forms.specs.WordSemaphores.{IsDealtBy};
 
-use saa::word::{Place, Semaphore};
+use saa_word_forms::{Place, Semaphore};
 use std::sync::Wait;
 use std::{io, thread};
 

@@ -12,9 +12,6 @@ pub use saa_core_laws::laws;
 pub use saa_sync::{
     Barrier, Full, Gate, Guard, Lends, Lock, Mutex, MutexGuard, Pager, PassesOn, Permit, PermitOf,
     RwLock, RwLockReadGuard, RwLockWriteGuard, Semaphore, SemaphoreOf, Shows, TryLockError,
-    Writing, lock_async, read_async, write_async,
-};
-pub use saa_sync::{
-    barrier, future, gate, journal, line, lock, lock_api, pager, patience, semaphore, ticket,
-    timed, words,
+    Writing, barrier, future, gate, journal, line, lock, lock_api, lock_async, pager, patience,
+    read_async, semaphore, ticket, timed, words, write_async,
 };

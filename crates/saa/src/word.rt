@@ -3,8 +3,8 @@
 //! one at a move. `Place` and `Left` are the semaphore's, `LockPlace` and `LockLeft` the lock's.
 
 pub use saa_word::machine;
-pub use saa_word_forms::guard;
 pub use saa_word_forms::{
     Error, Left, Lock, LockLeft, LockPlace, Mode, Mutex, MutexGuard, MutexWorker, Place, RwLock,
     RwLockReadGuard, RwLockWorker, RwLockWriteGuard, Semaphore, SemaphoreOf, TryLockError, Words,
+    guard,
 };

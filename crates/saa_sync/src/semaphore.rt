@@ -20,10 +20,10 @@ use crate::future::semaphore::{
 };
 use crate::pager::{Pager, SyncResult};
 use crate::patience::{Patience, UNREGISTERED};
+pub use crate::permit::{Permit, PermitFrom, PermitOf, TakesBack};
 use crate::seat::PATIENCE;
 use crate::shell::Shell;
 use futures::task::{Context, Poll};
-pub use crate::permit::{Permit, PermitFrom, PermitOf, TakesBack};
 use saa_core::bench::Primitive;
 pub use saa_core::semaphore::{SemaphoreAnswer, SemaphoreCall, SemaphoreCore, SemaphoreCoreOf};
 use saa_core::ticket::{Error, Full, How, Ticket};

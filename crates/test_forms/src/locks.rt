@@ -4,7 +4,7 @@ use saa_core::lock::{LockAnswer, LockCall, LockCore};
 use saa_core::ticket::{Full, Ticket};
 use saa_sync::lock::{Lock, Mode};
 use saa_sync::pager::{Error, Pager};
-use saa_sync::testing::{PATIENCE, Patience, Shell, hold, register, OnShell};
+use saa_sync::testing::{OnShell, PATIENCE, Patience, Shell, hold, register};
 use std::alloc::{AllocError, AllocGlobal, Global};
 use std::sync::Wait;
 use std::sync::atomic::{AtomicU64, Ordering};

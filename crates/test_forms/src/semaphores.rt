@@ -6,7 +6,7 @@ use saa_core::semaphore::{SemaphoreAnswer, SemaphoreCall, SemaphoreCore, Semapho
 use saa_core::ticket::{Full, Ticket};
 use saa_sync::pager::{Error, Pager};
 use saa_sync::semaphore::{Semaphore, SemaphoreOf};
-use saa_sync::testing::{PATIENCE, Patience, Shell, hold, register, OnShell};
+use saa_sync::testing::{OnShell, PATIENCE, Patience, Shell, hold, register};
 use std::alloc::{AllocError, AllocGlobal, Global};
 use std::hint::spin_loop;
 use std::sync::Wait;

@@ -7,7 +7,7 @@ pub(crate) mod slots;
 pub(crate) mod wakers;
 
 use saa_sync::semaphore::Semaphore;
-use saa_sync::testing::{call_untold, OnShell};
+use saa_sync::testing::{OnShell, call_untold};
 use std::sync::Wait;
 
 // Answers the waiter, and takes the wake that is pending for that, but wakes nobody: the waker stays where it is.

@@ -13,7 +13,7 @@ use crate::stories::{LATE, Row, Sign, Story};
 use saa_core::semaphore::SemaphoreCore;
 use saa_sync::patience::NONE;
 use saa_sync::semaphore::Semaphore;
-use saa_sync::testing::{Shell, OnShell};
+use saa_sync::testing::{OnShell, Shell};
 use saa_sync::tries::Tries;
 use std::alloc::{AllocError, AllocGlobal};
 use std::sync::Wait;

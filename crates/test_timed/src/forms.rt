@@ -14,7 +14,9 @@ use saa_sync::pager::{Error, Pager};
 use saa_sync::patience::UNREGISTERED;
 use saa_sync::permit::PermitOf;
 use saa_sync::semaphore::SemaphoreOf;
-use saa_sync::testing::{PATIENCE, Patience, Shell, mutex_on, rwlock_on, shell_of_mutex, shell_of_rwlock, OnShell};
+use saa_sync::testing::{
+    OnShell, PATIENCE, Patience, Shell, mutex_on, rwlock_on, shell_of_mutex, shell_of_rwlock,
+};
 use saa_sync::timed::Timed;
 use std::alloc::{AllocError, Global};
 use std::io;

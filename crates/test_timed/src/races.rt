@@ -3,7 +3,7 @@
 use crate::clock::OnClock;
 use saa_core::semaphore::SemaphoreCore;
 use saa_sync::semaphore::Semaphore;
-use saa_sync::testing::{Patience, Shell, OnShell};
+use saa_sync::testing::{OnShell, Patience, Shell};
 use std::alloc::{AllocError, AllocGlobal};
 use std::hint::spin_loop;
 use std::sync::Wait;

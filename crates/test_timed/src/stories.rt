@@ -10,7 +10,7 @@ use crate::{calls, crowd, guards, order, pagers};
 use saa_core::ticket::Full;
 use saa_sync::gate::{Error as GateError, State};
 use saa_sync::pager::Error;
-use saa_sync::testing::{call_untold, OnShell};
+use saa_sync::testing::{OnShell, call_untold};
 use std::alloc::{AllocGlobal, Global};
 use std::io;
 use std::sync::Wait;

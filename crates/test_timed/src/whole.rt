@@ -3,7 +3,7 @@
 use saa_core::semaphore::SemaphoreCore;
 use saa_core::ticket::Full;
 use saa_sync::semaphore::Semaphore;
-use saa_sync::testing::{Patience, Shell, OnShell};
+use saa_sync::testing::{OnShell, Patience, Shell};
 use std::alloc::AllocGlobal;
 use std::io;
 use std::sync::Wait;

@@ -4,7 +4,7 @@ use saa_core::barrier::{BarrierAnswer, BarrierCall, BarrierCore};
 use saa_core::ticket::Full;
 use saa_sync::barrier::Barrier;
 use saa_sync::pager::{Error, Pager};
-use saa_sync::testing::{PATIENCE, Patience, Shell, OnShell};
+use saa_sync::testing::{OnShell, PATIENCE, Patience, Shell};
 use std::alloc::{AllocError, AllocGlobal, Global};
 use std::sync::Wait;
 use std::sync::atomic::{AtomicU64, Ordering};

@@ -4,7 +4,7 @@ use saa_core::gate::{GateAnswer, GateCall, GateCore};
 use saa_core::ticket::Full;
 use saa_sync::gate::{Error, Gate, State};
 use saa_sync::pager::Pager;
-use saa_sync::testing::{PATIENCE, Patience, Shell, OnShell};
+use saa_sync::testing::{OnShell, PATIENCE, Patience, Shell};
 use std::alloc::{AllocError, AllocGlobal, Global};
 use std::sync::Wait;
 use std::sync::atomic::{AtomicU64, Ordering};

@@ -11,7 +11,9 @@ use saa_sync::lock_api::{Mutex, RwLock};
 use saa_sync::pager::Pager;
 use saa_sync::patience::{NONE, Patience};
 use saa_sync::semaphore::Semaphore;
-use saa_sync::testing::{Shell, call_untold, mutex_on, rwlock_on, shell_of_mutex, shell_of_rwlock, OnShell};
+use saa_sync::testing::{
+    OnShell, Shell, call_untold, mutex_on, rwlock_on, shell_of_mutex, shell_of_rwlock,
+};
 use std::alloc::{AllocError, Global};
 use std::sync::Wait;
 use std::sync::atomic::{AtomicBool, Ordering};

@@ -4,7 +4,7 @@ use saa_core::lock::LockCore;
 use saa_sync::lock::{Lock, Mode};
 use saa_sync::pager::Pager;
 use saa_sync::patience::{NONE, Patience};
-use saa_sync::testing::{Shell, OnShell};
+use saa_sync::testing::{OnShell, Shell};
 use std::hint::spin_loop;
 use std::sync::Wait;
 use std::test::Fail;
