@@ -12,13 +12,14 @@ use Rattle.saa_word_proofs.proofs.RefinementLemmas.Promises.{says-so}
 use Rattle.saa_word.specs.declared.moves.Move.{Move}
 use Rattle.saa_word.specs.declared.moves.Move.TheVariants.{Start, Go}
 use Rattle.saa_word.specs.declared.moves.Step.{Step}
-use Rattle.saa_word.specs.Machine.{HasMade, IsMove, Moved, State, is_lock, place_of, row_of}
+use Rattle.saa_word.specs.declared.moves.Step.TheVariants.{Idle, Busy, Going, Waits, Done}
+use Rattle.saa_word.specs.Machine.{IsMove, IsOneStep, Moved, State, is_lock, place_of, row_of}
 use Rattle.saa_word.specs.Moves.{gone}
 use Rattle.saa_word.specs.Runs.{ran}
 use Rattle.saa_word.specs.Trace.{Trace}
 use Rattle.saa_word.specs.Tracks.{Tracks}
 use Rattle.saa_word.specs.Simulation.{AllSimulate, Conserves, SimulatesAll, mover, trace_after}
-use Rattle.saa_word.proofs.Keeping.{gone-made, gone-places, gone-rules}
+use Rattle.saa_word.proofs.Keeping.{gone-exact, gone-places, gone-rules}
 use Rattle.saa_word.proofs.Tracking.{conserves, run-append, simulates}
 
 -- a machine is a lock behind a move where it was one
@@ -164,14 +165,29 @@ ran-rules state [] = refl
 ran-rules state (move ∷ moves) = ran-rules (gone state move).machine moves ∙ gone-rules state move
 
 -- each makes one operation at most, so the count of operations never falls
-made-within : (move : Move) (before after : ℕ) → HasMade move before after → (before ≤ after) × (after ≤ before + 1)
-made-within (Start me call) before after made = (omega (arith, made), omega (arith, made))
-made-within (Go me) before after made = made
+made-same : (before after : State) → after.operations ≡ before.operations → (before.operations ≤ after.operations) × (after.operations ≤ before.operations + 1)
+made-same before after made = (omega (arith, made), omega (arith, made))
+
+made-one : (before after : State) → after.operations ≡ before.operations + 1 → (before.operations ≤ after.operations) × (after.operations ≤ before.operations + 1)
+made-one before after made = (omega (arith, made), omega (arith, made))
+
+made-within : (move : Move) (step : Step) (before after : State) → IsOneStep move step before after
+    → (before.operations ≤ after.operations) × (after.operations ≤ before.operations + 1)
+made-within (Start me call) Idle before after exact = made-same before after (ap (λ (s : State). s.operations) exact.1)
+made-within (Start me call) Busy before after exact = made-same before after (ap (λ (s : State). s.operations) exact)
+made-within (Start me call) Going before after exact = made-same before after (ap (λ (s : State). s.operations) exact.1)
+made-within (Start me call) Waits before after exact = made-same before after (ap (λ (s : State). s.operations) exact.1)
+made-within (Start me call) (Done answer) before after exact = made-same before after (ap (λ (s : State). s.operations) exact.1)
+made-within (Go me) Idle before after exact = made-same before after (ap (λ (s : State). s.operations) exact)
+made-within (Go me) Busy before after exact = made-one before after (ap (λ (s : State). s.operations) exact.2)
+made-within (Go me) Going before after exact = made-one before after (ap (λ (s : State). s.operations) exact.2)
+made-within (Go me) Waits before after exact = made-one before after (ap (λ (s : State). s.operations) exact.2)
+made-within (Go me) (Done answer) before after exact = made-one before after (ap (λ (s : State). s.operations) exact.2)
 
 pub ran-made : (state : State) (moves : List Move)
     → (state.operations ≤ (ran state moves).machine.operations) × ((ran state moves).machine.operations ≤ state.operations + length moves)
 ran-made state [] = (omega arith, omega arith)
 ran-made state (move ∷ moves) =
-    let one = made-within move state.operations (gone state move).machine.operations (gone-made state move) in
+    let one = made-within move (gone state move).step state (gone state move).machine (gone-exact state move) in
     let rest = ran-made (gone state move).machine moves in
     (omega (arith, one.0, rest.0), omega (arith, one.1, rest.1))

@@ -12,6 +12,7 @@ use Rattle.saa_word_steps.specs.declared.operation.Operation.{Operation}
 use Rattle.saa_word_steps.specs.declared.call.WordCall.{WordCall}
 use Rattle.saa_word_steps.specs.declared.place.Place.{Place}
 use Rattle.saa_word_steps.specs.declared.place.Next.{Next}
+use Rattle.saa_word_steps.specs.declared.place.Next.TheVariants.{Going as GoesOn, Waits as HasToWait, Done as IsDone}
 use Rattle.saa_word_steps.specs.declared.place.Stage.{Stage}
 use Rattle.saa_word_steps.specs.declared.place.Stage.TheVariants.{Quiet, ReadLoad, AskLoad, AskExchange, Prepare, Join, ReleaseLoad, ReleaseExchange, BackLoad, BackStore, Forward, CutToClose, CutToGoRound, Close, Empty, GoRound, ShowLoad, ShowStore, Take, FlagLoad, FlagExchange, LookLoad, LookStore, Unlink, DropTail, PoisonLoad, PoisonExchange, Clear}
 use Rattle.saa_word_steps.specs.Needs.{Needs, needs_of}
@@ -31,7 +32,7 @@ use Rattle.saa_word.specs.declared.moves.Move.{Move}
 use Rattle.saa_word.specs.declared.moves.Move.TheVariants.{Start, Go}
 use Rattle.saa_word.specs.declared.moves.Step.{Step}
 use Rattle.saa_word.specs.Tracks.{IsMachine, IsSized, RefinesAs}
-use Rattle.saa_word.specs.Machine.{HasMade, Moved, State, is_lock, opened, place_in, place_of, row_of}
+use Rattle.saa_word.specs.Machine.{IsOneStep, Moved, State, is_lock, opened, place_in, place_of, row_of}
 use Rattle.saa_word.specs.Moves.{found_by, gone, is_quiet, made_by, next_by, operation_at, started_by, step_of, stepped_at, worked_at}
 
 -- what a move did, by its parts
@@ -236,12 +237,42 @@ gone-rules state (Start me call) =
 gone-rules state (Go me) =
     elim (cases_Bool (is_quiet (place_of state me).stage)) [ inl quiet ↦ rw quiet refl | inr busy ↦ rw busy refl ]
 
--- and makes one operation at most, a Start none
-pub gone-made : (state : State) (move : Move) → HasMade move state.operations (gone state move).machine.operations
-gone-made state (Start me call) =
-    elim (cases_Bool (is_quiet (place_of state me).stage)) [ inl quiet ↦ rw quiet refl | inr busy ↦ rw busy refl ]
-gone-made state (Go me) =
+-- a place in a call makes the one operation that is next
+pub worked-exact : (me : ℕ) (state : State) (operation : Operation) (found : ℕ) (place : Place) (next : Next)
+    → IsOneStep (Go me) (step_of next) state (record state {
+      row = set state.row (word_at operation) (written_by operation found);
+      places = set state.places me (place_after place next);
+      operations = state.operations + 1;
+      last_word = word_at operation;
+    })
+worked-exact me state operation found place (GoesOn behind) = (_, _, refl)
+worked-exact me state operation found place HasToWait = (_, _, refl)
+worked-exact me state operation found place (IsDone behind answer) = (_, _, refl)
+
+-- and one that starts a call makes none
+pub begun-exact : (me : ℕ) (call : WordCall) (state : State) (place : Place) (next : Next)
+    → IsOneStep (Start me call) (step_of next) state (record state { places = set state.places me (place_after place next) })
+begun-exact me call state place (GoesOn behind) = (_, refl)
+begun-exact me call state place HasToWait = (_, refl)
+begun-exact me call state place (IsDone behind answer) = (_, refl)
+
+-- so a move is one step
+pub gone-exact : (state : State) (move : Move) → IsOneStep move (gone state move).step state (gone state move).machine
+gone-exact state (Start me call) =
     elim (cases_Bool (is_quiet (place_of state me).stage)) [
-      | inl quiet ↦ rw quiet (omega arith, omega arith)
-      | inr busy ↦ rw busy (omega arith, omega arith)
+      | inl quiet ↦ rw quiet (begun-exact me call state (place_of state me) (started_by (needs_of state.rules) (place_of state me) call))
+      | inr busy ↦ rw busy refl
     ]
+gone-exact state (Go me) =
+    elim (cases_Bool (is_quiet (place_of state me).stage)) [
+      | inl quiet ↦ rw quiet refl
+      | inr busy ↦ rw busy (worked-exact me state (operation_at state me) (found_by state (operation_at state me)) (place_of state me)
+          (next_by (needs_of state.rules) me (place_of state me) (found_by state (operation_at state me))))
+    ]
+
+-- the same of what a call answered, and of a machine as it is written down by its parts
+pub exact-as : (state machine : State) (move : Move) (step : Step) → step ≡ (gone state move).step → machine ≡ (gone state move).machine
+    → IsOneStep move step state machine
+exact-as state machine move step step_is machine_is =
+    subst (λ (n : Step). IsOneStep move n state machine) (sym step_is)
+    (subst (λ (m : State). IsOneStep move (gone state move).step state m) (sym machine_is) (gone-exact state move))

@@ -45,13 +45,13 @@ use Rattle.saa_word.specs.declared.moves.Move.{Move}
 use Rattle.saa_word.specs.declared.moves.Move.TheVariants.{Start, Go}
 use Rattle.saa_word.specs.declared.moves.Step.{Step}
 use Rattle.saa_word.specs.declared.moves.Step.TheVariants.{Idle, Busy, Done}
-use Rattle.saa_word.specs.Machine.{HasMade, IsMove, State, is_lock, opened, place_in, place_of, row_of}
+use Rattle.saa_word.specs.Machine.{IsMove, IsOneStep, State, is_lock, opened, place_in, place_of, row_of}
 use Rattle.saa_word.specs.Tracks.{IsIn, RefinesAs, Tracks}
 use Rattle.saa_word.specs.Moves.{found_by, gone, is_quiet, operation_at, followed, step_of, worked_at}
 use Rattle.saa_word.specs.Trace.{beginning, IsQuiescent, Trace, Underway}
 use Rattle.saa_word.specs.Simulation.{Conserves, IsRight, IsSilent, IsWaiting, Simulates, WaitsRightly, asked_in, call_after, holder_after, made_after, mine_after, mover, registered_after, started_step, trace_after}
 use Rattle.saa_word.proofs.Holding.{held-after, held-same, not-false}
-use Rattle.saa_word.proofs.Keeping.{opened-sized, opened-stands, other-place, quiet-stage, replicated, set-updated, work-stands, work-sized, start-stands, start-sized}
+use Rattle.saa_word.proofs.Keeping.{begun-exact, worked-exact, opened-sized, opened-stands, other-place, quiet-stage, replicated, set-updated, work-stands, work-sized, start-stands, start-sized}
 use Rattle.saa_word.proofs.Waits.{not-quiet, waiting}
 
 -- two runs are one
@@ -267,7 +267,7 @@ went state trace me here tracks busy =
       within = within;
     } in
     (record {
-      operations = (omega arith, omega arith);
+      exact = worked-exact me state operation found place next;
       rules = refl;
       places = length-set state.places me (place_after place next);
       events = events;
@@ -353,7 +353,7 @@ begun state trace me call here taken tracks quiet =
       within = subst (λ n. AreWithin n (row_of state) (place_of after) made) (sym (length-set state.places me behind)) within_here;
     } in
     (record {
-      operations = refl;
+      exact = begun-exact me call state place next;
       rules = refl;
       places = length-set state.places me behind;
       events = [];
@@ -383,13 +383,13 @@ begun state trace me call here taken tracks quiet =
 pub idled : (state : State) (trace : Trace) (move : Move) (step : Step)
     → ((registered : Registration) (underway : Option Underway) → call_after registered underway move [] step ≡ underway)
     → ((underway : Option Underway) (was : Registration) → registered_after underway move [] step was ≡ was)
-    → ((made : ℕ) → mine_after made move step ≡ made) → HasMade move state.operations state.operations
+    → ((made : ℕ) → mine_after made move step ≡ made) → IsOneStep move step state state
     → IsSilent move step [] → IsRight (needs_of state.rules) (trace.registered (mover move)) (trace.calls (mover move)) move [] step
     → WaitsRightly state state trace move step
     → Tracks state trace → Simulates state move (record { step = step; machine = state }) trace
-idled state trace move step calls registered made none silent right waits tracks =
+idled state trace move step calls registered made exact silent right waits tracks =
     record {
-      operations = none;
+      exact = exact;
       rules = refl;
       places = refl;
       events = [];
@@ -467,7 +467,7 @@ simulates state (Start me call) trace is tracks =
     start-busy registered (Some underway) me call is busy = refl
 simulates state (Go me) trace is tracks =
     elim (cases_Bool (is_quiet (place_of state me).stage)) [
-      | inl quiet ↦ rw quiet (idled state trace (Go me) Idle (go-kept me) (λ underway was. refl) (λ made. refl) (omega arith, omega arith) refl
+      | inl quiet ↦ rw quiet (idled state trace (Go me) Idle (go-kept me) (λ underway was. refl) (λ made. refl) refl refl
           (go-idle (trace.registered me) (trace.calls me) me (tracks.calls me) (quiet-stage (place_of state me).stage quiet)) tt tracks)
       | inr busy ↦ rw busy (went state trace me is tracks busy)
     ]

@@ -1,7 +1,7 @@
 -- A form in words as contracts see it: its rules, the row of words, the places, how many operations were made on the words, and the index of
 -- the word that the last of them was made on. The row is the main word, then the line word of each place, then the answer word of each. A reader of
 -- the clauses has to believe this.
-use Rattle.std.specs.Prelude.{◌≡◌, ℕ, ◌+◌, ◌*◌, ◌<◌, ◌≤◌, Bool, true, List, ◌∷◌, replicate, slice_index, slice_index_or}
+use Rattle.std.specs.Prelude.{◌≡◌, ℕ, ◌+◌, ◌*◌, ◌<◌, Bool, true, List, ◌∷◌, replicate, slice_index, slice_index_or, slice_set}
 use Rattle.saa_word_steps.specs.declared.rules.Rules.{Rules}
 use Rattle.saa_word_steps.specs.declared.place.Place.{Place}
 use Rattle.saa_word_steps.specs.Readings.{is_taken}
@@ -10,6 +10,7 @@ use Rattle.saa_word_proofs.specs.Promises.{idle_place}
 use Rattle.saa_word.specs.declared.moves.Move.{Move}
 use Rattle.saa_word.specs.declared.moves.Move.TheVariants.{Start, Go}
 use Rattle.saa_word.specs.declared.moves.Step.{Step}
+use Rattle.saa_word.specs.declared.moves.Step.TheVariants.{Idle, Busy}
 
 pub record State : Type 0 where
   pub rules : Rules
@@ -35,10 +36,21 @@ pub record Moved : Type 0 where
   pub step : Step
   pub machine : State
 
--- how many operations on words a move has made, by their count before and after it: a Start none, a Go one at most. The count never falls
-abbrev pub HasMade : Move → ℕ → ℕ → Type 0
-HasMade (Start me call) before after = after ≡ before
-HasMade (Go me) before after = (before ≤ after) × (after ≤ before + 1)
+-- What a move that did this leaves of the machine before it: one that is Busy or Idle leaves all as it was; each other Start makes no operation, and
+-- writes its own place at most; and each other Go makes exactly one operation, on the word of the last index, and writes that word and its own
+-- place at most
+abbrev pub IsOneStep : Move → Step → State → State → Type 0
+IsOneStep (Start me call) Busy before after = after ≡ before
+IsOneStep (Start me call) step before after = (place : Place) × (after ≡ record before { places = slice_set before.places me place })
+IsOneStep (Go me) Idle before after = after ≡ before
+IsOneStep (Go me) step before after =
+    (place : Place) × (number : ℕ)
+    × (after ≡ record before {
+      row = slice_set before.row after.last_word number;
+      places = slice_set before.places me place;
+      operations = before.operations + 1;
+      last_word = after.last_word;
+    })
 
 -- a form of these rules in which so much is held, with so many idle places: the words are 0, but for the main word's count
 abbrev pub opened : Rules → ℕ → ℕ → State
