@@ -1,5 +1,6 @@
 pub mod Keeping
 pub mod Holding
+mod Seeking
 mod Waits
 pub mod Tracking
 pub mod Machines

@@ -46,6 +46,7 @@ loaded-machine state row operations last_word same is =
         asks = t.asks;
         holder = t.holder;
         calls = t.calls;
+        fresh = t.fresh;
         within = t.within;
       };
     })

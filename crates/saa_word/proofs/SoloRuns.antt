@@ -42,7 +42,7 @@ use Rattle.saa_word.specs.Moves.{gone, is_quiet, step_of}
 use Rattle.saa_word.specs.Runs.{ran}
 use Rattle.saa_word.specs.Trace.{IsQuiescent, Trace, Underway}
 use Rattle.saa_word.specs.Tracks.{IsIn, Tracks}
-use Rattle.saa_word.specs.Simulation.{IsWaiting, SimulatesAll, WaitsRightly, call_after, trace_after}
+use Rattle.saa_word.specs.Simulation.{IsWaiting, SimulatesAll, WaitsRightly, call_after, holds_after, trace_after}
 use Rattle.saa_word.specs.Solo.{IsAnsweredAlone, IsSolo, solo_moves}
 use Rattle.saa_word.proofs.Keeping.{gone-places, gone-rules, quiet-stage}
 use Rattle.saa_word.proofs.Tracking.{rests, simulates}
@@ -59,11 +59,11 @@ in-middle needs place (Some underway) u same is = by-test (is_quiet place.stage)
     by-test true quiet = absurd (subst (λ stage. IsUnder needs underway.call underway.registered place.back stage underway.events) (quiet-stage place.stage quiet) is)
 
 -- the call that a place is in behind a step that goes on
-goes-call : (underway : Option Underway) (u : Underway) (registered : Registration) (me : ℕ) (events : List Event) (step : Step) → underway ≡ Some u → step ≡ Going
-    → (now : Underway) × (call_after registered underway (Go me) events step ≡ Some now)
-goes-call None u registered me events step same goes = absurd (cc)
-goes-call (Some underway) u registered me events step same goes =
-    (_, ap (call_after registered (Some underway) (Go me) events) goes)
+goes-call : (underway : Option Underway) (u : Underway) (registered : Registration) (holds : Bool) (me : ℕ) (events : List Event) (step : Step) → underway ≡ Some u → step ≡ Going
+    → (now : Underway) × (call_after registered holds underway (Go me) events step ≡ Some now)
+goes-call None u registered holds me events step same goes = absurd (cc)
+goes-call (Some underway) u registered holds me events step same goes =
+    (_, ap (call_after registered holds (Some underway) (Go me) events) goes)
 
 -- steps that are done, as moves: all but the last go on
 abbrev IsRan : ℕ → State → ℕ → Answer → Moment → Type 0
@@ -107,9 +107,9 @@ next-ran more state trace me u answer last tracks here calls further (GoesOn pla
     let one = simulates state (Go me) trace here tracks in
     let after : Trace = trace_after state (Go me) (gone state (Go me)) trace one.events one.last in
     let step : (gone state (Go me)).step ≡ Going = goes.1 ∙ ap step_of is in
-    let call = goes-call (trace.calls me) u (trace.registered me) me (named one.events) (gone state (Go me)).step calls step in
+    let call = goes-call (trace.calls me) u (trace.registered me) (holds_after state (Go me) (gone state (Go me)) trace) me (named one.events) (gone state (Go me)).step calls step in
     let rest = further machine after call.0 one.tracks (subst (λ n. me < n) (sym (gone-places state (Go me))) here)
-    (updated-at trace.calls me (call_after (trace.registered me) (trace.calls me) (Go me) (named one.events) (gone state (Go me)).step) ∙ call.1)
+    (updated-at trace.calls me (call_after (trace.registered me) (holds_after state (Go me) (gone state (Go me)) trace) (trace.calls me) (Go me) (named one.events) (gone state (Go me)).step) ∙ call.1)
     (subst (λ n. IsDoneIn (needs_of machine.rules) n me (suc more) (moment_of machine) answer last) (sym (gone-places state (Go me)))
     (subst (λ (r : Rules). IsDoneIn (needs_of r) (length state.places) me (suc more) (moment_of machine) answer last) (sym (gone-rules state (Go me)))
     (subst (λ (m : Moment). IsDoneIn (needs_of state.rules) (length state.places) me (suc more) m answer last) (sym goes.0) done))) in
@@ -126,9 +126,9 @@ done-ran (suc more) state trace me u answer last tracks here calls done =
     (next_at (needs_of state.rules) (length state.places) me (moment_of state)) refl done
 
 -- a call that starts
-begun-call : (registered : Registration) (underway : Option Underway) (me : ℕ) (call : WordCall) (events : List Event) (step : Step) → step ≡ Going
-    → (now : Underway) × (call_after registered underway (Start me call) events step ≡ Some now)
-begun-call registered underway me call events step goes = (_, ap (call_after registered underway (Start me call) events) goes)
+begun-call : (registered : Registration) (holds : Bool) (underway : Option Underway) (me : ℕ) (call : WordCall) (events : List Event) (step : Step) → step ≡ Going
+    → (now : Underway) × (call_after registered holds underway (Start me call) events step ≡ Some now)
+begun-call registered holds underway me call events step goes = (_, ap (call_after registered holds underway (Start me call) events) goes)
 
 -- A solo run
 pub called-ran : (state : State) (trace : Trace) (me : ℕ) (call : WordCall) (goes : ℕ) (answer : Answer) (last : Moment) → Tracks state trace
@@ -153,9 +153,9 @@ called-ran state trace me call goes answer last tracks rests here taken called =
         let one = simulates state (Start me call) trace (here, taken) tracks in
         let after : Trace = trace_after state (Start me call) (gone state (Start me call)) trace one.events one.last in
         let step : (gone state (Start me call)).step ≡ Going = begins.1 ∙ ap step_of is in
-        let now = begun-call (trace.registered me) (trace.calls me) me call (named one.events) (gone state (Start me call)).step step in
+        let now = begun-call (trace.registered me) (holds_after state (Start me call) (gone state (Start me call)) trace) (trace.calls me) me call (named one.events) (gone state (Start me call)).step step in
         let rest = done-ran more machine after me now.0 answer last one.tracks
-        (subst (λ n. me < n) (sym (gone-places state (Start me call))) here) (updated-at trace.calls me (call_after (trace.registered me) (trace.calls me) (Start me call) (named one.events) (gone state (Start me call)).step) ∙ now.1)
+        (subst (λ n. me < n) (sym (gone-places state (Start me call))) here) (updated-at trace.calls me (call_after (trace.registered me) (holds_after state (Start me call) (gone state (Start me call)) trace) (trace.calls me) (Start me call) (named one.events) (gone state (Start me call)).step) ∙ now.1)
         (subst (λ n. IsDoneIn (needs_of machine.rules) n me (suc more) (moment_of machine) answer last) (sym (gone-places state (Start me call)))
         (subst (λ (r : Rules). IsDoneIn (needs_of r) (length state.places) me (suc more) (moment_of machine) answer last) (sym (gone-rules state (Start me call)))
         (subst (λ (m : Moment). IsDoneIn (needs_of state.rules) (length state.places) me (suc more) m answer last) (sym begins.0) called))) in
@@ -329,11 +329,11 @@ in-slot abstract me false held there =
     let none : held_by me abstract ≡ 0 = held in absurd (omega (arith, none, waits-some me abstract.line there))
 
 -- the call that a place is in behind a step that waits
-waits-call : (underway : Option Underway) (u : Underway) (registered : Registration) (me : ℕ) (events : List Event) (step : Step) → underway ≡ Some u → step ≡ Waits
-    → call_after registered underway (Go me) events step ≡ Some u
-waits-call None u registered me events step same waits = absurd (cc)
-waits-call (Some underway) u registered me events step same waits =
-    ap (call_after registered (Some underway) (Go me) events) waits ∙ same
+waits-call : (underway : Option Underway) (u : Underway) (registered : Registration) (holds : Bool) (me : ℕ) (events : List Event) (step : Step) → underway ≡ Some u → step ≡ Waits
+    → call_after registered holds underway (Go me) events step ≡ Some u
+waits-call None u registered holds me events step same waits = absurd (cc)
+waits-call (Some underway) u registered holds me events step same waits =
+    ap (call_after registered holds (Some underway) (Go me) events) waits ∙ same
 
 -- a place that waits leaves the moment as it was
 same-moment : (state after : State) → after.row ≡ state.row → after.places ≡ state.places → moment_of after ≡ moment_of state
@@ -354,8 +354,8 @@ waits-on (suc more) state trace me u tracks here calls waits =
     let next : next_at (needs_of machine.rules) (length machine.places) me (moment_of machine) ≡ HasToWait =
     (λ i. next_at (needs_of (one.rules i)) (one.places i) me (same-moment state machine waiting.row waiting.places i)) ∙ waits in
     let rest = waits-on more machine after me u one.tracks (subst (λ n. me < n) (sym one.places) here)
-    (updated-at trace.calls me (call_after (trace.registered me) (trace.calls me) (Go me) (named one.events) (gone state (Go me)).step)
-    ∙ waits-call (trace.calls me) u (trace.registered me) me (named one.events) (gone state (Go me)).step calls step) next in
+    (updated-at trace.calls me (call_after (trace.registered me) (holds_after state (Go me) (gone state (Go me)) trace) (trace.calls me) (Go me) (named one.events) (gone state (Go me)).step)
+    ∙ waits-call (trace.calls me) u (trace.registered me) (holds_after state (Go me) (gone state (Go me)) trace) me (named one.events) (gone state (Go me)).step calls step) next in
     λ i. step i ∷ rest i
 
 pub poll-waits : (state : State) (trace : Trace) (me goes : ℕ) → Tracks state trace → IsQuiescent trace → me < length state.places → is_in me trace.state.line ≡ true
@@ -370,11 +370,11 @@ poll-waits state trace me goes tracks quiescent here there =
     let machine : State = (gone state (Start me Poll)).machine in
     let one = simulates state (Start me Poll) trace (here, refl) tracks in
     let after : Trace = trace_after state (Start me Poll) (gone state (Start me Poll)) trace one.events one.last in
-    let now = begun-call (trace.registered me) (trace.calls me) me Poll (named one.events) (gone state (Start me Poll)).step step in
+    let now = begun-call (trace.registered me) (holds_after state (Start me Poll) (gone state (Start me Poll)) trace) (trace.calls me) me Poll (named one.events) (gone state (Start me Poll)).step step in
     let next : next_at (needs_of machine.rules) (length machine.places) me (moment_of machine) ≡ HasToWait =
     (λ i. next_at (needs_of (gone-rules state (Start me Poll) i)) (gone-places state (Start me Poll) i) me (begins.0 i)) ∙ waiting.0 in
     let rest = waits-on goes machine after me now.0 one.tracks (subst (λ n. me < n) (sym (gone-places state (Start me Poll))) here)
-    (updated-at trace.calls me (call_after (trace.registered me) (trace.calls me) (Start me Poll) (named one.events) (gone state (Start me Poll)).step) ∙ now.1) next in
+    (updated-at trace.calls me (call_after (trace.registered me) (holds_after state (Start me Poll) (gone state (Start me Poll)) trace) (trace.calls me) (Start me Poll) (named one.events) (gone state (Start me Poll)).step) ∙ now.1) next in
     λ i. step i ∷ rest i
 
 -- The same of moves that were answered so, and left this machine

@@ -27,12 +27,13 @@ use Rattle.saa_word_steps.specs.declared.event.Event.{Event}
 use Rattle.saa_word_steps.specs.Steps.{next_of, started, word_at, written_by}
 use Rattle.saa_word_steps.specs.Readings.{is_taken}
 use Rattle.saa_word_proofs.specs.Rows.{main_of, updated}
+use Rattle.saa_word_proofs.specs.Refinement.{is_holder}
 use Rattle.saa_word_proofs.specs.StepRefinement.{named_at, place_after, row_after}
 use Rattle.saa_word_proofs.specs.History.{named, of_place}
 use Rattle.saa_word_proofs.specs.Calls.{asked_by}
 use Rattle.saa_word_proofs.specs.Promises.{IsAtRest, Observes, idle_place}
 use Rattle.saa_word_proofs.proofs.SoloLemmas.Quiet.{at-rest}
-use Rattle.saa_word_proofs.proofs.RefinementLemmas.Lists.{all-same, updated-same}
+use Rattle.saa_word_proofs.proofs.RefinementLemmas.Lists.{all-same, updated-at, updated-same}
 use Rattle.saa_word_proofs.proofs.RefinementLemmas.Calls.{under-next}
 use Rattle.saa_word_proofs.proofs.RefinementLemmas.Starting.{call-begun}
 use Rattle.saa_word_proofs.proofs.RefinementLemmas.Promises.{says-so}
@@ -46,12 +47,13 @@ use Rattle.saa_word.specs.declared.moves.Move.TheVariants.{Start, Go}
 use Rattle.saa_word.specs.declared.moves.Step.{Step}
 use Rattle.saa_word.specs.declared.moves.Step.TheVariants.{Idle, Busy, Done}
 use Rattle.saa_word.specs.Machine.{IsMove, IsOneStep, State, is_lock, opened, place_in, place_of, row_of}
-use Rattle.saa_word.specs.Tracks.{IsIn, RefinesAs, Tracks}
+use Rattle.saa_word.specs.Tracks.{IsFresh, IsIn, RefinesAs, Tracks}
 use Rattle.saa_word.specs.Moves.{found_by, gone, is_quiet, operation_at, followed, step_of, worked_at}
 use Rattle.saa_word.specs.Trace.{beginning, IsQuiescent, Trace, Underway}
-use Rattle.saa_word.specs.Simulation.{Conserves, IsRight, IsSilent, IsWaiting, Simulates, WaitsRightly, asked_in, call_after, holder_after, made_after, mine_after, mover, registered_after, started_step, trace_after}
+use Rattle.saa_word.specs.Simulation.{Conserves, IsRight, IsSilent, IsWaiting, Simulates, WaitsRightly, asked_in, call_after, holder_after, holds_after, made_after, mine_after, mover, registered_after, started_step, trace_after}
 use Rattle.saa_word.proofs.Holding.{held-after, held-same, not-false}
 use Rattle.saa_word.proofs.Keeping.{begun-exact, worked-exact, opened-sized, opened-stands, other-place, quiet-stage, replicated, set-updated, work-stands, work-sized, start-stands, start-sized}
+use Rattle.saa_word.proofs.Seeking.{fresh-begun, fresh-next, seeks-on}
 use Rattle.saa_word.proofs.Waits.{not-quiet, waiting}
 
 -- two runs are one
@@ -75,33 +77,33 @@ conserves state trace run bound rules =
     }
 
 -- the call that a place is in behind its step
-in-next : (needs : Needs) (registered : Registration) (underway : Option Underway) (me : ℕ) (place : Place) (events : List Event) (next : Next)
+in-next : (needs : Needs) (registered : Registration) (holds : Bool) (underway : Option Underway) (me : ℕ) (place : Place) (events : List Event) (next : Next)
     → IsIn needs underway place → is_quiet place.stage ≡ false
     → ((u : Underway) → underway ≡ Some u → IsUnderNext needs u.call u.registered place.back place.stage (u.events ++ events) next)
     → ((behind : Place) (answer : Answer) → next ≡ IsDone behind answer → behind.stage ≡ Quiet)
-    → IsIn needs (call_after registered underway (Go me) events (step_of next)) (place_after place next)
+    → IsIn needs (call_after registered holds underway (Go me) events (step_of next)) (place_after place next)
     × IsRight needs registered underway (Go me) events (step_of next)
-in-next needs registered None me place events next is busy under quiet = absurd (not-quiet place.stage busy is)
-in-next needs registered (Some underway) me place events (GoesOn behind) is busy under quiet = (under underway refl, tt)
-in-next needs registered (Some underway) me place events HasToWait is busy under quiet = (is, tt)
-in-next needs registered (Some underway) me place events (IsDone behind answer) is busy under quiet = (quiet behind answer refl, under underway refl)
+in-next needs registered holds None me place events next is busy under quiet = absurd (not-quiet place.stage busy is)
+in-next needs registered holds (Some underway) me place events (GoesOn behind) is busy under quiet = (under underway refl, tt)
+in-next needs registered holds (Some underway) me place events HasToWait is busy under quiet = (is, tt)
+in-next needs registered holds (Some underway) me place events (IsDone behind answer) is busy under quiet = (quiet behind answer refl, under underway refl)
 
 -- and behind its start
-in-begun : (needs : Needs) (underway : Option Underway) (me : ℕ) (call : WordCall) (place : Place) (next : Next) → IsIn needs underway place
+in-begun : (needs : Needs) (holds : Bool) (underway : Option Underway) (me : ℕ) (call : WordCall) (place : Place) (next : Next) → IsIn needs underway place
     → IsBegun needs call place.registration next → place.stage ≡ Quiet
-    → IsIn needs (call_after place.registration underway (Start me call) [] (step_of next)) (place_after place next)
-in-begun needs underway me call place (GoesOn behind) is begun quiet = begun
-in-begun needs underway me call place HasToWait is begun quiet = absurd begun
-in-begun needs None me call place (IsDone behind answer) is begun quiet = begun
-in-begun needs (Some underway) me call place (IsDone behind answer) is begun quiet =
+    → IsIn needs (call_after place.registration holds underway (Start me call) [] (step_of next)) (place_after place next)
+in-begun needs holds underway me call place (GoesOn behind) is begun quiet = begun
+in-begun needs holds underway me call place HasToWait is begun quiet = absurd begun
+in-begun needs holds None me call place (IsDone behind answer) is begun quiet = begun
+in-begun needs holds (Some underway) me call place (IsDone behind answer) is begun quiet =
     absurd (subst (λ stage. IsUnder needs underway.call underway.registered place.back stage underway.events) quiet is)
 
--- a trace whose places are in the calls that it says still says so once one of them moved
-calls-next : (needs : Needs) (places : List Place) (calls : ℕ → Option Underway) (me : ℕ) (place : Place) (underway : Option Underway)
-    → me < length places → ((other : ℕ) → IsIn needs (calls other) (place_in places other)) → IsIn needs underway place
-    → (other : ℕ) → IsIn needs (updated calls me underway other) (place_in (set places me place) other)
-calls-next needs places calls me place underway here was is other =
-    subst (λ (f : ℕ → Place). IsIn needs (updated calls me underway other) (f other)) (sym (set-updated places me place idle_place here))
+-- what a trace says of the calls that places are in, it says still once one of them moved
+calls-next : (Says : Option Underway → Place → Type 0) (places : List Place) (calls : ℕ → Option Underway) (me : ℕ) (place : Place) (underway : Option Underway)
+    → me < length places → ((other : ℕ) → Says (calls other) (place_in places other)) → Says underway place
+    → (other : ℕ) → Says (updated calls me underway other) (place_in (set places me place) other)
+calls-next Says places calls me place underway here was is other =
+    subst (λ (f : ℕ → Place). Says (updated calls me underway other) (f other)) (sym (set-updated places me place idle_place here))
     (elim (cases_Bool (other == me)) [
       | inl same ↦ rw same is
       | inr apart ↦ rw apart (was other)
@@ -213,7 +215,8 @@ went state trace me here tracks busy =
     let refines : RefinesAs machine stepped.last =
     work-stands state trace.state me tracks.sized.wide tracks.sized.few tracks.sized.words here tracks.refines stepped in
     let left = step-left needs (trace.calls me) me place found (named events) (tracks.calls me) busy stepped.names in
-    let goes = in-next needs (trace.registered me) (trace.calls me) me place (named events) next (tracks.calls me) busy
+    let holds : Bool = holds_after state (Go me) (worked_at state me) trace in
+    let goes = in-next needs (trace.registered me) holds (trace.calls me) me place (named events) next (tracks.calls me) busy
     (λ u is. subst (λ (l : List Event). IsUnderNext needs u.call u.registered place.back place.stage (u.events ++ l) next) (sym stepped.names)
     (under-next needs u.call u.registered me place place.stage found u.events (subst (λ (o : Option Underway). IsIn needs o place) is (tracks.calls me))))
     (left-quiet place.registration (left_behind (named events) (asked_in (trace.calls me)) place.registration) next left) in
@@ -250,6 +253,13 @@ went state trace me here tracks busy =
     let shown_before : Observes needs (length state.places) (row_of state) trace.state =
     says-so needs (length state.places) (row_of state) (place_of state) trace.state tracks.refines in
     let after : Trace = trace_after state (Go me) (worked_at state me) trace events stepped.last in
+    let holder : refines.holder ≡ after.holder =
+    held-after needs (length state.places) (length machine.places) (row_of state) (row_of machine) (place_of state) (place_of machine) trace.state stepped.last me
+    tracks.refines refines apart
+    ∙ ap (λ (h : ℕ). holder_after h me (main_of (row_of state)) (main_of (row_of machine))) tracks.holder in
+    let one : is_holder (place_after place next).stage ≡ holds =
+    ap (λ (p : Place). is_holder p.stage) (sym (updated-at (place_of state) me (place_after place next)) ∙ ap (λ (f : ℕ → Place). f me) (sym place_is))
+    ∙ refines.stages.one me ∙ ap (λ (h : ℕ). h == me + 1) holder in
     let then : Tracks machine after = record {
       sized = work-sized state me tracks.sized;
       run = run;
@@ -259,11 +269,12 @@ went state trace me here tracks busy =
       asks = run-registered needs trace.state stepped.last me events (asked_in (trace.calls me)) trace.registered (trace.registered me) stepped.run
           shown_before.once (λ poisoned. (tracks.refines.main.barren poisoned).1)
           (subst (λ (f : ℕ → Registration). AreRegistered f trace.state.line) (sym (updated-same trace.registered me (trace.registered me) refl)) tracks.asks);
-      holder = held-after needs (length state.places) (length machine.places) (row_of state) (row_of machine) (place_of state) (place_of machine) trace.state stepped.last me
-          tracks.refines refines apart
-          ∙ ap (λ (h : ℕ). holder_after h me (main_of (row_of state)) (main_of (row_of machine))) tracks.holder;
-      calls = calls-next needs state.places trace.calls me (place_after place next)
-          (call_after (trace.registered me) (trace.calls me) (Go me) (named events) (step_of next)) here tracks.calls goes.0;
+      holder = holder;
+      calls = calls-next (IsIn needs) state.places trace.calls me (place_after place next)
+          (call_after (trace.registered me) holds (trace.calls me) (Go me) (named events) (step_of next)) here tracks.calls goes.0;
+      fresh = calls-next (λ underway p. IsFresh underway p.stage) state.places trace.calls me (place_after place next)
+          (call_after (trace.registered me) holds (trace.calls me) (Go me) (named events) (step_of next)) here tracks.fresh
+          (fresh-next (trace.registered me) holds (trace.calls me) me (named events) place next (tracks.fresh me) (seeks-on needs me place place.stage found refl) one);
       within = within;
     } in
     (record {
@@ -335,6 +346,7 @@ begun state trace me call here taken tracks quiet =
     (started-left (starting_answer needs call place.registration) (begun_as call place.registration) place next answered
     ∙ ap (begun_as call) (tracks.registered me) ∙ sym (begun-registered (trace.calls me) me call [] (trace.registered me) next)) in
     let behind_it : Trace = trace_after state (Start me call) (followed state me next) trace [] trace.state in
+    let holds : Bool = holds_after state (Start me call) (followed state me next) trace in
     let then : Tracks after behind_it = record {
       sized = start-sized state me behind tracks.sized;
       run = run;
@@ -347,9 +359,12 @@ begun state trace me call here taken tracks quiet =
       holder = held-after needs (length state.places) (length after.places) (row_of state) (row_of state) (place_of state) (place_of after) trace.state trace.state me
           tracks.refines refines apart
           ∙ ap (λ (h : ℕ). holder_after h me (main_of (row_of state)) (main_of (row_of state))) tracks.holder;
-      calls = calls-next needs state.places trace.calls me behind (call_after (trace.registered me) (trace.calls me) (Start me call) [] (step_of next)) here tracks.calls
-          (subst (λ (r : Registration). IsIn needs (call_after r (trace.calls me) (Start me call) [] (step_of next)) behind) (tracks.registered me)
-          (in-begun needs (trace.calls me) me call place next (tracks.calls me) starts none));
+      calls = calls-next (IsIn needs) state.places trace.calls me behind (call_after (trace.registered me) holds (trace.calls me) (Start me call) [] (step_of next)) here tracks.calls
+          (subst (λ (r : Registration). IsIn needs (call_after r holds (trace.calls me) (Start me call) [] (step_of next)) behind) (tracks.registered me)
+          (in-begun needs holds (trace.calls me) me call place next (tracks.calls me) starts none));
+      fresh = calls-next (λ underway p. IsFresh underway p.stage) state.places trace.calls me behind
+          (call_after (trace.registered me) holds (trace.calls me) (Start me call) [] (step_of next)) here tracks.fresh
+          (fresh-begun needs (trace.registered me) holds (trace.calls me) me call place next (tracks.calls me) starts none);
       within = subst (λ n. AreWithin n (row_of state) (place_of after) made) (sym (length-set state.places me behind)) within_here;
     } in
     (record {
@@ -381,7 +396,7 @@ begun state trace me call here taken tracks quiet =
 
 -- a move that does nothing leaves its trace
 pub idled : (state : State) (trace : Trace) (move : Move) (step : Step)
-    → ((registered : Registration) (underway : Option Underway) → call_after registered underway move [] step ≡ underway)
+    → ((registered : Registration) (holds : Bool) (underway : Option Underway) → call_after registered holds underway move [] step ≡ underway)
     → ((underway : Option Underway) (was : Registration) → registered_after underway move [] step was ≡ was)
     → ((made : ℕ) → mine_after made move step ≡ made) → IsOneStep move step state state
     → IsSilent move step [] → IsRight (needs_of state.rules) (trace.registered (mover move)) (trace.calls (mover move)) move [] step
@@ -419,11 +434,14 @@ idled state trace move step calls registered made exact silent right waits track
           | inr apart ↦ rw (apart, number_same (row_of state 0)) refl
         ])
 
+    holds : Bool
+    holds = holds_after state move (record { step = step; machine = state }) trace
+
     mine : Option Underway
-    mine = call_after (trace.registered (mover move)) (trace.calls (mover move)) move [] step
+    mine = call_after (trace.registered (mover move)) holds (trace.calls (mover move)) move [] step
 
     calls_is : updated trace.calls (mover move) mine ≡ trace.calls
-    calls_is = updated-same trace.calls (mover move) mine (calls (trace.registered (mover move)) (trace.calls (mover move)))
+    calls_is = updated-same trace.calls (mover move) mine (calls (trace.registered (mover move)) holds (trace.calls (mover move)))
 
     own : Registration
     own = registered_after (trace.calls (mover move)) move [] step (trace.registered (mover move))
@@ -457,9 +475,10 @@ simulates state (Start me call) trace is tracks =
           (start-busy (trace.registered me) (trace.calls me) me call (tracks.calls me) busy) tt tracks)
     ]
   where
-    start-kept : (me : ℕ) (call : WordCall) (registered : Registration) (underway : Option Underway) → call_after registered underway (Start me call) [] Busy ≡ underway
-    start-kept me call registered None = refl
-    start-kept me call registered (Some underway) = refl
+    start-kept : (me : ℕ) (call : WordCall) (registered : Registration) (holds : Bool) (underway : Option Underway)
+        → call_after registered holds underway (Start me call) [] Busy ≡ underway
+    start-kept me call registered holds None = refl
+    start-kept me call registered holds (Some underway) = refl
 
     start-busy : (registered : Registration) (underway : Option Underway) (me : ℕ) (call : WordCall) → IsIn (needs_of state.rules) underway (place_of state me)
         → is_quiet (place_of state me).stage ≡ false → IsRight (needs_of state.rules) registered underway (Start me call) [] Busy
@@ -472,9 +491,9 @@ simulates state (Go me) trace is tracks =
       | inr busy ↦ rw busy (went state trace me is tracks busy)
     ]
   where
-    go-kept : (me : ℕ) (registered : Registration) (underway : Option Underway) → call_after registered underway (Go me) [] Idle ≡ underway
-    go-kept me registered None = refl
-    go-kept me registered (Some underway) = refl
+    go-kept : (me : ℕ) (registered : Registration) (holds : Bool) (underway : Option Underway) → call_after registered holds underway (Go me) [] Idle ≡ underway
+    go-kept me registered holds None = refl
+    go-kept me registered holds (Some underway) = refl
 
     go-idle : (registered : Registration) (underway : Option Underway) (me : ℕ) → IsIn (needs_of state.rules) underway (place_of state me)
         → (place_of state me).stage ≡ Quiet → IsRight (needs_of state.rules) registered underway (Go me) [] Idle
@@ -499,6 +518,7 @@ opened-tracks rules count places wide small few =
       asks = tt;
       holder = same_number refines.holder 0 (not-false (refines.holder == 0) (sym refines.main.flag ∙ clear));
       calls = λ place. ap (λ (p : Place). p.stage) (replicated places idle_place place);
+      fresh = λ place. tt;
       within = λ place. subst (λ (p : Place). 0 + step_bound (length (opened rules count places).places) (row_of (opened rules count places)) p.back p.stage
           ≤ 16 * length (opened rules count places).places + 48) (sym (replicated places idle_place place)) (omega arith);
     }

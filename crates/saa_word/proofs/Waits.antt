@@ -1,5 +1,5 @@
 -- A place that has to wait is in a call that is blocked, and leaves words and places as they are.
-use Rattle.std.proofs.Common.{get_or, ◌≡◌, ◌≢◌, ℕ, ◌+◌, ◌<◌, ◌==◌, true, false, List, [], length, Option, Some, None, refl, sym, subst, ◌∙◌, ap, inl, inr}
+use Rattle.std.proofs.Common.{get_or, ◌≡◌, ◌≢◌, ℕ, ◌+◌, ◌<◌, ◌==◌, Bool, true, false, List, [], length, Option, Some, None, refl, sym, subst, ◌∙◌, ap, inl, inr}
 use Rattle.std.proofs.Math.ListN.{set}
 use Rattle.saa_word_steps.specs.declared.operation.Operation.{Operation}
 use Rattle.saa_word_steps.specs.declared.call.WordCall.{WordCall}
@@ -32,7 +32,7 @@ use Rattle.std.proofs.lemmas.List.{set-get_or}
 use Rattle.saa_word.specs.Machine.{State, place_of, row_of}
 use Rattle.saa_word.specs.Moves.{found_by, is_quiet, operation_at, worked_at}
 use Rattle.saa_word.specs.Trace.{Trace, Underway}
-use Rattle.saa_word.specs.Tracks.{IsIn, Tracks}
+use Rattle.saa_word.specs.Tracks.{IsFresh, IsIn, Tracks, seeks_flag}
 use Rattle.saa_word.specs.Simulation.{IsBlocked, IsHeldByAnother, IsWaiting}
 use Rattle.saa_word.proofs.Holding.{not-true}
 
@@ -81,46 +81,46 @@ record Moment (trace : Trace) (me : ℕ) (seen : Word) (registration : Registrat
 
 -- the call of a place that waits at its stage is blocked
 held-up : (needs : Needs) (trace : Trace) (places me : ℕ) (seen : Word) (registration : Registration) (m : Moment trace me seen registration) (call : WordCall) (registered : Registration) (back : Back) (stage : Stage) (events : List Event)
-    → IsUnder needs call registered back stage events → IsAlone needs registration back stage → IsBlockedAt trace.state me seen stage
-    → IsBlocked trace places me seen (word_at (operation_of needs places me stage)) call
-held-up needs trace places me seen registration m call registered back Quiet events under alone stalled = absurd stalled
-held-up needs trace places me seen registration m call registered back (ReadLoad reading) events under alone stalled = absurd stalled
-held-up needs trace places me seen registration m call registered back (AskLoad ask) events under alone stalled = absurd stalled
-held-up needs trace places me seen registration m call registered back (AskExchange ask old) events under alone stalled = absurd stalled
-held-up needs trace places me seen registration m call registered back (Prepare request old) events under alone stalled = absurd stalled
-held-up needs trace places me seen registration m call registered back (Join request old) events under alone stalled = absurd stalled
-held-up needs trace places me seen registration m call registered back (ReleaseLoad given) events under alone stalled = absurd stalled
-held-up needs trace places me seen registration m call registered back (ReleaseExchange given old) events under alone stalled = absurd stalled
-held-up needs trace places me seen registration m call registered back (BackLoad old current newer) events under alone stalled = absurd stalled
-held-up needs trace places me seen registration m call registered back (BackStore old current newer line) events under alone stalled = absurd stalled
-held-up needs trace places me seen registration m call registered back (Forward old current count) events under alone stalled = absurd stalled
-held-up needs trace places me seen registration m call registered back (CutToClose old current count line) events under alone stalled = absurd stalled
-held-up needs trace places me seen registration m call registered back (CutToGoRound old current count line) events under alone stalled = absurd stalled
-held-up needs trace places me seen registration m call registered back (Close old count top) events under alone stalled = absurd stalled
-held-up needs trace places me seen registration m call registered back (Empty old current count line) events under alone stalled = absurd stalled
-held-up needs trace places me seen registration m call registered back (GoRound old count top) events under alone stalled = absurd stalled
-held-up needs trace places me seen registration m call registered back (ShowLoad current value afterwards) events under alone stalled = absurd stalled
-held-up needs trace places me seen registration m call registered back (ShowStore current next value afterwards) events under alone stalled = absurd stalled
-held-up needs trace places me seen registration m call registered back (Take Tries) events under alone stalled = absurd stalled
-held-up needs trace places me seen registration m call registered back (LookLoad old current newer previous) events under alone stalled = absurd stalled
-held-up needs trace places me seen registration m call registered back (LookStore old current newer line) events under alone stalled = absurd stalled
-held-up needs trace places me seen registration m call registered back (Unlink old newer line older) events under alone stalled = absurd stalled
-held-up needs trace places me seen registration m call registered back (DropTail old older) events under alone stalled = absurd stalled
-held-up needs trace places me seen registration m call registered back Clear events under alone stalled = absurd stalled
-held-up needs trace places me seen registration m call registered back (Take Awaits) events under alone stalled =
-    subst (λ (c : WordCall). IsBlocked trace places me seen (places + me + 1) c) (sym (awaits-polls call under.0)) (refl, stalled)
-held-up needs trace places me seen registration m call registered back (Take (Gives request)) events under alone stalled =
-    subst (λ (c : WordCall). IsBlocked trace places me seen (places + me + 1) c) (sym under.0) (inl (refl, stalled))
-held-up needs trace places me seen registration m call registered back FlagLoad events under alone stalled =
-    subst (λ (c : WordCall). IsBlocked trace places me seen 0 c) (sym (leaves-cancels call registered back events under))
-    (inr (refl, stalled, m.held stalled, ap is_slot (sym m.registered) ∙ leaving-slot registration back alone))
-held-up needs trace places me seen registration m call registered back (FlagExchange old) events under alone stalled =
-    subst (λ (c : WordCall). IsBlocked trace places me seen 0 c) (sym (leaves-cancels call registered back events under))
-    (inr (refl, stalled, m.held stalled, ap is_slot (sym m.registered) ∙ leaving-slot registration back alone.0))
-held-up needs trace places me seen registration m call registered back PoisonLoad events under alone stalled =
-    subst (λ (c : WordCall). IsBlocked trace places me seen 0 c) (sym under.0) (refl, stalled, m.held stalled.2)
-held-up needs trace places me seen registration m call registered back (PoisonExchange old) events under alone stalled =
-    subst (λ (c : WordCall). IsBlocked trace places me seen 0 c) (sym under.0) (refl, stalled, m.held stalled.2)
+    → IsUnder needs call registered back stage events → IsAlone needs registration back stage → IsBlockedAt trace.state me seen stage → (held : Bool) → (seeks_flag stage ≡ true → held ≡ false)
+    → IsBlocked trace places me seen (word_at (operation_of needs places me stage)) held call
+held-up needs trace places me seen registration m call registered back Quiet events under alone stalled held fresh = absurd stalled
+held-up needs trace places me seen registration m call registered back (ReadLoad reading) events under alone stalled held fresh = absurd stalled
+held-up needs trace places me seen registration m call registered back (AskLoad ask) events under alone stalled held fresh = absurd stalled
+held-up needs trace places me seen registration m call registered back (AskExchange ask old) events under alone stalled held fresh = absurd stalled
+held-up needs trace places me seen registration m call registered back (Prepare request old) events under alone stalled held fresh = absurd stalled
+held-up needs trace places me seen registration m call registered back (Join request old) events under alone stalled held fresh = absurd stalled
+held-up needs trace places me seen registration m call registered back (ReleaseLoad given) events under alone stalled held fresh = absurd stalled
+held-up needs trace places me seen registration m call registered back (ReleaseExchange given old) events under alone stalled held fresh = absurd stalled
+held-up needs trace places me seen registration m call registered back (BackLoad old current newer) events under alone stalled held fresh = absurd stalled
+held-up needs trace places me seen registration m call registered back (BackStore old current newer line) events under alone stalled held fresh = absurd stalled
+held-up needs trace places me seen registration m call registered back (Forward old current count) events under alone stalled held fresh = absurd stalled
+held-up needs trace places me seen registration m call registered back (CutToClose old current count line) events under alone stalled held fresh = absurd stalled
+held-up needs trace places me seen registration m call registered back (CutToGoRound old current count line) events under alone stalled held fresh = absurd stalled
+held-up needs trace places me seen registration m call registered back (Close old count top) events under alone stalled held fresh = absurd stalled
+held-up needs trace places me seen registration m call registered back (Empty old current count line) events under alone stalled held fresh = absurd stalled
+held-up needs trace places me seen registration m call registered back (GoRound old count top) events under alone stalled held fresh = absurd stalled
+held-up needs trace places me seen registration m call registered back (ShowLoad current value afterwards) events under alone stalled held fresh = absurd stalled
+held-up needs trace places me seen registration m call registered back (ShowStore current next value afterwards) events under alone stalled held fresh = absurd stalled
+held-up needs trace places me seen registration m call registered back (Take Tries) events under alone stalled held fresh = absurd stalled
+held-up needs trace places me seen registration m call registered back (LookLoad old current newer previous) events under alone stalled held fresh = absurd stalled
+held-up needs trace places me seen registration m call registered back (LookStore old current newer line) events under alone stalled held fresh = absurd stalled
+held-up needs trace places me seen registration m call registered back (Unlink old newer line older) events under alone stalled held fresh = absurd stalled
+held-up needs trace places me seen registration m call registered back (DropTail old older) events under alone stalled held fresh = absurd stalled
+held-up needs trace places me seen registration m call registered back Clear events under alone stalled held fresh = absurd stalled
+held-up needs trace places me seen registration m call registered back (Take Awaits) events under alone stalled held fresh =
+    subst (λ (c : WordCall). IsBlocked trace places me seen (places + me + 1) held c) (sym (awaits-polls call under.0)) (refl, stalled)
+held-up needs trace places me seen registration m call registered back (Take (Gives request)) events under alone stalled held fresh =
+    subst (λ (c : WordCall). IsBlocked trace places me seen (places + me + 1) held c) (sym under.0) (inl (refl, stalled))
+held-up needs trace places me seen registration m call registered back FlagLoad events under alone stalled held fresh =
+    subst (λ (c : WordCall). IsBlocked trace places me seen 0 held c) (sym (leaves-cancels call registered back events under))
+    (inr (refl, stalled, m.held stalled, fresh refl, ap is_slot (sym m.registered) ∙ leaving-slot registration back alone))
+held-up needs trace places me seen registration m call registered back (FlagExchange old) events under alone stalled held fresh =
+    subst (λ (c : WordCall). IsBlocked trace places me seen 0 held c) (sym (leaves-cancels call registered back events under))
+    (inr (refl, stalled, m.held stalled, fresh refl, ap is_slot (sym m.registered) ∙ leaving-slot registration back alone.0))
+held-up needs trace places me seen registration m call registered back PoisonLoad events under alone stalled held fresh =
+    subst (λ (c : WordCall). IsBlocked trace places me seen 0 held c) (sym under.0) (refl, stalled, m.held stalled.2, fresh refl)
+held-up needs trace places me seen registration m call registered back (PoisonExchange old) events under alone stalled held fresh =
+    subst (λ (c : WordCall). IsBlocked trace places me seen 0 held c) (sym under.0) (refl, stalled, m.held stalled.2, fresh refl)
 
 -- the call of a place that waits at its stage has named nothing yet
 none-leaving : (call : WordCall) (registered : Registration) (back : Back) (events : List Event) → IsLeavingLine call registered back events → events ≡ []
@@ -141,14 +141,15 @@ none-named needs abstract me seen call registered back stage events under stalle
 
 -- and it is in a call
 held-in : (needs : Needs) (trace : Trace) (places me : ℕ) (seen : Word) (underway : Option Underway) (place : Place) → Moment trace me seen place.registration
-    → IsIn needs underway place → is_quiet place.stage ≡ false → IsAlone needs place.registration place.back place.stage → IsBlockedAt trace.state me seen place.stage
-    → (u : Underway) × (underway ≡ Some u) × (u.events ≡ []) × IsBlocked trace places me seen (word_at (operation_of needs places me place.stage)) u.call
-held-in needs trace places me seen None place m is busy alone stalled = absurd (not-quiet place.stage busy is)
-held-in needs trace places me seen (Some underway) place m is busy alone stalled = (
+    → IsIn needs underway place → IsFresh underway place.stage → is_quiet place.stage ≡ false → IsAlone needs place.registration place.back place.stage
+    → IsBlockedAt trace.state me seen place.stage
+    → (u : Underway) × (underway ≡ Some u) × (u.events ≡ []) × IsBlocked trace places me seen (word_at (operation_of needs places me place.stage)) u.held u.call
+held-in needs trace places me seen None place m is fresh busy alone stalled = absurd (not-quiet place.stage busy is)
+held-in needs trace places me seen (Some underway) place m is fresh busy alone stalled = (
   underway,
   refl,
   none-named needs trace.state me seen underway.call underway.registered place.back place.stage underway.events is stalled,
-  held-up needs trace places me seen place.registration m underway.call underway.registered place.back place.stage underway.events is alone stalled,
+  held-up needs trace places me seen place.registration m underway.call underway.registered place.back place.stage underway.events is alone stalled underway.held fresh,
 )
 
 -- nobody holds the flag where it waits
@@ -186,7 +187,7 @@ waiting state trace me here tracks busy waits =
     let wrong : true ≡ false = ap (λ (n : ℕ). n == 0) (sym (tracks.holder ∙ none)) ∙ not-true (s.holder == 0) (sym s.main.flag ∙ set) in absurd (cc) in
     record {
       blocked = held-in (needs_of state.rules) trace (length state.places) me (main_of (row_of state)) (trace.calls me) (place_of state me)
-          (record { held = λ set. (some set, free); registered = tracks.registered me }) (tracks.calls me) busy (s.stages.alone me) only.0;
+          (record { held = λ set. (some set, free); registered = tracks.registered me }) (tracks.calls me) (tracks.fresh me) busy (s.stages.alone me) only.0;
       free = free;
       row = ap (set state.row (word_at operation)) written ∙ set-get_or state.row (word_at operation) 0;
       places = ap (λ (n : Next). set state.places me (place_after (place_of state me) n)) waits ∙ set-get_or state.places me idle_place;

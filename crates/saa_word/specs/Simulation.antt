@@ -1,5 +1,5 @@
 -- How each move of a machine goes on with every trace that tracks it. A reader of the clauses has to believe this.
-use Rattle.std.specs.Prelude.{◌≡◌, ◌≢◌, ℕ, ◌⊎◌, ◌+◌, ◌*◌, ◌≤◌, ◌==◌, ◌||◌, Bool, true, List, [], ◌∷◌, ◌++◌, Option, Some, None, is_some, length, if◌then◌else◌}
+use Rattle.std.specs.Prelude.{◌≡◌, ◌≢◌, ℕ, ◌⊎◌, ◌+◌, ◌*◌, ◌≤◌, ◌==◌, ◌||◌, Bool, true, false, List, [], ◌∷◌, ◌++◌, Option, Some, None, is_some, length, if◌then◌else◌}
 use Rattle.saa_core_spec.specs.Object.{one_if, times}
 use Rattle.saa_word_steps.specs.declared.call.Answer.{Answer}
 use Rattle.saa_word_steps.specs.declared.call.WordCall.{WordCall}
@@ -45,12 +45,19 @@ registered_after underway (Go me) events step was = left_behind events (asked_in
 abbrev pub holder_after : ℕ → ℕ → Word → Word → ℕ
 holder_after holder me before after = if after.is_flagged then (if before.is_flagged then holder else me + 1) else 0
 
--- the call that the mover, registered so, is in behind a move that named these events
-abbrev pub call_after : Registration → Option Underway → Move → List Event → Step → Option Underway
-call_after registered underway (Start me call) events Going = Some (record { call = call; registered = registered; events = [] })
-call_after registered (Some underway) (Go me) events Going = Some (record underway { events = underway.events ++ events })
-call_after registered underway (Go me) events (Done answer) = None
-call_after registered underway _ events _ = underway
+-- whether the mover holds the flag behind a move
+abbrev pub holds_after : State → Move → Moved → Trace → Bool
+holds_after state move moved trace =
+    holder_after trace.holder (mover move) (main_of (row_of state)) (main_of (row_of moved.machine)) == mover move + 1
+
+-- the call that the mover, registered so, is in behind a move that named these events, and behind which it holds the flag or not
+abbrev pub call_after : Registration → (holds : Bool) → Option Underway → Move → List Event → Step → Option Underway
+call_after registered holds underway (Start me call) events Going =
+    Some (record { call = call; registered = registered; events = []; held = false })
+call_after registered holds (Some underway) (Go me) events Going =
+    Some (record underway { events = underway.events ++ events; held = underway.held || holds })
+call_after registered holds underway (Go me) events (Done answer) = None
+call_after registered holds underway _ events _ = underway
 
 -- how many steps the mover has made behind a move
 abbrev pub mine_after : ℕ → Move → Step → ℕ
@@ -74,7 +81,7 @@ trace_after state move moved trace events last = record {
       (registered_after (trace.calls (mover move)) move (named events) moved.step (trace.registered (mover move)));
   holder = holder_after trace.holder (mover move) (main_of (row_of state)) (main_of (row_of moved.machine));
   calls = updated trace.calls (mover move)
-      (call_after (trace.registered (mover move)) (trace.calls (mover move)) move (named events) moved.step);
+      (call_after (trace.registered (mover move)) (holds_after state move moved trace) (trace.calls (mover move)) move (named events) moved.step);
   made = made_after trace.made move moved.step (row_of moved.machine 0 == row_of state 0);
 }
 
@@ -106,22 +113,23 @@ IsRight needs registered (Some underway) (Go me) events step = Unit {0}
 abbrev pub IsHeldByAnother : Trace → ℕ → Type 0
 IsHeldByAnother trace me = (trace.holder ≢ 0) × (trace.holder ≢ me + 1)
 
--- Why a call is blocked, at a step that read the word of this index, out of so many places: a poll reads its own answer word, and its
--- place is in the line, or its answer is due; a cancel does so where its answer is due, or it reads the main word while it is registered in
--- the line and another place holds the flag; and poison reads the main word, finds one owner, and another place holds the flag
-abbrev pub IsBlocked : Trace → ℕ → ℕ → Word → (read : ℕ) → WordCall → Type 0
-IsBlocked trace places me seen read Poll = (read ≡ places + me + 1) × ((is_in me trace.state.line || is_some (trace.state.due me)) ≡ true)
-IsBlocked trace places me seen read Cancel =
+-- Why a call is blocked whose place has held the flag in it or not, at a step that read the word of this index, out of so many places: a poll reads
+-- its own answer word, and its place is in the line, or its answer is due; a cancel does so where its answer is due, or it reads the main word while
+-- it is registered in the line and another place holds the flag; and poison reads the main word, finds one owner, and another place holds the flag.
+-- A place that has held the flag in its call never waits for the flag again
+abbrev pub IsBlocked : Trace → ℕ → ℕ → Word → (read : ℕ) → (held : Bool) → WordCall → Type 0
+IsBlocked trace places me seen read held Poll = (read ≡ places + me + 1) × ((is_in me trace.state.line || is_some (trace.state.due me)) ≡ true)
+IsBlocked trace places me seen read held Cancel =
     ((read ≡ places + me + 1) × (is_some (trace.state.due me) ≡ true))
-    ⊎ ((read ≡ 0) × (seen.is_flagged ≡ true) × IsHeldByAnother trace me × (is_slot (trace.registered me) ≡ true))
-IsBlocked trace places me seen read PoisonLock = (read ≡ 0) × IsOwnedAndFlagged seen × IsHeldByAnother trace me
-IsBlocked trace places me seen read _ = ⊥
+    ⊎ ((read ≡ 0) × (seen.is_flagged ≡ true) × IsHeldByAnother trace me × (held ≡ false) × (is_slot (trace.registered me) ≡ true))
+IsBlocked trace places me seen read held PoisonLock = (read ≡ 0) × IsOwnedAndFlagged seen × IsHeldByAnother trace me × (held ≡ false)
+IsBlocked trace places me seen read held _ = ⊥
 
 -- A place that waits is in a call that is blocked and has named no event yet: it waits no more once its call has left the line, taken its answer or
 -- poisoned the lock, though it may still owe answers. It doesn't hold the flag, and words and places are as they were
 pub record IsWaiting (state after : State) (trace : Trace) (me : ℕ) : Type 0 where
   pub blocked : (underway : Underway) × (trace.calls me ≡ Some underway) × (underway.events ≡ [])
-      × IsBlocked trace (length state.places) me (main_of (row_of state)) after.last_word underway.call
+      × IsBlocked trace (length state.places) me (main_of (row_of state)) after.last_word underway.held underway.call
   pub free : trace.holder ≢ me + 1
   pub row : after.row ≡ state.row
   pub places : after.places ≡ state.places

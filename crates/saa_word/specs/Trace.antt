@@ -1,16 +1,18 @@
 -- What contracts see beside the words and places of a machine: its trace. A reader of the clauses has to believe this.
-use Rattle.std.specs.Prelude.{◌≡◌, ℕ, List, [], Option, None}
+use Rattle.std.specs.Prelude.{◌≡◌, ℕ, Bool, List, [], Option, None}
 use Rattle.saa_word_steps.specs.declared.call.WordCall.{WordCall}
 use Rattle.saa_word_steps.specs.declared.event.Event.{Event}
 use Rattle.saa_word_steps.specs.declared.place.Registration.{Registration}
 use Rattle.saa_word_steps.specs.declared.place.Registration.TheVariants.{Idle}
 use Rattle.saa_word_steps.specs.AbstractState.{AbstractState, opening}
 
--- a call that a place is in, what the place was registered as when it started, and what it has named of the events so far
+-- a call that a place is in, what the place was registered as when it started, what it has named of the events so far, and whether the place has
+-- held the flag since it started
 pub record Underway : Type 0 where
   pub call : WordCall
   pub registered : Registration
   pub events : List Event
+  pub held : Bool
 
 -- How much was held at the opening, and every event since, each with its place; the abstract state behind them; what each place is
 -- registered as; the flag's holder, as a link, which is 0 for nobody; the call that each place is in; and how many steps each place has
