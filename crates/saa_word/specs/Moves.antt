@@ -1,6 +1,8 @@
 -- What a move of a machine does.
 -- Internal: nobody has to believe this; contracts say what moves simulate.
--- (Clauses that name `gone` say no more than that two calls do the same.)
+-- (Clauses that name `gone` say that two calls do the same.
+-- That a move is one step is `IsOneStep` of `specs/Machine.antt`,
+-- and what it means is what it simulates.)
 -- (An edit that turns a step puts its imports in the place of these lines.)
 use Rattle.std.specs.Prelude.{ℕ, ◌+◌, Bool, true, false, length, slice_index, slice_set, if◌then◌else◌}
 use Rattle.saa_word_steps.specs.declared.call.WordCall.{WordCall}

@@ -1,6 +1,7 @@
 -- What a place is about to do, and how it goes on with the number that it finds: a clause for each stage. Internal: nobody has to believe
 -- this table, which says what the code does, branch for branch. What a reader has to believe is the abstract state with its events
--- (`specs/AbstractState.antt`), and what a move simulates; a line that is changed together with its code is refused there.
+-- (`specs/AbstractState.antt`), and what a move simulates; a line that is changed together with its code is refused there where the change breaks a
+-- clause of `Simulates`.
 use Rattle.std.specs.Prelude.{◌≡◌, ℕ, ◌+◌, ◌-◌, ◌%◌, ◌^◌, ◌<◌, true, false, not, ◌&&◌, ◌||◌, ◌==◌, if◌then◌else◌, nat_lt, Option, Some, None, Ok, Err}
 use Rattle.saa_core_spec.specs.Held.{Exclusive, Shared}
 use Rattle.saa_core_spec.specs.Lock.{try_answer}
