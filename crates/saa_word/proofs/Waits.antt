@@ -15,10 +15,10 @@ use Rattle.saa_word_steps.specs.declared.place.Registration.{Registration}
 use Rattle.saa_core_words.specs.declared.word.Word.{Word}
 use Rattle.saa_word_steps.specs.Needs.{Needs, needs_of}
 use Rattle.saa_word_steps.specs.declared.event.Event.{Event}
-use Rattle.saa_word_steps.specs.AbstractState.{AbstractState}
+use Rattle.saa_word_steps.specs.AbstractState.{AbstractState, is_in}
 use Rattle.saa_core_spec.proofs.Counts.{number_same}
 use Rattle.saa_word_steps.specs.Steps.{next_of, operation_of, word_at, written_by}
-use Rattle.saa_word_proofs.specs.Refinement.{IsAlone, IsLeaving, is_holder}
+use Rattle.saa_word_proofs.specs.Refinement.{IsAlone, IsLeaving, IsShowing, is_holder}
 use Rattle.saa_word_proofs.specs.Registering.{is_slot}
 use Rattle.saa_word_proofs.specs.Rows.{main_of}
 use Rattle.saa_word_proofs.specs.StepRefinement.{place_after}
@@ -170,6 +170,16 @@ waits-free abstract me seen (PoisonExchange old) stalled = refl
 waits-free abstract me seen Clear stalled = refl
 waits-free abstract me seen stage stalled = absurd stalled
 
+-- a place that waits has no answer to show
+pays-nothing : (abstract : AbstractState) (me : ℕ) (seen : Word) (owed : List (ℕ × ℕ)) (worth : ℕ) (stage : Stage) → IsBlockedAt abstract me seen stage
+    → IsShowing owed worth stage → owed ≡ []
+pays-nothing abstract me seen owed worth (Take taking) stalled showing = showing
+pays-nothing abstract me seen owed worth FlagLoad stalled showing = showing
+pays-nothing abstract me seen owed worth (FlagExchange old) stalled showing = showing
+pays-nothing abstract me seen owed worth PoisonLoad stalled showing = showing
+pays-nothing abstract me seen owed worth (PoisonExchange old) stalled showing = showing
+pays-nothing abstract me seen owed worth stage stalled showing = absurd stalled
+
 pub waiting : (state : State) (trace : Trace) (me : ℕ) → me < length state.places → Tracks state trace → is_quiet (place_of state me).stage ≡ false
     → next_of (needs_of state.rules) me (place_of state me) (place_of state me).stage (found_by state (operation_at state me)) ≡ HasToWait
     → IsWaiting state (worked_at state me).machine trace me
@@ -189,6 +199,12 @@ waiting state trace me here tracks busy waits =
       blocked = held-in (needs_of state.rules) trace (length state.places) me (main_of (row_of state)) (trace.calls me) (place_of state me)
           (record { held = λ set. (some set, free); registered = tracks.registered me }) (tracks.calls me) (tracks.fresh me) busy (s.stages.alone me) only.0;
       free = free;
+      clear = λ place due mine.
+          let none : s.owed me ≡ [] =
+          pays-nothing trace.state me (main_of (row_of state)) (s.owed me) (s.worth me) (place_of state me).stage only.0 (s.stages.showing me) in
+          let there : is_in place (s.owed me) ≡ true =
+          subst (λ (n : ℕ). is_in place (s.owed n) ≡ true) (tracks.debts place due ∙ mine) (s.debts.paid_by place due) in
+          let wrong : false ≡ true = ap (is_in place) (sym none) ∙ there in absurd (cc);
       row = ap (set state.row (word_at operation)) written ∙ set-get_or state.row (word_at operation) 0;
       places = ap (λ (n : Next). set state.places me (place_after (place_of state me) n)) waits ∙ set-get_or state.places me idle_place;
     }

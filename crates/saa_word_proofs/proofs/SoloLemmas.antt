@@ -20,3 +20,4 @@ pub mod Books
 pub mod Ready
 pub mod Slots
 pub mod SameWords
+pub mod Debtors

@@ -14,7 +14,7 @@ use Rattle.saa_word_proofs.specs.Promises.{idle_place, opening_row, AreAsking, I
 use Rattle.saa_word_proofs.proofs.RefinementLemmas.Poisoning.{poisoned-number}
 
 -- along older neighbours a line is met from its newest on
-line-met : (words : ℕ → LineWord) (older : ℕ) (line : List (ℕ × ℕ)) (before : List ℕ) → IsBehind words older line → IsMet words older before
+pub line-met : (words : ℕ → LineWord) (older : ℕ) (line : List (ℕ × ℕ)) (before : List ℕ) → IsBehind words older line → IsMet words older before
     → IsMet words (newest older line) (newest_first line ++ before)
 line-met words older [] before behind met = met
 line-met words older (asker ∷ rest) before behind met =
@@ -28,7 +28,7 @@ not-false true is = refl
 not-false false is = absurd (cc)
 
 -- a waiter behind another asks what its line word says
-behind-asks : (words : ℕ → LineWord) (older : ℕ) (line : List (ℕ × ℕ)) → IsBehind words older line → AreAsking words line
+pub behind-asks : (words : ℕ → LineWord) (older : ℕ) (line : List (ℕ × ℕ)) → IsBehind words older line → AreAsking words line
 behind-asks words older [] behind = tt
 behind-asks words older (asker ∷ rest) behind = (behind.0, behind-asks words (asker.0 + 1) rest behind.2)
 

@@ -18,7 +18,7 @@ same-answer (Some value) None same = absurd (omega (arith, same))
 same-answer (Some value) (Some other) same = (let is : value ≡ other = omega (arith, same) in ap (λ (n : ℕ). let answer : Option ℕ = Some n in answer) is)
 
 -- two lists of places that are met from one link are one
-same-met : (words : ℕ → LineWord) (link : ℕ) (one other : List ℕ) → IsMet words link one → IsMet words link other → one ≡ other
+pub same-met : (words : ℕ → LineWord) (link : ℕ) (one other : List ℕ) → IsMet words link one → IsMet words link other → one ≡ other
 same-met words link [] [] met also = refl
 same-met words link [] (place ∷ rest) met also = absurd (omega (arith, met, also.0))
 same-met words link (place ∷ rest) [] met also = absurd (omega (arith, met.0, also))
@@ -54,7 +54,7 @@ never-none [] place same = absurd (cc)
 never-none (one ∷ rest) place same = absurd (cc)
 
 -- two lines of the same places, each asking what its line word says, are one
-same-line : (words : ℕ → LineWord) (one other : List (ℕ × ℕ)) → newest_first one ≡ newest_first other → AreAsking words one → AreAsking words other → one ≡ other
+pub same-line : (words : ℕ → LineWord) (one other : List (ℕ × ℕ)) → newest_first one ≡ newest_first other → AreAsking words one → AreAsking words other → one ≡ other
 same-line words [] [] same asks also = refl
 same-line words [] (asker ∷ rest) same asks also = absurd (never-none (newest_first rest) asker.0 (sym same))
 same-line words (asker ∷ rest) [] same asks also = absurd (never-none (newest_first rest) asker.0 same)

@@ -16,7 +16,7 @@ use Rattle.saa_word_proofs.specs.StepBound.{way, waiting}
 use Rattle.saa_word_proofs.proofs.StepBoundLemmas.Ways.{IsWay, way-length, way-front}
 
 -- what is held once at least is a place
-slot-within : (needs : Needs) (places : ℕ) (row : ℕ → ℕ) (standing : ℕ → Place) (state : AbstractState) (s : Refines needs places row standing state) (place : ℕ)
+pub slot-within : (needs : Needs) (places : ℕ) (row : ℕ → ℕ) (standing : ℕ → Place) (state : AbstractState) (s : Refines needs places row standing state) (place : ℕ)
     → 0 < held_by place state → place < places
 slot-within needs places row standing state s place held =
     elim (cases_Bool (is_slot (standing place).registration)) [
