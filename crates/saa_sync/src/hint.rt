@@ -6,30 +6,20 @@
 //!
 //! Nothing rests on a hint: a call that finds that it may have what it asks for tries, through the core and under the mutex.
 
+use crate::tries::Tries;
 use std::sync::atomic::{AtomicU64, Ordering};
 
-// The parts of the counts: how many calls look, in the low bits, and above them how often those looked and tried that no longer
-// look. They stand in one number, so that tests see them and the end of a look is still one operation. The upper two wrap around.
+// The parts of the counts: how many calls look, in the low bits, and above them how often those looked that no longer look. They stand
+// in one number, so that tests see them and the end of a look is still one operation. The upper part wraps around.
 const LOOKER: u64 = 1;
 
 const LOOK: u64 = 1 << 24;
-
-const TRY: u64 = 1 << 44;
 
 /// The main word of a core as it was when the mutex was left last, and how many calls look at it.
 #[derive(Drop)]
 pub(crate) struct Hint {
     word: AtomicU64,
     counts: AtomicU64,
-}
-
-/// How often one call looked, and how often it tried.
-#[derive(Clone, Copy)]
-pub(crate) struct Looked {
-    /// How often it looked at the hint.
-    pub looks: u32,
-    /// How often it tried, through the core.
-    pub tries: u32,
 }
 
 impl Hint {
@@ -46,10 +36,9 @@ impl Hint {
         self.counts.load(Ordering::SeqCst) % LOOK
     }
 
-    /// How often calls looked, and how often they tried, of those that no longer look; each wraps around at a million.
-    pub(crate) fn looked(&self) -> (u64, u64) {
-        let counts = self.counts.load(Ordering::SeqCst);
-        (counts % TRY / LOOK, counts / TRY)
+    /// How often calls looked, of those that no longer look.
+    pub(crate) fn looked(&self) -> u64 {
+        self.counts.load(Ordering::SeqCst) / LOOK
     }
 
     /// Whether a call looks.
@@ -58,15 +47,16 @@ impl Hint {
         self.lookers() != 0
     }
 
-    /// What was shown last.
-    #[inline(always)]
+    /// The word that was shown last.
     pub(crate) fn word(&self) -> u64 {
         self.word.load(Ordering::SeqCst)
     }
 
-    /// Shows a word; called under the mutex, so that what is shown last is what was left last.
-    pub(crate) fn show(&self, word: u64) {
-        self.word.store(word, Ordering::SeqCst);
+    /// Shows the main word of a core, which only the owner of the mutex can hand in: of two words that were shown without it the older
+    /// one could stay.
+    #[inline(always)]
+    pub(crate) fn show(&self, core: &impl Tries) {
+        self.word.store(core.word(), Ordering::SeqCst);
     }
 
     /// Begins to look. The first call to look finds what was shown to others before it, so it has to enter the mutex once itself.
@@ -74,11 +64,9 @@ impl Hint {
         self.counts.fetch_add(LOOKER, Ordering::SeqCst) % LOOK == 0
     }
 
-    /// Ends to look, after so many looks and tries.
-    pub(crate) fn depart(&self, looked: Looked) {
-        let ended = u64::from(looked.looks)
-            .wrapping_mul(LOOK)
-            .wrapping_add(u64::from(looked.tries).wrapping_mul(TRY));
+    /// Ends to look, after so many looks.
+    pub(crate) fn depart(&self, looks: u32) {
+        let ended = u64::from(looks).wrapping_mul(LOOK);
         self.counts
             .fetch_add(ended.wrapping_sub(LOOKER), Ordering::SeqCst);
     }

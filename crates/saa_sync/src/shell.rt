@@ -23,7 +23,7 @@ ghost use Rattle.futures.specs.Poll.{IfReady, OnPending};
 
 mod timed;
 
-use crate::hint::{Hint, Looked};
+use crate::hint::Hint;
 use crate::patience::{self, NONE, Patience};
 use crate::seat::Seat;
 use crate::tries::Tries;
@@ -65,9 +65,19 @@ pub(crate) struct Inside<P: Primitive> {
     pub(crate) core: P,
     /// The wakers of the tasks that poll for an answer.
     wakers: Wakers,
+    // How often calls locked the mutex, which tests read. It wraps around.
+    turns: u64,
 }
 
 impl<P: Tries> Inside<P> {
+    // Counts a turn at the mutex.
+    #[inline(always)]
+    fn count(&mut self)
+        ensures { self.new.core ≡ self.old.core }
+    {
+        self.turns = self.turns.wrapping_add(1);
+    }
+
     /// The slot of the oldest pending wake, taken out of the core's list; mostly there is none.
     ///
     /// Its waker is taken by [`Self::wakes_from`], in a call of its own: what a call that wakes no waiter costs is this look.
@@ -252,7 +262,11 @@ impl<R: Wait + Drop, P: Tries> Shell<R, P> {
         let wakers = Wakers::with_room(alloc, room)?;
         Ok(Shell {
             rt,
-            lock: Mutex::new(Inside { core, wakers }),
+            lock: Mutex::new(Inside {
+                core,
+                wakers,
+                turns: 0,
+            }),
             seats,
             patience,
             hint: CachePadded::new(Hint::new()),
@@ -276,13 +290,15 @@ impl<R: Wait + Drop, P: Tries> Shell<R, P> {
         &self.rt
     }
 
-    /// Locks the mutex; may wait for its holder.
+    /// Locks the mutex, for a turn there; may wait for its holder.
     #[inline(always)]
     pub(crate) fn lock(&self) -> MutexGuard<'_, Inside<P>> {
-        match self.lock.try_lock() {
+        let mut inside = match self.lock.try_lock() {
             Some(inside) => inside,
             None => self.lock_once_left(),
-        }
+        };
+        inside.count();
+        inside
     }
 
     // Locks the mutex that another task has. It rests before each try, longer each time: a turn at the mutex takes some
@@ -316,7 +332,7 @@ impl<R: Wait + Drop, P: Tries> Shell<R, P> {
     #[inline(always)]
     pub(crate) fn leave<'s>(&'s self, mut inside: MutexGuard<'s, Inside<P>>) {
         if self.hint.is_watched() {
-            self.hint.show(inside.core.word());
+            self.hint.show(&inside.core);
         }
         match inside.next_answered() {
             Some(slot) => self.wake(inside, slot),
@@ -370,7 +386,7 @@ impl<R: Wait + Drop, P: Tries> Shell<R, P> {
             return None;
         }
         if self.hint.is_watched() && !P::may_fit(ask, self.hint.word()) {
-            return self.look_on(ask, 0);
+            return self.look_on(ask);
         }
         let mut inside = self.lock();
         let answer = inside.try_now(ask);
@@ -378,29 +394,29 @@ impl<R: Wait + Drop, P: Tries> Shell<R, P> {
         if answer.is_some() {
             return answer;
         }
-        self.look_on(ask, 1)
+        self.look_on(ask)
     }
 
-    // Looks at the hint, which is kept up meanwhile, after so many tries.
+    // Looks at the hint, which is kept up meanwhile.
     #[inline(never)]
-    fn look_on(&self, ask: P::Ask, tries: u32) -> Option<u8> {
+    fn look_on(&self, ask: P::Ask) -> Option<u8> {
         let is_first = self.hint.arrive();
-        let mut looked = Looked { looks: 0, tries };
-        let answer = self.look_while(ask, is_first, &mut looked);
-        self.hint.depart(looked);
+        let mut looks = 0;
+        let answer = self.look_while(ask, is_first, &mut looks);
+        self.hint.depart(looks);
         answer
     }
 
-    // Looks so often, and tries where the hint says that it may have what it asks, or is none yet.
-    fn look_while(&self, ask: P::Ask, is_due: bool, looked: &mut Looked) -> Option<u8> {
+    // Looks so often, and tries where the hint says that it may have what it asks, or is none yet. Says how often it looked.
+    fn look_while(&self, ask: P::Ask, is_due: bool, looks: &mut u32) -> Option<u8> {
         let mut is_due = is_due;
         for turn in 0..self.unregistered.turns() {
-            looked.looks = turn.saturating_add(1);
+            *looks = turn.saturating_add(1);
             if is_due || P::may_fit(ask, self.hint.word()) {
                 // Waits for nobody at the mutex: all who look come at once when the hint changes, and would queue there.
                 if let Some(mut inside) = self.lock.try_lock() {
                     is_due = false;
-                    looked.tries = looked.tries.saturating_add(1);
+                    inside.count();
                     let answer = inside.try_now(ask);
                     self.leave(inside);
                     if answer.is_some() {
@@ -687,9 +703,14 @@ impl<R: Wait + Drop, P: Tries> Shell<R, P> {
         }
     }
 
+    /// How often calls locked the mutex, these for tests aside. For the tests of the forms above.
+    pub fn turns(&self) -> u64 {
+        self.lock.lock(&self.rt).turns
+    }
+
     /// How many holders sleep; all those have let go of the lock. For the tests of the forms above.
     pub fn asleep(&self) -> usize {
-        let _inside = self.lock();
+        let _inside = self.lock.lock(&self.rt);
         self.seats.iter().filter(|seat| seat.is_asleep()).count()
     }
 
@@ -698,9 +719,8 @@ impl<R: Wait + Drop, P: Tries> Shell<R, P> {
         self.hint.lookers()
     }
 
-    /// How often calls looked, and how often they tried, of those that found nothing at once and no longer look. For the tests
-    /// of the forms above.
-    pub fn looked(&self) -> (u64, u64) {
+    /// How often calls looked, of those that found nothing at once and no longer look. For the tests of the forms above.
+    pub fn looked(&self) -> u64 {
         self.hint.looked()
     }
 

@@ -1,4 +1,5 @@
-//! How often each call looks and tries before it registers, and how long a waiter stays awake: just as its patience says.
+//! How often each call looks before it registers, how many turns it takes at the mutex, and how long a waiter stays awake: just as its
+//! patience says.
 
 use saa_core::barrier::BarrierCore;
 use saa_core::gate::GateCore;
@@ -9,12 +10,13 @@ use saa_sync::gate::Gate;
 use saa_sync::lock::{Lock, Mode};
 use saa_sync::lock_api::{Mutex, RwLock};
 use saa_sync::pager::Pager;
-use saa_sync::patience::{NONE, Patience};
+use saa_sync::patience::{NONE, Patience, UNREGISTERED};
 use saa_sync::semaphore::Semaphore;
 use saa_sync::testing::{
-    OnShell, Shell, call_untold, mutex_on, rwlock_on, shell_of_mutex, shell_of_rwlock,
+    OnShell, PATIENCE, Shell, call_untold, mutex_on, rwlock_on, shell_of_mutex, shell_of_rwlock,
 };
 use std::alloc::{AllocError, Global};
+use std::mem::forget;
 use std::sync::Wait;
 use std::sync::atomic::{AtomicBool, Ordering};
 use std::test::Fail;
@@ -161,8 +163,8 @@ fn make_call<R: Wait + Clock + Drop>(forms: &Forms<R>, call: Call) -> bool {
     }
 }
 
-// How often calls looked at the form of this call, and tried, and how many of its waiters are parked.
-fn looked_at<R: Wait + Drop>(forms: &Forms<R>, call: Call) -> (u64, u64) {
+// How often calls looked at the form of this call, how many turns they took at its mutex, and how many of its waiters are parked.
+fn looked_at<R: Wait + Drop>(forms: &Forms<R>, call: Call) -> u64 {
     match call {
         Call::Lock | Call::Share | Call::LockWith | Call::ShareWith | Call::LockFor => {
             forms.lock.shell().looked()
@@ -172,6 +174,19 @@ fn looked_at<R: Wait + Drop>(forms: &Forms<R>, call: Call) -> (u64, u64) {
         Call::Enter => forms.gate.shell().looked(),
         Call::Arrive => forms.barrier.shell().looked(),
         _ => forms.semaphore.shell().looked(),
+    }
+}
+
+fn turns_at<R: Wait + Drop>(forms: &Forms<R>, call: Call) -> u64 {
+    match call {
+        Call::Lock | Call::Share | Call::LockWith | Call::ShareWith | Call::LockFor => {
+            forms.lock.shell().turns()
+        }
+        Call::MutexLock | Call::MutexLockFor => shell_of_mutex(&forms.mutex).turns(),
+        Call::Read | Call::Write | Call::ReadFor => shell_of_rwlock(&forms.rwlock).turns(),
+        Call::Enter => forms.gate.shell().turns(),
+        Call::Arrive => forms.barrier.shell().turns(),
+        _ => forms.semaphore.shell().turns(),
     }
 }
 
@@ -191,7 +206,7 @@ fn asleep_at<R: Wait + Drop>(forms: &Forms<R>, call: Call) -> usize {
 // Gives way until calls have looked so often. Takes no turn at the mutex, so that each look that is due to try can.
 fn await_looks<R: Wait + Drop>(forms: &Forms<R>, call: Call, looks: u64) {
     for _turn in 0..MOST_TURNS {
-        if looked_at(forms, call).0 >= looks {
+        if looked_at(forms, call) >= looks {
             return;
         }
         yield_now();
@@ -208,8 +223,8 @@ fn await_sleeper<R: Wait + Drop>(forms: &Forms<R>, call: Call) {
     }
 }
 
-// What is seen of a call beside a holder: how often it looked and tried, how many waiters are parked then, and whether the holder had
-// all that the call may ask for.
+// What is seen of a call beside a holder: how often calls looked so far, how many turns the holder and the call took at the mutex until
+// that was parked, how many waiters are parked then, and whether the holder had all that the call may ask for.
 type Seen = (u64, u64, usize, bool);
 
 // Takes all that calls may ask for, lets the call come, and ends that once the call has looked so often and is parked.
@@ -219,6 +234,7 @@ fn hold_and_see<R: Wait + Drop>(
     looks: u64,
     may_come: &AtomicBool,
 ) -> Seen {
+    let before = turns_at(forms, call);
     let has_all = forms.semaphore.try_acquire_many(63) && forms.lock.try_lock().is_ok();
     let held = forms.mutex.try_lock();
     let written = forms.rwlock.try_write();
@@ -226,12 +242,13 @@ fn hold_and_see<R: Wait + Drop>(
     may_come.store(true, Ordering::SeqCst);
     await_looks(forms, call, looks);
     await_sleeper(forms, call);
-    let (looked, tried) = looked_at(forms, call);
+    let looked = looked_at(forms, call);
+    let turns = turns_at(forms, call).wrapping_sub(before);
     let asleep = asleep_at(forms, call);
     drop(held);
     drop(written);
     let is_ended = let_in(forms, call);
-    (looked, tried, asleep, is_held && is_ended)
+    (looked, turns, asleep, is_held && is_ended)
 }
 
 // Ends what keeps the call from what it asks for.
@@ -292,13 +309,20 @@ where
     Ok(([first, second], is_first_granted && is_granted))
 }
 
-// How often a call of few looks looks and tries: it tries before its first look, and again at it, since no other call kept the hint up
-// meanwhile; then the hint says that it is in vain. One of no patience, or that never looks, does neither.
+// How often a call of few looks looks, and how many turns are taken at its form's mutex until it is parked: the holder takes one, at a
+// gate and at a barrier none, the registration one, and the waiter one that finds no answer before it parks. A call that looks takes two
+// more: it tries before its first look, and again at it, since no other call kept the hint up meanwhile; then the hint says that it is in
+// vain. One of no patience, or that never looks, tries nothing.
 fn wanted(patience: Patience, call: Call) -> (u64, u64) {
-    if patience == FEW && looks_first(call) {
-        (7, 2)
+    let turns = if matches!(call, Call::Enter | Call::Arrive) {
+        2
     } else {
-        (0, 0)
+        3
+    };
+    if patience == FEW && looks_first(call) {
+        (7, turns + 2)
+    } else {
+        (0, turns)
     }
 }
 
@@ -324,7 +348,7 @@ static CALLS: [Call; 18] = [
     Call::ReadFor,
 ];
 
-// The first call that looks or tries oftener or less than it should, or that doesn't park then, and what was seen of it.
+// The first call that looks or takes turns oftener or less than it should, or that doesn't park then, and what was seen of it.
 fn first_wrong<R>(
     rt: &R,
     alloc: Global,
@@ -335,9 +359,9 @@ where
 {
     for call in &CALLS {
         let (seen, is_granted) = seen(rt, alloc, patience, *call)?;
-        let (looks, tries) = wanted(patience, *call);
-        let twice = (looks.saturating_mul(2), tries.saturating_mul(2), 1, true);
-        if !is_granted || seen != [(looks, tries, 1, true), twice] {
+        let (looks, turns) = wanted(patience, *call);
+        let twice = (looks.saturating_mul(2), turns, 1, true);
+        if !is_granted || seen != [(looks, turns, 1, true), twice] {
             return Ok(Some((*call, seen)));
         }
     }
@@ -349,6 +373,116 @@ fn each_call_looks_as_often_as_its_patience_says(rt: HostRuntime) -> Result<(), 
     same!(rt; first_wrong(&rt, rt.alloc(), FEW)?, None);
     same!(rt; first_wrong(&rt, rt.alloc(), NONE)?, None);
     Ok(())
+}
+
+// A try, which never looks for a while.
+#[derive(Clone, Copy, Debug, Eq, PartialEq)]
+enum Try {
+    Acquire,
+    AcquireMany,
+    AcquirePermit,
+    Lock,
+    Share,
+    MutexLock,
+    Read,
+    Write,
+}
+
+static TRIES: [(Try, Call); 8] = [
+    (Try::Acquire, Call::Acquire),
+    (Try::AcquireMany, Call::AcquireMany),
+    (Try::AcquirePermit, Call::AcquirePermit),
+    (Try::Lock, Call::Lock),
+    (Try::Share, Call::Share),
+    (Try::MutexLock, Call::MutexLock),
+    (Try::Read, Call::Read),
+    (Try::Write, Call::Write),
+];
+
+// Makes a try, and keeps what it takes for as long as the forms are there; whether it was granted.
+fn make_try<R: Wait + Drop>(forms: &Forms<R>, one: Try) -> bool {
+    match one {
+        Try::Acquire => forms.semaphore.try_acquire(),
+        Try::AcquireMany => forms.semaphore.try_acquire_many(63),
+        Try::AcquirePermit => match forms.semaphore.try_acquire_permit() {
+            Some(permit) => {
+                permit.forget();
+                true
+            }
+            None => false,
+        },
+        Try::Lock => forms.lock.try_lock().is_ok(),
+        Try::Share => forms.lock.try_share().is_ok(),
+        Try::MutexLock => keeps(forms.mutex.try_lock()),
+        Try::Read => keeps(forms.rwlock.try_read()),
+        Try::Write => keeps(forms.rwlock.try_write()),
+    }
+}
+
+// Whether there is a guard, which keeps its turn.
+fn keeps<G: Drop>(guard: Option<G>) -> bool {
+    match guard {
+        Some(guard) => {
+            forget(guard);
+            true
+        }
+        None => false,
+    }
+}
+
+// How many turns a try takes where it is granted, and where an owner has all that it asks for; and whether it was granted so.
+fn turns_of_try<R: Wait + Copy + Drop>(
+    rt: R,
+    alloc: Global,
+    one: Try,
+    at: Call,
+) -> Result<([u64; 2], [bool; 3]), AllocError> {
+    let forms = forms_of(rt, alloc, FEW)?;
+    let start = turns_at(&forms, at);
+    let is_granted = make_try(&forms, one);
+    let granted = turns_at(&forms, at);
+    let other = forms_of(rt, alloc, FEW)?;
+    let owns = make_try(&other, owner_of(one));
+    let held = turns_at(&other, at);
+    let is_refused = !make_try(&other, one);
+    let refused = turns_at(&other, at);
+    Ok((
+        [granted.wrapping_sub(start), refused.wrapping_sub(held)],
+        [is_granted, owns, is_refused],
+    ))
+}
+
+// The try that keeps this one from what it asks for.
+fn owner_of(one: Try) -> Try {
+    match one {
+        Try::Acquire | Try::AcquirePermit => Try::AcquireMany,
+        Try::Share => Try::Lock,
+        Try::Read => Try::Write,
+        other => other,
+    }
+}
+
+#[test]
+fn a_try_takes_one_turn_at_the_mutex(rt: HostRuntime) -> Result<(), Fail> {
+    for (one, at) in &TRIES {
+        same!(rt; turns_of_try(&rt, rt.alloc(), *one, *at)?, ([1, 1], [true; 3]));
+    }
+    Ok(())
+}
+
+// The patience of a form that is made with no other, and of all waiters, as the documents say.
+#[test]
+fn patience_is_what_is_said_of_it(rt: HostRuntime) {
+    let said = Patience {
+        looks: 16,
+        yields: 100,
+    };
+    same!(rt; UNREGISTERED, said);
+    let said = Patience {
+        looks: 500,
+        yields: 500,
+    };
+    same!(rt; PATIENCE, said);
 }
 
 // A lock whose calls register at once, and whose waiters stay awake for so long.
