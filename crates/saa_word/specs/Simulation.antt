@@ -157,10 +157,9 @@ pub record IsConserved (needs : Needs) (trace : Trace) : Type 0 where
 abbrev pub Conserves : State → Trace → Type 0
 Conserves state trace = (bound : ℕ) → state.rules ≡ Permits bound → IsConserved (permit_needs bound) trace
 
--- A move is one step of the machine; rules and places stay. It simulates a list of events, none where it starts a call or
--- waits, each enabled where it comes. What it answers is what its call and events name; the words show the abstract state then, and all events so
--- far lead to them; permits are conserved; no place has made too many steps; if no place is in a call then, all is at rest; and the trace after the
--- events tracks the machine
+-- A move is one step of the machine; rules and places stay. It simulates a list of events, none where it starts a call or waits, each enabled where
+-- it comes. What it answers is what its call and events name; the words show the abstract state then, and all events so far lead to them; permits are
+-- conserved; no place has made too many steps; if no place is in a call then, all is at rest; and the trace after the events tracks the machine
 pub record Simulates (state : State) (move : Move) (moved : Moved) (trace : Trace) : Type 0 where
   pub exact : IsOneStep move moved.step state moved.machine
   pub rules : moved.machine.rules ≡ state.rules

@@ -44,8 +44,9 @@ IsFresh None stage = Unit {0}
 IsFresh (Some underway) stage = seeks_flag stage ≡ true → underway.held ≡ false
 
 -- A trace tracks a machine: its events lead to the abstract state that words and places refine; each place is registered as the trace says,
--- in the line exactly where the abstract state holds it, and with what it asks there; the flag's holder is the one that the trace says, and who is to show an answer that is due is its debtor; each
--- place is in the call that it says, and where it seeks the flag there it hasn't held it; and what each place has made and what it has left are at most 16 steps for each place and 48 more
+-- in the line exactly where the abstract state holds it, and with what it asks there; the flag's holder is the one that the trace says, and who is to
+-- show an answer that is due is its debtor; each place is in the call that it says, and hasn't held the flag in it where it seeks the flag; and what
+-- each place has made and what it has left are at most 16 steps for each place and 48 more
 pub record Tracks (state : State) (trace : Trace) : Type 0 where
   pub sized : IsSized state
   pub run : IsRun (needs_of state.rules) (opening trace.withheld) trace.history trace.state
