@@ -1,20 +1,20 @@
 //! Each timed call in one thread: granted at once, time that is up, and what stays behind.
 
 use crate::clock::BROKEN;
-use crate::forms::Time::{Ever, Later, Past, Zero};
+use crate::forms::Form::Semaphore;
+use crate::forms::Time::{Ever, Later, Past, Short, Zero};
 use crate::forms::{MADE, Made};
 use crate::stories::Act::{
-    Available, Count, DropPermit, IsFree, Open, PoisonLock, Release, ReleaseLock, ReleaseShare,
-    Seal,
+    Available, Count, DropPermit, IsFree, Open, PoisonLock, Register, Release, ReleaseLock,
+    ReleaseShare, Seal, Waiting,
 };
-use crate::stories::Ask::{Acquire, AcquireMany, Arrive, Enter, Lock, Permit, Share};
-use crate::stories::Row::{Does, Has, In};
+use crate::stories::Ask::{Acquire, AcquireMany, Arrive, Enter, Lock, Permit, PollPermit, Share};
+use crate::stories::Row::{Does, Has, In, InEach};
 use crate::stories::Sign::Clock;
 use crate::stories::{Row, Story};
-use saa_core::ticket::Full;
 use saa_sync::gate::{Error, State};
 
-// A story of one thread, at a clock of which each reading is later than the last.
+// A story of one thread, at a clock of which each reading is a nanosecond later than the last.
 pub(crate) const ALONE: Story = Story {
     name: "",
     step: 1,
@@ -34,16 +34,16 @@ pub(crate) static STORIES: [Story; 6] = [
         ..ALONE
     },
     Story {
+        name: "no permits in time",
+        made: Made { room: 2, ..MADE },
+        rows: &NO_PERMITS,
+        ..ALONE
+    },
+    Story {
         name: "a broken clock ends a wait",
         step: 0,
         made: Made { permits: 1, ..MADE },
         rows: &BROKEN_CLOCK,
-        ..ALONE
-    },
-    Story {
-        name: "a full room is told",
-        made: Made { room: 0, ..MADE },
-        rows: &NO_ROOM,
         ..ALONE
     },
     Story {
@@ -93,13 +93,22 @@ const BROKEN_CLOCK: [Row; 8] = [
     Does(Available(1)),
 ];
 
-const NO_ROOM: [Row; 6] = [
-    In(Ever, Acquire(Err(Full))),
-    In(Ever, AcquireMany(2, Err(Full))),
-    In(Ever, Lock(Ok(Some(true)))),
-    In(Ever, Share(Err(Full))),
-    In(Ever, Enter(Err(Full))),
-    In(Ever, Arrive(Err(Full))),
+// They are there at once, and nothing is taken; but behind a waiter they are waited for as any others.
+const NO_PERMITS: [Row; 14] = [
+    InEach(AcquireMany(0, Ok(Some(true)))),
+    Does(Available(0)),
+    Does(Release),
+    InEach(AcquireMany(0, Ok(Some(true)))),
+    Does(Available(1)),
+    In(Zero, Acquire(Ok(Some(())))),
+    Does(Register(Semaphore, true)),
+    In(Zero, AcquireMany(0, Ok(None))),
+    In(Short, AcquireMany(0, Ok(None))),
+    In(Past, AcquireMany(0, Ok(None))),
+    Does(Waiting(Semaphore)),
+    Does(Release),
+    In(Zero, PollPermit(Some(Ok(())))),
+    Does(Available(0)),
 ];
 
 const TURNS: [Row; 16] = [

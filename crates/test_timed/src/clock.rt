@@ -5,7 +5,7 @@ use std::sync::Wait;
 use std::sync::atomic::{AtomicU64, Ordering};
 use std::time::{Clock, Duration};
 
-/// The permission to block of a runtime, and a clock of its own, in microseconds, or the runtime's clock.
+/// The permission to block of a runtime, and a clock of its own, in nanoseconds, or the runtime's clock.
 #[derive(Drop)]
 pub struct OnClock<R: Wait + Clock + Drop> {
     rt: R,
@@ -14,6 +14,8 @@ pub struct OnClock<R: Wait + Clock + Drop> {
     now: AtomicU64,
     // How much later each reading is than the last.
     step: u64,
+    // What it shows once it was read, or 0 where it doesn't leap.
+    leap: AtomicU64,
     readings: AtomicU64,
 }
 
@@ -28,6 +30,7 @@ impl<R: Wait + Clock + Drop> OnClock<R> {
             is_real: false,
             now: AtomicU64::new(0),
             step,
+            leap: AtomicU64::new(0),
             readings: AtomicU64::new(0),
         }
     }
@@ -49,6 +52,23 @@ impl<R: Wait + Clock + Drop> OnClock<R> {
         self.now.store(now, Ordering::SeqCst);
     }
 
+    /// Has it show this time as soon as it was read once more.
+    pub fn leap(&self, then: u64) {
+        self.leap.store(then, Ordering::SeqCst);
+    }
+
+    // The step of a reading that showed this.
+    fn go_on(&self, now: u64) {
+        let then = self.leap.swap(0, Ordering::SeqCst);
+        if then != 0 {
+            self.now.store(then, Ordering::SeqCst);
+        } else if self.step != 0 {
+            // One that stands still is set by another thread meanwhile, and keeps that.
+            self.now
+                .store(now.saturating_add(self.step), Ordering::SeqCst);
+        }
+    }
+
     /// How often it was read.
     pub fn readings(&self) -> u64 {
         self.readings.load(Ordering::SeqCst)
@@ -67,12 +87,8 @@ impl<R: Wait + Clock + Drop> Clock for OnClock<R> {
         if now == BROKEN {
             return Err(io::Error::from(io::ErrorKind::Other));
         }
-        // One that stands still is set by another thread meanwhile, and keeps that.
-        if self.step != 0 {
-            self.now
-                .store(now.saturating_add(self.step), Ordering::SeqCst);
-        }
-        Ok(Duration::from_micros(now))
+        self.go_on(now);
+        Ok(Duration::from_nanos(now))
     }
 
     fn since_1970(&self) -> io::Result<Duration> {

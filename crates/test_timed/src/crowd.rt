@@ -2,10 +2,10 @@
 
 use crate::calls::ALONE;
 use crate::clock::OnClock;
-use crate::forms::Time::{Ever, Long, Zero};
+use crate::forms::Time::{Ever, Long, Short, Zero};
 use crate::forms::{Form, MADE, Made};
 use crate::stories::Act::{
-    AcquireLate, Asleep, Available, Count, EnterLate, ReleaseLate, ReleaseMany,
+    AcquireLate, Asleep, Available, Count, EnterLate, Release, ReleaseLate, ReleaseMany,
 };
 use crate::stories::Ask::{Acquire, AcquireMany, Arrive, Enter};
 use crate::stories::Row::{Does, Has, In};
@@ -37,7 +37,7 @@ const SLEEPING: Story = Story {
     ..ALONE
 };
 
-pub(crate) static STORIES: [Story; 4] = [
+pub(crate) static STORIES: [Story; 6] = [
     Story {
         name: "who is behind is granted at once",
         made: Made {
@@ -70,6 +70,29 @@ pub(crate) static STORIES: [Story; 4] = [
         after: &[Does(Available(0)), Does(Asleep(0))],
         ..SLEEPING
     },
+    // Its clock shows another time as soon as it was read once.
+    Story {
+        name: "the longest wait lasts for hundreds of years",
+        rows: &[Has(Sign::Asleep(Form::Semaphore, 1)), Does(Release)],
+        rescue: &[Does(Release)],
+        beside: &[Has(Sign::Leaps(AGES)), In(Ever, Acquire(Ok(Some(()))))],
+        after: &[Does(Available(0))],
+        ..SLEEPING
+    },
+    Story {
+        name: "a wait of some nanoseconds lasts for all of them",
+        rows: &[
+            Has(Sign::Asleep(Form::Semaphore, 1)),
+            Has(Sign::Clock(8)),
+            Has(Sign::Pauses),
+            Has(Sign::Asleep(Form::Semaphore, 1)),
+            Does(Release),
+        ],
+        rescue: &[Does(Release), Has(Sign::Clock(LATE))],
+        beside: &[In(Short, Acquire(Ok(Some(()))))],
+        after: &[Does(Available(0))],
+        ..SLEEPING
+    },
     // A wait at a gate whose time is up tells all others so, and one at a barrier takes its arrival back.
     Story {
         name: "a gate tells others and a barrier forgets",
@@ -80,6 +103,9 @@ pub(crate) static STORIES: [Story; 4] = [
         ..SLEEPING
     },
 ];
+
+// As late as a clock can be that isn't broken, in nanoseconds.
+const AGES: u64 = u64::MAX - 1;
 
 // How long a wait is by the test's clock, in milliseconds. A sleeper looks at the clock so often, since it really sleeps so long.
 const WHILE: u64 = 10;

@@ -7,10 +7,10 @@
 use crate::clock::OnClock;
 use crate::forms::Form::Semaphore;
 use crate::forms::Time::{Ever, Hence, Hour, Later, Long, Past, Zero};
-use crate::forms::{Form, Made, Time};
+use crate::forms::{Form, LONG, Made, Time};
 use crate::order::LOOKING;
 use crate::stories::Row::{Has, In, Lasts};
-use crate::stories::Sign::{Awaited, Clock as Set, Parked, Pauses, Reached, Rests};
+use crate::stories::Sign::{Awaited, Clock as Set, Leaps, Parked, Pauses, Reached, Rests};
 use crate::stories::{Ask, Kind, Place, Row, Scene};
 use crate::table;
 use std::alloc::AllocGlobal;
@@ -78,22 +78,25 @@ enum Play {
     Late,
     // It has a while, by a clock that stands still until others wait behind it.
     Passed,
+    // It has an hour, by a clock that shows all but a while of it at once, and stands still then until others wait behind it.
+    Aged,
     // It is answered at once, with no time left, or with all there is.
     Free(bool),
 }
 
-const PLAYS: [Play; 5] = [
+const PLAYS: [Play; 6] = [
     Play::Granted,
     Play::Late,
     Play::Passed,
+    Play::Aged,
     Play::Free(false),
     Play::Free(true),
 ];
 
-// When the time is up of a call behind which others wait, in microseconds, and when it nearly is.
-const IN_TIME: u64 = 10_500;
+// An hour in nanoseconds, and all but a while of it.
+const AN_HOUR: u64 = 3_600_000_000_000;
 
-const TOO_EARLY: u64 = 10_499;
+const NEARLY: u64 = AN_HOUR - LONG;
 
 // What the caller does before its call, and in the end; and what the holder waits for before it lets its own pagers go.
 const WHEN_ASKED: [Row; 1] = [Has(Awaited(1))];
@@ -132,10 +135,10 @@ fn grants<C: Wait + Clock + Drop>(scene: &Scene<'_, C>, call: &Call) -> Option<u
 fn calls<C: Wait + Clock + Drop>(
     scene: &Scene<'_, C>,
     call: &Call,
-    asks: Row,
+    asks: &[Row],
     found: &[Row],
 ) -> Option<usize> {
-    scene.first_other(&[&WHEN_ASKED, call.first, &[asks], found, &DONE], &[])
+    scene.first_other(&[&WHEN_ASKED, call.first, asks, found, &DONE], &[])
 }
 
 // The holder of a call that is late looks when that has ended.
@@ -144,19 +147,34 @@ fn outlasts<C: Wait + Clock + Drop>(scene: &Scene<'_, C>, call: &Call) -> Option
     scene.first_other(&parts, call.grants)
 }
 
-// The holder of a call has its time be nearly up, where it waits still, and sets it to be up once others wait behind it.
-fn passes<C: Wait + Clock + Drop>(scene: &Scene<'_, C>, call: &Call) -> Option<usize> {
+// The holder of a call has its time be nearly up, a nanosecond before its end, where it waits still, and sets it to be up once others
+// wait behind it.
+fn passes<C: Wait + Clock + Drop>(scene: &Scene<'_, C>, call: &Call, end: u64) -> Option<usize> {
     let parked = Has(Parked(place_of(call.at)));
     let finds = [
         Has(Reached(1)),
         parked,
-        Has(Set(TOO_EARLY)),
+        Has(Set(end.saturating_sub(1))),
         Has(Pauses),
         parked,
     ];
-    let ends = [Has(Set(IN_TIME)), Has(Awaited(2))];
+    let ends = [Has(Set(end)), Has(Awaited(2))];
     let parts = [call.before, &finds, call.behind, &ends, call.passed];
     scene.first_other(&parts, call.grants)
+}
+
+// The caller of a call that has an hour. A duration begins before its clock shows how late it is, and an instant is told anyhow.
+fn calls_aged<C: Wait + Clock + Drop>(
+    scene: &Scene<'_, C>,
+    call: &Call,
+    kind: Kind,
+) -> Option<usize> {
+    let ages = match kind {
+        Kind::For => Has(Leaps(NEARLY)),
+        Kind::Until => Has(Set(NEARLY)),
+    };
+    let asks = In(time_of(kind, Hour, Hence), call.late);
+    calls(scene, call, &[ages, asks], call.left)
 }
 
 // A call that is answered at once.
@@ -183,17 +201,22 @@ fn played<H: Threads + Sync, C: Wait + Clock + Drop + Sync>(
         Play::Granted => thread::join(
             rt,
             || grants(scene, call),
-            || calls(scene, call, hour, call.had),
+            || calls(scene, call, &[hour], call.had),
         ),
         Play::Late => thread::join(
             rt,
             || outlasts(scene, call),
-            || calls(scene, call, Lasts(kind, call.late), call.left),
+            || calls(scene, call, &[Lasts(kind, call.late)], call.left),
         ),
         Play::Passed => thread::join(
             rt,
-            || passes(scene, call),
-            || calls(scene, call, long, call.left),
+            || passes(scene, call, LONG),
+            || calls(scene, call, &[long], call.left),
+        ),
+        Play::Aged => thread::join(
+            rt,
+            || passes(scene, call, AN_HOUR),
+            || calls_aged(scene, call, kind),
         ),
         Play::Free(false) => (None, is_answered(scene, call, time_of(kind, Zero, Past))),
         Play::Free(true) => (None, is_answered(scene, call, time_of(kind, Ever, Hence))),
@@ -209,7 +232,7 @@ fn others<H: Wait + Clock + Threads + Sync + AllocGlobal>(
 ) -> io::Result<Others> {
     let (clock, made) = match play {
         Play::Granted | Play::Late => (OnClock::real(rt), call.made),
-        Play::Passed => (OnClock::new(rt, 0), call.made),
+        Play::Passed | Play::Aged => (OnClock::new(rt, 0), call.made),
         Play::Free(_) => (OnClock::real(rt), call.free),
     };
     let scene = Scene::new(&clock, rt.alloc(), made)?;

@@ -30,8 +30,8 @@ pub(crate) type Permits<R> = SemaphoreOf<R, 1000>;
 // One permit of it.
 pub(crate) type OnePermit<'s, R> = PermitOf<'s, R, 1000>;
 
-// A while, in microseconds.
-const LONG: u64 = 10_500;
+// A while, in nanoseconds: 10 milliseconds and a half, and some.
+pub(crate) const LONG: u64 = 10_500_777;
 
 // Longer than any test lasts, in seconds.
 const HOUR: u64 = 3_600;
@@ -39,13 +39,13 @@ const HOUR: u64 = 3_600;
 // How long a call waits.
 #[derive(Clone, Copy)]
 pub(crate) enum Time {
-    // For no time, for 9 microseconds, for 10 milliseconds and a half, for an hour, or for the longest time there is.
+    // For no time, for 9 nanoseconds, for some more than 10 milliseconds and a half, for an hour, or for the longest time there is.
     Zero,
     Short,
     Long,
     Hour,
     Ever,
-    // Until the instant at which the story began, or until 10 milliseconds and a half or an hour behind it.
+    // Until the instant at which the story began, or until some more than 10 milliseconds and a half or an hour behind it.
     Past,
     Later,
     Hence,
@@ -175,7 +175,7 @@ pub(crate) fn forms_of<R: Wait + Clock + Drop>(
     made: Made,
 ) -> io::Result<Forms<&OnClock<R>>> {
     let past = Instant::now(clock)?;
-    let later = behind(past, Duration::from_micros(LONG))?;
+    let later = behind(past, Duration::from_nanos(LONG))?;
     let hence = behind(past, Duration::from_secs(HOUR))?;
     let (semaphore, lock) = turns_of(clock, alloc, made)?;
     let (gate, barrier) = gatherings_of(clock, alloc, made)?;
@@ -198,8 +198,8 @@ impl<R: Wait + Clock + Drop> Forms<R> {
     pub(crate) fn span(&self, time: Time) -> Span {
         match time {
             Time::Zero => Span::For(Duration::ZERO),
-            Time::Short => Span::For(Duration::from_micros(9)),
-            Time::Long => Span::For(Duration::from_micros(LONG)),
+            Time::Short => Span::For(Duration::from_nanos(9)),
+            Time::Long => Span::For(Duration::from_nanos(LONG)),
             Time::Hour => Span::For(Duration::from_secs(HOUR)),
             Time::Ever => Span::For(Duration::MAX),
             Time::Past => Span::Until(self.past),

@@ -1,16 +1,14 @@
 //! Guards that are waited for in time.
 
 use crate::calls::ALONE;
-use crate::forms::Time::{Ever, Past, Short, Zero};
+use crate::forms::Time::{Past, Short, Zero};
 use crate::forms::Way::{Lock, Read, Write};
-use crate::forms::{MADE, Made};
-use crate::stories::Act::{DropGuards, Hold, KeepToRead, Put};
+use crate::stories::Act::{DropGuards, KeepToRead, Put};
 use crate::stories::Ask::Take;
 use crate::stories::Row::{Does, In};
 use crate::stories::{Row, Story};
-use saa_core::ticket::Full;
 
-pub(crate) static STORIES: [Story; 4] = [
+pub(crate) static STORIES: [Story; 3] = [
     Story {
         name: "a mutex in time",
         rows: &MUTEX,
@@ -24,12 +22,6 @@ pub(crate) static STORIES: [Story; 4] = [
     Story {
         name: "a reader that is late leaves the others what they have",
         rows: &ALL_READ,
-        ..ALONE
-    },
-    Story {
-        name: "a mutex of no room",
-        made: Made { room: 0, ..MADE },
-        rows: &NO_ROOM,
         ..ALONE
     },
 ];
@@ -65,5 +57,3 @@ const ALL_READ: [Row; 4] = [
     In(Short, Take(Read, Ok(None))),
     In(Past, Take(Read, Ok(None))),
 ];
-
-const NO_ROOM: [Row; 2] = [Does(Hold(Lock, 5)), In(Ever, Take(Lock, Err(Full)))];

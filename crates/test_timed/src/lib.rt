@@ -1,13 +1,15 @@
 //! Tests of waits that end in time: what a call is told whose time is up, and what it leaves.
 //!
-//! Where time decides, the clock is a test's own: it moves when the test says so, or by a step at each reading; or it is the runtime's,
-//! by which a call is told only that it isn't early. So no test depends on how fast the machine is. Every test joins its threads, and
-//! ends by itself.
+//! Where time decides, the clock is a test's own: it moves when the test says so, by a step at each reading, or by a leap behind one; or it
+//! is the runtime's, by which a call is told only that it isn't early. So no test depends on how fast the machine is. Every test joins its
+//! threads, and ends by itself.
 //!
-//! What is told is in tables of rows (`calls`, `pagers`, `guards`, `order`, `crowd`), which `stories` plays; and each call has a row of
-//! `table`, which `every` plays.
+//! What is told is in tables of rows (`calls`, `pagers`, `guards`, `full`, `order`, `crowd`), which `stories` plays; and each call has a
+//! row of `table`, which `every` plays.
 #![tactic(auto)]
 
+#[cfg(test)]
+mod bound;
 #[cfg(test)]
 mod calls;
 #[cfg(test)]
@@ -18,6 +20,8 @@ mod crowd;
 mod every;
 #[cfg(test)]
 mod forms;
+#[cfg(test)]
+mod full;
 #[cfg(test)]
 mod guards;
 #[cfg(test)]

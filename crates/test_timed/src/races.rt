@@ -59,7 +59,7 @@ fn told<H: Wait + Clock + Threads + Sync + AllocGlobal>(
     rt: &H,
     yields: u32,
 ) -> Result<(u64, bool, usize), AllocError> {
-    let clock = OnClock::new(rt, 1);
+    let clock = OnClock::new(rt, 1_000);
     let core = SemaphoreCore::with_permits(rt.alloc(), 1, 1)?;
     let patience = Patience { looks: 0, yields };
     let semaphore = Semaphore::on_shell(Shell::new(&clock, rt.alloc(), core, 1, patience)?);

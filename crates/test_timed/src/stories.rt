@@ -6,7 +6,7 @@ use crate::clock::OnClock;
 use crate::forms::{
     Form, Forms, Held, Made, OnePermit, Pagers, Span, Time, Way, behind, forms_of, polled,
 };
-use crate::{calls, crowd, guards, order, pagers};
+use crate::{calls, crowd, full, guards, order, pagers};
 use saa_core::ticket::Full;
 use saa_sync::gate::{Error as GateError, State};
 use saa_sync::pager::Error;
@@ -24,6 +24,8 @@ use test_asserts::same;
 pub(crate) enum Row {
     // A call that waits at most so long.
     In(Time, Ask),
+    // A call that is told the same at each time: of none, of a while, of an hour, and the longest, by durations and by instants.
+    InEach(Ask),
     // A call that waits for a while from now, or until then, and tells nothing before that.
     Lasts(Kind, Ask),
     // Another call.
@@ -114,8 +116,9 @@ pub(crate) enum Place {
 // How threads meet.
 #[derive(Clone, Copy)]
 pub(crate) enum Sign {
-    // The clock is set.
+    // The clock is set, or shows this as soon as it was read once more.
     Clock(u64),
+    Leaps(u64),
     // The story is this far, or is waited for until it is.
     Reached(u64),
     Awaited(u64),
@@ -133,8 +136,19 @@ pub(crate) enum Sign {
     Pauses,
 }
 
-// How late the clock is set for the time of all to be up, in microseconds.
-pub(crate) const LATE: u64 = 1_000_000;
+// How late the clock is set for the time of all to be up, in nanoseconds.
+pub(crate) const LATE: u64 = 1_000_000_000;
+
+// All times but those of some nanoseconds; a call that waits where it is to tell at once is told otherwise at the first.
+const EACH: [Time; 7] = [
+    Time::Zero,
+    Time::Past,
+    Time::Long,
+    Time::Later,
+    Time::Hour,
+    Time::Hence,
+    Time::Ever,
+];
 
 // How long a thread sleeps between two looks whether a sign is there, in microseconds: one that yields would keep others from their turns.
 const GLANCE: u64 = 20;
@@ -154,7 +168,7 @@ const FEW: u64 = 8;
 #[derive(Clone, Copy)]
 pub(crate) struct Story {
     pub(crate) name: &'static str,
-    // How much later each reading of the clock is than the last, in microseconds.
+    // How much later each reading of the clock is than the last, in nanoseconds.
     pub(crate) step: u64,
     pub(crate) made: Made,
     // What three threads do at the same time, and what is done once they have ended.
@@ -229,6 +243,16 @@ impl<'s, R: Wait + Clock + Drop> Desk<'s, R> {
             Ask::PollArrival(wanted) => polled(&mut self.pagers.barrier, span) == wanted,
             Ask::Take(way, wanted) => self.keep(forms.take(way, span)) == wanted,
         }
+    }
+
+    // Makes it once at each time; whether it tells what it must.
+    fn asks_each(&mut self, ask: Ask) -> bool {
+        for time in EACH {
+            if !self.asks(self.forms.span(time), ask) {
+                return false;
+            }
+        }
+        true
     }
 
     fn put(&mut self, number: u32) -> bool {
@@ -371,12 +395,20 @@ impl<'c, C: Wait + Clock + Drop> Scene<'c, C> {
             if self.is_there(sign) {
                 return true;
             }
-            if self.has_failed() || self.is_too_long_since(start) {
+            if self.has_failed() || self.is_over(sign) || self.is_too_long_since(start) {
                 return false;
             }
             thread::sleep(self.clock.rt(), Duration::from_micros(GLANCE));
         }
         unreachable!()
+    }
+
+    // Whether the call has ended that a sign is of.
+    fn is_over(&self, sign: Sign) -> bool {
+        match sign {
+            Sign::Parked(_place) => self.has_reached(2),
+            _ => false,
+        }
     }
 
     fn is_too_long_since(&self, start: Instant) -> bool {
@@ -414,6 +446,7 @@ impl<'c, C: Wait + Clock + Drop> Scene<'c, C> {
     fn has(&self, sign: Sign) -> bool {
         match sign {
             Sign::Clock(now) => self.clock.set(now),
+            Sign::Leaps(then) => self.clock.leap(then),
             Sign::Reached(number) => self.reach(number),
             Sign::Pauses => thread::sleep(self.clock.rt(), Duration::from_millis(PAUSE)),
             Sign::Rests => return self.rests(),
@@ -486,6 +519,7 @@ fn first_at<'s, 'c, C: Wait + Clock + Drop>(
     for (place, row) in rows.iter().enumerate() {
         let is_right = match *row {
             Row::In(time, ask) => desk.asks(scene.forms.span(time), ask),
+            Row::InEach(ask) => desk.asks_each(ask),
             Row::Lasts(kind, ask) => scene.lasts(desk, kind, ask),
             Row::Does(act) => desk.does(scene.clock, act),
             Row::Has(sign) => scene.has(sign),
@@ -557,6 +591,11 @@ fn pagers_are_told_in_time(rt: HostRuntime) {
 #[test]
 fn guards_are_had_in_time(rt: HostRuntime) {
     same!(rt; first_story(&rt, &guards::STORIES).ok(), Some(None));
+}
+
+#[test]
+fn full_rooms_are_told(rt: HostRuntime) {
+    same!(rt; first_story(&rt, &full::STORIES).ok(), Some(None));
 }
 
 #[test]

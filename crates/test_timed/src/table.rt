@@ -18,7 +18,7 @@ use crate::stories::Ask::{
 use crate::stories::Row::{Does, In};
 use saa_sync::gate::{Error as GateError, State};
 
-pub(crate) static CALLS: [Call; 10] = [
+pub(crate) static CALLS: [Call; 11] = [
     A_LOCK,
     A_SHARE,
     // The owner poisons the lock.
@@ -62,6 +62,25 @@ pub(crate) static CALLS: [Call; 10] = [
         at_once: AcquireMany(300, Ok(Some(true))),
         found: &[Does(Available(1))],
         ..CALL
+    },
+    // A waiter is before it, and what is there behind both stays.
+    Call {
+        name: "no permits behind a waiter",
+        before: &[Does(Register(Semaphore, true))],
+        grants: &[Does(ReleaseMany(3))],
+        granted: AcquireMany(0, Ok(Some(true))),
+        had: &[Does(Available(2))],
+        late: AcquireMany(0, Ok(None)),
+        alone: &[
+            Does(Waiting(Semaphore)),
+            Does(Release),
+            In(Zero, PollPermit(Some(Ok(())))),
+            Does(Available(0)),
+        ],
+        behind: &[],
+        at_once: AcquireMany(0, Ok(Some(true))),
+        found: &[Does(Available(1))],
+        ..ONE_PERMIT
     },
     Call {
         name: "a permit that gives itself back",
