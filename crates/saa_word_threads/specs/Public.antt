@@ -27,7 +27,7 @@ view_left left = left.seat.me.0
 
 -- the patience of the last call that asked at a place, or tried
 abbrev pub patience_of : Place → Patience
-patience_of place = place.patience
+patience_of place = place.last_ask.patience
 
 -- a place is another moment of a place: it has its number, and is of its table
 abbrev pub IsSamePlace : Place → Place → Type 0

@@ -5,7 +5,7 @@ ghost use Rattle.saa_word_steps.specs.Readings.{is_taken};
 ghost use Rattle.saa_word_steps.specs.Needs.{needs_of};
 ghost use Rattle.saa_word_threads.specs.Told.{IsSince};
 ghost use Rattle.saa_word_threads.specs.Called.{HasEvents, IsCalled, Midway, is_single};
-ghost use Rattle.saa_word_threads.specs.Public.{HasLeft};
+ghost use Rattle.saa_word_threads.specs.Public.{HasLeft, patience_of};
 
 use crate::form::Form;
 use crate::place::{Left, Place};
@@ -53,7 +53,7 @@ impl Form {
         requires dealt { place.old.seat.table_id ≡ self.now.table.shared.table_id }
         requires taken { is_taken (needs_of self.now.rules).is_lock call ≡ true }
         ensures same { (place.new.seat.table_id ≡ place.old.seat.table_id) × (place.new.number ≡ place.old.number) }
-        ensures patience { place.new.patience ≡ place.old.patience }
+        ensures patience { patience_of place.new ≡ patience_of place.old }
         ensures called { IsCalled (needs_of self.now.rules) call place.old.position.registration result place.new.position.registration place.old.seat.me.0 place.new.seat.me.0 }
     {
         match place.position.start(self.rules, call) {
@@ -115,7 +115,7 @@ impl Form {
             seat,
             number,
             position: _,
-            patience: _,
+            last_ask: _,
         } = place;
         Left { seat, number }
     }

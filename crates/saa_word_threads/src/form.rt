@@ -7,11 +7,11 @@ ghost use Rattle.std.specs.Prelude.{◌^◌, ◌≡◌, ◌+◌, ◌<◌, vec_le
 ghost use Rattle.saa_core_words.specs.Words.{count_bits};
 ghost use Rattle.saa_word_steps.specs.Needs.{needs_of};
 
+use crate::mark::Marks;
 use crate::table::{About, OneHistory, View};
 use atomic_table::Table;
 use saa_word_steps::rules::Rules;
 use std::alloc::Global;
-use std::sync::atomic::{AtomicBool, Ordering};
 
 /// A form of these rules, with so many places. Of each place it remembers whether it may be parked.
 #[derive(Drop)]
@@ -19,24 +19,16 @@ pub struct Form {
     pub(crate) table: Table<(), View, About, OneHistory, Global>,
     pub(crate) rules: Rules,
     pub(crate) places: u16,
-    pub(crate) parked: Vec<AtomicBool>,
+    pub(crate) marks: Marks,
     ghost words: { table.shared.table_id.words ≡ places + places + 1 },
     ghost key: { (table.shared.key.rules ≡ rules) × (table.shared.key.places ≡ places) },
     ghost slotless: { table.shared.table_id.slots ≡ 0 },
     ghost wide: { (needs_of rules).top < 2 ^ count_bits },
     ghost few: { places < 65536 },
-    ghost parking: { vec_len parked ≡ places },
+    ghost parking: { vec_len marks.marks ≡ places },
 }
 
 impl Form {
-    // Whether the place of this number may be parked, by its mark.
-    pub(crate) fn is_parked(&self, place: u16) -> bool {
-        match self.parked.get(usize::from(place)) {
-            Some(mark) => mark.load(Ordering::SeqCst),
-            None => false,
-        }
-    }
-
     // Whether an answer is written for the place of this number that it hasn't taken.
     pub(crate) fn is_answered(&self, place: u16) -> bool {
         place < self.places

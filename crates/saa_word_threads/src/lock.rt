@@ -291,8 +291,10 @@ impl Lock {
     {
         let call = WordCall::RegisterMode(mode);
         if !place.inner.is_idle() {
-            place.inner.patience = patience;
-            return yes(self.form.call(rt, watch, &mut place.inner, call));
+            return yes(
+                self.form
+                    .refuse(rt, watch, &mut place.inner, call, patience),
+            );
         }
         let ask = Ask {
             request: number(mode),

@@ -7,8 +7,9 @@ ghost use Rattle.saa_word_threads.specs.Kept.{dealer};
 ghost use Rattle.saa_word_threads.specs.Dealt.{AreNew, IsLedTo, IsNew, numbers};
 
 use crate::form::Form;
-use crate::looking::NONE;
+use crate::mark::Marks;
 use crate::place::{Left, Place};
+use crate::straight::LastAsk;
 use crate::table::{About, Dealt, View};
 use crate::words::Words;
 use atomic_table::{Seat, Table};
@@ -31,7 +32,7 @@ impl Form {
         ensures dealt { IfOk result (λ made. (vec_len made.1 ≡ places) × AreNew made.0.table.shared.table_id 0 made.1.items) }
     {
         let words = opening_words(alloc, withheld, places)?;
-        let parked = marks(alloc, places)?;
+        let marks = Marks::of(opening_marks(alloc, places)?);
         let about = About {
             rules,
             withheld,
@@ -42,7 +43,7 @@ impl Form {
             table,
             rules,
             places,
-            parked,
+            marks,
         };
         let room = Vec::with_capacity(alloc, usize::from(places))?;
         let dealt = form.deal(dealer, room);
@@ -75,6 +76,7 @@ impl Form {
         ensures dealt { IsNew self.now.table.shared.table_id number result }
     {
         let seat = self.table.shared.split_seat::<Dealt>(dealing);
+        let (seat, last_ask) = LastAsk::none(seat);
         let position = Position {
             registration: Registration::Idle,
             stage: Stage::Quiet,
@@ -84,7 +86,7 @@ impl Form {
             seat,
             number,
             position,
-            patience: NONE,
+            last_ask,
         }
     }
 
@@ -98,7 +100,7 @@ impl Form {
             table,
             rules: _,
             places,
-            parked: _,
+            marks: _,
         } = self;
         let Left { seat, number: _ } = left;
         let closed = table.close_with(seat);
@@ -117,7 +119,7 @@ fn opening_words(alloc: Global, withheld: u16, places: u16) -> Result<Vec<u64>, 
 }
 
 // A mark for each place, that it isn't parked.
-fn marks(alloc: Global, places: u16) -> Result<Vec<AtomicBool>, AllocError>
+fn opening_marks(alloc: Global, places: u16) -> Result<Vec<AtomicBool>, AllocError>
     ensures { IfOk result (λ marks. vec_len marks ≡ places) }
 {
     let mut marks = Vec::with_capacity(alloc, usize::from(places))?;

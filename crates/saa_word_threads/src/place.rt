@@ -7,7 +7,7 @@ ghost use Rattle.std.specs.Prelude.{◌≡◌, ◌+◌, ◌<◌, false};
 ghost use Rattle.saa_word_steps.specs.Readings.{is_idle};
 ghost use Rattle.saa_word_threads.specs.Told.{IsSince};
 
-use crate::looking::Patience;
+use crate::straight::LastAsk;
 use crate::table::View;
 use atomic_table::Seat;
 use saa_word_steps::place::{Place as Position, Registration};
@@ -21,8 +21,8 @@ pub struct Place {
     pub(crate) seat: Seat<(), View>,
     pub(crate) number: u16,
     pub(crate) position: Position,
-    // The patience of the last call that asked here, which only contracts read.
-    pub(crate) patience: Patience,
+    // The last call that asked here, which only contracts read.
+    pub(crate) last_ask: LastAsk,
     ghost numbered: { (seat.me.0.deals ≡ false) × (seat.me.0.number ≡ number) },
     ghost within: { number + number + 1 < seat.table_id.words },
     ghost since: { IsSince seat.me.0.position position },

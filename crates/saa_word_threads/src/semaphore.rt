@@ -80,8 +80,7 @@ impl<const MAX: usize> SemaphoreOf<MAX> {
     {
         let call = WordCall::Try(count);
         if count > MAX {
-            place.patience = NONE;
-            return yes(self.form.call(rt, &Unwatched, place, call));
+            return yes(self.form.refuse(rt, &Unwatched, place, call, NONE));
         }
         let ask = Ask {
             request: count as u16,
@@ -165,8 +164,7 @@ impl<const MAX: usize> SemaphoreOf<MAX> {
     {
         let call = WordCall::Register(count);
         if count > MAX || !place.is_idle() {
-            place.patience = patience;
-            return yes(self.form.call(rt, watch, place, call));
+            return yes(self.form.refuse(rt, watch, place, call, patience));
         }
         let ask = Ask {
             request: count as u16,

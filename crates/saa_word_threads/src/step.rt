@@ -17,7 +17,6 @@ use crate::watch::{Moment, Watch};
 use atomic_table::Seat;
 use saa_word_steps::operation::Operation;
 use saa_word_steps::place::{Next, Place as Position};
-use std::sync::atomic::Ordering;
 
 impl Form {
     // Makes the operation of a place's stage, and goes on with the number found.
@@ -114,8 +113,8 @@ impl Form {
         ensures moved { Moves (needs_of self.now.rules) self.now.places M.place (next_of (needs_of self.now.rules) M.me M.place M.place.stage result) result seat.old.me.0 seat.new.me.0 }
     {
         self.tell(watch, index);
-        let found = self.table.shared.swap::<Moved<M>>(seat, index, number);
-        self.wake(watch, index);
+        let (found, written) = self.write::<M>(seat, index, number);
+        self.wake(watch, written);
         found
     }
 
@@ -136,25 +135,6 @@ impl Form {
         let places = usize::from(self.places);
         if index > places {
             watch.at(Moment::Writes((index - places - 1) as u16));
-        }
-    }
-
-    // Wakes the place whose answer word this is, where it may be parked there.
-    //
-    // Why this order: a waiter sets its mark before it looks at its word for the last time, and the answer was written before this look. So
-    // one of the two sees the other.
-    fn wake<W: Watch>(&self, watch: &W, index: usize)
-        requires { index < self.now.places + self.now.places + 1 }
-    {
-        let places = usize::from(self.places);
-        if index <= places {
-            return;
-        }
-        let place = index - places - 1;
-        watch.at(Moment::Answers(place as u16));
-        if self.parked[place].load(Ordering::SeqCst) {
-            watch.at(Moment::Wakes(place as u16));
-            self.table.shared.wake_one(index);
         }
     }
 }

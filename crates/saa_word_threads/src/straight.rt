@@ -8,20 +8,23 @@ ghost use Rattle.saa_core_words.specs.Words.{count_bits, word_of};
 ghost use Rattle.saa_word_steps.specs.declared.operation.Operation.TheVariants.{Load, Exchange};
 ghost use Rattle.saa_word_steps.specs.declared.call.WordCall.TheVariants.{Poll};
 ghost use Rattle.saa_word_steps.specs.declared.call.Answer.{Answer};
+ghost use Rattle.saa_word_steps.specs.declared.call.Answer.TheVariants.{Bool as Says};
+ghost use Rattle.saa_word_steps.specs.declared.place.Next.TheVariants.{Done};
 ghost use Rattle.saa_word_steps.specs.declared.place.Back.TheVariants.{Tells};
 ghost use Rattle.saa_word_steps.specs.declared.place.Stage.TheVariants.{AskLoad, AskExchange, ReleaseLoad, ReleaseExchange};
 ghost use Rattle.saa_word_steps.specs.declared.place.Given.TheVariants.{Asked};
 ghost use Rattle.saa_word_steps.specs.Steps.{IsRanged, going, next_of, released_as, started};
 ghost use Rattle.saa_word_steps.specs.Readings.{is_taken, tried_answer};
 ghost use Rattle.saa_word_steps.specs.Needs.{needs_of};
-ghost use Rattle.saa_word_threads.specs.Public.{is_granted, is_yes};
+ghost use Rattle.saa_word_threads.specs.Patience.{none};
+ghost use Rattle.saa_word_threads.specs.Public.{is_granted, is_yes, patience_of};
 ghost use Rattle.saa_word_threads.specs.Straight.{grants_at, lowers_to};
 ghost use Rattle.saa_word_threads.specs.Told.{IsNext, IsSince, Moves, unless_joining};
 ghost use Rattle.saa_word_threads.specs.Called.{HasEvents, IsCalled, Midway, MidwayNext};
 
 use crate::call::Begun;
 use crate::form::Form;
-use crate::looking::{Patience, unless_joining};
+use crate::looking::{NONE, Patience, unless_joining};
 use crate::place::Place;
 use crate::table::{Mover, View};
 use crate::watch::{Moment, Watch};
@@ -37,7 +40,46 @@ use std::sync::Wait;
 // The value of the answer that grants.
 const GRANTED: u8 = 0;
 
+/// The patience of the last call that asked at a place, or tried.
+///
+/// Nothing outside of this module makes one but for a seat that it has, as none of a place that is lent. So a call says a patience only by an ask that
+/// has it (`ask`), or by one that is refused before it would look (`refuse`).
+#[derive(Drop)]
+pub struct LastAsk {
+    patience: Patience,
+}
+
+impl LastAsk {
+    // None yet, at this seat.
+    pub(crate) fn none(seat: Seat<(), View>) -> (Seat<(), View>, LastAsk)
+        ensures seat { result.0 ≡ seat }
+        ensures patience { result.1.patience ≡ none }
+    {
+        (seat, LastAsk { patience: NONE })
+    }
+}
+
 impl Form {
+    // Asks for something that is refused at its start, whatever the patience.
+    pub(crate) fn refuse<R: Wait, W: Watch>(
+        &self,
+        rt: &R,
+        watch: &W,
+        place: &mut Place,
+        call: WordCall,
+        patience: Patience,
+    ) -> Answer
+        requires dealt { place.old.seat.table_id ≡ self.now.table.shared.table_id }
+        requires taken { is_taken (needs_of self.now.rules).is_lock call ≡ true }
+        requires refused { started (needs_of self.now.rules) place.old.position call ≡ Done place.old.position (Says false) }
+        ensures same { (place.new.seat.table_id ≡ place.old.seat.table_id) × (place.new.number ≡ place.old.number) }
+        ensures patience { patience_of place.new ≡ patience }
+        ensures called { IsCalled (needs_of self.now.rules) call place.old.position.registration result place.new.position.registration place.old.seat.me.0 place.new.seat.me.0 }
+    {
+        place.last_ask = LastAsk { patience };
+        self.call(rt, watch, place, call)
+    }
+
     // Asks for something: of a word that grants it by one exchange.
     #[inline(always)]
     pub(crate) fn ask<R: Wait, W: Watch>(
@@ -53,10 +95,10 @@ impl Form {
         requires taken { is_taken (needs_of self.now.rules).is_lock call ≡ true }
         requires starts { started (needs_of self.now.rules) place.old.position call ≡ going place.old.position (AskLoad ask) }
         ensures same { (place.new.seat.table_id ≡ place.old.seat.table_id) × (place.new.number ≡ place.old.number) }
-        ensures patience { place.new.patience ≡ patience }
+        ensures patience { patience_of place.new ≡ patience }
         ensures called { IsCalled (needs_of self.now.rules) call place.old.position.registration result place.new.position.registration place.old.seat.me.0 place.new.seat.me.0 }
     {
-        place.patience = patience;
+        place.last_ask = LastAsk { patience };
         let begun = Begun::of(call, place);
         let me = place.number;
         let looking = Snapshot::of(&Position {
@@ -103,7 +145,7 @@ impl Form {
     ) -> bool
         requires dealt { place.old.seat.table_id ≡ self.now.table.shared.table_id }
         ensures same { (place.new.seat.table_id ≡ place.old.seat.table_id) × (place.new.number ≡ place.old.number) }
-        ensures patience { place.new.patience ≡ place.old.patience }
+        ensures patience { patience_of place.new ≡ patience_of place.old }
         ensures called { (answer : Answer) × (result ≡ is_granted answer) × IsCalled (needs_of self.now.rules) Poll place.old.position.registration answer place.new.position.registration place.old.seat.me.0 place.new.seat.me.0 }
     {
         if let Registration::Once(value, _request) = place.position.registration {

@@ -12,6 +12,7 @@ ghost use Rattle.saa_word_threads.specs.Semaphores.{IsDealtBy};
 
 use crate::lock::{Lock, Mode, Place as LockPlace, SHARED, TryLockError, tried};
 pub use crate::looking::{NONE, Patience, WAITING};
+pub use crate::mark::{is_parked, is_parked_at};
 use crate::place::Place;
 use crate::semaphore::SemaphoreOf;
 use crate::straight::yes;
@@ -144,16 +145,6 @@ pub fn may_exchange(lock: &Lock) -> bool {
         tail: 0,
     };
     lock.form.may_get_on(Stage::AskExchange { ask, seen })
-}
-
-/// Whether the place of this number is parked, or about to park: whether it has set its mark. `false` for a number of no place.
-pub fn is_parked(lock: &Lock, place: u16) -> bool {
-    lock.form.is_parked(place)
-}
-
-/// The same at a semaphore.
-pub fn is_parked_at<const MAX: usize>(semaphore: &SemaphoreOf<MAX>, place: u16) -> bool {
-    semaphore.form.is_parked(place)
 }
 
 /// Whether an answer is written for the place of this number that it hasn't taken yet. `false` for a number of no place.

@@ -7,7 +7,6 @@ use crate::watch::{Moment, Watch};
 use saa_word_steps::place::Stage;
 use std::hint::spin_loop;
 use std::sync::Wait;
-use std::sync::atomic::Ordering;
 use std::thread::yield_now;
 
 // How often a place looks at its answer word before it begins to yield, and how often it yields before it parks.
@@ -49,11 +48,11 @@ impl Form {
         }
         // Why this order: the place that shows the answer looks at this mark once the answer is written, and parking looks at the word once the mark
         // is set. The other way round an answer between the two would wake nobody.
-        let mark = &self.parked[usize::from(me)];
-        mark.store(true, Ordering::SeqCst);
+        let place = usize::from(me);
+        self.marks.set(place);
         watch.at(Moment::Parks);
         self.table.shared.park(rt, index, 0);
         watch.at(Moment::IsBack);
-        mark.store(false, Ordering::SeqCst);
+        self.marks.clear(place);
     }
 }

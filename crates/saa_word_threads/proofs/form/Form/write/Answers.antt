@@ -1,7 +1,7 @@
 use Rattle.std.proofs.Common.{◌<◌, subst, sym}
 use Rattle.saa_word_steps.specs.declared.operation.Operation.TheVariants.{Store}
 use Rattle.saa_word_threads.proofs.Moving.{allowed}
-use Rattle.saa_word_threads.proofs.form.Form.store.Goals as goal
+use Rattle.saa_word_threads.proofs.form.Form.write.Goals as goal
 
 pub swap-found-requires : goal.swap-found-requires
 swap-found-requires g c = (
