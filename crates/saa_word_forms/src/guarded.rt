@@ -4,7 +4,8 @@
 //! turn is passed on, so it should never be contended. No clause says so.
 
 ghost use Rattle.std.specs.Prelude.{◌≡◌, All, IfOk, IfSome, vec_len};
-ghost use Rattle.saa_word_forms.specs.Turns.{HasLock, HasShare};
+ghost use Rattle.saa_word_steps.specs.declared.call.WordCall.TheVariants.{TryLock, TryShare};
+ghost use Rattle.saa_word_forms.specs.Turns.{HasLock, HasShare, IsTriedAndGranted};
 ghost use Rattle.saa_word_threads.specs.Dealt.{IsLedTo, numbers};
 ghost use Rattle.saa_word_threads.specs.Locks.{AreNew, HasLeft, IsDealtBy, IsLeftOf, about_of, table_of, view_left};
 
@@ -97,7 +98,8 @@ impl<'l, T> Worker<'l, T> {
         &'a mut self,
         rt: &'a R,
     ) -> Option<(Alone<'a, 'l, R>, RwLockWriteGuard<'l, T>)>
-        ensures { IfSome result (λ taken. HasLock taken.0.at.now.place) }
+        ensures granted { IfSome result (λ taken. HasLock taken.0.at.now.place) }
+        ensures tried { IfSome result (λ taken. IsTriedAndGranted TryLock self.old.at.place taken.0.at.now.place) }
     {
         let turn = Alone::try_take(rt, &mut self.at)?;
         Some((turn, self.value.write(rt)))
@@ -119,7 +121,8 @@ impl<'l, T> Worker<'l, T> {
         &'a mut self,
         rt: &'a R,
     ) -> Option<(Shared<'a, 'l, R>, RwLockReadGuard<'l, T>)>
-        ensures { IfSome result (λ taken. HasShare taken.0.at.now.place) }
+        ensures granted { IfSome result (λ taken. HasShare taken.0.at.now.place) }
+        ensures tried { IfSome result (λ taken. IsTriedAndGranted TryShare self.old.at.place taken.0.at.now.place) }
     {
         let turn = Shared::try_take(rt, &mut self.at)?;
         Some((turn, self.value.read(rt)))

@@ -1,6 +1,8 @@
 //! A mutex on the word's lock, for a fixed set of workers, and its guard.
 
-ghost use Rattle.std.specs.Prelude.{◌≡◌, All, IfOk, vec_len};
+ghost use Rattle.std.specs.Prelude.{◌≡◌, All, IfOk, IfSome, vec_len};
+ghost use Rattle.saa_word_steps.specs.declared.call.WordCall.TheVariants.{TryLock};
+ghost use Rattle.saa_word_forms.specs.Turns.{IsTriedAndGranted};
 ghost use Rattle.saa_word_threads.specs.Dealt.{IsLedTo, numbers};
 ghost use Rattle.saa_word_threads.specs.Locks.{AreNew, HasLeft, IsDealtBy, IsLeftOf, about_of, table_of, view_left};
 
@@ -107,7 +109,9 @@ impl<'l, T> MutexWorker<'l, T> {
     /// Takes the mutex if nobody has it and nobody waits; never waits for an owner.
     ///
     /// `None` changes nothing.
-    pub fn try_lock<'a, R: Wait>(&'a mut self, rt: &'a R) -> Option<MutexGuard<'a, 'l, R, T>> {
+    pub fn try_lock<'a, R: Wait>(&'a mut self, rt: &'a R) -> Option<MutexGuard<'a, 'l, R, T>>
+        ensures { IfSome result (λ guard. IsTriedAndGranted TryLock self.old.place guard.turn.at.now.place) }
+    {
         let (turn, value) = self.worker.try_write(rt)?;
         Some(MutexGuard::new(turn, value))
     }

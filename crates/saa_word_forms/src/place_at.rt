@@ -3,10 +3,11 @@
 //! What keeps the place at its lock is the type, so that nobody above has to carry that fact. A turn ends by `end_lock` or `end_share`, or
 //! is lowered by `lower`. The first two ask for a `PutDown`, which only dropping a guard of a value makes; the types don't say of which value.
 
-ghost use Rattle.std.specs.Prelude.{◌≡◌, true};
+ghost use Rattle.std.specs.Prelude.{◌≡◌, is_ok, true};
 ghost use Rattle.saa_word_steps.specs.declared.call.Answer.{Answer};
-ghost use Rattle.saa_word_steps.specs.declared.call.WordCall.TheVariants.{ReleaseLock, ReleaseShare};
+ghost use Rattle.saa_word_steps.specs.declared.call.WordCall.TheVariants.{ReleaseLock, ReleaseShare, TryLock, TryShare};
 ghost use Rattle.saa_word_threads.specs.Locks.{IsDealtBy, IsMade};
+ghost use Rattle.saa_word_threads.specs.Public.{tried};
 ghost use Rattle.saa_word_forms.specs.Turns.{HasLock, HasShare};
 
 use saa_word_threads::lock::{Left, Lock, Place};
@@ -71,9 +72,10 @@ impl<'l> PlaceAt<'l> {
         PlaceAt { lock, place }
     }
 
-    // Takes the lock for one owner alone, if that needs no wait.
+    // Takes the lock for one owner alone, if that needs no wait: by one try.
     pub(crate) fn try_lock<R: Wait>(&mut self, rt: &R) -> bool
-        ensures { result ≡ true → HasLock self.new.place }
+        ensures granted { result ≡ true → HasLock self.new.place }
+        ensures tried { (answer : Answer) × (result ≡ is_ok (tried answer)) × IsMade TryLock self.old.place answer self.new.place }
     {
         match self.lock.try_lock(rt, &mut self.place) {
             Ok(()) => true,
@@ -101,9 +103,10 @@ impl<'l> PlaceAt<'l> {
         self.lock.lock(rt, &mut self.place)
     }
 
-    // Takes a share, if that needs no wait.
+    // Takes a share, if that needs no wait: by one try.
     pub(crate) fn try_share<R: Wait>(&mut self, rt: &R) -> bool
-        ensures { result ≡ true → HasShare self.new.place }
+        ensures granted { result ≡ true → HasShare self.new.place }
+        ensures tried { (answer : Answer) × (result ≡ is_ok (tried answer)) × IsMade TryShare self.old.place answer self.new.place }
     {
         match self.lock.try_share(rt, &mut self.place) {
             Ok(()) => true,

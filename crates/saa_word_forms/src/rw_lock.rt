@@ -1,6 +1,8 @@
 //! A reader-writer lock on the word's lock, for a fixed set of workers, and its two guards.
 
-ghost use Rattle.std.specs.Prelude.{◌≡◌, All, IfOk, vec_len};
+ghost use Rattle.std.specs.Prelude.{◌≡◌, All, IfOk, IfSome, vec_len};
+ghost use Rattle.saa_word_steps.specs.declared.call.WordCall.TheVariants.{TryLock, TryShare};
+ghost use Rattle.saa_word_forms.specs.Turns.{IsTriedAndGranted};
 ghost use Rattle.saa_word_threads.specs.Dealt.{IsLedTo, numbers};
 ghost use Rattle.saa_word_threads.specs.Locks.{AreNew, HasLeft, IsDealtBy, IsLeftOf, about_of, table_of, view_left};
 
@@ -108,7 +110,9 @@ impl<'l, T> RwLockWorker<'l, T> {
     /// Takes the lock to read if nobody writes, fewer than 62 read, and nobody waits; never waits for an owner.
     ///
     /// `None` changes nothing.
-    pub fn try_read<'a, R: Wait>(&'a mut self, rt: &'a R) -> Option<RwLockReadGuard<'a, 'l, R, T>> {
+    pub fn try_read<'a, R: Wait>(&'a mut self, rt: &'a R) -> Option<RwLockReadGuard<'a, 'l, R, T>>
+        ensures { IfSome result (λ guard. IsTriedAndGranted TryShare self.old.place guard.turn.at.now.place) }
+    {
         let (turn, value) = self.worker.try_read(rt)?;
         Some(RwLockReadGuard::new(turn, value))
     }
@@ -126,10 +130,9 @@ impl<'l, T> RwLockWorker<'l, T> {
     /// Takes the lock to write if nobody has it and nobody waits; never waits for an owner.
     ///
     /// `None` changes nothing.
-    pub fn try_write<'a, R: Wait>(
-        &'a mut self,
-        rt: &'a R,
-    ) -> Option<RwLockWriteGuard<'a, 'l, R, T>> {
+    pub fn try_write<'a, R: Wait>(&'a mut self, rt: &'a R) -> Option<RwLockWriteGuard<'a, 'l, R, T>>
+        ensures { IfSome result (λ guard. IsTriedAndGranted TryLock self.old.place guard.turn.at.now.place) }
+    {
         let cell = self.worker.value();
         let (turn, value) = self.worker.try_write(rt)?;
         Some(RwLockWriteGuard::new(Writing::new(turn, cell), value))

@@ -3,8 +3,9 @@
 //! A turn has its place until it ends. It can be neither dropped nor forgotten, so each that is taken is passed on or kept in a guard, which its
 //! holder may leak (`mem::forget`). Passing it on asks for a `PutDown`, and for the proof that the place's last call took what the turn is of.
 
-ghost use Rattle.std.specs.Prelude.{IfSome};
-ghost use Rattle.saa_word_forms.specs.Turns.{HasLock, HasShare, TookLock, TookShare};
+ghost use Rattle.std.specs.Prelude.{◌≡◌, IfSome};
+ghost use Rattle.saa_word_steps.specs.declared.call.WordCall.TheVariants.{TryLock, TryShare};
+ghost use Rattle.saa_word_forms.specs.Turns.{HasLock, HasShare, IsTriedAndGranted, TookLock, TookShare};
 
 use crate::place_at::{Lowered, PlaceAt, PutDown};
 use std::sync::{RwLock, RwLockReadGuard, RwLockWriteGuard, Wait};
@@ -28,7 +29,8 @@ pub struct Alone<'a, 'l, R: Wait> {
 impl<'a, 'l, R: Wait> Alone<'a, 'l, R> {
     // Takes the turn if it is free and nobody waits for it.
     pub(crate) fn try_take(rt: &'a R, at: &'a mut PlaceAt<'l>) -> Option<Self>
-        ensures { IfSome result (λ turn. HasLock turn.at.now.place) }
+        ensures granted { IfSome result (λ turn. HasLock turn.at.now.place) }
+        ensures tried { IfSome result (λ turn. IsTriedAndGranted TryLock at.old.place turn.at.now.place) }
     {
         if at.try_lock(rt) {
             Some(Alone { at, rt })
@@ -64,7 +66,8 @@ pub struct Shared<'a, 'l, R: Wait> {
 impl<'a, 'l, R: Wait> Shared<'a, 'l, R> {
     // Takes a share of the turn if one is left and nobody waits.
     pub(crate) fn try_take(rt: &'a R, at: &'a mut PlaceAt<'l>) -> Option<Self>
-        ensures { IfSome result (λ turn. HasShare turn.at.now.place) }
+        ensures granted { IfSome result (λ turn. HasShare turn.at.now.place) }
+        ensures tried { IfSome result (λ turn. IsTriedAndGranted TryShare at.old.place turn.at.now.place) }
     {
         if at.try_share(rt) {
             Some(Shared { at, rt })
@@ -103,7 +106,8 @@ impl<'a, 'l, R: Wait, T> Writing<'a, 'l, R, T> {
     // The turn alone, at the lock of this value.
     pub(crate) fn new(turn: Alone<'a, 'l, R>, value: &'l RwLock<T>) -> Self
         requires { HasLock turn.at.now.place }
-        ensures { HasLock result.at.now.place }
+        ensures granted { HasLock result.at.now.place }
+        ensures place { result.at.now.place ≡ turn.entry.at.now.place }
     {
         let Alone { at, rt } = turn;
         Writing { at, rt, value }

@@ -31,6 +31,8 @@ mod owner;
 #[cfg(test)]
 mod parking;
 #[cfg(test)]
+mod public_waits;
+#[cfg(test)]
 mod queue;
 #[cfg(test)]
 mod rows;
