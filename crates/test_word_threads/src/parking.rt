@@ -1,8 +1,8 @@
 //! A waiter that parks: how long it stays awake before, that its thread sleeps then, and that its answer is written before it is woken.
 //!
 //! Nothing here rests on a time. A thread sleeps where the system says so. The place that answers is held right before it writes the answer, until the
-//! waiter sleeps: so it has to look at the waiter's mark later. It is held once more between the write and the wake, where the waiter has to
-//! sleep still.
+//! waiter sleeps: so it has to look at the waiter's mark later, if not behind the write, which a type keeps (`Written` of `saa_word_threads`). It is
+//! held once more between the write and the wake, where the waiter has to sleep still.
 
 ghost use Rattle.saa_word_threads.specs.Locks.{IsDealtBy};
 ghost use Rattle.saa_word_threads.specs.Semaphores.{IsDealtBy as IsDealtBySemaphore};
