@@ -61,7 +61,7 @@ pub(crate) struct Written {
 }
 
 impl Form {
-    // Writes a word. Who waits for it is to be woken then.
+    // Writes a word. Its waiter is to be woken then.
     pub(crate) fn write<M: Mover>(
         &self,
         seat: &mut Seat<(), View>,

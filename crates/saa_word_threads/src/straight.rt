@@ -42,8 +42,8 @@ const GRANTED: u8 = 0;
 
 /// The patience of the last call that asked at a place, or tried.
 ///
-/// Nothing outside of this module makes one but for a seat that it has, as none of a place that is lent. So a call says a patience only by an ask that
-/// has it (`ask`), or by one that is refused before it would look (`refuse`).
+/// Other modules make one only for a seat that they own, never for a place that they borrowed. So a call says a patience only by an ask that has it
+/// (`ask`), or by one that is refused before it would look (`refuse`).
 #[derive(Drop)]
 pub struct LastAsk {
     patience: Patience,

@@ -21,7 +21,7 @@ use saa_sync::gate::State;
 // How forms of no room are made.
 const NO_ROOM: Made = Made { room: 0, ..MADE };
 
-// No room, and a clock of which each reading is a second later than the last: who waits for an hour there ends.
+// No room, and a clock of which each reading is a second later than the last: a wait of an hour ends there.
 const ROOMLESS: Story = Story {
     step: 1_000_000_000,
     made: NO_ROOM,
