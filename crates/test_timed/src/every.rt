@@ -99,9 +99,12 @@ const AN_HOUR: u64 = 3_600_000_000_000;
 const NEARLY: u64 = AN_HOUR - LONG;
 
 // What the caller does before its call, and in the end; and what the holder waits for before it lets its own pagers go.
-const WHEN_ASKED: [Row; 1] = [Has(Awaited(1))];
+const WHEN_ASKED: &[Row] = &[Has(Awaited(1))];
 
 const DONE: [Row; 1] = [Has(Reached(2))];
+
+// What a caller does before its call that needs nothing: the sign is there already.
+const AT_ONCE: Row = Has(Awaited(1));
 
 const WHEN_ENDED: [Row; 1] = [Has(Awaited(2))];
 
@@ -135,10 +138,13 @@ fn grants<C: Wait + Clock + Drop>(scene: &Scene<'_, C>, call: &Call) -> Option<u
 fn calls<C: Wait + Clock + Drop>(
     scene: &Scene<'_, C>,
     call: &Call,
-    asks: &[Row],
-    found: &[Row],
+    before: Row,
+    asks: Row,
+    found: &'static [Row],
 ) -> Option<usize> {
-    scene.first_other(&[&WHEN_ASKED, call.first, asks, found, &DONE], &[])
+    let asked = [before, asks];
+    let parts = [WHEN_ASKED, call.first, &asked, found, &DONE];
+    scene.first_other(&parts, &[])
 }
 
 // The holder of a call that is late looks when that has ended.
@@ -174,7 +180,7 @@ fn calls_aged<C: Wait + Clock + Drop>(
         Kind::Until => Has(Set(NEARLY)),
     };
     let asks = In(time_of(kind, Hour, Hence), call.late);
-    calls(scene, call, &[ages, asks], call.left)
+    calls(scene, call, ages, asks, call.left)
 }
 
 // A call that is answered at once.
@@ -201,17 +207,17 @@ fn played<H: Threads + Sync, C: Wait + Clock + Drop + Sync>(
         Play::Granted => thread::join(
             rt,
             || grants(scene, call),
-            || calls(scene, call, &[hour], call.had),
+            || calls(scene, call, AT_ONCE, hour, call.had),
         ),
         Play::Late => thread::join(
             rt,
             || outlasts(scene, call),
-            || calls(scene, call, &[Lasts(kind, call.late)], call.left),
+            || calls(scene, call, AT_ONCE, Lasts(kind, call.late), call.left),
         ),
         Play::Passed => thread::join(
             rt,
             || passes(scene, call, LONG),
-            || calls(scene, call, &[long], call.left),
+            || calls(scene, call, AT_ONCE, long, call.left),
         ),
         Play::Aged => thread::join(
             rt,
