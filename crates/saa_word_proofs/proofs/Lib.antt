@@ -1,4 +1,5 @@
 pub mod SoloLemmas
 pub mod ConservationLemmas
+pub mod OrderLemmas
 pub mod StepBoundLemmas
 pub mod RefinementLemmas

@@ -13,3 +13,4 @@ pub mod CallStages
 pub mod Promises
 pub mod Blocking
 pub mod History
+pub mod Order
