@@ -2,11 +2,11 @@
 #![tactic(auto)]
 
 ghost use Rattle.std.specs.Prelude.{◌≡◌, []};
-ghost use Rattle.saa_sync.specs.Tickets.{object_of};
+ghost use Rattle.saa_core_bench.specs.Tickets.{object_of};
 
-use saa_sync::bench::CommandOf;
-use saa_sync::journal::{Journal, Journalled, Share};
-use saa_sync::semaphore::{SemaphoreCall, SemaphoreCore};
+use saa_core_bench::bench::CommandOf;
+use saa_core_bench::journal::{Journal, Journalled, Share};
+use saa_core_bench::semaphore::{SemaphoreCall, SemaphoreCore};
 use std::alloc::Global;
 use std::io;
 use std::marker::Brand;

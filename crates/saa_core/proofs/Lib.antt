@@ -1,7 +1,6 @@
 pub mod GatheringLemmas
 pub mod FuturePolls
 pub mod GrantingLemmas
-pub mod Histories
 pub mod WakesLemmas
 pub mod LineLemmas
 pub mod TicketLemmas

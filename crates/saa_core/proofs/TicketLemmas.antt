@@ -5,6 +5,5 @@ pub mod Polls
 pub mod Registering
 pub mod Answering
 pub mod Waking
-pub mod BenchLemmas
 pub mod Follows
 pub mod Modes

@@ -5,7 +5,6 @@ use Rattle.saa_core_spec.specs.declared.request.Full.{Full}
 use Rattle.saa_core_spec.specs.declared.polling.Error.{Error}
 use Rattle.saa_core_spec.specs.declared.polling.How.TheVariants.{Async}
 use Rattle.saa_core.specs.declared.ticket.Registration.{Registration}
-use Rattle.saa_core.specs.declared.ticket.Registration.TheVariants.{Unregistered, AtOnce, InSlot}
 use Rattle.saa_core_spec.specs.Asking.{registered}
 use Rattle.saa_core_spec.specs.Object.{Object, After}
 use Rattle.saa_core_spec.specs.Polling.{polled, read_as}

@@ -7,8 +7,6 @@ pub mod Waiters
 pub mod GatheringParts
 pub mod CoreParts
 pub mod MainWord
-pub mod History
-pub mod Journals
 pub mod Slots
 pub mod LineParts
 pub mod LockCalls

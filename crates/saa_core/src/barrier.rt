@@ -19,8 +19,8 @@ ghost use Rattle.saa_core.specs.BarrierStanding.{IsBarrierStanding};
 ghost use Rattle.saa_core.specs.Waiters.{IsWaiting, left_by};
 ghost use Rattle.saa_core.specs.GatheringParts.{vacated};
 
-use crate::bench::Primitive;
 use crate::line::Line;
+use crate::primitive::Primitive;
 use crate::ticket::{Error, Full, How, Registration, Ticket};
 pub use saa_core_spec::barrier::{BarrierAnswer, BarrierCall};
 use saa_core_spec::request::Request;

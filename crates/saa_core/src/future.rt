@@ -11,7 +11,7 @@ ghost use Rattle.saa_core.specs.Tickets.{Acts, dropping, is_busy, slot_of};
 ghost use Rattle.saa_core.specs.Beginning.{BeginOwes, alone, mode_of};
 ghost use Rattle.saa_core.specs.Futures.{IfDone, IsRead, asked, has_joined, is_end, is_waiting, registration_of, waited};
 
-use crate::bench::Primitive;
+use crate::primitive::Primitive;
 use crate::ticket::{Full, How, Ticket};
 use std::marker::Model;
 

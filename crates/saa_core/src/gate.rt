@@ -22,8 +22,8 @@ ghost use Rattle.saa_core.specs.Waiters.{IsWaiting, left_by};
 ghost use Rattle.saa_core.specs.GatheringParts.{vacated};
 ghost use Rattle.saa_core.specs.GateParts.{answer_by_state};
 
-use crate::bench::Primitive;
 use crate::line::Line;
+use crate::primitive::Primitive;
 use crate::ticket::{Full, How, Registration, Ticket};
 pub use saa_core_spec::gate::{Error, GateAnswer, GateCall, State};
 use saa_core_spec::polling;

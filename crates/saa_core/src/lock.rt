@@ -21,9 +21,9 @@ ghost use Rattle.saa_core.specs.Tickets.{Acts, Calls, Belong, IsCoreSettled, Has
 ghost use Rattle.saa_core.specs.CoreParts.{takes_now};
 ghost use Rattle.saa_core.specs.LockCalls.{lock_tried};
 
-use crate::bench::Primitive;
 use crate::granting::{Granting, Needs};
 use crate::line::LinkedLine;
+use crate::primitive::Primitive;
 use crate::ticket::{Error, Full, How, Ticket};
 pub use saa_core_spec::lock::{LockAnswer, LockCall, Mode, TryLockError};
 use saa_core_spec::request::Request;

@@ -18,9 +18,9 @@ ghost use Rattle.saa_core_words.specs.Words.{count_bits, word_number, word_of};
 ghost use Rattle.saa_core.specs.MainWord.{core_word};
 ghost use Rattle.saa_core.specs.Tickets.{Acts, Calls, Belong, IsCoreSettled, HasAnswer, Polled, IsForeign, dropping, fault_of, is_busy, is_yes, object_of};
 
-use crate::bench::Primitive;
 use crate::granting::{Granting, Needs};
 use crate::line::LinkedLine;
+use crate::primitive::Primitive;
 use crate::ticket::{Error, Full, How, Ticket};
 use saa_core_spec::request::Request;
 pub use saa_core_spec::semaphore::{SemaphoreAnswer, SemaphoreCall};

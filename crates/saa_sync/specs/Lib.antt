@@ -28,7 +28,6 @@ pub use Rattle.saa_core.specs.Waiters
 pub use Rattle.saa_core.specs.GatheringParts
 pub use Rattle.saa_core.specs.CoreParts
 pub use Rattle.saa_core.specs.MainWord
-pub use Rattle.saa_core.specs.History
 pub use Rattle.saa_core.specs.Slots
 pub use Rattle.saa_core.specs.LockCalls
 pub use Rattle.saa_core.specs.SemaphoreStanding

@@ -20,7 +20,7 @@ use crate::seat::PATIENCE;
 use crate::shell::Shell;
 use futures::task::{Context, Poll};
 pub use saa_core::barrier::{BarrierAnswer, BarrierCall, BarrierCore};
-use saa_core::bench::Primitive;
+use saa_core::primitive::Primitive;
 use saa_core::ticket::{Error, Full, How, Ticket};
 use std::alloc::{AllocError, Global};
 use std::marker::Model;

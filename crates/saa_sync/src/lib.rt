@@ -37,5 +37,5 @@ pub use lock_api::{
 pub use pager::Pager;
 pub use permit::{Permit, PermitOf};
 pub use saa_core::ticket::Full;
-pub use saa_core::{bench, journal, line, ticket, words};
+pub use saa_core::{line, ticket, words};
 pub use semaphore::{Semaphore, SemaphoreOf};

@@ -24,7 +24,7 @@ pub use crate::permit::{Permit, PermitFrom, PermitOf, TakesBack};
 use crate::seat::PATIENCE;
 use crate::shell::Shell;
 use futures::task::{Context, Poll};
-use saa_core::bench::Primitive;
+use saa_core::primitive::Primitive;
 pub use saa_core::semaphore::{SemaphoreAnswer, SemaphoreCall, SemaphoreCore, SemaphoreCoreOf};
 use saa_core::ticket::{Error, Full, How, Ticket};
 use std::alloc::{AllocError, Global};

@@ -8,9 +8,9 @@ ghost use Rattle.saa_core_spec.specs.Object.{Object, After};
 ghost use Rattle.saa_core.specs.Tickets.{Calls};
 
 use saa_core::barrier::BarrierCore;
-use saa_core::bench::Primitive;
 use saa_core::gate::GateCore;
 use saa_core::lock::{LockCore, Mode, TryLockError};
+use saa_core::primitive::Primitive;
 use saa_core::semaphore::SemaphoreCoreOf;
 use saa_core_words::word::Word;
 

@@ -2,8 +2,8 @@
 
 use crate::stories::{Answer, Told, prints, tell};
 use saa_core::barrier::{BarrierAnswer, BarrierCall, BarrierCore};
-use saa_core::bench::{Bench, Command, CommandOf, Reply, ReplyOf};
 use saa_core::ticket::{Error, Full, How, Ticket};
+use saa_core_bench::bench::{Bench, Command, CommandOf, Reply, ReplyOf};
 use std::alloc::AllocGlobal;
 use std::process::Abort;
 use test_asserts::same;

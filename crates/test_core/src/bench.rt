@@ -2,9 +2,9 @@
 
 ghost use Rattle.std.specs.Prelude.{◌≡◌, length};
 
-use saa_core::bench::{Bench, Command, CommandOf, Reply, ReplyOf};
 use saa_core::semaphore::{SemaphoreAnswer, SemaphoreCall, SemaphoreCore};
 use saa_core::ticket::{Error, Full, Ticket};
+use saa_core_bench::bench::{Bench, Command, CommandOf, Reply, ReplyOf};
 use test_asserts::same;
 
 // Takes all permits of a core, lets one slot wait for 1 permit and one for 2, and releases one: one slot waits, and the

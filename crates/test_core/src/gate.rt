@@ -1,9 +1,9 @@
 //! Worked rows of the gate.
 
 use crate::stories::{Answer, Told, prints, tell};
-use saa_core::bench::{Bench, Command, CommandOf, Reply, ReplyOf};
 use saa_core::gate::{Error, GateAnswer, GateCall, GateCore, State};
 use saa_core::ticket::{Full, How, Ticket};
+use saa_core_bench::bench::{Bench, Command, CommandOf, Reply, ReplyOf};
 use std::alloc::AllocGlobal;
 use std::process::Abort;
 use test_asserts::same;

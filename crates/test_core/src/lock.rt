@@ -1,9 +1,9 @@
 //! Worked rows of the lock.
 
 use crate::stories::{Answer, Told, prints, tell};
-use saa_core::bench::{Bench, Command, CommandOf, Reply, ReplyOf};
 use saa_core::lock::{LockAnswer, LockCall, LockCore, Mode, TryLockError};
 use saa_core::ticket::{Error, Full, How, Ticket};
+use saa_core_bench::bench::{Bench, Command, CommandOf, Reply, ReplyOf};
 use std::alloc::{AllocError, AllocGlobal, Global};
 use std::process::Abort;
 use test_asserts::same;

@@ -1,9 +1,9 @@
 //! What cores print with many permits, many waiters or many sharers: each number whole, however many digits it has.
 
 use saa_core::barrier::BarrierCore;
-use saa_core::bench::Primitive;
 use saa_core::gate::GateCore;
 use saa_core::lock::{LockCore, Mode};
+use saa_core::primitive::Primitive;
 use saa_core::semaphore::SemaphoreCoreOf;
 use saa_core::ticket::Ticket;
 use std::alloc::{AllocError, Global};

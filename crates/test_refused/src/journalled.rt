@@ -6,9 +6,9 @@ ghost use Rattle.saa_core.specs.declared.ticket.Registration.TheVariants.{Unregi
 ghost use Rattle.saa_core.specs.Tickets.{object_of};
 
 use crate::came::Came;
-use saa_core::bench::{Bench, Command, CommandOf};
-use saa_core::journal::{Journal, Journalled, Share};
 use saa_core::semaphore::{SemaphoreCall, SemaphoreCore};
+use saa_core_bench::bench::{Bench, Command, CommandOf};
+use saa_core_bench::journal::{Journal, Journalled, Share};
 use std::alloc::{AllocError, Global};
 use std::io;
 use std::marker::Brand;

@@ -3,10 +3,10 @@
 use crate::anew;
 use crate::came::{Came, row};
 use saa_core::barrier::BarrierCore;
-use saa_core::bench::Bench;
 use saa_core::gate::GateCore;
 use saa_core::lock::LockCore;
 use saa_core::semaphore::{SemaphoreCore, SemaphoreCoreOf};
+use saa_core_bench::bench::Bench;
 use saa_sync::barrier::Barrier;
 use saa_sync::gate::Gate;
 use saa_sync::lock::Lock;

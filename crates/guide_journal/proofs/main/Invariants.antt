@@ -1,5 +1,5 @@
 use Rattle.std.specs.Prelude.{[]}
-use Rattle.saa_sync.specs.Tickets.{object_of}
+use Rattle.saa_core_bench.specs.Tickets.{object_of}
 use Rattle.guide_journal.proofs.main.Given as goal
 
 -- the journal opens with the core that is handed over, and has a share for each part of the blank

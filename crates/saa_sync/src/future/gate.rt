@@ -7,8 +7,8 @@
 ghost use Rattle.std.specs.Prelude.{◌≡◌};
 
 pub use crate::future::asked::{Asked, AskedWith, Progress, Question};
-use saa_core::bench::Primitive;
 use saa_core::gate::{Error, GateCore, State};
+use saa_core::primitive::Primitive;
 
 /// The question whether a task passes a gate.
 #[derive(Drop)]

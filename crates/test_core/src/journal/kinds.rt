@@ -1,10 +1,11 @@
 //! What threads do at each primitive under a journal: every kind of command, by pagers of their own and by those of others.
 
 use saa_core::barrier::{BarrierCall, BarrierCore};
-use saa_core::bench::{Command, CommandOf, Primitive};
 use saa_core::gate::{GateCall, GateCore};
 use saa_core::lock::{LockCall, LockCore, Mode};
+use saa_core::primitive::Primitive;
 use saa_core::semaphore::{SemaphoreCall, SemaphoreCore};
+use saa_core_bench::bench::{Command, CommandOf};
 
 /// How many pagers there are.
 pub const PAGERS: u16 = 16;

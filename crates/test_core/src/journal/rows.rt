@@ -5,9 +5,9 @@ ghost use Rattle.saa_core.specs.declared.ticket.Registration.TheVariants.{Unregi
 ghost use Rattle.saa_core.specs.Tickets.{object_of};
 
 use crate::journal::threads::call;
-use saa_core::bench::{CommandOf, ReplyOf};
-use saa_core::journal::{Journal, Journalled, Share};
 use saa_core::semaphore::{SemaphoreAnswer, SemaphoreCall, SemaphoreCore};
+use saa_core_bench::bench::{CommandOf, ReplyOf};
+use saa_core_bench::journal::{Journal, Journalled, Share};
 use std::alloc::Global;
 use std::io;
 use std::marker::Brand;

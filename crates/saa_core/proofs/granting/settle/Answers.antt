@@ -1,4 +1,4 @@
-use Rattle.std.proofs.Common.{◌≡◌, ℕ, ◌∙◌, List, [], ◌∷◌, length, refl, sym, arith}
+use Rattle.std.proofs.Common.{◌≡◌, List, [], ◌∷◌, length, refl, sym, arith}
 use Rattle.saa_core_spec.specs.Object.{Waiter}
 use Rattle.saa_core_spec.specs.Held.{Held}
 use Rattle.saa_core_spec.specs.Settling.{fitting_front}

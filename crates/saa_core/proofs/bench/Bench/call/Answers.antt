@@ -1,6 +1,0 @@
-use Rattle.std.proofs.Common.{length, sym, ap, ◌∙◌}
-use Rattle.saa_core.proofs.TicketLemmas.BenchLemmas.{length-entries}
-use Rattle.saa_core.proofs.bench.Bench.call.Goals as goal
-
-pub returns-clause-pagers : goal.returns-clause-pagers
-returns-clause-pagers g c = length-entries _ _ ∙ sym (length-entries _ _) ∙ ap (λ s. length s.book) c.self.view_is

@@ -1,0 +1,31 @@
+use Rattle.std.proofs.Common.{◌≡◌, ℕ, length, refl, sym, ap, ◌∙◌, arith}
+use Rattle.std.proofs.lemmas.Option.{slice_get_read}
+use Rattle.saa_core_spec.specs.Object.{Object}
+use Rattle.saa_core_spec.specs.Asking.{registered}
+use Rattle.saa_core.specs.Tickets.{object_of}
+use Rattle.saa_core_bench.proofs.BenchLemmas.{length-entries, length-entries_set}
+use Rattle.saa_core_bench.proofs.bench.Bench.register.Goals as goal
+
+pub index_mut-requires : goal.index_mut-requires
+index_mut-requires g c =
+    let book : length c.args.self.now.book ≡ length c.self.inside.tickets.items = sym (ap (λ s. length s.book) c.self.view_is) ∙ length-entries _ _ in
+    omega (arith, c.self.inside.tickets.ok.0, c.requires, c.from.ensures)
+
+pub invariant_of-self : goal.invariant_of-self
+invariant_of-self g c =
+    let book : length c.args.self.now.book ≡ length c.self.inside.tickets.items = sym (ap (λ s. length s.book) c.self.view_is) ∙ length-entries _ _ in
+    let here = slice_get_read c.self.inside.tickets.items (length c.self.inside.tickets.items) c.from.result c.index_mut.result.now refl (omega (arith, c.requires, c.from.ensures)) c.index_mut.ensures.value in
+    (c.register.ensures.acts.acts c.self.inside.tickets.items c.from.result here c.self.invariant).1
+
+pub returns-clause-acts : goal.returns-clause-acts
+returns-clause-acts g c =
+    let book : length c.args.self.now.book ≡ length c.self.inside.tickets.items = sym (ap (λ s. length s.book) c.self.view_is) ∙ length-entries _ _ in
+    let here = slice_get_read c.self.inside.tickets.items (length c.self.inside.tickets.items) c.from.result c.index_mut.result.now refl (omega (arith, c.requires, c.from.ensures)) c.index_mut.ensures.value in
+    let done = (c.register.ensures.acts.acts c.self.inside.tickets.items c.from.result here c.self.invariant).0 in
+    let request = g.P.Primitive.request c.args.ask in
+    ap (λ (s : Object). registered s c.args.pager request c.args.is_sync) (sym c.self.view_is)
+    ∙ ap (λ (name : ℕ). registered (object_of (g.P.Primitive.core c.self.inside.core) c.self.inside.tickets.items) name request c.args.is_sync) (sym c.from.ensures)
+    ∙ done
+
+pub returns-clause-pagers : goal.returns-clause-pagers
+returns-clause-pagers g c = length-entries_set _ _ _ _ _ ∙ ap (λ s. length s.book) c.self.view_is
