@@ -66,32 +66,28 @@ impl<R: Wait + Drop, T> Guarded<R, T> {
     pub(crate) fn try_write(&self) -> Option<(Alone<'_, R>, RwLockWriteGuard<'_, T>)>
         ensures { IfSome result (λ taken. taken.0.now ≡ self.now.turn) }
     {
-        let turn = Alone::try_take(&self.turn)?;
-        Some((turn, self.value.write(self.turn.rt())))
+        Some(self.write_in(Alone::try_take(&self.turn)?))
     }
 
     // Waits for the turn alone, and takes the value to write.
     pub(crate) fn write(&self) -> Result<(Alone<'_, R>, RwLockWriteGuard<'_, T>), Full>
         ensures { IfOk result (λ taken. taken.0.now ≡ self.now.turn) }
     {
-        let turn = Alone::take(&self.turn)?;
-        Ok((turn, self.value.write(self.turn.rt())))
+        Ok(self.write_in(Alone::take(&self.turn)?))
     }
 
     // Takes a share of the turn, and the value to read, if that needs no wait.
     pub(crate) fn try_read(&self) -> Option<(Shared<'_, R>, RwLockReadGuard<'_, T>)>
         ensures { IfSome result (λ taken. taken.0.now ≡ self.now.turn) }
     {
-        let turn = Shared::try_take(&self.turn)?;
-        Some((turn, self.value.read(self.turn.rt())))
+        Some(self.read_in(Shared::try_take(&self.turn)?))
     }
 
     // Waits for a share of the turn, and takes the value to read.
     pub(crate) fn read(&self) -> Result<(Shared<'_, R>, RwLockReadGuard<'_, T>), Full>
         ensures { IfOk result (λ taken. taken.0.now ≡ self.now.turn) }
     {
-        let turn = Shared::take(&self.turn)?;
-        Ok((turn, self.value.read(self.turn.rt())))
+        Ok(self.read_in(Shared::take(&self.turn)?))
     }
 
     // Waits for the turn alone until the deadline, and takes the value to write. `None`: time is up.
@@ -104,7 +100,7 @@ impl<R: Wait + Drop, T> Guarded<R, T> {
         ensures { IfOk result (λ told. IfSome told (λ taken. taken.0.now ≡ self.now.turn)) }
     {
         match Alone::take_by(&self.turn, deadline)? {
-            Some(turn) => Ok(Some((turn, self.value.write(self.turn.rt())))),
+            Some(turn) => Ok(Some(self.write_in(turn))),
             None => Ok(None),
         }
     }
@@ -119,7 +115,7 @@ impl<R: Wait + Drop, T> Guarded<R, T> {
         ensures { IfOk result (λ told. IfSome told (λ taken. taken.0.now ≡ self.now.turn)) }
     {
         match Shared::take_by(&self.turn, deadline)? {
-            Some(turn) => Ok(Some((turn, self.value.read(self.turn.rt())))),
+            Some(turn) => Ok(Some(self.read_in(turn))),
             None => Ok(None),
         }
     }
@@ -139,17 +135,23 @@ impl<R: Wait + Drop, T> Guarded<R, T> {
         turn.lower(Lowered::from_writer(value, &self.value, self.turn.rt()))
     }
 
-    // The turn alone that a future was granted, and the value to write.
-    pub(crate) fn granted_to_write(&self) -> (Alone<'_, R>, RwLockWriteGuard<'_, T>)
-        ensures { result.0.now ≡ self.now.turn }
+    // The value to write, with the turn alone.
+    pub(crate) fn write_in<'a>(
+        &'a self,
+        turn: Alone<'a, R>,
+    ) -> (Alone<'a, R>, RwLockWriteGuard<'a, T>)
+        ensures { result.0 ≡ turn.entry }
     {
-        (Alone::granted(&self.turn), self.value.write(self.turn.rt()))
+        (turn, self.value.write(self.turn.rt()))
     }
 
-    // The share of the turn that a future was granted, and the value to read.
-    pub(crate) fn granted_to_read(&self) -> (Shared<'_, R>, RwLockReadGuard<'_, T>)
-        ensures { result.0.now ≡ self.now.turn }
+    // The value to read, with a share of the turn.
+    pub(crate) fn read_in<'a>(
+        &'a self,
+        turn: Shared<'a, R>,
+    ) -> (Shared<'a, R>, RwLockReadGuard<'a, T>)
+        ensures { result.0 ≡ turn.entry }
     {
-        (Shared::granted(&self.turn), self.value.read(self.turn.rt()))
+        (turn, self.value.read(self.turn.rt()))
     }
 }

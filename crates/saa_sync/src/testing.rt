@@ -18,6 +18,7 @@ pub use crate::seat::{PATIENCE, Patience, Seat};
 use crate::semaphore::SemaphoreOn;
 pub use crate::shell::Shell;
 use crate::tries::Tries;
+pub use crate::turn::TurnCounts;
 use crate::turn::Turns;
 use saa_core::barrier::BarrierCore;
 use saa_core::gate::GateCore;
@@ -169,18 +170,18 @@ pub fn rwlock_on<R: Wait + Drop, T>(shell: Shell<R, LockCore>, value: T) -> RwLo
     }
 }
 
-/// What the turns of a mutex stand on.
-pub fn shell_of_mutex<R: Wait + Drop, T>(mutex: &Mutex<R, T>) -> &Shell<R, LockCore>
+/// What a test may see of the shell that the turns of a mutex stand on.
+pub fn shell_of_mutex<R: Wait + Drop, T>(mutex: &Mutex<R, T>) -> TurnCounts<'_, R>
     ensures { result.now ≡ mutex.now }
 {
-    mutex.guarded.turn.shell()
+    mutex.guarded.turn.counts()
 }
 
-/// What the turns of a reader-writer lock stand on.
-pub fn shell_of_rwlock<R: Wait + Drop, T>(rwlock: &RwLock<R, T>) -> &Shell<R, LockCore>
+/// What a test may see of the shell that the turns of a reader-writer lock stand on.
+pub fn shell_of_rwlock<R: Wait + Drop, T>(rwlock: &RwLock<R, T>) -> TurnCounts<'_, R>
     ensures { result.now ≡ rwlock.now }
 {
-    rwlock.guarded.turn.shell()
+    rwlock.guarded.turn.counts()
 }
 
 /// Makes one step of the core under the mutex, and wakes none of the waiters that it answers: their wakes stay pending until the next call.

@@ -2,13 +2,13 @@
 //!
 //! A turn can be neither dropped nor forgotten, so the code here passes each on; a guard's holder may leak the guard, and its turn with
 //! it (`mem::forget`). `give_back` asks for a `PutDown`, which only dropping a guard of a value makes, and `lower` for a `Lowered`, which
-//! only giving up a writer's guard makes; the types don't say of which value. The lock is private to `Turns`: code beside this module is
-//! meant to reach it by turns, and tests by its shell. No clause refuses a body here that makes a turn by `granted`, or steps the shell's
-//! core. That a turn is really the lock's, and is given back to it, is shown by tests.
+//! only giving up a writer's guard makes; the types don't say of which value. Only this module makes a turn, and only it reaches the
+//! lock: code beside it tries for a turn, waits for one or polls for one, and a test reads counts (`TurnCounts`). That the bodies here
+//! make a turn of a grant alone, and give it back to the lock, is shown by tests.
 
 ghost use Rattle.std.specs.Prelude.{◌≡◌, false, IfOk, IfSome, IsOk};
 ghost use Rattle.futures.specs.Task.{Covers, Keeps};
-ghost use Rattle.futures.specs.Poll.{OnPending};
+ghost use Rattle.futures.specs.Poll.{IfReady, OnPending};
 ghost use Rattle.saa_core_spec.specs.declared.request.Request.TheVariants.{Exclusive as AskExclusive, Shared as AskShared};
 ghost use Rattle.saa_core.specs.declared.ticket.Registration.TheVariants.{Unregistered};
 ghost use Rattle.saa_sync.specs.Forms.{patience_of, waiter_patience_of};
@@ -19,8 +19,8 @@ use crate::patience::Patience;
 use crate::seat::PATIENCE;
 use crate::shell::Shell;
 use crate::timed::Deadline;
-use futures::Future;
 use futures::task::{Context, Poll};
+use futures::{Future, ready};
 use saa_core::lock::LockCore;
 use saa_core::ticket::Full;
 use std::alloc::{AllocError, Global};
@@ -108,28 +108,75 @@ impl<R: Wait + Drop> Turns<R> {
     }
 
     // The future of the turn alone.
-    pub(crate) fn lock_async(&self) -> LockFuture<'_, R>
-        ensures request { result.asking.request ≡ AskExclusive }
-        ensures idle { result.asking.ticket ≡ Unregistered }
-        ensures fresh { result.asking.has_ended ≡ false }
+    pub(crate) fn lock_async(&self) -> AwaitAlone<'_, R>
+        ensures lock { result.lock ≡ self.now }
+        ensures request { result.asked.asking.request ≡ AskExclusive }
+        ensures idle { result.asked.asking.ticket ≡ Unregistered }
+        ensures fresh { result.asked.asking.has_ended ≡ false }
     {
-        self.lock.lock_async()
+        AwaitAlone {
+            turns: self,
+            asked: self.lock.lock_async(),
+        }
     }
 
     // The future of a share of the turn.
-    pub(crate) fn share_async(&self) -> ShareFuture<'_, R>
-        ensures request { result.asking.request ≡ AskShared }
-        ensures idle { result.asking.ticket ≡ Unregistered }
-        ensures fresh { result.asking.has_ended ≡ false }
+    pub(crate) fn share_async(&self) -> AwaitShared<'_, R>
+        ensures lock { result.lock ≡ self.now }
+        ensures request { result.asked.asking.request ≡ AskShared }
+        ensures idle { result.asked.asking.ticket ≡ Unregistered }
+        ensures fresh { result.asked.asking.has_ended ≡ false }
     {
-        self.lock.share_async()
+        AwaitShared {
+            turns: self,
+            asked: self.lock.share_async(),
+        }
     }
 
-    // What the lock stands on; for tests.
-    pub(crate) fn shell(&self) -> &Shell<R, LockCore>
+    // What tests may see of the lock.
+    pub(crate) fn counts(&self) -> TurnCounts<'_, R>
         ensures { result.now ≡ self.now }
     {
-        &self.lock.shell
+        TurnCounts {
+            shell: &self.lock.shell,
+        }
+    }
+}
+
+/// What tests may see of the lock that gives turns: counts of its shell, and no call of its core. Contracts see the lock.
+#[derive(Drop)]
+pub struct TurnCounts<'a, R: Wait + Drop> {
+    shell: &'a Shell<R, LockCore>,
+}
+
+impl<'a, R: Wait + Drop> Model for TurnCounts<'a, R> {
+    ghost use Rattle.std.specs.Borrow.{Bor};
+    ghost use Rattle.saa_sync.specs.Forms.{TurnLock};
+
+    ghost Value = { Bor (TurnLock R) };
+
+    ghost view = { λ counts. counts.shell };
+}
+
+impl<R: Wait + Drop> TurnCounts<'_, R> {
+    /// How often calls locked the mutex around the core, these for tests aside.
+    pub fn turns(&self) -> u64 {
+        self.shell.turns()
+    }
+
+    /// How many waiters sleep; all those have let go of the mutex.
+    pub fn asleep(&self) -> usize {
+        self.shell.asleep()
+    }
+
+    /// How many calls look, of those that haven't registered.
+    pub fn lookers(&self) -> u64 {
+        self.shell.lookers()
+    }
+
+    /// How often calls looked, of those that found nothing at once and no longer look.
+    pub fn looked(&self) -> u64 {
+        self.shell.looked()
     }
 }
 
@@ -188,13 +235,6 @@ impl<'a, R: Wait + Drop> Alone<'a, R> {
             }
         }
         unreachable!()
-    }
-
-    // The turn that a future was granted.
-    pub(crate) fn granted(turns: &'a Turns<R>) -> Self
-        ensures { result ≡ turns.entry }
-    {
-        Alone { turns }
     }
 
     // Makes the turn a share, beside which others may have shares; and gives the value to read with it.
@@ -270,13 +310,6 @@ impl<'a, R: Wait + Drop> Shared<'a, R> {
         unreachable!()
     }
 
-    // The share that a future was granted.
-    pub(crate) fn granted(turns: &'a Turns<R>) -> Self
-        ensures { result ≡ turns.entry }
-    {
-        Shared { turns }
-    }
-
     // Gives the share back.
     pub(crate) fn give_back(self, value: PutDown) {
         let (Shared { turns }, PutDown { by: _by }) = (self, value);
@@ -284,8 +317,68 @@ impl<'a, R: Wait + Drop> Shared<'a, R> {
     }
 }
 
-// Polls a future for the turn, alone or a share of it. A turn that is poisoned, as none here ever is, never comes.
-pub(crate) fn poll_turn<'a, R: Wait + Drop>(
+/// The future of the turn alone. Contracts see the lock whose turn it waits for, and the future of that turn.
+#[derive(Drop)]
+pub struct AwaitAlone<'a, R: Wait + Drop> {
+    turns: &'a Turns<R>,
+    asked: LockFuture<'a, R>,
+}
+
+impl<'a, R: Wait + Drop> Model for AwaitAlone<'a, R> {
+    ghost use Rattle.saa_sync.specs.Forms.{GuardFutureState};
+
+    ghost Value = { GuardFutureState R };
+
+    ghost view = { λ future. record { lock = future.turns.now; asked = future.asked } };
+}
+
+impl<'a, R: Wait + Drop> AwaitAlone<'a, R> {
+    // Polls for the turn: the only way to it beside a try and a wait.
+    pub(crate) fn poll_turn(&mut self, cx: &mut Context<'_>) -> Poll<Result<Alone<'a, R>, Full>>
+        ensures turn { IfReady result (λ answer. IfOk answer (λ turn. turn.now ≡ self.old.lock)) }
+        ensures lock { self.new.lock ≡ self.old.lock }
+        ensures heard { OnPending result (Covers cx.new (λ source. source ≡ self.new.asked.source)) }
+        ensures kept { Keeps cx.old cx.new }
+    {
+        match ready!(poll_grant(&mut self.asked, cx)) {
+            Ok(()) => Poll::Ready(Ok(Alone { turns: self.turns })),
+            Err(full) => Poll::Ready(Err(full)),
+        }
+    }
+}
+
+/// The future of a share of the turn. Contracts see the lock whose turn it waits for, and the future of that turn.
+#[derive(Drop)]
+pub struct AwaitShared<'a, R: Wait + Drop> {
+    turns: &'a Turns<R>,
+    asked: ShareFuture<'a, R>,
+}
+
+impl<'a, R: Wait + Drop> Model for AwaitShared<'a, R> {
+    ghost use Rattle.saa_sync.specs.Forms.{GuardFutureState};
+
+    ghost Value = { GuardFutureState R };
+
+    ghost view = { λ future. record { lock = future.turns.now; asked = future.asked } };
+}
+
+impl<'a, R: Wait + Drop> AwaitShared<'a, R> {
+    // Polls for the share, as `AwaitAlone::poll_turn` does for all of the turn.
+    pub(crate) fn poll_turn(&mut self, cx: &mut Context<'_>) -> Poll<Result<Shared<'a, R>, Full>>
+        ensures turn { IfReady result (λ answer. IfOk answer (λ turn. turn.now ≡ self.old.lock)) }
+        ensures lock { self.new.lock ≡ self.old.lock }
+        ensures heard { OnPending result (Covers cx.new (λ source. source ≡ self.new.asked.source)) }
+        ensures kept { Keeps cx.old cx.new }
+    {
+        match ready!(poll_grant(&mut self.asked, cx)) {
+            Ok(()) => Poll::Ready(Ok(Shared { turns: self.turns })),
+            Err(full) => Poll::Ready(Err(full)),
+        }
+    }
+}
+
+// Polls a future of the lock, for all of it or a share. A turn that is poisoned, as none here ever is, never comes.
+fn poll_grant<'a, R: Wait + Drop>(
     asked: &mut LockFuture<'a, R>,
     cx: &mut Context<'_>,
 ) -> Poll<Result<(), Full>>

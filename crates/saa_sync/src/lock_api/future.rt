@@ -8,11 +8,10 @@ ghost use Rattle.std.specs.Prelude.{◌≡◌, false, IfOk};
 ghost use Rattle.saa_core_spec.specs.declared.request.Request.TheVariants.{Exclusive as AskExclusive, Shared as AskShared};
 ghost use Rattle.saa_core.specs.declared.ticket.Registration.TheVariants.{Unregistered};
 
-use crate::future::lock::{LockFuture, ShareFuture};
 use crate::guarded::Guarded;
 use crate::lock_api::mutex::{Mutex, MutexGuard};
 use crate::lock_api::rwlock::{RwLock, RwLockReadGuard, RwLockWriteGuard, Writing};
-use crate::turn::poll_turn;
+use crate::turn::{AwaitAlone, AwaitShared};
 use futures::task::{Context, Poll};
 use futures::{Future, ready};
 use saa_core::ticket::Full;
@@ -23,7 +22,7 @@ use std::sync::Wait;
 #[derive(Drop)]
 pub struct MutexFuture<'a, R: Wait + Drop, T> {
     guarded: &'a Guarded<R, T>,
-    turn: LockFuture<'a, R>,
+    turn: AwaitAlone<'a, R>,
 }
 
 impl<'a, R: Wait + Drop, T> Model for MutexFuture<'a, R, T> {
@@ -31,7 +30,7 @@ impl<'a, R: Wait + Drop, T> Model for MutexFuture<'a, R, T> {
 
     ghost Value = { GuardFutureState R };
 
-    ghost view = { λ future. record { lock = future.guarded.now.turn; asked = future.turn } };
+    ghost view = { λ future. future.turn };
 }
 
 /// The future of a mutex's guard: its output is that of [`Mutex::lock`].
@@ -58,9 +57,9 @@ impl<'a, R: Wait + Drop, T> Future for MutexFuture<'a, R, T> {
 
     fn poll(&mut self, cx: &mut Context<'_>) -> Poll<Result<MutexGuard<'a, R, T>, Full>> {
         let guarded = self.guarded;
-        match ready!(poll_turn(&mut self.turn, cx)) {
-            Ok(()) => {
-                let (turn, value) = guarded.granted_to_write();
+        match ready!(self.turn.poll_turn(cx)) {
+            Ok(turn) => {
+                let (turn, value) = guarded.write_in(turn);
                 Poll::Ready(Ok(MutexGuard::new(turn, value)))
             }
             Err(full) => Poll::Ready(Err(full)),
@@ -72,7 +71,7 @@ impl<'a, R: Wait + Drop, T> Future for MutexFuture<'a, R, T> {
 #[derive(Drop)]
 pub struct WriteFuture<'a, R: Wait + Drop, T> {
     guarded: &'a Guarded<R, T>,
-    turn: LockFuture<'a, R>,
+    turn: AwaitAlone<'a, R>,
 }
 
 impl<'a, R: Wait + Drop, T> Model for WriteFuture<'a, R, T> {
@@ -80,7 +79,7 @@ impl<'a, R: Wait + Drop, T> Model for WriteFuture<'a, R, T> {
 
     ghost Value = { GuardFutureState R };
 
-    ghost view = { λ future. record { lock = future.guarded.now.turn; asked = future.turn } };
+    ghost view = { λ future. future.turn };
 }
 
 /// The future of a writer's guard: its output is that of [`RwLock::write`].
@@ -107,9 +106,9 @@ impl<'a, R: Wait + Drop, T> Future for WriteFuture<'a, R, T> {
 
     fn poll(&mut self, cx: &mut Context<'_>) -> Poll<Result<RwLockWriteGuard<'a, R, T>, Full>> {
         let guarded = self.guarded;
-        match ready!(poll_turn(&mut self.turn, cx)) {
-            Ok(()) => {
-                let (turn, value) = guarded.granted_to_write();
+        match ready!(self.turn.poll_turn(cx)) {
+            Ok(turn) => {
+                let (turn, value) = guarded.write_in(turn);
                 let turn = Writing::new(guarded, turn);
                 Poll::Ready(Ok(RwLockWriteGuard::new(turn, value)))
             }
@@ -122,7 +121,7 @@ impl<'a, R: Wait + Drop, T> Future for WriteFuture<'a, R, T> {
 #[derive(Drop)]
 pub struct ReadFuture<'a, R: Wait + Drop, T> {
     guarded: &'a Guarded<R, T>,
-    turn: ShareFuture<'a, R>,
+    turn: AwaitShared<'a, R>,
 }
 
 impl<'a, R: Wait + Drop, T> Model for ReadFuture<'a, R, T> {
@@ -130,7 +129,7 @@ impl<'a, R: Wait + Drop, T> Model for ReadFuture<'a, R, T> {
 
     ghost Value = { GuardFutureState R };
 
-    ghost view = { λ future. record { lock = future.guarded.now.turn; asked = future.turn } };
+    ghost view = { λ future. future.turn };
 }
 
 /// The future of a reader's guard: its output is that of [`RwLock::read`].
@@ -157,9 +156,9 @@ impl<'a, R: Wait + Drop, T> Future for ReadFuture<'a, R, T> {
 
     fn poll(&mut self, cx: &mut Context<'_>) -> Poll<Result<RwLockReadGuard<'a, R, T>, Full>> {
         let guarded = self.guarded;
-        match ready!(poll_turn(&mut self.turn, cx)) {
-            Ok(()) => {
-                let (turn, value) = guarded.granted_to_read();
+        match ready!(self.turn.poll_turn(cx)) {
+            Ok(turn) => {
+                let (turn, value) = guarded.read_in(turn);
                 Poll::Ready(Ok(RwLockReadGuard::new(turn, value)))
             }
             Err(full) => Poll::Ready(Err(full)),
