@@ -1,6 +1,6 @@
--- A form in words as contracts see it: its rules, the row of words, the places, how many operations were made on the words by the count that
--- `src/words.rt` keeps, and the index of the word that the last of them was made on. That each function there counts what it does is read off that
--- file. The row is the main word, then the line word of each place, then the answer word of each. A reader of the clauses has to believe this.
+-- A form in words as contracts see it: its rules, the row of words, the places, how many operations were made on the words, and the index of the word
+-- that the last of them was made on. Each word is a cell that counts what is made on it, and `operations` is the sum (`specs/Cells.antt`). The row is
+-- the main word, then the line word of each place, then the answer word of each. A reader of the clauses has to believe this.
 use Rattle.std.specs.Prelude.{◌≡◌, ℕ, ◌+◌, ◌*◌, ◌<◌, Bool, true, List, ◌∷◌, replicate, slice_index, slice_index_or, slice_set}
 use Rattle.saa_word_steps.specs.declared.rules.Rules.{Rules}
 use Rattle.saa_word_steps.specs.declared.place.Place.{Place}

@@ -4,6 +4,7 @@
 //! made on, and who may touch them. `docs/PROTOCOL.md` tells the protocol.
 #![tactic(auto)]
 
+mod cell;
 mod count;
 pub mod kind;
 pub mod laws;

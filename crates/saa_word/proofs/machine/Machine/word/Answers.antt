@@ -1,3 +1,4 @@
+use Rattle.saa_word.specs.Cells.{counted, numbers}
 use Rattle.saa_word.proofs.Machines.{loaded-machine}
 use Rattle.saa_word.proofs.machine.Machine.word.Goals as goal
 
@@ -5,9 +6,9 @@ pub invariant_of-self : goal.invariant_of-self
 invariant_of-self c =
     loaded-machine (record {
       rules = c.self.inside.rules;
-      row = c.self.inside.words.numbers.items;
+      row = numbers c.self.inside.words.cells.items;
       places = c.self.inside.places.items;
-      operations = c.self.inside.words.operations.number;
+      operations = counted c.self.inside.words.cells.items;
       last_word = c.self.inside.words.last;
     })
-    c.load.new.self.numbers.items c.load.new.self.operations.number c.load.new.self.last c.load.ensures.kept c.self.invariant
+    (numbers c.load.new.self.cells.items) (counted c.load.new.self.cells.items) c.load.new.self.last c.load.ensures.kept c.self.invariant
