@@ -9,10 +9,10 @@ pub mod laws;
 pub mod order;
 mod wakes;
 
-ghost use Rattle.std.specs.Prelude.{◌≡◌, ◌<◌, ◌≤◌, ◌↔◌, [], ◌∷◌, ◌++◌, length, nat_lt, IsTrue, IsNone, IsOk, IfOk, IfSome, IfNone, slice_get, slice_set};
+ghost use Rattle.std.specs.Prelude.{◌≡◌, ℕ, ◌<◌, ◌≤◌, ◌↔◌, [], ◌∷◌, ◌++◌, false, None, length, replicate, nat_lt, vec_capacity, IsTrue, IsNone, IsOk, IfOk, IfSome, IfNone, slice_get, slice_set};
 ghost use Rattle.std.specs.Bool.{OnTrue, OnFalse};
-ghost use Rattle.saa_core_spec.specs.Object.{times, without};
-ghost use Rattle.saa_core.specs.Slots.{room_of, answer_in, held_slots, held_times, IsSound, empty_slots, slots_answered, all_slots_answered, wake_told};
+ghost use Rattle.saa_core_spec.specs.Object.{one_if, times, without};
+ghost use Rattle.saa_core.specs.Slots.{count_of, room_of, answer_in, held_slots, held_times, IsSound, empty_slots, slots_answered, all_slots_answered, wake_told};
 ghost use Rattle.saa_core.specs.LineParts.{with_owed};
 
 use crate::line::order::{Order, Queue};
@@ -70,17 +70,11 @@ impl<O: Order> LineOf<O> {
         ensures no_room { room ≡ 0 → IsOk result }
         ensures sound { IfOk result IsSound }
     {
-        let places = usize::from(room);
         let order = O::with_room(alloc, room)?;
         let wakes = Wakes::with_room(alloc, room)?;
-        let mut answers = Vec::with_capacity(alloc, places)?;
-        let mut waiting = Vec::with_capacity(alloc, places)?;
-        let mut free = Vec::with_capacity(alloc, places)?;
-        for slot in 0..room {
-            answers.push_reserved(AnswerWord::new(None));
-            waiting.push_reserved(false);
-            free.push_reserved(slot);
-        }
+        let answers = no_answers(alloc, room)?;
+        let waiting = no_marks(alloc, room)?;
+        let free = free_slots(alloc, room)?;
         Ok(LineOf {
             order,
             answers,
@@ -257,6 +251,44 @@ impl<O: Order> LineOf<O> {
         self.waiting[usize::from(slot)] = false;
         give(&mut self.answers, &mut self.wakes, slot, value);
     }
+}
+
+// An empty answer for each slot. Each of a line's parts is made apart: a loop beside the parts that an error drops costs a proof much.
+fn no_answers(alloc: Global, room: u16) -> Result<Vec<AnswerWord>, AllocError>
+    ensures made { IfOk result (λ answers. answers.items ≡ replicate room None) }
+    ensures no_room { room ≡ 0 → IsOk result }
+{
+    let mut answers = Vec::with_capacity(alloc, usize::from(room))?;
+    for _slot in 0..room {
+        answers.push_reserved(AnswerWord::new(None));
+    }
+    Ok(answers)
+}
+
+// An unset mark for each slot.
+fn no_marks(alloc: Global, room: u16) -> Result<Vec<bool>, AllocError>
+    ensures made { IfOk result (λ marks. marks.items ≡ replicate room false) }
+    ensures no_room { room ≡ 0 → IsOk result }
+{
+    let mut marks = Vec::with_capacity(alloc, usize::from(room))?;
+    for _slot in 0..room {
+        marks.push_reserved(false);
+    }
+    Ok(marks)
+}
+
+// Each slot, once, with memory for all of them.
+fn free_slots(alloc: Global, room: u16) -> Result<Vec<u16>, AllocError>
+    ensures each { IfOk result (λ free. (slot : ℕ) → count_of slot free.items ≡ one_if (nat_lt slot room)) }
+    ensures total { IfOk result (λ free. length free.items ≡ room) }
+    ensures reserved { IfOk result (λ free. room ≤ vec_capacity free) }
+    ensures no_room { room ≡ 0 → IsOk result }
+{
+    let mut free = Vec::with_capacity(alloc, usize::from(room))?;
+    for slot in 0..room {
+        free.push_reserved(slot);
+    }
+    Ok(free)
 }
 
 // Writes the answer of a slot, whose wake is then owed: no answer is written without.

@@ -7,6 +7,7 @@
 ghost use Rattle.std.specs.Prelude.{◌≡◌, ◌<◌, [], IsOk, IfOk, IfSome, drop, slice_get};
 ghost use Rattle.saa_core.specs.LineParts.{with_owed};
 
+use crate::line::no_marks;
 use std::alloc::{AllocError, Global};
 use std::collections::VecDeque;
 use std::marker::Model;
@@ -39,12 +40,8 @@ impl Wakes {
         ensures made { IfOk result (λ wakes. wakes ≡ record { slots = []; room = room }) }
         ensures no_room { room ≡ 0 → IsOk result }
     {
-        let places = usize::from(room);
-        let order = VecDeque::with_capacity(alloc, places)?;
-        let mut listed = Vec::with_capacity(alloc, places)?;
-        for _slot in 0..room {
-            listed.push_reserved(false);
-        }
+        let order = VecDeque::with_capacity(alloc, usize::from(room))?;
+        let listed = no_marks(alloc, room)?;
         Ok(Wakes { order, listed })
     }
 
