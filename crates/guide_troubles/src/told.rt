@@ -1,0 +1,11 @@
+//! A turn at a semaphore.
+
+use saa_sync::{Full, Semaphore};
+use std::sync::Wait;
+
+/// Takes a permit, and gives it back.
+pub fn turn<R: Wait + Drop>(permits: &Semaphore<R>) -> Result<(), Full> {
+    permits.acquire_sync()?;
+    permits.release();
+    Ok(())
+}
