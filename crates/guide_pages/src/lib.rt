@@ -1,4 +1,4 @@
-//! Programs that the guide's pages show, a module each: a test is the `main` of its page.
+//! Programs that the pages of the guide and docs/PROGRAMS.md show, a module each: a test is the `main` of its page.
 //!
 //! Each module is the whole program of its page, but for the word `#[test]` above its `main`; `printed/` has what it prints. They stand in one
 //! crate because each program takes the gate some 50 processor seconds before its first function: the proofs of what it links.
@@ -17,4 +17,10 @@ mod pager;
 #[cfg(test)]
 mod semaphore;
 #[cfg(test)]
+mod spawned;
+#[cfg(test)]
+mod tills;
+#[cfg(test)]
 mod word_lock;
+#[cfg(test)]
+mod word_workers;
