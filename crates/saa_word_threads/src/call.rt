@@ -145,7 +145,10 @@ impl Form {
             }
             match self.act::<Brand, W>(watch, seat, me, place) {
                 Next::Going(next) => place = next,
-                Next::Waits => self.wait(rt, watch, me, place.stage),
+                Next::Waits => {
+                    watch.at(Moment::IsBlocked);
+                    self.wait(rt, watch, me, place.stage);
+                }
                 Next::Done(behind, answer) => return (behind, answer),
             }
         }

@@ -18,14 +18,12 @@ ghost use Rattle.saa_word_threads.specs.Told.{Begins, IsNext, IsSought, MovesOrS
 use crate::call::Begun;
 use crate::form::Form;
 use crate::table::{Mover, Sought, View};
-use crate::watch::{Moment, Watch};
+use crate::watch::{Moment, Pause, Watch};
 use atomic_table::Seat;
 use saa_core_words::word::Word;
 use saa_word_steps::place::{Next, Place as Position, Stage};
-use std::hint::spin_loop;
 use std::marker::Brand;
 use std::snapshot::Snapshot;
-use std::thread::yield_now;
 
 /// How often a call looks, and then yields, before it joins the waiters.
 #[derive(Clone, Copy)]
@@ -65,15 +63,11 @@ impl Patience {
     // Each rest is longer than the one before, since each look takes the main word's cache line from the place that has its turn.
     fn rest<W: Watch>(self, watch: &W, turn: u32) {
         if turn >= self.looks {
-            watch.at(Moment::Yields);
-            yield_now();
+            watch.pause(Pause::Yields);
             return;
         }
         let spins = FIRST_REST.saturating_mul(2u32.saturating_pow(turn.min(DOUBLINGS)));
-        watch.at(Moment::Rests(spins));
-        for _spin in 0..spins {
-            spin_loop();
-        }
+        watch.pause(Pause::Rests(spins));
     }
 }
 

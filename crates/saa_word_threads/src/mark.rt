@@ -1,21 +1,16 @@
 //! The mark of each place, that it may be parked, and the one look at it that decides a wake.
 //!
 //! A waiter sets its mark, and looks at its answer word for the last time as it parks. Who answers it writes that word, and then looks at the mark. So
-//! one of the two sees the other. The second order is kept by types: only `write` makes a `Written`, and nothing but `wake` takes it, or looks at a
-//! mark, beside what tests see.
+//! one of the two sees the other. The second order is kept by types: only `write` makes a `Written`, in a module (`written`) that can't read a mark, and
+//! nothing but `wake` takes it, or looks at a mark, beside what tests see.
 
 ghost use Rattle.std.specs.Prelude.{◌≡◌, ◌+◌, ◌<◌, vec_len};
-ghost use Rattle.saa_word_steps.specs.Needs.{needs_of};
-ghost use Rattle.saa_word_steps.specs.Steps.{next_of};
-ghost use Rattle.saa_word_steps.specs.declared.operation.Operation.TheVariants.{Store};
-ghost use Rattle.saa_word_threads.specs.Told.{IsNext, Moves};
 
 use crate::form::Form;
 use crate::lock::Lock;
 use crate::semaphore::SemaphoreOf;
-use crate::table::{Moved, Mover, View};
 use crate::watch::{Moment, Watch};
-use atomic_table::Seat;
+use crate::written::Written;
 use std::sync::atomic::{AtomicBool, Ordering};
 
 /// Of each place whether it may be parked.
@@ -55,34 +50,18 @@ impl Marks {
     }
 }
 
-/// Says that this word was written. Only a write makes one, and only a wake takes it: it can be neither dropped nor copied.
-pub(crate) struct Written {
-    index: usize,
+/// A wake. This module alone makes one, and so takes what was written.
+#[derive(Drop)]
+pub(crate) struct Wake {
+    nothing: (),
 }
 
 impl Form {
-    // Writes a word. Its waiter is to be woken then.
-    pub(crate) fn write<M: Mover>(
-        &self,
-        seat: &mut Seat<(), View>,
-        index: usize,
-        number: u64,
-    ) -> (u64, Written)
-        requires table { (seat.old.table_id ≡ self.now.table.shared.table_id) × (M.about ≡ self.now.table.shared.key) }
-        requires next { IsNext (needs_of self.now.rules) self.now.places M.me M.place (Store index number) seat.old.me.0 }
-        ensures table { (seat.new.table_id ≡ seat.old.table_id) × (seat.new.id ≡ seat.old.id) }
-        ensures moved { Moves (needs_of self.now.rules) self.now.places M.place (next_of (needs_of self.now.rules) M.me M.place M.place.stage result.0) result.0 seat.old.me.0 seat.new.me.0 }
-        ensures written { result.1.index ≡ index }
-    {
-        let found = self.table.shared.swap::<Moved<M>>(seat, index, number);
-        (found, Written { index })
-    }
-
     // Wakes the place whose answer word was written, where it may be parked there.
     pub(crate) fn wake<W: Watch>(&self, watch: &W, written: Written)
         requires { written.index < self.now.places + self.now.places + 1 }
     {
-        let Written { index } = written;
+        let index = written.taken_by(Wake { nothing: () });
         let places = usize::from(self.places);
         if index <= places {
             return;

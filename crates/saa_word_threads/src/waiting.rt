@@ -3,11 +3,9 @@
 ghost use Rattle.std.specs.Prelude.{◌<◌};
 
 use crate::form::Form;
-use crate::watch::{Moment, Watch};
+use crate::watch::{Moment, Pause, Watch};
 use saa_word_steps::place::Stage;
-use std::hint::spin_loop;
 use std::sync::Wait;
-use std::thread::yield_now;
 
 // How often a place looks at its answer word before it begins to yield, and how often it yields before it parks.
 const LOOKS: u32 = 500;
@@ -22,8 +20,7 @@ impl Form {
         if let Stage::Take { .. } = stage {
             self.await_answer(rt, watch, me);
         } else {
-            watch.at(Moment::Defers);
-            yield_now();
+            watch.pause(Pause::Defers);
         }
     }
 
@@ -37,14 +34,13 @@ impl Form {
             if self.table.shared.peek(index) != 0 {
                 return;
             }
-            spin_loop();
+            watch.pause(Pause::SpinsForAnswer);
         }
         for _turn in 0..YIELDS {
             if self.table.shared.peek(index) != 0 {
                 return;
             }
-            watch.at(Moment::YieldsForAnswer);
-            yield_now();
+            watch.pause(Pause::YieldsForAnswer);
         }
         // Why this order: the place that shows the answer looks at this mark once the answer is written, and parking looks at the word once the mark
         // is set. The other way round an answer between the two would wake nobody.

@@ -1,27 +1,27 @@
-//! What a call tells somebody who looks on: nothing, but in a test.
+//! What a call tells somebody who looks on, and the pauses that it makes through them.
 //!
 //! Each moment is told by the thread that makes the call. So a test can count moments, and hold a call at one. No step rests on it, and
 //! where nobody looks on it costs nothing.
+//!
+//! A call makes each of its pauses by `Watch::pause`, and in no other way: so it can't tell of a pause that it leaves out, and what a test counts is what
+//! a call rests where nobody looks on. That a pause which is made lasts is read off this file: off `make`, and off the one body of `pause` here.
+
+use std::hint::spin_loop;
+use std::thread::yield_now;
 
 /// A moment of a call, as its watch is told it.
 #[derive(Clone, Copy, PartialEq)]
 pub enum Moment {
     /// A place that asks is about to look at the main word.
     Looks,
-    /// It couldn't have what it asks for, and rests for so many turns before it looks again.
-    Rests(u32),
-    /// It couldn't have what it asks for, and yields before it looks again.
-    Yields,
     /// It is about to exchange the main word that it has looked at.
     Takes,
     /// The flag's holder is about to publish what a walk has granted, by an exchange or an addition.
     Publishes,
-    /// A place is about to yield, since another one holds the flag.
-    Defers,
-    /// A waiter is about to look at its answer word, and spins where there is no answer.
+    /// A step has found that another place must move first.
+    IsBlocked,
+    /// A waiter is about to look at its answer word.
     LooksForAnswer,
-    /// A waiter has found no answer, and yields.
-    YieldsForAnswer,
     /// A waiter has found no answer, and is about to park. Its mark is set.
     Parks,
     /// A waiter has come back from parking.
@@ -34,10 +34,47 @@ pub enum Moment {
     Wakes(u16),
 }
 
+/// A pause of a call, beside parking.
+#[derive(Clone, Copy, PartialEq)]
+pub enum Pause {
+    /// A place that asks couldn't have what it asks for, and rests for so many turns before it looks again.
+    Rests(u32),
+    /// It couldn't have what it asks for, and yields before it looks again.
+    Yields,
+    /// A place whose step is blocked yields, since another one holds the flag.
+    Defers,
+    /// A waiter has found no answer, and spins for one turn.
+    SpinsForAnswer,
+    /// A waiter has found no answer, and yields.
+    YieldsForAnswer,
+}
+
+impl Pause {
+    /// Makes it.
+    #[inline(always)]
+    pub fn make(self) {
+        match self {
+            Pause::Rests(turns) => {
+                for _turn in 0..turns {
+                    spin_loop();
+                }
+            }
+            Pause::SpinsForAnswer => spin_loop(),
+            Pause::Yields | Pause::Defers | Pause::YieldsForAnswer => yield_now(),
+        }
+    }
+}
+
 /// Looks on as a call is made.
 pub trait Watch {
     /// Called at each moment.
     fn at(&self, moment: Moment);
+
+    /// Makes a pause of the call. Who looks on may count it first.
+    #[inline(always)]
+    fn pause(&self, pause: Pause) {
+        pause.make();
+    }
 }
 
 /// Nobody looks on.

@@ -1,7 +1,7 @@
 //! Calls beside the flag's holder: one thread is held right before it publishes, until the others are answered.
 //!
-//! A release there never blocks, and neither does a try, a registration or a poll; a cancel waits for the holder. Nothing of it all is lost
-//! once the holder goes on.
+//! A release there never blocks, and neither does a try, a registration or a poll; a cancel waits for the holder, and yields each time that it finds
+//! the flag set. Nothing of it all is lost once the holder goes on.
 
 ghost use Rattle.saa_word_threads.specs.Locks.{IsDealtBy as IsDealtByLock};
 ghost use Rattle.saa_word_threads.specs.Semaphores.{IsDealtBy};
@@ -15,6 +15,9 @@ use std::alloc::{AllocError, AllocGlobal};
 use std::sync::Wait;
 use std::thread::{self, Threads, yield_now};
 use test_asserts::same;
+
+// How often a cancel yields at least before the holder goes on.
+const DEFERS: u64 = 100;
 
 // Gives a share back, held at the gate.
 fn give_share_held(rt: &impl Wait, lock: &Lock, gate: &Gate, mut place: LockPlace) -> bool
@@ -142,10 +145,11 @@ fn permits_beside<R: Wait + Threads + Sync + AllocGlobal>(rt: &R) -> Result<bool
     Ok(is_given && semaphore.close(left).main() == 63)
 }
 
-// Waits until a place waits for the flag's holder: it yields.
-fn await_deferred(rt: &impl Wait, tally: &Tally) {
+// Waits until a place has yielded so often since another one holds the flag, or the holder went on before.
+fn await_deferred(rt: &impl Wait, gate: &Gate, tally: &Tally) {
     for _turn in rt.forever() {
-        if tally.defers() > 0 {
+        let [_blocks, defers] = tally.of_deferring();
+        if defers >= DEFERS || !gate.is_in_time() {
             return;
         }
         yield_now();
@@ -169,7 +173,7 @@ fn call_beside(
         && semaphore.try_poll(&mut place) == Err(Error::NotReady)
         && semaphore.release_many(rt, &mut place, 6)
         && semaphore.available_permits(&mut place) == 11;
-    await_deferred(rt, tally);
+    await_deferred(rt, gate, tally);
     gate.answer();
     is_told && semaphore.poll(rt, &mut place) == Ok(())
 }
@@ -189,7 +193,7 @@ fn cancel_beside(
     semaphore.try_poll(&mut place)
 }
 
-// Both, beside each other; whether all is as it has to be.
+// Both, beside each other; whether all is as it has to be, and the cancel has yielded as often as it was blocked.
 fn both_beside<R: Wait + Threads + Sync>(
     rt: &R,
     semaphore: &Semaphore,
@@ -206,7 +210,8 @@ fn both_beside<R: Wait + Threads + Sync>(
         || call_beside(rt, semaphore, gate, &tally, last),
         || cancel_beside(rt, semaphore, gate, &tally, second),
     );
-    is_told && polled == Err(Error::NotRegistered)
+    let [blocks, defers] = tally.of_deferring();
+    is_told && polled == Err(Error::NotRegistered) && blocks == defers && defers >= DEFERS
 }
 
 // The first two places ask for 10 and 4; whether both join.

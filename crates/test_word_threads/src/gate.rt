@@ -1,7 +1,7 @@
 //! Holds a call at a moment of it, until others have made theirs.
 
 use crate::tally::Tally;
-use saa_word_threads::testing::{Moment, Watch};
+use saa_word_threads::testing::{Moment, Pause, Watch};
 use std::sync::Wait;
 use std::sync::atomic::{AtomicBool, Ordering};
 use std::thread::yield_now;
@@ -9,7 +9,7 @@ use std::thread::yield_now;
 // How long a thread is held at most.
 const TURNS: u32 = 3_000_000;
 
-/// Holds a call at a moment, until the others are answered, and counts all its moments.
+/// Holds a call at a moment, until the others are answered, and counts all its moments and pauses.
 #[derive(Drop)]
 pub struct Gate {
     moment: Moment,
@@ -75,5 +75,9 @@ impl Watch for Gate {
         if moment == self.moment {
             self.hold();
         }
+    }
+
+    fn pause(&self, pause: Pause) {
+        self.tally.pause(pause);
     }
 }

@@ -155,7 +155,7 @@ fn joins_beside(
         && lock.try_poll(&mut place) == Err(Error::NotReady)
         && lock.release_share(rt, &mut owner)
         && lock.try_poll(&mut place) == Ok(true);
-    if is_right {
+    if is_right && tally.is_in_order() {
         Some(tally.of_asking())
     } else {
         None
@@ -181,8 +181,8 @@ fn joins<R: Wait + AllocGlobal>(
 }
 
 // A patience, and what a call does in it that joins then: how often it looks, which is once and in each turn of its patience; how many turns it
-// rests in all, which are 8 before the second look, twice as many before each further one, and 1,024 at most; how often it yields; and how often it
-// is about to take what it asks for.
+// rests in all, which are 8 before the second look, twice as many before each further one, and 1,024 at most; how often it yields, which comes last;
+// and how often it is about to take what it asks for.
 static PATIENCES: [(Patience, [u64; 4]); 6] = [
     (NONE, [1, 0, 0, 0]),
     (LOOK, [2, 8, 0, 0]),

@@ -12,7 +12,7 @@ use crate::tally::Tally;
 use saa_word_threads::lock::{Lock, Mode, Place};
 use saa_word_threads::semaphore::{Place as PermitPlace, Semaphore};
 use saa_word_threads::testing::{
-    Moment, WAITING, Watch, acquire_patiently, is_answered, is_parked, is_parked_at,
+    Moment, Pause, WAITING, Watch, acquire_patiently, is_answered, is_parked, is_parked_at,
     release_share_watched, wait_patiently,
 };
 use std::alloc::AllocError;
@@ -30,11 +30,11 @@ const OWNER: u16 = 0;
 // are 2,040, and for 1,024 eight times more; it yields 100 times; it takes nothing.
 const ASKED: [u64; 4] = [117, 10_232, 100, 0];
 
-// What a waiter does before it parks: it looks 500 times, yields as often, and parks once.
-const ASLEEP: [u64; 4] = [500, 500, 1, 0];
+// What a waiter does before it parks: it looks 500 times, spins and then yields as often, and parks once.
+const ASLEEP: [u64; 5] = [500, 500, 500, 1, 0];
 
 // The same once it was woken.
-const WOKEN: [u64; 4] = [500, 500, 1, 1];
+const WOKEN: [u64; 5] = [500, 500, 500, 1, 1];
 
 // Far more looks, or yields, than a waiter has before it parks.
 const MANY: u64 = 50_000;
@@ -81,7 +81,7 @@ impl<'l> Scene<'l> {
 
     // Whether the waiter surely doesn't park as it has to.
     fn is_astray(&self) -> bool {
-        let [looks, yields, _parks, backs] = self.tally.of_waiting();
+        let [looks, _spins, yields, _parks, backs] = self.tally.of_waiting();
         looks > MANY || yields > MANY || backs > 0 || self.ended.load(Ordering::SeqCst) > 0
     }
 
@@ -95,7 +95,7 @@ impl<'l> Scene<'l> {
     // Waits until the waiter has joined, or surely never will.
     fn await_joined(&self, rt: &impl Wait) {
         for _turn in rt.forever() {
-            let [looks, _yields, _parks, _backs] = self.tally.of_waiting();
+            let [looks, _spins, _yields, _parks, _backs] = self.tally.of_waiting();
             if looks > 0 || self.is_astray() {
                 return;
             }
@@ -125,12 +125,16 @@ impl Watch for AtWaiter<'_, '_> {
         let scene = self.scene;
         scene.tally.at(moment);
         match moment {
-            Moment::LooksForAnswer | Moment::YieldsForAnswer => {
-                scene.check(!is_parked(scene.lock, WAITER));
-            }
+            Moment::LooksForAnswer => scene.check(!is_parked(scene.lock, WAITER)),
             Moment::Parks => scene.check(is_parked(scene.lock, WAITER)),
             _ => {}
         }
+    }
+
+    fn pause(&self, pause: Pause) {
+        let scene = self.scene;
+        scene.check(!is_parked(scene.lock, WAITER));
+        scene.tally.pause(pause);
     }
 }
 
@@ -156,6 +160,10 @@ impl Watch for AtOwner<'_, '_> {
             _ => {}
         }
     }
+
+    fn pause(&self, pause: Pause) {
+        self.scene.answering.pause(pause);
+    }
 }
 
 // Waits for the lock; whether it is granted.
@@ -180,9 +188,9 @@ fn give(rt: &impl Wait, lock: &Lock, scene: &Scene<'_>, mut place: Place) -> boo
 
 // What comes of it: whether both calls are granted; what is counted of the waiter; how often an answer was written and a place woken; and how
 // often something wasn't as it has to be.
-type Ended = ([bool; 2], [[u64; 4]; 2], [u64; 2], u64);
+type Ended = ([bool; 2], ([u64; 4], [u64; 5]), [u64; 2], u64);
 
-const AS_WANTED: Ended = ([true, true], [ASKED, WOKEN], [1, 1], 0);
+const AS_WANTED: Ended = ([true, true], (ASKED, WOKEN), [1, 1], 0);
 
 // One place waits beside one that has a share, and is woken.
 fn end_of<R: Wait + Threads + Sync>(
@@ -204,7 +212,8 @@ fn end_of<R: Wait + Threads + Sync>(
         || wait(rt, lock, &scene, waiter),
     );
     scene.check(!is_parked(lock, OWNER) && !is_parked(lock, WAITER));
-    let tally = [scene.tally.of_asking(), scene.tally.of_waiting()];
+    scene.check(scene.tally.is_in_order());
+    let tally = (scene.tally.of_asking(), scene.tally.of_waiting());
     let faults = scene.faults.load(Ordering::SeqCst);
     (
         [given, granted],
@@ -242,7 +251,7 @@ fn release(rt: &impl Wait, semaphore: &Semaphore, tally: &Tally, mut place: Perm
     requires { IsDealtBySemaphore semaphore.now place }
 {
     for _turn in rt.forever() {
-        let [looks, yields, _parks, _backs] = tally.of_waiting();
+        let [looks, _spins, yields, _parks, _backs] = tally.of_waiting();
         if is_parked_at(semaphore, WAITER) || looks > MANY || yields > MANY {
             break;
         }
@@ -253,7 +262,7 @@ fn release(rt: &impl Wait, semaphore: &Semaphore, tally: &Tally, mut place: Perm
 
 // The same of the two beside one another at a new semaphore of which all permits are withheld: whether both calls are granted, what is counted
 // of the waiter, and the main word in the end.
-type Acquired = ([bool; 2], [[u64; 4]; 2], u64);
+type Acquired = ([bool; 2], ([u64; 4], [u64; 5]), u64);
 
 fn acquired<R: Wait + Threads + Sync + AllocGlobal>(rt: &R) -> Result<Acquired, AllocError> {
     let (semaphore, mut places) = Semaphore::new(rt.alloc(), 63, 3)?;
@@ -268,7 +277,7 @@ fn acquired<R: Wait + Threads + Sync + AllocGlobal>(rt: &R) -> Result<Acquired, 
         || acquire(rt, &semaphore, &tally, waiter),
     );
     let left = semaphore.leave(rt, witness);
-    let counts = [tally.of_asking(), tally.of_waiting()];
+    let counts = (tally.of_asking(), tally.of_waiting());
     Ok(([released, granted], counts, semaphore.close(left).main()))
 }
 
@@ -305,7 +314,7 @@ fn a_waiter_parks_and_is_woken_behind_its_answer(rt: HostRuntime) {
 
 #[test]
 fn a_waiter_for_permits_looks_and_parks(rt: HostRuntime) {
-    let wanted = ([true, true], [ASKED, WOKEN], 58);
+    let wanted = ([true, true], (ASKED, WOKEN), 58);
     same!(rt; acquired(&rt).ok(), Some(wanted));
 }
 
