@@ -6,20 +6,25 @@
 //!
 //! Nothing rests on a hint: a call that finds that it may have what it asks for tries, through the core and under the mutex.
 
+use crate::patience::Spent;
 use crate::tries::Tries;
 use std::sync::atomic::{AtomicU64, Ordering};
 
 // The parts of the counts: how many calls look, in the low bits, and above them how often those looked that no longer look. They stand
-// in one number, so that tests see them and the end of a look is still one operation. The upper part wraps around.
+// in one number, so that the end of a look changes both at once. The upper part wraps around.
 const LOOKER: u64 = 1;
 
 const LOOK: u64 = 1 << 24;
+
+// The parts of the rests: how many spin hints were given, in the low bits, and above them how often calls yielded. Both wrap around.
+const YIELD: u64 = 1 << 40;
 
 /// The main word of a core as it was when the mutex was left last, and how many calls look at it.
 #[derive(Drop)]
 pub(crate) struct Hint {
     word: AtomicU64,
     counts: AtomicU64,
+    rests: AtomicU64,
 }
 
 impl Hint {
@@ -28,6 +33,7 @@ impl Hint {
         Hint {
             word: AtomicU64::new(0),
             counts: AtomicU64::new(0),
+            rests: AtomicU64::new(0),
         }
     }
 
@@ -39,6 +45,12 @@ impl Hint {
     /// How often calls looked, of those that no longer look.
     pub(crate) fn looked(&self) -> u64 {
         self.counts.load(Ordering::SeqCst) / LOOK
+    }
+
+    /// How many spin hints calls gave and how often they yielded, of those that no longer look.
+    pub(crate) fn rested(&self) -> (u64, u64) {
+        let rests = self.rests.load(Ordering::SeqCst);
+        (rests % YIELD, rests / YIELD)
     }
 
     /// Whether a call looks.
@@ -64,9 +76,14 @@ impl Hint {
         self.counts.fetch_add(LOOKER, Ordering::SeqCst) % LOOK == 0
     }
 
-    /// Ends to look, after so many looks.
-    pub(crate) fn depart(&self, looks: u32) {
-        let ended = u64::from(looks).wrapping_mul(LOOK);
+    /// Ends to look, after so many looks and rests. A call that was let in at its first look has no rest to tell.
+    pub(crate) fn depart(&self, spent: &Spent) {
+        let (looks, spins, yields) = spent.told();
+        let rests = spins.wrapping_add(yields.wrapping_mul(YIELD));
+        if rests != 0 {
+            self.rests.fetch_add(rests, Ordering::SeqCst);
+        }
+        let ended = looks.wrapping_mul(LOOK);
         self.counts
             .fetch_add(ended.wrapping_sub(LOOKER), Ordering::SeqCst);
     }

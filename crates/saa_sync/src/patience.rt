@@ -48,18 +48,63 @@ impl Patience {
     //
     // Each rest is longer than the one before, since each look takes the hint's cache line from the tasks that leave the mutex: with looks
     // that follow one another at once, four threads took twice as long for their turns.
-    pub(crate) fn rest(self, turn: u32) {
+    pub(crate) fn rest(self, turn: u32, spent: &mut Spent) {
         if turn >= self.looks {
-            yield_now();
-            return;
+            spent.give_way();
+        } else {
+            spent.rest(turn);
         }
-        rest(turn);
     }
 }
 
-/// Rests between two looks or tries, by the number of the first from 0: longer each time, up to a bound.
-pub(crate) fn rest(turn: u32) {
-    for _spin in 0..FIRST_REST.saturating_mul(2u32.saturating_pow(turn.min(DOUBLINGS))) {
+/// What a call spent before it registered, which tests read. What counts a spin hint gives it, and what counts a yield yields.
+#[derive(Drop)]
+pub(crate) struct Spent {
+    looks: u32,
+    spins: u32,
+    yields: u32,
+}
+
+impl Spent {
+    /// Nothing yet.
+    pub(crate) fn new() -> Self {
+        Spent {
+            looks: 0,
+            spins: 0,
+            yields: 0,
+        }
+    }
+
+    /// How often it looked, how many spin hints it gave, and how often it yielded.
+    pub(crate) fn told(&self) -> (u64, u64, u64) {
+        (
+            u64::from(self.looks),
+            u64::from(self.spins),
+            u64::from(self.yields),
+        )
+    }
+
+    /// Counts a look.
+    pub(crate) fn look(&mut self) {
+        self.looks = self.looks.wrapping_add(1);
+    }
+
+    /// Rests between two looks or tries, by the number of the first from 0: longer each time, up to a bound.
+    pub(crate) fn rest(&mut self, turn: u32) {
+        for _spin in 0..FIRST_REST.saturating_mul(2u32.saturating_pow(turn.min(DOUBLINGS))) {
+            self.spin();
+        }
+    }
+
+    // Gives one spin hint.
+    fn spin(&mut self) {
         spin_loop();
+        self.spins = self.spins.wrapping_add(1);
+    }
+
+    // Yields once.
+    fn give_way(&mut self) {
+        yield_now();
+        self.yields = self.yields.wrapping_add(1);
     }
 }

@@ -24,7 +24,7 @@ ghost use Rattle.futures.specs.Poll.{IfReady, OnPending};
 mod timed;
 
 use crate::hint::Hint;
-use crate::patience::{self, NONE, Patience};
+use crate::patience::{NONE, Patience, Spent};
 use crate::seat::Seat;
 use crate::tries::Tries;
 use crate::wakers::Wakers;
@@ -305,8 +305,9 @@ impl<R: Wait + Drop, P: Tries> Shell<R, P> {
     // nanoseconds, and each try takes the mutex's cache line from the task that makes turns there. It sleeps where that doesn't help.
     #[inline(never)]
     fn lock_once_left(&self) -> MutexGuard<'_, Inside<P>> {
+        let mut rests = Spent::new();
         for turn in 0..MUTEX_TRIES {
-            patience::rest(turn);
+            rests.rest(turn);
             if let Some(inside) = self.lock.try_lock() {
                 return inside;
             }
@@ -401,17 +402,17 @@ impl<R: Wait + Drop, P: Tries> Shell<R, P> {
     #[inline(never)]
     fn look_on(&self, ask: P::Ask) -> Option<u8> {
         let is_first = self.hint.arrive();
-        let mut looks = 0;
-        let answer = self.look_while(ask, is_first, &mut looks);
-        self.hint.depart(looks);
+        let mut spent = Spent::new();
+        let answer = self.look_while(ask, is_first, &mut spent);
+        self.hint.depart(&spent);
         answer
     }
 
-    // Looks so often, and tries where the hint says that it may have what it asks, or is none yet. Says how often it looked.
-    fn look_while(&self, ask: P::Ask, is_due: bool, looks: &mut u32) -> Option<u8> {
+    // Looks so often, and tries where the hint says that it may have what it asks, or is none yet. Says how often it looked and rested.
+    fn look_while(&self, ask: P::Ask, is_due: bool, spent: &mut Spent) -> Option<u8> {
         let mut is_due = is_due;
         for turn in 0..self.unregistered.turns() {
-            *looks = turn.saturating_add(1);
+            spent.look();
             if is_due || P::may_fit(ask, self.hint.word()) {
                 // Waits for nobody at the mutex: all who look come at once when the hint changes, and would queue there.
                 if let Some(mut inside) = self.lock.try_lock() {
@@ -424,7 +425,7 @@ impl<R: Wait + Drop, P: Tries> Shell<R, P> {
                     }
                 }
             }
-            self.unregistered.rest(turn);
+            self.unregistered.rest(turn, spent);
         }
         None
     }
@@ -722,6 +723,11 @@ impl<R: Wait + Drop, P: Tries> Shell<R, P> {
     /// How often calls looked, of those that found nothing at once and no longer look. For the tests of the forms above.
     pub fn looked(&self) -> u64 {
         self.hint.looked()
+    }
+
+    /// How many spin hints these calls gave, and how often they yielded. For the tests of the forms above.
+    pub fn rested(&self) -> (u64, u64) {
+        self.hint.rested()
     }
 
     /// How many seats are rung; for the tests of the forms above.

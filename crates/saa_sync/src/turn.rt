@@ -178,6 +178,11 @@ impl<R: Wait + Drop> TurnCounts<'_, R> {
     pub fn looked(&self) -> u64 {
         self.shell.looked()
     }
+
+    /// How many spin hints these calls gave, and how often they yielded.
+    pub fn rested(&self) -> (u64, u64) {
+        self.shell.rested()
+    }
 }
 
 /// The turn of one owner alone. Contracts see whose turn it is.
