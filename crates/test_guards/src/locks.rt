@@ -4,11 +4,13 @@ use futures::Future;
 use futures::executor::block_on;
 use futures::task::Poll;
 use futures::test::MockTask;
+use saa_core::lock::LockCore;
 use saa_core::ticket::Full;
 use saa_sync::lock_api::{
     Guard, Mutex, MutexFuture, MutexGuard, ReadFuture, RwLock, RwLockReadGuard, RwLockWriteGuard,
     WriteFuture, lock_async, read_async, write_async,
 };
+use saa_sync::testing::{PATIENCE, Shell, mutex_on, rwlock_on};
 use std::alloc::{AllocError, AllocGlobal};
 use std::random::RandomSource;
 use std::sync::Wait;
@@ -45,6 +47,26 @@ pub(crate) fn locks_of<H: Wait + AllocGlobal>(
     Ok(Locks {
         mutex: Mutex::new(rt, rt.alloc(), number, room)?,
         rwlock: RwLock::new(rt, rt.alloc(), number, room)?,
+    })
+}
+
+// What a lock of this room stands on that is poisoned, as no lock of a mutex is but in these tests.
+fn poisoned<H: Wait + AllocGlobal>(rt: &H, room: u16) -> Result<Shell<&H, LockCore>, AllocError> {
+    let mut core = LockCore::new(rt.alloc(), room)?;
+    let _is_owned = core.try_lock();
+    core.poison_lock();
+    Shell::new(rt, rt.alloc(), core, room, PATIENCE)
+}
+
+// As `locks_of`, with locks that are poisoned.
+pub(crate) fn poisoned_locks_of<H: Wait + AllocGlobal>(
+    rt: &H,
+    number: u64,
+    room: u16,
+) -> Result<Locks<&H>, AllocError> {
+    Ok(Locks {
+        mutex: mutex_on(poisoned(rt, room)?, number),
+        rwlock: rwlock_on(poisoned(rt, room)?, number),
     })
 }
 

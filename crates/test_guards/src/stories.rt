@@ -2,8 +2,8 @@
 //!
 //! A call that stands in a test's text is proved there anew; one that stands in a row of a table is data, and costs no proof.
 
-use crate::locks::{Asked, Held, Locks, Way, locks_of};
-use crate::{mutexes, rooms, rwlocks, tasks};
+use crate::locks::{Asked, Held, Locks, Way, locks_of, poisoned_locks_of};
+use crate::{mutexes, poisoned, rooms, rwlocks, tasks};
 use futures::test::MockTask;
 use saa_core::ticket::Full;
 use std::alloc::AllocGlobal;
@@ -255,41 +255,49 @@ fn first_at<H: RandomSource + AllocGlobal, R: Wait + Drop>(
     Ok(stage.first_other(story.rows))
 }
 
-// The first row of a story that was told otherwise.
+// The first row of a story that was told otherwise, at locks that may be poisoned at first.
 fn first_row<H: Wait + RandomSource + AllocGlobal>(
     rt: &H,
+    is_poisoned: bool,
     story: &Story,
 ) -> io::Result<Option<usize>> {
-    let locks = locks_of(rt, story.number, story.room)?;
+    let locks = if is_poisoned {
+        poisoned_locks_of(rt, story.number, story.room)?
+    } else {
+        locks_of(rt, story.number, story.room)?
+    };
     first_at(rt, &locks, story)
 }
 
 // The first of these stories in which a row was told otherwise, and that row.
 fn first_story<H: Wait + RandomSource + AllocGlobal>(
     rt: &H,
+    is_poisoned: bool,
     stories: &[Story],
 ) -> io::Result<Option<(&'static str, usize)>> {
     for story in stories {
-        if let Some(row) = first_row(rt, story)? {
+        if let Some(row) = first_row(rt, is_poisoned, story)? {
             return Ok(Some((story.name, row)));
         }
     }
     Ok(None)
 }
 
-const ALL: [&[Story]; 4] = [
-    &mutexes::STORIES,
-    &rwlocks::STORIES,
-    &tasks::STORIES,
-    &rooms::STORIES,
+// The stories, and whether the locks are poisoned at first.
+const ALL: [(bool, &[Story]); 5] = [
+    (false, &mutexes::STORIES),
+    (false, &rwlocks::STORIES),
+    (false, &tasks::STORIES),
+    (false, &rooms::STORIES),
+    (true, &poisoned::STORIES),
 ];
 
 // The same of all stories.
 fn first_of_all<H: Wait + RandomSource + AllocGlobal>(
     rt: &H,
 ) -> io::Result<Option<(&'static str, usize)>> {
-    for stories in ALL {
-        let first = first_story(rt, stories)?;
+    for (is_poisoned, stories) in ALL {
+        let first = first_story(rt, is_poisoned, stories)?;
         if first.is_some() {
             return Ok(first);
         }

@@ -86,6 +86,8 @@ pub(crate) struct Made {
     pub(crate) patience: Patience,
     // The patience of calls that aren't registered.
     pub(crate) unregistered: Patience,
+    // Whether the locks are poisoned at first, those of the mutex and the reader-writer lock too, as no program can make them.
+    pub(crate) is_poisoned: bool,
 }
 
 // The usual patience, with room for one, no permits, and a barrier of two.
@@ -95,6 +97,7 @@ pub(crate) const MADE: Made = Made {
     room: 1,
     patience: PATIENCE,
     unregistered: UNREGISTERED,
+    is_poisoned: false,
 };
 
 // The forms, with the number 5 behind the mutex and the reader-writer lock, and the instants that a wait may end at.
@@ -131,7 +134,11 @@ fn lock_shell_of<R: Wait + Drop>(
     alloc: Global,
     made: Made,
 ) -> Result<Shell<R, LockCore>, AllocError> {
-    let core = LockCore::new(alloc, made.room)?;
+    let mut core = LockCore::new(alloc, made.room)?;
+    if made.is_poisoned {
+        let _is_owned = core.try_lock();
+        core.poison_lock();
+    }
     let shell = Shell::new(clock, alloc, core, made.room, made.patience)?;
     Ok(shell.with_patience(made.unregistered))
 }

@@ -25,11 +25,15 @@ use std::thread::{Threads, yield_now};
 use std::time::{Clock, Duration, Instant};
 use test_asserts::same;
 
-// Three looks, and four that yield.
+// Nine looks, and four that yield.
 const FEW: Patience = Patience {
-    looks: 3,
+    looks: 9,
     yields: 4,
 };
+
+// How many spin hints the rests of nine looks are: 8 after the first, twice as many after each further one, and 1,024 at most. And how
+// often the call yields then.
+const FEW_RESTS: (u64, u64) = (8 + 16 + 32 + 64 + 128 + 256 + 512 + 1_024 + 1_024, 4);
 
 // Stays awake for the whole test, by looks or by yields.
 const LOOKS_ON: Patience = Patience {
@@ -163,7 +167,8 @@ fn make_call<R: Wait + Clock + Drop>(forms: &Forms<R>, call: Call) -> bool {
     }
 }
 
-// How often calls looked at the form of this call, how many turns they took at its mutex, and how many of its waiters are parked.
+// How often calls looked at the form of this call, how many spin hints they gave and how often they yielded meanwhile, how many turns
+// they took at its mutex, and how many of its waiters are parked.
 fn looked_at<R: Wait + Drop>(forms: &Forms<R>, call: Call) -> u64 {
     match call {
         Call::Lock | Call::Share | Call::LockWith | Call::ShareWith | Call::LockFor => {
@@ -174,6 +179,19 @@ fn looked_at<R: Wait + Drop>(forms: &Forms<R>, call: Call) -> u64 {
         Call::Enter => forms.gate.shell().looked(),
         Call::Arrive => forms.barrier.shell().looked(),
         _ => forms.semaphore.shell().looked(),
+    }
+}
+
+fn rested_at<R: Wait + Drop>(forms: &Forms<R>, call: Call) -> (u64, u64) {
+    match call {
+        Call::Lock | Call::Share | Call::LockWith | Call::ShareWith | Call::LockFor => {
+            forms.lock.shell().rested()
+        }
+        Call::MutexLock | Call::MutexLockFor => shell_of_mutex(&forms.mutex).rested(),
+        Call::Read | Call::Write | Call::ReadFor => shell_of_rwlock(&forms.rwlock).rested(),
+        Call::Enter => forms.gate.shell().rested(),
+        Call::Arrive => forms.barrier.shell().rested(),
+        _ => forms.semaphore.shell().rested(),
     }
 }
 
@@ -223,11 +241,12 @@ fn await_sleeper<R: Wait + Drop>(forms: &Forms<R>, call: Call) {
     }
 }
 
-// What is seen of a call beside a holder: how often calls looked so far, how many turns the holder and the call took at the mutex until
-// that was parked, how many waiters are parked then, and whether the holder had all that the call may ask for.
-type Seen = (u64, u64, usize, bool);
+// What is seen of a call beside a holder: how often calls looked so far, and how they rested; how many turns the holder and the call took
+// at the mutex until that was parked, how many waiters are parked then, and whether the holder had all that the call may ask for.
+type Seen = (u64, (u64, u64), u64, usize, bool);
 
-// Takes all that calls may ask for, lets the call come, and ends that once the call has looked so often and is parked.
+// Takes all that calls may ask for, by calls that may show what they leave, lets the call come, and ends that once the call has looked so
+// often and is parked. While no call looks none shows it, so the call that comes is misled by nothing.
 fn hold_and_see<R: Wait + Drop>(
     forms: &Forms<R>,
     call: Call,
@@ -235,20 +254,22 @@ fn hold_and_see<R: Wait + Drop>(
     may_come: &AtomicBool,
 ) -> Seen {
     let before = turns_at(forms, call);
-    let has_all = forms.semaphore.try_acquire_many(63) && forms.lock.try_lock().is_ok();
-    let held = forms.mutex.try_lock();
-    let written = forms.rwlock.try_write();
-    let is_held = has_all && held.is_some() && written.is_some();
+    let has_all = forms.semaphore.acquire_many_sync(63) == Ok(true)
+        && forms.lock.lock_sync() == Ok(true);
+    let held = forms.mutex.lock();
+    let written = forms.rwlock.write();
+    let is_held = has_all && held.is_ok() && written.is_ok();
     may_come.store(true, Ordering::SeqCst);
     await_looks(forms, call, looks);
     await_sleeper(forms, call);
     let looked = looked_at(forms, call);
+    let rested = rested_at(forms, call);
     let turns = turns_at(forms, call).wrapping_sub(before);
     let asleep = asleep_at(forms, call);
     drop(held);
     drop(written);
     let is_ended = let_in(forms, call);
-    (looked, turns, asleep, is_held && is_ended)
+    (looked, rested, turns, asleep, is_held && is_ended)
 }
 
 // Ends what keeps the call from what it asks for.
@@ -309,20 +330,20 @@ where
     Ok(([first, second], is_first_granted && is_granted))
 }
 
-// How often a call of few looks looks, and how many turns are taken at its form's mutex until it is parked: the holder takes one, at a
-// gate and at a barrier none, the registration one, and the waiter one that finds no answer before it parks. A call that looks takes two
+// How often a call of few looks looks, how it rests, and how many turns are taken at its form's mutex until it is parked: the holder takes
+// one, at a gate and at a barrier none, the registration one, and the waiter one that finds no answer before it parks. A call that looks takes two
 // more: it tries before its first look, and again at it, since no other call kept the hint up meanwhile; then the hint says that it is in
 // vain. One of no patience, or that never looks, tries nothing.
-fn wanted(patience: Patience, call: Call) -> (u64, u64) {
+fn wanted(patience: Patience, call: Call) -> (u64, (u64, u64), u64) {
     let turns = if matches!(call, Call::Enter | Call::Arrive) {
         2
     } else {
         3
     };
     if patience == FEW && looks_first(call) {
-        (7, turns + 2)
+        (13, FEW_RESTS, turns + 2)
     } else {
-        (0, turns)
+        (0, (0, 0), turns)
     }
 }
 
@@ -359,9 +380,10 @@ where
 {
     for call in &CALLS {
         let (seen, is_granted) = seen(rt, alloc, patience, *call)?;
-        let (looks, turns) = wanted(patience, *call);
-        let twice = (looks.saturating_mul(2), turns, 1, true);
-        if !is_granted || seen != [(looks, turns, 1, true), twice] {
+        let (looks, (spins, yields), turns) = wanted(patience, *call);
+        let rested_twice = (spins.saturating_mul(2), yields.saturating_mul(2));
+        let twice = (looks.saturating_mul(2), rested_twice, turns, 1, true);
+        if !is_granted || seen != [(looks, (spins, yields), turns, 1, true), twice] {
             return Ok(Some((*call, seen)));
         }
     }
@@ -571,6 +593,8 @@ fn a_call_of_no_time_does_not_spin(rt: HostRuntime) -> Result<(), Fail> {
     let mut pager = Pager::new();
     same!(rt; lock.register_pager(&mut pager, Mode::Shared, true), Ok(true));
     same!(rt; pager.poll_sync_for(Duration::ZERO), None);
+    // The owner's turn at the mutex, two of each call, to join and to leave, and two of the pager.
+    same!(rt; lock.shell().turns(), 7);
     same!(rt; lock.release_lock(), true);
     same!(rt; pager.poll_sync_for(Duration::ZERO), Some(Ok(true)));
     same!(rt; lock.release_share(), true);

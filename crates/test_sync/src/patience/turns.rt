@@ -71,33 +71,62 @@ fn take_by_pager<R: Wait + Drop>(lock: &Lock<R>) -> bool {
         && lock.release_lock()
 }
 
-// Releases the lock once one sleeps and another looks.
-fn release_once_both_are_there<R: Wait + Drop>(rt: &impl Wait, lock: &Lock<R>) -> bool {
+// The turns at the mutex of the owner, of the pager until it sleeps, and of the call that looks first: it tries, and tries again at its
+// first look.
+const TURNS: u64 = 1 + 3 + 2;
+
+// How often the owner gives way to a call that could take a turn more.
+const GIVES_WAY: u32 = 500;
+
+// Waits until one sleeps and so many look, after all the turns that they take.
+fn await_lookers<R: Wait + Drop>(rt: &impl Wait, lock: &Lock<R>, lookers: u64) {
     for _ in rt.forever() {
-        if lock.shell().asleep() == 1 && lock.shell().lookers() == 1 {
-            break;
+        let shell = lock.shell();
+        if shell.asleep() == 1 && shell.lookers() == lookers && shell.turns() >= TURNS {
+            return;
         }
         yield_now();
     }
-    lock.release_lock()
 }
 
-// A call that leaves the mutex while another one spins wakes the waiters that it answers all the same.
+// Takes the lock and releases it.
+fn take_turn<R: Wait + Drop>(lock: &Lock<R>) -> bool {
+    lock.lock_sync() == Ok(true) && lock.release_lock()
+}
+
+// Looks once another call does, whose hint it can trust.
+fn look_second<R: Wait + Drop>(rt: &impl Wait, lock: &Lock<R>) -> bool {
+    await_lookers(rt, lock, 1);
+    take_turn(lock)
+}
+
+// Releases the lock once one sleeps and two look; how many turns were taken by then, and whether it is released.
+fn release_once_all_are_there<R: Wait + Drop>(rt: &impl Wait, lock: &Lock<R>) -> (u64, bool) {
+    await_lookers(rt, lock, 2);
+    for _turn in 0..GIVES_WAY {
+        yield_now();
+    }
+    (lock.shell().turns(), lock.release_lock())
+}
+
+// A call that leaves the mutex while others spin wakes the waiters that it answers all the same. The second that spins has the hint of the
+// first, and takes no turn at the mutex by which it would hold up the others.
 #[test]
 fn a_sleeper_is_woken_while_others_look(rt: HostRuntime) -> Result<(), Fail> {
     let lock = Lock::with_patience(&rt, rt.alloc(), 1, ENDLESS)?;
     same!(rt; lock.try_lock(), Ok(()));
-    let (is_woken, (is_let_in, is_released)) = thread::join(
+    let (is_woken, ((one, two), seen)) = thread::join(
         &rt,
         || take_by_pager(&lock),
         || {
             thread::join(
                 &rt,
-                || lock.lock_sync() == Ok(true),
-                || release_once_both_are_there(&rt, &lock),
+                || thread::join(&rt, || take_turn(&lock), || look_second(&rt, &lock)),
+                || release_once_all_are_there(&rt, &lock),
             )
         },
     );
-    holds!(rt; is_woken && is_let_in && is_released);
+    holds!(rt; is_woken && one && two);
+    same!(rt; seen, (TURNS, true));
     Ok(())
 }
