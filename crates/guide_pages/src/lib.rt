@@ -7,6 +7,8 @@
 #[cfg(test)]
 mod barrier;
 #[cfg(test)]
+mod desk;
+#[cfg(test)]
 mod future;
 #[cfg(test)]
 mod gate;
@@ -18,6 +20,8 @@ mod pager;
 mod semaphore;
 #[cfg(test)]
 mod spawned;
+#[cfg(test)]
+mod tasks;
 #[cfg(test)]
 mod tills;
 #[cfg(test)]
