@@ -16,8 +16,11 @@ const PATIENCE: u16 = 10_000;
 
 const YIELDS: u16 = 1_000;
 
-// For how many turns the keeper of all permits gives way until there is a waiter for some.
+// For how many turns the keeper of all permits but one gives way until there is a waiter for some.
 const KEPT: u16 = 1_000;
+
+// For how many turns worker 1 is late, where it is to be: time enough for the others to do all that they do without it.
+const LATE: u16 = 50;
 
 // Gives way for a while.
 fn turn() {
@@ -34,7 +37,7 @@ struct Row {
     allowed: u8,
     // Whether worker 0 doesn't go on until worker 1 has begun, which it must in time.
     meets: bool,
-    // Whether somebody keeps all permits for a while.
+    // Whether worker 1 begins late, and somebody keeps all permits but one for a while.
     keeps: bool,
     // How many permits are taken for good, one at a time, while a worker holds some.
     steals: u64,
@@ -89,7 +92,7 @@ static ROWS: [Row; 7] = [
         granted: 50,
     },
     Row {
-        story: "one keeps all permits for a while: the other waits for them, and misses none of its turns",
+        story: "one keeps all permits but one for a while: the other waits for two, and misses none of its turns",
         workers: 2,
         allowed: 2,
         meets: false,
@@ -198,7 +201,10 @@ struct Tally<'t> {
     tries: AtomicU64,
     granted: AtomicU64,
     stolen: AtomicU64,
-    // Whether somebody has kept all permits once, or nobody is to.
+    // How often one has held permits while another worker hadn't begun, and how often the one permit that was left was taken.
+    early: AtomicU64,
+    torn: AtomicU64,
+    // Whether somebody has kept all permits but one once, or nobody is to.
     has_kept: AtomicBool,
 }
 
@@ -213,6 +219,8 @@ impl<'t> Tally<'t> {
             tries: AtomicU64::new(0),
             granted: AtomicU64::new(0),
             stolen: AtomicU64::new(0),
+            early: AtomicU64::new(0),
+            torn: AtomicU64::new(0),
             has_kept: AtomicBool::new(!row.keeps),
         }
     }
@@ -236,10 +244,17 @@ impl<'t> Tally<'t> {
     }
 }
 
-// Keeps all permits until somebody waits for some, or for a second or so.
-fn keep_all<S: Wait + Drop>(permits: &Semaphore<S>) {
-    if permits.acquire_many_sync(61) != Ok(true) {
-        return;
+// Gives way for as long as a worker is to be late.
+fn be_late() {
+    for _turn in 0..LATE {
+        turn();
+    }
+}
+
+// Keeps all permits but one until somebody waits for some, or for a second or so. Whether the one is left then: a worker asks for two together.
+fn keep_most<S: Wait + Drop>(permits: &Semaphore<S>) -> bool {
+    if permits.acquire_many_sync(60) != Ok(true) {
+        return false;
     }
     for _turn in 0..KEPT {
         if !permits.try_acquire_many(0) {
@@ -247,7 +262,9 @@ fn keep_all<S: Wait + Drop>(permits: &Semaphore<S>) {
         }
         turn();
     }
-    permits.release_many(61);
+    let is_left = permits.available_permits(Ordering::SeqCst) == 1;
+    permits.release_many(60);
+    is_left
 }
 
 impl Watch for Tally<'_> {
@@ -256,6 +273,9 @@ impl Watch for Tally<'_> {
     }
 
     fn begin(&self, worker: u8) {
+        if worker == 1 && self.row.keeps {
+            be_late();
+        }
         let bit = 1u64.wrapping_shl(u32::from(worker));
         let _ = self.begun.fetch_add(bit, Ordering::SeqCst);
         if worker == 0 && self.row.meets {
@@ -265,11 +285,15 @@ impl Watch for Tally<'_> {
 
     fn hold<S: Wait + Drop>(&self, permits: &Semaphore<S>) {
         let _ = self.holds.fetch_add(1, Ordering::SeqCst);
+        // Permits come behind the barrier, at which all of them have arrived.
+        if self.begun.load(Ordering::SeqCst) != self.row.begun {
+            let _ = self.early.fetch_add(1, Ordering::SeqCst);
+        }
         if permits.available_permits(Ordering::SeqCst) == 61 {
             let _ = self.alone.fetch_add(1, Ordering::SeqCst);
         }
-        if !self.has_kept.swap(true, Ordering::SeqCst) {
-            keep_all(permits);
+        if !self.has_kept.swap(true, Ordering::SeqCst) && !keep_most(permits) {
+            let _ = self.torn.fetch_add(1, Ordering::SeqCst);
         }
         self.steal(permits);
     }
@@ -334,6 +358,8 @@ fn compare_tally<R: Abort>(rt: &R, tally: &Tally<'_>) {
     compare(rt, row, "tries", &tally.tries, row.tries);
     compare(rt, row, "granted", &tally.granted, row.granted);
     compare(rt, row, "stolen", &tally.stolen, row.steals);
+    compare(rt, row, "early", &tally.early, 0);
+    compare(rt, row, "torn", &tally.torn, 0);
 }
 
 // Fails the test where something was counted otherwise than so.

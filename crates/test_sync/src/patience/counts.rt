@@ -5,6 +5,7 @@ use saa_core::barrier::BarrierCore;
 use saa_core::gate::GateCore;
 use saa_core::lock::LockCore;
 use saa_core::semaphore::SemaphoreCore;
+use saa_core::ticket::Full;
 use saa_sync::barrier::Barrier;
 use saa_sync::gate::Gate;
 use saa_sync::lock::{Lock, Mode};
@@ -598,5 +599,42 @@ fn a_call_of_no_time_does_not_spin(rt: HostRuntime) -> Result<(), Fail> {
     same!(rt; lock.release_lock(), true);
     same!(rt; pager.poll_sync_for(Duration::ZERO), Some(Ok(true)));
     same!(rt; lock.release_share(), true);
+    Ok(())
+}
+
+// Two thousand looks, with 2 million spin hints between them, and 20,000 yields.
+const SPINS: Patience = Patience {
+    looks: 2_000,
+    yields: 0,
+};
+
+const YIELDS: Patience = Patience {
+    looks: 0,
+    yields: 20_000,
+};
+
+// How long a call with this patience looks at a lock that another has, where it has no room to wait. `None`: it wasn't told so.
+fn looks_for<R: Wait + Clock + Drop + Copy>(
+    rt: R,
+    alloc: Global,
+    patience: Patience,
+) -> Result<Option<Duration>, Fail> {
+    let lock = Lock::with_patience(rt, alloc, 0, patience)?;
+    let is_taken = lock.try_lock() == Ok(());
+    let began = Instant::now(&rt)?;
+    let told = lock.lock_sync();
+    let lasted = began.elapsed(&rt)?;
+    let is_full = is_taken && told == Err(Full) && lock.release_lock();
+    Ok(is_full.then_some(lasted))
+}
+
+// What is counted as a rest is one. No processor gives 2 million spin hints in a millisecond, nor yields 20,000 times in half of one, and looks
+// alone take a tenth of that.
+#[test]
+fn rests_last(rt: HostRuntime) -> Result<(), Fail> {
+    let spun = looks_for(&rt, rt.alloc(), SPINS)?;
+    same!(rt; spun >= Some(Duration::from_millis(1)), true);
+    let yielded = looks_for(&rt, rt.alloc(), YIELDS)?;
+    same!(rt; yielded >= Some(Duration::from_micros(500)), true);
     Ok(())
 }
