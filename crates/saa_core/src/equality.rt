@@ -15,4 +15,7 @@ pub fn values<T: PartialEq>()
     requires ends { (a b : T) → IsTrue (T.eq a b) ↔ (a ≡ b) }
     ensures progress { (a b : Progress T) → IsTrue (⟦<Progress<T> as PartialEq>⟧.eq a b) ↔ (a ≡ b) }
     ensures registration { (a b : Registration) → IsTrue (⟦<Registration as PartialEq>⟧.eq a b) ↔ (a ≡ b) }
-{}
+{
+    // The law of the request that a registration has.
+    saa_core_spec::equality::codes();
+}
