@@ -1,6 +1,8 @@
-use Rattle.std.proofs.Common.{◌≡◌, ◌+◌, true, false, length, ◌==◌, refl, rules}
+use Rattle.std.proofs.Common.{◌≡◌, ◌+◌, true, false, length, ◌==◌, refl, ap, ◌∙◌, rules, arith}
 use Rattle.saa_core_spec.specs.declared.request.Request.TheVariants.{Arrive}
 use Rattle.saa_core.specs.declared.ticket.Registration.TheVariants.{Unregistered}
+use Rattle.std.proofs.lemmas.List.{length_push}
+use Rattle.saa_core.specs.Slots.{Slots}
 use Rattle.saa_core.specs.Tickets.{is_busy}
 use Rattle.saa_core.proofs.TicketLemmas.Registering.{register_refused, idle_ticket, busy_or}
 use Rattle.saa_core_spec.specs.Barrier.{size_of}
@@ -46,3 +48,29 @@ returns-in_default-clause-wakes c = rw (c.in_default.ensures.unchanged, ← c.se
 
 pub returns-clause-wakes : goal.returns-clause-wakes
 returns-clause-wakes c = rw (c.in-Some.ensures.joined, ← c.self.view_is) (owes-joined c.self.inside.line c.in-Some.slot Arrive c.self.invariant.sound)
+
+pub returns-then-completes_round-clause-last : goal.returns-then-completes_round-clause-last
+returns-then-completes_round-clause-last c = λ idle last. (refl, rw (c.answer_all.ensures.answered, ← c.self.view_is), c.set.ensures)
+
+pub returns-clause-last : goal.returns-clause-last
+returns-clause-last c = λ idle last.
+    let test : (length c.args.self.now.slots.line + 1 == size_of c.args.self.now.held) ≡ false = cc in
+    elim (other_number _ _ test last) [ ]
+
+pub returns-clause-nobody : goal.returns-clause-nobody
+returns-clause-nobody c = λ other. rw (c.in-Some.ensures.joined, ← c.self.view_is)
+
+pub returns-clause-standing : goal.returns-clause-standing
+returns-clause-standing c = λ some.
+    let test : (length c.args.self.now.slots.line + 1 == size_of c.args.self.now.held) ≡ false = cc in
+    let other = other_number _ _ (rw (← c.self.view_is) at test) in
+    let grown : length c.join.new.self.line ≡ length c.self.inside.line.line + 1 = ap (λ (s : Slots). length s.line) c.in-Some.ensures.joined ∙ length_push _ _ in
+    let less = c.self.invariant.incomplete some in
+    omega (arith, grown, other, less)
+
+pub invariant_of-self : goal.invariant_of-self
+invariant_of-self c = record {
+  sound = c.answer_all.ensures.sound;
+  small = c.self.invariant.small;
+  incomplete = λ some. rw c.answer_all.ensures.answered some;
+}

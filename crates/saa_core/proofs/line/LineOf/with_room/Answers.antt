@@ -4,7 +4,7 @@ use Rattle.std.proofs.lemmas.List.{length-replicate}
 use Rattle.saa_core_words.specs.Links.{Waiters}
 use Rattle.saa_core.specs.LineParts.{OwedWakes}
 use Rattle.saa_core.proofs.WakesLemmas.{AreOwed-none}
-use Rattle.saa_core.proofs.LineLemmas.{IsLine-made}
+use Rattle.saa_core.proofs.LineLemmas.{IsLine-made, IsSound-from_line}
 use Rattle.saa_core.proofs.line.LineOf.with_room.Goals as goal
 
 pub invariant_of-result : goal.invariant_of-result
@@ -20,3 +20,11 @@ invariant_of-result g c =
       wakes_room = omega (arith, size, wakes);
       owed = rw c.in_ok-wakes.ensures.made (AreOwed-none _);
     }
+
+pub returns-clause-made : goal.returns-clause-made
+returns-clause-made g c = rw (c.in_ok-order.ensures.made, c.in_ok-answers.ensures.made, c.in_ok-wakes.ensures.made)
+
+pub returns-clause-sound : goal.returns-clause-sound
+returns-clause-sound g c =
+    let room = c.args.room in
+    rw (c.in_ok-order.ensures.made, c.in_ok-answers.ensures.made, c.in_ok-wakes.ensures.made) (IsSound-from_line _ _ _ _ _ (IsLine-made room _ (omega arith) c.in_ok-free.ensures.each c.in_ok-free.ensures.total) (AreOwed-none _))
