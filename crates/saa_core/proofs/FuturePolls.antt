@@ -1,6 +1,7 @@
 -- The polls of a future as one step of the object.
-use Rattle.std.proofs.Common.{◌≡◌, ℕ, Result, Ok, Err, Option, Some, is_some, [], ◌∷◌, Bool, true, false, refl, ap, subst, arith}
+use Rattle.std.proofs.Common.{◌≡◌, ℕ, Result, Ok, Err, Option, Some, None, is_some, [], ◌∷◌, Bool, true, false, refl, ap, subst, arith}
 use Rattle.saa_core_spec.specs.declared.request.Request.{Request}
+use Rattle.saa_core_spec.specs.declared.request.Full.{Full}
 use Rattle.saa_core_spec.specs.declared.polling.Error.{Error}
 use Rattle.saa_core_spec.specs.declared.polling.How.TheVariants.{Async}
 use Rattle.saa_core.specs.declared.ticket.Registration.{Registration}
@@ -11,7 +12,7 @@ use Rattle.saa_core.specs.Tickets.{Core, Acts, Belong, is_busy, slot_of}
 use Rattle.saa_core.specs.Beginning.{mode_of}
 use Rattle.saa_core.proofs.TicketLemmas.Follows.{follow, then}
 use Rattle.saa_core.specs.declared.future.Progress.{Progress}
-use Rattle.saa_core.specs.declared.future.Progress.TheVariants.{Joined}
+use Rattle.saa_core.specs.declared.future.Progress.TheVariants.{Done, Joined, Refused}
 use Rattle.saa_core.specs.Futures.{answer_or, asked, asked_from}
 
 -- a poll of a ticket as async, read by its future
@@ -34,6 +35,20 @@ asked-polled old mid new t0 t1 t2 request is_registered answer is_true call late
     (λ s next name leads. ap (asked_from name) leads)
     (subst (λ b. Acts old mid t0 t1 (λ s name. registered s name request false) (Ok b)) is_true call)
     (waited-polled mid new t1 t2 answer Joined later)
+
+-- a registration that finds the room full is a first poll, and so is one that isn't true
+pub asked-full : (old new : Core) (t0 t1 : Registration) (request : Request) (full : Full)
+    → Acts old new t0 t1 (λ s name. registered s name request false) (Err full) → Acts old new t0 t1 (λ s name. asked s name request) (Refused full)
+asked-full old new t0 t1 request full call =
+    then old new t0 t1 (λ s name. registered s name request false) (λ s name. asked s name request) (Err full) (Refused full)
+    (λ s next name leads. ap (asked_from name) leads) call
+
+pub asked-false : (old new : Core) (t0 t1 : Registration) (request : Request) (is_registered : Bool) → is_registered ≡ false
+    → Acts old new t0 t1 (λ s name. registered s name request false) (Ok is_registered) → Acts old new t0 t1 (λ s name. asked s name request) (Done None)
+asked-false old new t0 t1 request is_registered is_false call =
+    then old new t0 t1 (λ s name. registered s name request false) (λ s name. asked s name request) (Ok false) (Done None)
+    (λ s next name leads. ap (asked_from name) leads)
+    (subst (λ b. Acts old new t0 t1 (λ s name. registered s name request false) (Ok b)) is_false call)
 
 -- a ticket that isn't busy is idle
 pub idle-is : (ticket : Registration) → is_busy ticket ≡ false → ticket ≡ Unregistered

@@ -88,6 +88,17 @@ registered-mode old new ticket request is_sync (Ok true) is call = yes-mode old 
 registered-mode old new ticket request is_sync (Ok false) is call = cc
 registered-mode old new ticket request is_sync (Err full) is call = cc
 
+-- what a registration owes that isn't polled
+pub registers-owes : (old new : Core) (ticket ticket_new : Registration) (request : Request) (is_sync : Bool) (answer : Result Bool Full)
+    → Acts old new ticket ticket_new (λ s name. registered s name request is_sync) answer → OwesAnswered old.slots new.slots → BeginOwes old new ticket request is_sync answer
+registers-owes old new ticket ticket_new request is_sync answer call owes = record {
+  between = new;
+  ticket_between = ticket_new;
+  registration = call;
+  wakes = owes;
+  owed = refl;
+}
+
 -- what a registration that was answered true and then polled owes
 pub begin-owes : (old between new : Core) (ticket ticket_between : Registration) (request : Request) (is_sync answer : Bool) → answer ≡ true
     → Acts old between ticket ticket_between (λ s name. registered s name request is_sync) (Ok answer) → OwesAnswered old.slots between.slots

@@ -1,8 +1,8 @@
 use Rattle.std.proofs.Common.{rules, ◌≡◌, is_some, true, Ok, refl, sym, ap, ◌∙◌}
 use Rattle.saa_core.specs.Tickets.{is_busy, slot_of}
 use Rattle.saa_core.specs.Beginning.{mode_of}
-use Rattle.saa_core.proofs.TicketLemmas.Modes.{begin-owes, registered-mode, reply-alone}
-use Rattle.saa_core.proofs.FuturePolls.{asked-polled, waits-slotted}
+use Rattle.saa_core.proofs.TicketLemmas.Modes.{begin-owes, registers-owes, registered-mode, reply-alone}
+use Rattle.saa_core.proofs.FuturePolls.{asked-full, asked-false, asked-polled, waits-slotted}
 use Rattle.saa_core.proofs.future.ask_on.Goals as goal
 
 pub returns-in-Err-clause-registration : goal.returns-in-Err-clause-registration
@@ -47,3 +47,15 @@ returns-in-Err-poll_number-clause-slot g c = λ joined.
     let busy : is_busy c.register.new.ticket ≡ true = search rules in
     ap (λ t. is_some (slot_of t)) (c.in-Err-poll_number.ensures.ticket.same refl)
     ∙ waits-slotted _ _ _ _ _ busy mode c.in-Err-poll_number.ensures.acts
+
+pub returns-in-Err-clause-acts : goal.returns-in-Err-clause-acts
+returns-in-Err-clause-acts g c = asked-full _ _ _ _ _ _ c.in-Err.ensures.acts
+
+pub returns-in-Ok-false-clause-acts : goal.returns-in-Ok-false-clause-acts
+returns-in-Ok-false-clause-acts g c = asked-false _ _ _ _ _ _ c.in-Ok-false.field-0-test c.in-Ok-false.ensures.acts
+
+pub returns-in-Err-clause-wakes : goal.returns-in-Err-clause-wakes
+returns-in-Err-clause-wakes g c = registers-owes _ _ _ _ _ _ _ c.in-Err.ensures.acts c.in-Err.ensures.wakes
+
+pub returns-in-Ok-false-clause-wakes : goal.returns-in-Ok-false-clause-wakes
+returns-in-Ok-false-clause-wakes g c = registers-owes _ _ _ _ _ _ _ (rw c.in-Ok-false.field-0-test at c.in-Ok-false.ensures.acts) c.in-Ok-false.ensures.wakes
