@@ -72,27 +72,28 @@ module _ (needs : Needs) (call : WordCall) (rest : Place) (quiet : rest.stage �
   pub never-waits : started needs rest call ≡ Waits → ⊥
   never-waits is = started-waits (starting_answer needs call rest.registration) (begun_as call rest.registration) (so Waits is)
 
+module _ (needs : Needs) (withheld : ℕ) (call : WordCall) (rest : Place) (quiet : rest.stage ≡ Quiet) where
   -- it has the events that it has where it goes on
   pub going-called : (first : Place) (answer : Answer) (now : Registration) (v w : View) → started needs rest call ≡ Going first
-      → HasEvents needs call rest.registration answer now v w → IsCalled needs call rest.registration answer now v w
+      → HasEvents needs withheld call rest.registration answer now v w → IsCalled needs withheld call rest.registration answer now v w
   going-called first answer now v w is has =
-      subst (λ (s : Option Answer). IsCalledFrom s needs call rest.registration answer now v w)
-      (sym (started-going (starting_answer needs call rest.registration) (begun_as call rest.registration) first (so (Going first) is)).0) has
+      subst (λ (s : Option Answer). IsCalledFrom s needs withheld call rest.registration answer now v w)
+      (sym (started-going (starting_answer needs call rest.registration) (begun_as call rest.registration) first (so needs call rest quiet (Going first) is)).0) has
 
   -- it is done at once
   pub done-called : (place : Place) (answer : Answer) (v w : View) → started needs rest call ≡ Done place answer → w ≡ v
-      → IsCalled needs call rest.registration answer place.registration v w
+      → IsCalled needs withheld call rest.registration answer place.registration v w
   done-called place answer v w is same =
-      let done = started-done (starting_answer needs call rest.registration) (begun_as call rest.registration) place answer (so (Done place answer) is) in
-      subst (λ (s : Option Answer). IsCalledFrom s needs call rest.registration answer place.registration v w) (sym done.0) (refl, done.1, same)
+      let done = started-done (starting_answer needs call rest.registration) (begun_as call rest.registration) place answer (so needs call rest quiet (Done place answer) is) in
+      subst (λ (s : Option Answer). IsCalledFrom s needs withheld call rest.registration answer place.registration v w) (sym done.0) (refl, done.1, same)
 
 -- a poll of what was answered at once
-pub once-polled : (needs : Needs) (was : Registration) (value request : ℕ) (v : View) → was ≡ Once value request
-    → (answer : Answer) × (value == granted_value ≡ is_granted answer) × IsCalled needs Poll was answer Idle v v
-once-polled needs was value request v is = (
+pub once-polled : (needs : Needs) (withheld : ℕ) (was : Registration) (value request : ℕ) (v : View) → was ≡ Once value request
+    → (answer : Answer) × (value == granted_value ≡ is_granted answer) × IsCalled needs withheld Poll was answer Idle v v
+once-polled needs withheld was value request v is = (
   Taken (Ok (value == granted_value)),
   granted-is (value == granted_value),
-  subst (λ (r : Registration). IsCalled needs Poll r (Taken (Ok (value == granted_value))) Idle v v) (sym is) (refl, refl, refl),
+  subst (λ (r : Registration). IsCalled needs withheld Poll r (Taken (Ok (value == granted_value))) Idle v v) (sym is) (refl, refl, refl),
 )
   where
     granted-is : (test : Bool) → test ≡ is_granted (Taken (Ok test))
@@ -220,9 +221,9 @@ midway-first needs places me call rest first v here since takes is = record {
   ready = subst (IsReadyNext needs places me) is (started-ready needs places me rest call here);
 }
 
-module _ (needs : Needs) (places me : ℕ) (call : WordCall) (was : Registration) (began : View) (place : Place) (v w : View) (found : ℕ)
+module _ (needs : Needs) (withheld places me : ℕ) (call : WordCall) (was : Registration) (began : View) (place : Place) (v w : View) (found : ℕ)
     (m : Midway needs places me call was began place v) (number : v.number ≡ me) where
-  module _ (next : Next) (is : next ≡ next_of needs me place place.stage found) (moved : Moves needs places place next found v w) where
+  module _ (next : Next) (is : next ≡ next_of needs me place place.stage found) (moved : Moves needs withheld places place next found v w) where
     names : named (m.events ++ moved.events) ≡ named m.events ++ named_at needs place.stage found
     names = named-append m.events moved.events ∙ ap (λ (l : List Event). named m.events ++ l) moved.names
 
@@ -249,7 +250,7 @@ module _ (needs : Needs) (places me : ℕ) (call : WordCall) (was : Registration
         subst (λ (p : Place). IsReadyNext needs places me (Going p)) (moved.position ∙ at)
         (subst (λ (n : ℕ). IsReadyNext needs places n (Going w.position)) number moved.ready)
 
-  pub midway-going : (next : Place) → Going next ≡ next_of needs me place place.stage found → Moves needs places place (Going next) found v w
+  pub midway-going : (next : Place) → Going next ≡ next_of needs me place place.stage found → Moves needs withheld places place (Going next) found v w
       → Midway needs places me call was began next w
   midway-going next is moved = record {
     events = m.events ++ moved.events;
@@ -260,7 +261,7 @@ module _ (needs : Needs) (places me : ℕ) (call : WordCall) (was : Registration
     ready = ready (Going next) is moved next refl;
   }
 
-  pub midway-waits : Waits ≡ next_of needs me place place.stage found → Moves needs places place Waits found v w
+  pub midway-waits : Waits ≡ next_of needs me place place.stage found → Moves needs withheld places place Waits found v w
       → Midway needs places me call was began place w
   midway-waits is moved = record {
     events = m.events ++ moved.events;
@@ -272,56 +273,58 @@ module _ (needs : Needs) (places me : ℕ) (call : WordCall) (was : Registration
   }
 
   pub midway-done : (behind : Place) (answer : Answer) → Done behind answer ≡ next_of needs me place place.stage found
-      → Moves needs places place (Done behind answer) found v w → HasEvents needs call was answer behind.registration began w
+      → Moves needs withheld places place (Done behind answer) found v w → HasEvents needs withheld call was answer behind.registration began w
   midway-done behind answer is moved = record {
     events = m.events ++ moved.events;
     extends = grown (Done behind answer) is moved;
+    legal = moved.legal;
+    own = moved.own;
     answers = under (Done behind answer) is moved;
     registered = (left (Done behind answer) is moved).0;
   }
 
   pub midway-since : (behind : Place) (answer : Answer) → Done behind answer ≡ next_of needs me place place.stage found
-      → Moves needs places place (Done behind answer) found v w → IsSince w.position behind
+      → Moves needs withheld places place (Done behind answer) found v w → IsSince w.position behind
   midway-since behind answer is moved =
       subst (λ (p : Place). IsSince p behind) (sym moved.position) (since-done behind (left (Done behind answer) is moved).1)
 
-  pub midway-next : (next : Next) → next ≡ next_of needs me place place.stage found → Moves needs places place next found v w
-      → MidwayNext needs places me call was began place w next
+  pub midway-next : (next : Next) → next ≡ next_of needs me place place.stage found → Moves needs withheld places place next found v w
+      → MidwayNext needs withheld places me call was began place w next
   midway-next (Going next) is moved = midway-going next is moved
   midway-next Waits is moved = midway-waits is moved
   midway-next (Done behind answer) is moved = (midway-done behind answer is moved, midway-since behind answer is moved)
 
 -- a place that stands where it stood goes on as it went on
-pub midway-stays : (needs : Needs) (places me : ℕ) (call : WordCall) (was : Registration) (began : View) (place : Place) (v w : View) (next : Next)
-    → Midway needs places me call was began place v → v.number ≡ me → MovesOrStays needs places me place next v w
-    → MidwayNext needs places me call was began place w next
-midway-stays needs places me call was began place v w next m number (inl moved) =
-    midway-next needs places me call was began place v w moved.0 m number next moved.1 moved.2
-midway-stays needs places me call was began place v w next m number (inr stays) =
-    subst (λ (n : Next). MidwayNext needs places me call was began place w n) (sym stays.0)
+pub midway-stays : (needs : Needs) (withheld places me : ℕ) (call : WordCall) (was : Registration) (began : View) (place : Place) (v w : View) (next : Next)
+    → Midway needs places me call was began place v → v.number ≡ me → MovesOrStays needs withheld places me place next v w
+    → MidwayNext needs withheld places me call was began place w next
+midway-stays needs withheld places me call was began place v w next m number (inl moved) =
+    midway-next needs withheld places me call was began place v w moved.0 m number next moved.1 moved.2
+midway-stays needs withheld places me call was began place v w next m number (inr stays) =
+    subst (λ (n : Next). MidwayNext needs withheld places me call was began place w n) (sym stays.0)
     (subst (λ (u : View). Midway needs places me call was began place u) (sym stays.1) m)
 
 -- a look is a step, or nothing
-pub sought-stays : (needs : Needs) (places me : ℕ) (place : Place) (found : ℕ) (v w : View) → IsSought needs places me place found v w
-    → MovesOrStays needs places me place (unless_joining place (next_of needs me place place.stage found)) v w
-sought-stays needs places me place found v w looked =
+pub sought-stays : (needs : Needs) (withheld places me : ℕ) (place : Place) (found : ℕ) (v w : View) → IsSought needs withheld places me place found v w
+    → MovesOrStays needs withheld places me place (unless_joining place (next_of needs me place place.stage found)) v w
+sought-stays needs withheld places me place found v w looked =
     elim (cases_Bool (prepares (next_of needs me place place.stage found))) [
       | inl joins ↦ (let same : w ≡ v = rw joins at looked in rw joins (inr (refl, same)))
       | inr goes ↦
-          let moved : Moves needs places place (next_of needs me place place.stage found) found v w = rw goes at looked in
+          let moved : Moves needs withheld places place (next_of needs me place place.stage found) found v w = rw goes at looked in
           rw goes (inl (found, refl, moved))
     ]
 
-pub stays-same : (needs : Needs) (places me : ℕ) (place : Place) (next : Next) (v w : View) → MovesOrStays needs places me place next v w
+pub stays-same : (needs : Needs) (withheld places me : ℕ) (place : Place) (next : Next) (v w : View) → MovesOrStays needs withheld places me place next v w
     → (w.deals ≡ v.deals) × (w.number ≡ v.number)
-stays-same needs places me place next v w (inl moved) = (moved.2.extends.deals, moved.2.extends.number)
-stays-same needs places me place next v w (inr stays) = (ap (λ (u : View). u.deals) stays.1, ap (λ (u : View). u.number) stays.1)
+stays-same needs withheld places me place next v w (inl moved) = (moved.2.extends.deals, moved.2.extends.number)
+stays-same needs withheld places me place next v w (inr stays) = (ap (λ (u : View). u.deals) stays.1, ap (λ (u : View). u.number) stays.1)
 
-pub sought-same : (needs : Needs) (places me : ℕ) (place : Place) (found : ℕ) (v w : View) → IsSought needs places me place found v w
+pub sought-same : (needs : Needs) (withheld places me : ℕ) (place : Place) (found : ℕ) (v w : View) → IsSought needs withheld places me place found v w
     → (w.deals ≡ v.deals) × (w.number ≡ v.number)
-sought-same needs places me place found v w looked =
-    stays-same needs places me place (unless_joining place (next_of needs me place place.stage found)) v w
-    (sought-stays needs places me place found v w looked)
+sought-same needs withheld places me place found v w looked =
+    stays-same needs withheld places me place (unless_joining place (next_of needs me place place.stage found)) v w
+    (sought-stays needs withheld places me place found v w looked)
 
 -- The calls of one step at most
 

@@ -50,31 +50,31 @@ decided-straight needs place ask seen grants =
     rw (calm, none, room, some) refl
 
 -- what a step tells of a place that is another name for one
-named-so : (needs : Needs) (places me found : ℕ) (one other : Place) (v w : View) → one ≡ other
-    → Moves needs places one (next_of needs me one one.stage found) found v w → Moves needs places other (next_of needs me other other.stage found) found v w
-named-so needs places me found one other v w is moved =
-    subst (λ (p : Place). Moves needs places p (next_of needs me p p.stage found) found v w) is moved
+named-so : (needs : Needs) (withheld places me found : ℕ) (one other : Place) (v w : View) → one ≡ other
+    → Moves needs withheld places one (next_of needs me one one.stage found) found v w → Moves needs withheld places other (next_of needs me other other.stage found) found v w
+named-so needs withheld places me found one other v w is moved =
+    subst (λ (p : Place). Moves needs withheld places p (next_of needs me p p.stage found) found v w) is moved
 
 -- A call of two steps, from the place as it looks to the place as it exchanges the word that it saw
-module _ (needs : Needs) (places me : ℕ) (call : WordCall) (rest looks : Place) (v w : View) (found : ℕ) (here : me < places)
+module _ (needs : Needs) (withheld places me : ℕ) (call : WordCall) (rest looks : Place) (v w : View) (found : ℕ) (here : me < places)
     (number : v.number ≡ me) (since : IsSince v.position rest) (taken : is_taken needs.is_lock call ≡ true) (starts : started needs rest call ≡ Going looks)
-    (one : Place) (is_one : one ≡ looks) (looked : Moves needs places one (next_of needs me one one.stage found) found v w) where
+    (one : Place) (is_one : one ≡ looks) (looked : Moves needs withheld places one (next_of needs me one one.stage found) found v w) where
   midway-looks : Midway needs places me call rest.registration v looks v
   midway-looks = midway-first needs places me call rest looks v here since taken starts
 
-  told : Moves needs places looks (next_of needs me looks looks.stage found) found v w
-  told = named-so needs places me found one looks v w is_one looked
+  told : Moves needs withheld places looks (next_of needs me looks looks.stage found) found v w
+  told = named-so needs withheld places me found one looks v w is_one looked
 
   -- how it goes on behind the first step
-  pub looked-next : MidwayNext needs places me call rest.registration v looks w (next_of needs me looks looks.stage found)
+  pub looked-next : MidwayNext needs withheld places me call rest.registration v looks w (next_of needs me looks looks.stage found)
   looked-next =
-      midway-next needs places me call rest.registration v looks v w found midway-looks number (next_of needs me looks looks.stage found) refl told
+      midway-next needs withheld places me call rest.registration v looks v w found midway-looks number (next_of needs me looks looks.stage found) refl told
 
   module _ (changes : Place) (goes : next_of needs me looks looks.stage found ≡ Going changes) where
     midway-changes : Midway needs places me call rest.registration v changes w
     midway-changes =
-        midway-going needs places me call rest.registration v looks v w found midway-looks number changes (sym goes)
-        (subst (λ (n : Next). Moves needs places looks n found v w) goes told)
+        midway-going needs withheld places me call rest.registration v looks v w found midway-looks number changes (sym goes)
+        (subst (λ (n : Next). Moves needs withheld places looks n found v w) goes told)
 
     still : w.number ≡ me
     still = told.extends.number ∙ number
@@ -93,33 +93,33 @@ module _ (needs : Needs) (places me : ℕ) (call : WordCall) (rest looks : Place
         })
 
     -- how it goes on behind the exchange
-    pub changed-next : (x : View) (other : ℕ) (two : Place) → two ≡ changes → Moves needs places two (next_of needs me two two.stage other) other w x
-        → MidwayNext needs places me call rest.registration v changes x (next_of needs me changes changes.stage other)
+    pub changed-next : (x : View) (other : ℕ) (two : Place) → two ≡ changes → Moves needs withheld places two (next_of needs me two two.stage other) other w x
+        → MidwayNext needs withheld places me call rest.registration v changes x (next_of needs me changes changes.stage other)
     changed-next x other two is_two changed =
-        midway-next needs places me call rest.registration v changes w x other midway-changes still (next_of needs me changes changes.stage other) refl
-        (named-so needs places me other two changes w x is_two changed)
+        midway-next needs withheld places me call rest.registration v changes w x other midway-changes still (next_of needs me changes changes.stage other) refl
+        (named-so needs withheld places me other two changes w x is_two changed)
 
     -- and behind one that looks
-    pub changed-sought : (x : View) (other : ℕ) (two : Place) → two ≡ changes → IsSought needs places me two other w x
-        → MidwayNext needs places me call rest.registration v changes x (unless_joining changes (next_of needs me changes changes.stage other))
+    pub changed-sought : (x : View) (other : ℕ) (two : Place) → two ≡ changes → IsSought needs withheld places me two other w x
+        → MidwayNext needs withheld places me call rest.registration v changes x (unless_joining changes (next_of needs me changes changes.stage other))
     changed-sought x other two is_two changed =
-        midway-stays needs places me call rest.registration v changes w x (unless_joining changes (next_of needs me changes changes.stage other)) midway-changes still
-        (sought-stays needs places me changes other w x (subst (λ (p : Place). IsSought needs places me p other w x) is_two changed))
+        midway-stays needs withheld places me call rest.registration v changes w x (unless_joining changes (next_of needs me changes changes.stage other)) midway-changes still
+        (sought-stays needs withheld places me changes other w x (subst (λ (p : Place). IsSought needs withheld places me p other w x) is_two changed))
 
 -- The same of an ask, which looks
-named-look : (needs : Needs) (places me found : ℕ) (one other : Place) (v w : View) → one ≡ other → IsSought needs places me one found v w
-    → IsSought needs places me other found v w
-named-look needs places me found one other v w is looked = subst (λ (p : Place). IsSought needs places me p found v w) is looked
+named-look : (needs : Needs) (withheld places me found : ℕ) (one other : Place) (v w : View) → one ≡ other → IsSought needs withheld places me one found v w
+    → IsSought needs withheld places me other found v w
+named-look needs withheld places me found one other v w is looked = subst (λ (p : Place). IsSought needs withheld places me p found v w) is looked
 
 -- how it goes on behind its first look
-pub sought-next : (needs : Needs) (places me : ℕ) (call : WordCall) (rest looks : Place) (v w : View) (found : ℕ) → me < places → v.number ≡ me
+pub sought-next : (needs : Needs) (withheld places me : ℕ) (call : WordCall) (rest looks : Place) (v w : View) (found : ℕ) → me < places → v.number ≡ me
     → IsSince v.position rest → is_taken needs.is_lock call ≡ true → started needs rest call ≡ Going looks
-    → (one : Place) → one ≡ looks → IsSought needs places me one found v w
-    → MidwayNext needs places me call rest.registration v looks w (unless_joining looks (next_of needs me looks looks.stage found))
-sought-next needs places me call rest looks v w found here number since taken starts one is_one looked =
-    midway-stays needs places me call rest.registration v looks v w (unless_joining looks (next_of needs me looks looks.stage found))
+    → (one : Place) → one ≡ looks → IsSought needs withheld places me one found v w
+    → MidwayNext needs withheld places me call rest.registration v looks w (unless_joining looks (next_of needs me looks looks.stage found))
+sought-next needs withheld places me call rest looks v w found here number since taken starts one is_one looked =
+    midway-stays needs withheld places me call rest.registration v looks v w (unless_joining looks (next_of needs me looks looks.stage found))
     (midway-first needs places me call rest looks v here since taken starts) number
-    (sought-stays needs places me looks found v w (named-look needs places me found one looks v w is_one looked))
+    (sought-stays needs withheld places me looks found v w (named-look needs withheld places me found one looks v w is_one looked))
 
 -- Asks
 
@@ -132,10 +132,10 @@ ask-goes needs me rest ask found seen sees grants =
     ∙ ap (λ (s : Word). Going (record rest { stage = AskExchange ask s })) (sym sees)
 
 -- a look at such a word is a step
-pub ask-looks : (needs : Needs) (places me : ℕ) (rest : Place) (ask : Ask) (found : ℕ) (seen : Word) (v w : View) (one : Place) → seen ≡ word_of count_bits found
-    → grants_at needs seen ask ≡ true → one ≡ record rest { stage = AskLoad ask } → IsSought needs places me one found v w
-    → Moves needs places one (next_of needs me one one.stage found) found v w
-ask-looks needs places me rest ask found seen v w one sees grants is looked =
+pub ask-looks : (needs : Needs) (withheld places me : ℕ) (rest : Place) (ask : Ask) (found : ℕ) (seen : Word) (v w : View) (one : Place) → seen ≡ word_of count_bits found
+    → grants_at needs seen ask ≡ true → one ≡ record rest { stage = AskLoad ask } → IsSought needs withheld places me one found v w
+    → Moves needs withheld places one (next_of needs me one one.stage found) found v w
+ask-looks needs withheld places me rest ask found seen v w one sees grants is looked =
     let goes : prepares (next_of needs me one one.stage found) ≡ false =
     ap (λ (p : Place). prepares (next_of needs me p p.stage found)) is ∙ ap prepares (ask-goes needs me rest ask found seen sees grants) in
     rw goes at looked
@@ -167,29 +167,29 @@ ask-misses needs me rest ask seen one old is writes found joins =
     ∙ missed needs me (record rest { stage = AskExchange ask seen }) ask seen found
     (sym (ap (λ (p : Place). prepares (next_of needs me p p.stage found)) is) ∙ joins)
 
-pub ask-takes : (needs : Needs) (places me : ℕ) (rest : Place) (ask : Ask) (found : ℕ) (seen : Word) (v w : View) (one : Place)
-    → found ≡ word_number count_bits seen → one ≡ record rest { stage = AskExchange ask seen } → IsSought needs places me one found v w
-    → Moves needs places one (next_of needs me one one.stage found) found v w
-ask-takes needs places me rest ask found seen v w one hit is looked =
+pub ask-takes : (needs : Needs) (withheld places me : ℕ) (rest : Place) (ask : Ask) (found : ℕ) (seen : Word) (v w : View) (one : Place)
+    → found ≡ word_number count_bits seen → one ≡ record rest { stage = AskExchange ask seen } → IsSought needs withheld places me one found v w
+    → Moves needs withheld places one (next_of needs me one one.stage found) found v w
+ask-takes needs withheld places me rest ask found seen v w one hit is looked =
     let goes : prepares (next_of needs me one one.stage found) ≡ false =
     ap (λ (p : Place). prepares (next_of needs me p p.stage found)) is
     ∙ exchanged-not-joining needs me (record rest { stage = AskExchange ask seen }) ask seen found (same-number found (word_number count_bits seen) hit) in
     rw goes at looked
 
-module _ (needs : Needs) (places me : ℕ) (call : WordCall) (rest : Place) (ask : Ask) (seen : Word) (v x : View) (other : ℕ) (hit : other ≡ word_number count_bits seen)
-    (next : MidwayNext needs places me call rest.registration v (record rest { stage = AskExchange ask seen }) x
+module _ (needs : Needs) (withheld places me : ℕ) (call : WordCall) (rest : Place) (ask : Ask) (seen : Word) (v x : View) (other : ℕ) (hit : other ≡ word_number count_bits seen)
+    (next : MidwayNext needs withheld places me call rest.registration v (record rest { stage = AskExchange ask seen }) x
     (next_of needs me (record rest { stage = AskExchange ask seen }) (AskExchange ask seen) other)) where
-  ask-done : MidwayNext needs places me call rest.registration v (record rest { stage = AskExchange ask seen }) x
+  ask-done : MidwayNext needs withheld places me call rest.registration v (record rest { stage = AskExchange ask seen }) x
       (granted needs (record rest { stage = AskExchange ask seen }) ask)
   ask-done = let test : other == word_number count_bits seen ≡ true = same-number other (word_number count_bits seen) hit in rw test at next
 
   -- it is granted as it asked: a registration is kept, and a try leaves the place as it was
-  pub registered-events : ask.joins ≡ true → HasEvents needs call rest.registration (Says true) (Once granted_value ask.request) v x
+  pub registered-events : ask.joins ≡ true → HasEvents needs withheld call rest.registration (Says true) (Once granted_value ask.request) v x
       × IsSince x.position (record rest { registration = Once granted_value ask.request; stage = Quiet })
   registered-events joins = rw joins at ask-done
 
   pub tried-events : ask.joins ≡ false
-      → HasEvents needs call rest.registration (tried_answer needs true) rest.registration v x × IsSince x.position (record rest { stage = Quiet })
+      → HasEvents needs withheld call rest.registration (tried_answer needs true) rest.registration v x × IsSince x.position (record rest { stage = Quiet })
   tried-events tries = rw tries at ask-done
 
 -- Releases
@@ -232,12 +232,12 @@ lowered needs seen request left lowers =
     let some : left_count needs seen.count request ≡ Some left = (left-some needs seen request left lowers).2 in rw some refl
 
 -- it is given back
-pub gave-events : (needs : Needs) (places me : ℕ) (call : WordCall) (rest : Place) (request left : ℕ) (seen : Word) (v x : View) (other : ℕ)
+pub gave-events : (needs : Needs) (withheld places me : ℕ) (call : WordCall) (rest : Place) (request left : ℕ) (seen : Word) (v x : View) (other : ℕ)
     → other ≡ word_number count_bits seen → lowers_to needs seen request ≡ Some left
-    → MidwayNext needs places me call rest.registration v (record rest { stage = ReleaseExchange (Asked request) seen; back = Tells }) x
+    → MidwayNext needs withheld places me call rest.registration v (record rest { stage = ReleaseExchange (Asked request) seen; back = Tells }) x
     (next_of needs me (record rest { stage = ReleaseExchange (Asked request) seen; back = Tells }) (ReleaseExchange (Asked request) seen) other)
-    → HasEvents needs call rest.registration (Says true) rest.registration v x × IsSince x.position (record rest { stage = Quiet; back = Tells })
-gave-events needs places me call rest request left seen v x other hit lowers next =
+    → HasEvents needs withheld call rest.registration (Says true) rest.registration v x × IsSince x.position (record rest { stage = Quiet; back = Tells })
+gave-events needs withheld places me call rest request left seen v x other hit lowers next =
     let test : other == word_number count_bits seen ≡ true = same-number other (word_number count_bits seen) hit in
     let none : seen.tail == 0 ≡ true = (left-some needs seen request left lowers).1 in
     rw (test, none) at next

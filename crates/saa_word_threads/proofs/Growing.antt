@@ -4,10 +4,10 @@ use Rattle.std.proofs.lemmas.Bool.{cases_Bool}
 use Rattle.saa_core_spec.proofs.Counts.{number_same}
 use Rattle.saa_word_steps.specs.declared.event.Event.{Event}
 use Rattle.saa_word_steps.specs.Needs.{Needs}
-use Rattle.saa_word_steps.specs.AbstractState.{AbstractState, IsRun, after_event}
+use Rattle.saa_word_steps.specs.AbstractState.{AbstractState, IsRun, after_event, opening}
 use Rattle.saa_word_proofs.specs.History.{has_part, is_named, named, of_place, part_of, seen_by}
 use Rattle.saa_word_threads.specs.declared.table.View.{View}
-use Rattle.saa_word_threads.specs.Told.{Extends}
+use Rattle.saa_word_threads.specs.Told.{Extends, IsLegal}
 
 -- A history behind another one
 
@@ -134,6 +134,28 @@ pub run-append : (needs : Needs) (state middle last : AbstractState) (front rest
 run-append needs state middle last [] rest one other = subst (λ (z : AbstractState). IsRun needs z rest last) (sym one) other
 run-append needs state middle last (event ∷ front) rest one other =
     (one.0, run-append needs (after_event needs state event.0 event.1) middle last front rest one.1 other)
+
+-- what a run begins with is one
+pub run-front : (needs : Needs) (state last : AbstractState) (front rest : List (ℕ × Event)) → IsRun needs state (front ++ rest) last
+    → (middle : AbstractState) × IsRun needs state front middle
+run-front needs state last [] rest run = (state, refl)
+run-front needs state last (event ∷ front) rest run =
+    let more = run-front needs (after_event needs state event.0 event.1) last front rest run.1 in (more.0, (run.0, more.1))
+
+-- so what a place has seen of a legal history is legal
+pub seen-legal : (needs : Needs) (withheld place : ℕ) (history : List (ℕ × Event)) (last : AbstractState) → IsRun needs (opening withheld) history last
+    → IsLegal needs withheld (seen_by place history)
+seen-legal needs withheld place history last run =
+    let tail = seen-rest place history in
+    run-front needs (opening withheld) last (seen_by place history) tail.0 (subst (λ (l : List (ℕ × Event)). IsRun needs (opening withheld) l last) tail.1 run)
+
+-- and has all events of its part
+pub seen-part : (place : ℕ) (history : List (ℕ × Event)) → part_of place (seen_by place history) ≡ part_of place history
+seen-part place history =
+    let tail = seen-rest place history in
+    sym (ap (part_of place) tail.1 ∙ part-append place (seen_by place history) tail.0
+    ∙ ap (λ (l : List Event). part_of place (seen_by place history) ++ l) (part-none place tail.0 tail.2)
+    ∙ append-nil (part_of place (seen_by place history)))
 
 -- Views that grow
 

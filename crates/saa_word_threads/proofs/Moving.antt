@@ -30,7 +30,7 @@ use Rattle.saa_word_threads.specs.Kept.{Fits, FitsAs, Kept, position_in, positio
 use Rattle.saa_word_steps.specs.declared.rules.Rules.{Rules}
 use Rattle.saa_word_threads.specs.Told.{Begins, Extends, IsNext, IsSought, Moves, prepares}
 use Rattle.saa_word_threads.proofs.Beginning.{begins-refines, updated-twice}
-use Rattle.saa_word_threads.proofs.Growing.{has-append, has-other, part-append, part-none, part-own, run-append, seen-apart, seen-on}
+use Rattle.saa_word_threads.proofs.Growing.{has-append, has-other, part-append, part-none, part-own, run-append, seen-apart, seen-legal, seen-on, seen-part}
 
 -- Lists
 
@@ -253,12 +253,20 @@ module _ (about : About) (few : about.places < 65536) (wide : (needs_of about.ru
       fresh = λ other beyond. fresh-after other (subst (λ (n : ℕ). n ≤ suc other) (length-set s.views seat view) beyond);
     }
 
-    told-after : Moves (needs_of about.rules) about.places place (next_of (needs_of about.rules) v.number place place.stage found) found v view
+    told-after : Moves (needs_of about.rules) about.withheld about.places place (next_of (needs_of about.rules) v.number place place.stage found) found v view
     told-after = record {
       position = refl;
       events = made.events;
       names = made.names;
       extends = moved-extends kept.history (length s.views) seat v made.events behind deals (kept.each seat v at);
+      legal =
+          seen-legal (needs_of about.rules) about.withheld v.number (kept.history ++ of_place v.number made.events) made.last
+          (run-append (needs_of about.rules) (opening about.withheld) kept.last made.last kept.history (of_place v.number made.events) kept.run made.run);
+      own =
+          seen-part v.number (kept.history ++ of_place v.number made.events)
+          ∙ part-append v.number kept.history (of_place v.number made.events)
+          ∙ ap (λ (l : List Event). part_of v.number kept.history ++ l) (part-own v.number made.events)
+          ∙ sym (ap (λ (l : List Event). l ++ made.events) fits.2);
       ready =
           ready-at (needs_of about.rules) (rules-lawful about.rules) wide about.places few v.number here (row_of after.words) (positions after.views) made.last
           behind
@@ -271,7 +279,7 @@ module _ (about : About) (few : about.places < 65536) (wide : (needs_of about.ru
       → Begins (needs_of about.rules) me.0.position place
       → Allows (Kept about) slots id me (word_at (operation_of (needs_of about.rules) about.places me.0.number place.stage))
       (written_by (operation_of (needs_of about.rules) about.places me.0.number place.stage))
-      (λ number next. Moves (needs_of about.rules) about.places place (next_of (needs_of about.rules) me.0.number place place.stage number) number me.0 next.0)
+      (λ number next. Moves (needs_of about.rules) about.withheld about.places place (next_of (needs_of about.rules) me.0.number place place.stage number) number me.0 next.0)
   moves slots id me place deals here begins = λ s kept sized at small. (
     view s kept id me.0 at place deals here begins,
     keeps,
@@ -287,7 +295,7 @@ module _ (about : About) (few : about.places < 65536) (wide : (needs_of about.ru
       → written_by (operation_of (needs_of about.rules) about.places me.0.number place.stage) found ≡ found)
       → Allows (Kept about) slots id me (word_at (operation_of (needs_of about.rules) about.places me.0.number place.stage))
       (written_by (operation_of (needs_of about.rules) about.places me.0.number place.stage))
-      (λ number next. IsSought (needs_of about.rules) about.places me.0.number place number me.0 next.0)
+      (λ number next. IsSought (needs_of about.rules) about.withheld about.places me.0.number place number me.0 next.0)
   seeks slots id me place deals here begins same = λ s kept sized at small.
       let op : Operation = operation_of (needs_of about.rules) about.places me.0.number place.stage in
       let number : ℕ = row_of s.words (word_at op) in
@@ -313,15 +321,15 @@ pub allowed : (about : About) (rules : Rules) (places : ℕ) (picked : About) (p
     → about.rules ≡ rules → about.places ≡ places → places < 65536 → (needs_of rules).top < 2 ^ count_bits → picked ≡ about
     → IsNext (needs_of rules) places number place operation me.0
     → Allows (Kept about) slots id me (word_at operation) (written_by operation)
-    (λ found next. Moves (needs_of picked.rules) picked.places place (next_of (needs_of picked.rules) number place place.stage found) found me.0 next.0)
+    (λ found next. Moves (needs_of picked.rules) picked.withheld picked.places place (next_of (needs_of picked.rules) number place place.stage found) found me.0 next.0)
 allowed about rules places picked place number slots id me operation rules_are places_are few wide picks is =
     subst (λ (a : About). Allows (Kept about) slots id me (word_at operation) (written_by operation)
-    (λ found next. Moves (needs_of a.rules) a.places place (next_of (needs_of a.rules) number place place.stage found) found me.0 next.0)) (sym picks)
+    (λ found next. Moves (needs_of a.rules) a.withheld a.places place (next_of (needs_of a.rules) number place place.stage found) found me.0 next.0)) (sym picks)
     (subst (λ (o : Operation). Allows (Kept about) slots id me (word_at o) (written_by o)
-    (λ found next. Moves (needs_of about.rules) about.places place (next_of (needs_of about.rules) number place place.stage found) found me.0 next.0)) made_is
+    (λ found next. Moves (needs_of about.rules) about.withheld about.places place (next_of (needs_of about.rules) number place place.stage found) found me.0 next.0)) made_is
     (subst (λ (n : ℕ). Allows (Kept about) slots id me
     (word_at (operation_of (needs_of about.rules) about.places n place.stage)) (written_by (operation_of (needs_of about.rules) about.places n place.stage))
-    (λ found next. Moves (needs_of about.rules) about.places place (next_of (needs_of about.rules) n place place.stage found) found me.0 next.0)) is.number
+    (λ found next. Moves (needs_of about.rules) about.withheld about.places place (next_of (needs_of about.rules) n place place.stage found) found me.0 next.0)) is.number
     (moves about (subst (λ n. n < 65536) (sym places_are) few) (subst (λ (r : Rules). (needs_of r).top < 2 ^ count_bits) (sym rules_are) wide) slots id me place
     is.deals here (subst (λ (r : Rules). Begins (needs_of r) me.0.position place) (sym rules_are) is.begins))))
   where
@@ -339,19 +347,19 @@ pub allowed-look : (about : About) (rules : Rules) (places : ℕ) (picked : Abou
     → (picked ≡ about) × (picked_place ≡ place) × (picked_number ≡ number) → IsNext (needs_of rules) places number place made me.0
     → ((found : ℕ) → prepares (next_of (needs_of rules) number place place.stage found) ≡ true → written_by made found ≡ found)
     → Allows (Kept about) slots id me (word_at made) (written_by made)
-    (λ found next. IsSought (needs_of picked.rules) picked.places picked_number picked_place found me.0 next.0)
+    (λ found next. IsSought (needs_of picked.rules) picked.withheld picked.places picked_number picked_place found me.0 next.0)
 allowed-look about rules places picked picked_place place picked_number number slots id me made rules_are places_are few wide picks is same =
     subst (λ (a : About). Allows (Kept about) slots id me (word_at made) (written_by made)
-    (λ found next. IsSought (needs_of a.rules) a.places picked_number picked_place found me.0 next.0)) (sym picks.0)
+    (λ found next. IsSought (needs_of a.rules) a.withheld a.places picked_number picked_place found me.0 next.0)) (sym picks.0)
     (subst (λ (p : Place). Allows (Kept about) slots id me (word_at made) (written_by made)
-    (λ found next. IsSought (needs_of about.rules) about.places picked_number p found me.0 next.0)) (sym picks.1)
+    (λ found next. IsSought (needs_of about.rules) about.withheld about.places picked_number p found me.0 next.0)) (sym picks.1)
     (subst (λ (n : ℕ). Allows (Kept about) slots id me (word_at made) (written_by made)
-    (λ found next. IsSought (needs_of about.rules) about.places n place found me.0 next.0)) (sym picks.2)
+    (λ found next. IsSought (needs_of about.rules) about.withheld about.places n place found me.0 next.0)) (sym picks.2)
     (subst (λ (o : Operation). Allows (Kept about) slots id me (word_at o) (written_by o)
-    (λ found next. IsSought (needs_of about.rules) about.places number place found me.0 next.0)) made_is
+    (λ found next. IsSought (needs_of about.rules) about.withheld about.places number place found me.0 next.0)) made_is
     (subst (λ (n : ℕ). Allows (Kept about) slots id me
     (word_at (operation_of (needs_of about.rules) about.places n place.stage)) (written_by (operation_of (needs_of about.rules) about.places n place.stage))
-    (λ found next. IsSought (needs_of about.rules) about.places n place found me.0 next.0)) is.number
+    (λ found next. IsSought (needs_of about.rules) about.withheld about.places n place found me.0 next.0)) is.number
     (seeks about (subst (λ n. n < 65536) (sym places_are) few) (subst (λ (r : Rules). (needs_of r).top < 2 ^ count_bits) (sym rules_are) wide) slots id me place
     is.deals here (subst (λ (r : Rules). Begins (needs_of r) me.0.position place) (sym rules_are) is.begins) same_here)))))
   where

@@ -12,25 +12,28 @@ use Rattle.saa_word_steps.specs.Needs.{Needs}
 use Rattle.saa_word_proofs.specs.Calls.{IsAnswered, asked_by}
 use Rattle.saa_word_proofs.specs.CallStages.{IsReadyNext, IsUnder}
 use Rattle.saa_word_proofs.specs.Registering.{begun_as, left_behind, starting_answer}
-use Rattle.saa_word_proofs.specs.History.{named}
+use Rattle.saa_word_proofs.specs.History.{named, part_of}
 use Rattle.saa_word_threads.specs.declared.table.View.{View}
-use Rattle.saa_word_threads.specs.Told.{Begins, Extends, IsSince}
+use Rattle.saa_word_threads.specs.Told.{Begins, Extends, IsLegal, IsSince}
 
 -- A call of a place that was registered so has these events, which end in this answer: the place's view grows by them, the answer is the one
--- that they name (others among them are granted, closed and showed, which no answer names), and what the place is registered as is read off them
-pub record HasEvents (needs : Needs) (call : WordCall) (was : Registration) (answer : Answer) (now : Registration) (v w : View) : Type 0 where
+-- that they name (others among them are granted, closed and showed, which no answer names), and what the place is registered as is read off them.
+-- What the place has seen then is a legal history from the moment on when so much was held, and its own events in that are its part
+pub record HasEvents (needs : Needs) (withheld : ℕ) (call : WordCall) (was : Registration) (answer : Answer) (now : Registration) (v w : View) : Type 0 where
   pub events : List Event
   pub extends : Extends v events w
+  pub legal : IsLegal needs withheld w.seen
+  pub own : part_of w.number w.seen ≡ w.part
   pub answers : IsAnswered needs call was (named events) answer
   pub registered : now ≡ left_behind (named events) (asked_by call) (begun_as call was)
 
 -- A call that needs no shared word answers at its start, and has no events; each other call has
-abbrev pub IsCalledFrom : Option Answer → Needs → WordCall → Registration → Answer → Registration → View → View → Type 0
-IsCalledFrom (Some said) needs call was answer now v w = (answer ≡ said) × (now ≡ begun_as call was) × (w ≡ v)
-IsCalledFrom None needs call was answer now v w = HasEvents needs call was answer now v w
+abbrev pub IsCalledFrom : Option Answer → Needs → ℕ → WordCall → Registration → Answer → Registration → View → View → Type 0
+IsCalledFrom (Some said) needs withheld call was answer now v w = (answer ≡ said) × (now ≡ begun_as call was) × (w ≡ v)
+IsCalledFrom None needs withheld call was answer now v w = HasEvents needs withheld call was answer now v w
 
-abbrev pub IsCalled : Needs → WordCall → Registration → Answer → Registration → View → View → Type 0
-IsCalled needs call was answer now v w = IsCalledFrom (starting_answer needs call was) needs call was answer now v w
+abbrev pub IsCalled : Needs → ℕ → WordCall → Registration → Answer → Registration → View → View → Type 0
+IsCalled needs withheld call was answer now v w = IsCalledFrom (starting_answer needs call was) needs withheld call was answer now v w
 
 -- A call of a place that was registered so, which began at a view, stands at this place: what it has named so far goes with where it stands, and
 -- the place's view has grown by its events. Internal: nobody has to believe this; it is the invariant of the loop of a call
@@ -53,8 +56,8 @@ is_single TryPoll = true
 is_single _ = false
 
 -- How a call goes on behind a step: from the next place, from where it was, or it is done and its place rests. Internal, as the invariant
-abbrev pub MidwayNext : Needs → ℕ → ℕ → WordCall → Registration → View → Place → View → Next → Type 0
-MidwayNext needs places me call was began place v (Going next) = Midway needs places me call was began next v
-MidwayNext needs places me call was began place v Waits = Midway needs places me call was began place v
-MidwayNext needs places me call was began place v (Done behind answer) =
-    HasEvents needs call was answer behind.registration began v × IsSince v.position behind
+abbrev pub MidwayNext : Needs → ℕ → ℕ → ℕ → WordCall → Registration → View → Place → View → Next → Type 0
+MidwayNext needs withheld places me call was began place v (Going next) = Midway needs places me call was began next v
+MidwayNext needs withheld places me call was began place v Waits = Midway needs places me call was began place v
+MidwayNext needs withheld places me call was began place v (Done behind answer) =
+    HasEvents needs withheld call was answer behind.registration began v × IsSince v.position behind

@@ -40,17 +40,17 @@ inners (place ∷ rest) = place.inner ∷ inners rest
 abbrev pub AreNew : TableId → ℕ → List Place → Type 0
 AreNew table number places = FormAreNew table number (inners places)
 
--- A call was made at a place of a lock, and answered so
+-- A call was made at a place of a lock, of which nothing is held as it is made, and answered so
 abbrev pub IsMade : WordCall → Place → Answer → Place → Type 0
-IsMade call old answer new = FormIsMade lock_needs call old.inner answer new.inner
+IsMade call old answer new = FormIsMade lock_needs 0 call old.inner answer new.inner
 
 -- A wait is a registration in a mode, and then a poll where the registration was made
 abbrev pub IsWaited : Mode → Place → Bool → Place → Type 0
-IsWaited mode old result new = FormIsWaited lock_needs (RegisterMode mode) old.inner result new.inner
+IsWaited mode old result new = FormIsWaited lock_needs 0 (RegisterMode mode) old.inner result new.inner
 
 -- A place has left: it has cancelled first
 abbrev pub HasLeft : Place → Left → Type 0
-HasLeft place left = FormHasLeft lock_needs place.inner left.inner
+HasLeft place left = FormHasLeft lock_needs 0 place.inner left.inner
 
 -- what a place that has left has seen, and knows as its part
 abbrev pub view_left : Left → View

@@ -1,5 +1,5 @@
 -- What the calls of a form do, as their contracts say it.
-use Rattle.std.specs.Prelude.{◌≡◌, Bool, true, false, Result, Ok, Err}
+use Rattle.std.specs.Prelude.{◌≡◌, ℕ, Bool, true, false, Result, Ok, Err}
 use Rattle.saa_word_steps.specs.declared.call.Answer.{Answer}
 use Rattle.saa_word_steps.specs.declared.call.Answer.TheVariants.{Bool as Says, Tried, Taken}
 use Rattle.saa_word_steps.specs.declared.call.WordCall.{WordCall}
@@ -34,8 +34,8 @@ abbrev pub IsSamePlace : Place → Place → Type 0
 IsSamePlace old new = (new.number ≡ old.number) × (new.seat.table_id ≡ old.seat.table_id)
 
 -- A call was made at a place, and answered so
-abbrev pub IsMade : Needs → WordCall → Place → Answer → Place → Type 0
-IsMade needs call old answer new = IsSamePlace old new × IsCalled needs call (registered old) answer (registered new) (view_of old) (view_of new)
+abbrev pub IsMade : Needs → ℕ → WordCall → Place → Answer → Place → Type 0
+IsMade needs withheld call old answer new = IsSamePlace old new × IsCalled needs withheld call (registered old) answer (registered new) (view_of old) (view_of new)
 
 -- whether an answer is yes, and whether it is that of a poll that was granted
 abbrev pub is_yes : Answer → Bool
@@ -61,19 +61,19 @@ polled_lock (Taken result) = result
 polled_lock _ = Ok false
 
 -- A wait is a registration, and then a poll where the registration was made
-abbrev pub IsWaitedFrom : Bool → Needs → Registration → Registration → View → View → Bool → Type 0
-IsWaitedFrom false needs was now v w result = (now ≡ was) × (w ≡ v) × (result ≡ false)
-IsWaitedFrom true needs was now v w result = (answer : Answer) × IsCalled needs Poll was answer now v w × (result ≡ is_granted answer)
+abbrev pub IsWaitedFrom : Bool → Needs → ℕ → Registration → Registration → View → View → Bool → Type 0
+IsWaitedFrom false needs withheld was now v w result = (now ≡ was) × (w ≡ v) × (result ≡ false)
+IsWaitedFrom true needs withheld was now v w result = (answer : Answer) × IsCalled needs withheld Poll was answer now v w × (result ≡ is_granted answer)
 
-abbrev pub IsWaited : Needs → WordCall → Place → Bool → Place → Type 0
-IsWaited needs registers old result new =
+abbrev pub IsWaited : Needs → ℕ → WordCall → Place → Bool → Place → Type 0
+IsWaited needs withheld registers old result new =
     IsSamePlace old new
     × ((answer : Answer) × (between : Registration) × (v : View)
-    × IsCalled needs registers (registered old) answer between (view_of old) v
-    × IsWaitedFrom (is_yes answer) needs between (registered new) v (view_of new) result)
+    × IsCalled needs withheld registers (registered old) answer between (view_of old) v
+    × IsWaitedFrom (is_yes answer) needs withheld between (registered new) v (view_of new) result)
 
 -- A place has left: it has cancelled first
-abbrev pub HasLeft : Needs → Place → Left → Type 0
-HasLeft needs place left =
+abbrev pub HasLeft : Needs → ℕ → Place → Left → Type 0
+HasLeft needs withheld place left =
     (left.number ≡ place.number) × (left.seat.table_id ≡ place.seat.table_id)
-    × ((answer : Answer) × (now : Registration) × IsCalled needs Cancel (registered place) answer now (view_of place) (view_left left))
+    × ((answer : Answer) × (now : Registration) × IsCalled needs withheld Cancel (registered place) answer now (view_of place) (view_left left))

@@ -11,6 +11,7 @@ use Rattle.saa_word_steps.specs.declared.place.Registration.TheVariants.{Idle, O
 use Rattle.saa_word_steps.specs.declared.place.Stage.{Stage}
 use Rattle.saa_word_steps.specs.declared.place.Stage.TheVariants.{Quiet, Prepare}
 use Rattle.saa_word_steps.specs.Needs.{Needs, needs_of}
+use Rattle.saa_word_steps.specs.AbstractState.{AbstractState, IsRun, opening}
 use Rattle.saa_word_steps.specs.declared.operation.Operation.{Operation}
 use Rattle.saa_word_steps.specs.Steps.{next_of, operation_of, started, word_at}
 use Rattle.saa_word_steps.specs.Readings.{is_idle, is_taken}
@@ -31,18 +32,25 @@ pub record Extends (v : View) (events : List Event) (w : View) : Type 0 where
   pub own : part_of v.number more ≡ events
   pub latest : seen_by v.number more ≡ more
 
+-- A history is legal: from the moment on when so much is held and nobody waits, each of its events is enabled where it comes
+abbrev pub IsLegal : Needs → ℕ → List (ℕ × Event) → Type 0
+IsLegal needs withheld history = (last : AbstractState) × IsRun needs (opening withheld) history last
+
 -- A place makes its step and goes on so with the number that it found: it stands where that says, what answers name of its events is said by
--- its stage and the number, its view grows by these events, and it can make its next step
-pub record Moves (needs : Needs) (places : ℕ) (place : Place) (next : Next) (found : ℕ) (v w : View) : Type 0 where
+-- its stage and the number, its view grows by these events, what it has seen is a legal history then in which its events are its part, and it
+-- can make its next step
+pub record Moves (needs : Needs) (withheld places : ℕ) (place : Place) (next : Next) (found : ℕ) (v w : View) : Type 0 where
   pub position : w.position ≡ place_after place next
   pub events : List Event
   pub names : named events ≡ named_at needs place.stage found
   pub extends : Extends v events w
+  pub legal : IsLegal needs withheld w.seen
+  pub own : part_of w.number w.seen ≡ w.part
   pub ready : IsReadyNext needs places v.number (Going w.position)
 
 abbrev pub told : About → Place → ℕ → Step (Unit {0}) → Me (Unit {0}) View → ℕ → Me (Unit {0}) View → Type 0
 told about place me st before found after =
-    Moves (needs_of about.rules) about.places place (next_of (needs_of about.rules) me place place.stage found) found before.0 after.0
+    Moves (needs_of about.rules) about.withheld about.places place (next_of (needs_of about.rules) me place place.stage found) found before.0 after.0
 
 -- whether a place goes on to join the waiters
 abbrev pub prepares_at : Stage → Bool
@@ -58,21 +66,21 @@ abbrev pub unless_joining : Place → Next → Next
 unless_joining place next = if prepares next then Going place else next
 
 -- A place looks, and finds this number: it makes its step, unless it would go on to join; then nothing has happened
-abbrev pub IsSoughtAs : Bool → Needs → ℕ → Place → Next → ℕ → View → View → Type 0
-IsSoughtAs true needs places place next found v w = w ≡ v
-IsSoughtAs false needs places place next found v w = Moves needs places place next found v w
+abbrev pub IsSoughtAs : Bool → Needs → ℕ → ℕ → Place → Next → ℕ → View → View → Type 0
+IsSoughtAs true needs withheld places place next found v w = w ≡ v
+IsSoughtAs false needs withheld places place next found v w = Moves needs withheld places place next found v w
 
-abbrev pub IsSought : Needs → ℕ → ℕ → Place → ℕ → View → View → Type 0
-IsSought needs places me place found v w =
-    IsSoughtAs (prepares (next_of needs me place place.stage found)) needs places place (next_of needs me place place.stage found) found v w
+abbrev pub IsSought : Needs → ℕ → ℕ → ℕ → Place → ℕ → View → View → Type 0
+IsSought needs withheld places me place found v w =
+    IsSoughtAs (prepares (next_of needs me place place.stage found)) needs withheld places place (next_of needs me place place.stage found) found v w
 
 -- a place goes on so: it has made its step, or it stands where it stood and nothing has happened
-abbrev pub MovesOrStays : Needs → ℕ → ℕ → Place → Next → View → View → Type 0
-MovesOrStays needs places me place next v w =
-    ((found : ℕ) × (next ≡ next_of needs me place place.stage found) × Moves needs places place next found v w) ⊎ ((next ≡ Going place) × (w ≡ v))
+abbrev pub MovesOrStays : Needs → ℕ → ℕ → ℕ → Place → Next → View → View → Type 0
+MovesOrStays needs withheld places me place next v w =
+    ((found : ℕ) × (next ≡ next_of needs me place place.stage found) × Moves needs withheld places place next found v w) ⊎ ((next ≡ Going place) × (w ≡ v))
 
 abbrev pub sought : About → Place → ℕ → Step (Unit {0}) → Me (Unit {0}) View → ℕ → Me (Unit {0}) View → Type 0
-sought about place me st before found after = IsSought (needs_of about.rules) about.places me place found before.0 after.0
+sought about place me st before found after = IsSought (needs_of about.rules) about.withheld about.places me place found before.0 after.0
 
 -- an answer that was given at once is taken
 abbrev pub taken_once : Registration → Registration

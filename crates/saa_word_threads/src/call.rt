@@ -54,7 +54,7 @@ impl Form {
         requires taken { is_taken (needs_of self.now.rules).is_lock call ≡ true }
         ensures same { (place.new.seat.table_id ≡ place.old.seat.table_id) × (place.new.number ≡ place.old.number) }
         ensures patience { patience_of place.new ≡ patience_of place.old }
-        ensures called { IsCalled (needs_of self.now.rules) call place.old.position.registration result place.new.position.registration place.old.seat.me.0 place.new.seat.me.0 }
+        ensures called { IsCalled (needs_of self.now.rules) self.now.table.shared.key.withheld call place.old.position.registration result place.new.position.registration place.old.seat.me.0 place.new.seat.me.0 }
     {
         match place.position.start(self.rules, call) {
             Next::Done(position, answer) => {
@@ -84,7 +84,7 @@ impl Form {
         requires taken { is_taken (needs_of self.now.rules).is_lock call ≡ true }
         requires single { is_single call ≡ true }
         ensures same { (place.new.seat.table_id ≡ place.old.seat.table_id) × (place.new.number ≡ place.old.number) }
-        ensures called { IsCalled (needs_of self.now.rules) call place.old.position.registration result place.new.position.registration place.old.seat.me.0 place.new.seat.me.0 }
+        ensures called { IsCalled (needs_of self.now.rules) self.now.table.shared.key.withheld call place.old.position.registration result place.new.position.registration place.old.seat.me.0 place.new.seat.me.0 }
     {
         match place.position.start(self.rules, call) {
             Next::Done(position, answer) => {
@@ -108,7 +108,7 @@ impl Form {
     // A place leaves; it cancels first.
     pub(crate) fn leave<R: Wait, W: Watch>(&self, rt: &R, watch: &W, mut place: Place) -> Left
         requires dealt { place.seat.table_id ≡ self.now.table.shared.table_id }
-        ensures left { HasLeft (needs_of self.now.rules) place result }
+        ensures left { HasLeft (needs_of self.now.rules) self.now.table.shared.key.withheld place result }
     {
         self.call(rt, watch, &mut place, WordCall::Cancel);
         let Place {
@@ -136,7 +136,7 @@ impl Form {
         ensures table { (seat.new.table_id ≡ seat.old.table_id) × (seat.new.id ≡ seat.old.id) }
         ensures number { (seat.new.me.0.deals ≡ false) × (seat.new.me.0.number ≡ me) }
         ensures since { IsSince seat.new.me.0.position result.0 }
-        ensures events { HasEvents (needs_of self.now.rules) begun.call.value begun.registered.value result.1 result.0.registration begun.seat.value.me.0 seat.new.me.0 }
+        ensures events { HasEvents (needs_of self.now.rules) self.now.table.shared.key.withheld begun.call.value begun.registered.value result.1 result.0.registration begun.seat.value.me.0 seat.new.me.0 }
     {
         let mut place = first;
         for _ in rt.forever() {

@@ -40,6 +40,7 @@ pub(crate) const SHARED: u16 = 1;
 pub struct Lock {
     pub(crate) form: Form,
     ghost modes: { form.rules ≡ Modes },
+    ghost free: { form.table.shared.key.withheld ≡ 0 },
 }
 
 /// A place of the lock that dealt it, between its calls.

@@ -87,7 +87,7 @@ impl Form {
         requires midway { Midway (needs_of self.now.rules) self.now.places me begun.now.call.value begun.now.registered.value begun.now.seat.value.me.0 first seat.old.me.0 }
         ensures table { (seat.new.table_id ≡ seat.old.table_id) × (seat.new.id ≡ seat.old.id) }
         ensures number { (seat.new.me.0.deals ≡ false) × (seat.new.me.0.number ≡ me) }
-        ensures midway { MidwayNext (needs_of self.now.rules) self.now.places me begun.now.call.value begun.now.registered.value begun.now.seat.value.me.0 first seat.new.me.0 result }
+        ensures midway { MidwayNext (needs_of self.now.rules) self.now.table.shared.key.withheld self.now.places me begun.now.call.value begun.now.registered.value begun.now.seat.value.me.0 first seat.new.me.0 result }
     {
         let mut place = first;
         for turn in 0..patience.turns() {
@@ -128,7 +128,7 @@ impl Form {
         requires begins { Begins (needs_of self.now.rules) seat.old.me.0.position place }
         requires ready { IsReadyNext (needs_of self.now.rules) self.now.places me (Going place) }
         ensures table { (seat.new.table_id ≡ seat.old.table_id) × (seat.new.id ≡ seat.old.id) }
-        ensures sought { MovesOrStays (needs_of self.now.rules) self.now.places me place result seat.old.me.0 seat.new.me.0 }
+        ensures sought { MovesOrStays (needs_of self.now.rules) self.now.table.shared.key.withheld self.now.places me place result seat.old.me.0 seat.new.me.0 }
     {
         let at = Snapshot::of(&place);
         match place.stage {
@@ -162,7 +162,7 @@ impl Form {
         requires next { IsNext (needs_of self.now.rules) self.now.places me at.value (Load 0) seat.old.me.0 }
         ensures table { (seat.new.table_id ≡ seat.old.table_id) × (seat.new.id ≡ seat.old.id) }
         ensures number { (seat.new.me.0.deals ≡ false) × (seat.new.me.0.number ≡ me) }
-        ensures sought { IsSought (needs_of self.now.rules) self.now.places me at.value result seat.old.me.0 seat.new.me.0 }
+        ensures sought { IsSought (needs_of self.now.rules) self.now.table.shared.key.withheld self.now.places me at.value result seat.old.me.0 seat.new.me.0 }
     {
         self.table.shared.load::<Sought<M>>(seat, 0)
     }
@@ -183,7 +183,7 @@ impl Form {
         requires made { (found : ℕ) → prepares (next_of (needs_of self.now.rules) me at.value at.value.stage found) ≡ true → (found == old) ≡ false }
         ensures table { (seat.new.table_id ≡ seat.old.table_id) × (seat.new.id ≡ seat.old.id) }
         ensures number { (seat.new.me.0.deals ≡ false) × (seat.new.me.0.number ≡ me) }
-        ensures sought { IsSought (needs_of self.now.rules) self.now.places me at.value result seat.old.me.0 seat.new.me.0 }
+        ensures sought { IsSought (needs_of self.now.rules) self.now.table.shared.key.withheld self.now.places me at.value result seat.old.me.0 seat.new.me.0 }
     {
         self.table
             .shared

@@ -75,7 +75,7 @@ impl<const MAX: usize> SemaphoreOf<MAX> {
     /// other task that changed it meanwhile.
     pub fn try_acquire_many<R: Wait>(&self, rt: &R, place: &mut Place, count: usize) -> bool
         requires { IsDealtBy self.now place.old }
-        ensures called { (answer : Answer) × (result ≡ is_yes answer) × IsMade (permit_needs MAX) (Try count) place.old answer place.new }
+        ensures called { (answer : Answer) × (result ≡ is_yes answer) × IsMade (permit_needs MAX) (about_of self.now).withheld (Try count) place.old answer place.new }
         ensures patience { patience_of place.new ≡ none }
     {
         let call = WordCall::Try(count);
@@ -96,7 +96,7 @@ impl<const MAX: usize> SemaphoreOf<MAX> {
     /// [`Self::MAX_PERMITS`] and at a place that is registered.
     pub fn acquire_many<R: Wait>(&self, rt: &R, place: &mut Place, count: usize) -> bool
         requires { IsDealtBy self.now place.old }
-        ensures waited { IsWaited (permit_needs MAX) (Register count) place.old result place.new }
+        ensures waited { IsWaited (permit_needs MAX) (about_of self.now).withheld (Register count) place.old result place.new }
         ensures patience { patience_of place.new ≡ waiting }
     {
         self.wait_patiently(rt, &Unwatched, place, count, WAITING)
@@ -113,7 +113,7 @@ impl<const MAX: usize> SemaphoreOf<MAX> {
         patience: Patience,
     ) -> bool
         requires { IsDealtBy self.now place.old }
-        ensures waited { IsWaited (permit_needs MAX) (Register count) place.old result place.new }
+        ensures waited { IsWaited (permit_needs MAX) (about_of self.now).withheld (Register count) place.old result place.new }
         ensures patience { patience_of place.new ≡ patience }
     {
         if !self.register_patiently(rt, watch, place, count, patience) {
@@ -127,7 +127,7 @@ impl<const MAX: usize> SemaphoreOf<MAX> {
     /// `false`, and nothing changes, where fewer are taken. Any place may give back what another one took.
     pub fn release_many<R: Wait>(&self, rt: &R, place: &mut Place, count: usize) -> bool
         requires { IsDealtBy self.now place.old }
-        ensures called { (answer : Answer) × (result ≡ is_yes answer) × IsMade (permit_needs MAX) (Release count) place.old answer place.new }
+        ensures called { (answer : Answer) × (result ≡ is_yes answer) × IsMade (permit_needs MAX) (about_of self.now).withheld (Release count) place.old answer place.new }
     {
         let call = WordCall::Release(count);
         if count == 0 || count > MAX {
@@ -142,7 +142,7 @@ impl<const MAX: usize> SemaphoreOf<MAX> {
     /// [`Self::poll`] or [`Self::try_poll`].
     pub fn register<R: Wait>(&self, rt: &R, place: &mut Place, count: usize) -> bool
         requires { IsDealtBy self.now place.old }
-        ensures called { (answer : Answer) × (result ≡ is_yes answer) × IsMade (permit_needs MAX) (Register count) place.old answer place.new }
+        ensures called { (answer : Answer) × (result ≡ is_yes answer) × IsMade (permit_needs MAX) (about_of self.now).withheld (Register count) place.old answer place.new }
         ensures patience { patience_of place.new ≡ none }
     {
         self.register_patiently(rt, &Unwatched, place, count, NONE)
@@ -159,7 +159,7 @@ impl<const MAX: usize> SemaphoreOf<MAX> {
         patience: Patience,
     ) -> bool
         requires { IsDealtBy self.now place.old }
-        ensures called { (answer : Answer) × (result ≡ is_yes answer) × IsMade (permit_needs MAX) (Register count) place.old answer place.new }
+        ensures called { (answer : Answer) × (result ≡ is_yes answer) × IsMade (permit_needs MAX) (about_of self.now).withheld (Register count) place.old answer place.new }
         ensures patience { patience_of place.new ≡ patience }
     {
         let call = WordCall::Register(count);
@@ -178,7 +178,7 @@ impl<const MAX: usize> SemaphoreOf<MAX> {
     /// `NotReady` while the place waits, `NotRegistered` where it is registered as nothing. Costs one step at most.
     pub fn try_poll(&self, place: &mut Place) -> Result<(), Error>
         requires { IsDealtBy self.now place.old }
-        ensures called { (answer : Answer) × (result ≡ polled answer) × IsMade (permit_needs MAX) TryPoll place.old answer place.new }
+        ensures called { (answer : Answer) × (result ≡ polled answer) × IsMade (permit_needs MAX) (about_of self.now).withheld TryPoll place.old answer place.new }
     {
         taken(self.form.call_at_once(place, WordCall::TryPoll))
     }
@@ -188,7 +188,7 @@ impl<const MAX: usize> SemaphoreOf<MAX> {
     /// `NotRegistered` where the place is registered as nothing; no other error comes.
     pub fn poll<R: Wait>(&self, rt: &R, place: &mut Place) -> Result<(), Error>
         requires { IsDealtBy self.now place.old }
-        ensures called { (answer : Answer) × (result ≡ polled answer) × IsMade (permit_needs MAX) Poll place.old answer place.new }
+        ensures called { (answer : Answer) × (result ≡ polled answer) × IsMade (permit_needs MAX) (about_of self.now).withheld Poll place.old answer place.new }
     {
         taken(self.form.call(rt, &Unwatched, place, WordCall::Poll))
     }
@@ -198,7 +198,7 @@ impl<const MAX: usize> SemaphoreOf<MAX> {
     /// It yields while another place works on the line.
     pub fn cancel<R: Wait>(&self, rt: &R, place: &mut Place)
         requires { IsDealtBy self.now place.old }
-        ensures called { (answer : Answer) × IsMade (permit_needs MAX) Cancel place.old answer place.new }
+        ensures called { (answer : Answer) × IsMade (permit_needs MAX) (about_of self.now).withheld Cancel place.old answer place.new }
     {
         self.form.call(rt, &Unwatched, place, WordCall::Cancel);
     }
@@ -206,7 +206,7 @@ impl<const MAX: usize> SemaphoreOf<MAX> {
     /// How many permits are available; never blocks. Costs one step.
     pub fn available_permits(&self, place: &mut Place) -> u16
         requires { IsDealtBy self.now place.old }
-        ensures { IsMade (permit_needs MAX) Available place.old (Number result) place.new }
+        ensures { IsMade (permit_needs MAX) (about_of self.now).withheld Available place.old (Number result) place.new }
     {
         match self.form.call_at_once(place, WordCall::Available) {
             Answer::Number(number) => number,
@@ -217,7 +217,7 @@ impl<const MAX: usize> SemaphoreOf<MAX> {
     /// The place leaves; it cancels first.
     pub fn leave<R: Wait>(&self, rt: &R, place: Place) -> Left
         requires { IsDealtBy self.now place }
-        ensures { HasLeft (permit_needs MAX) place result }
+        ensures { HasLeft (permit_needs MAX) (about_of self.now).withheld place result }
     {
         self.form.leave(rt, &Unwatched, place)
     }

@@ -33,7 +33,7 @@ impl Form {
         requires begins { Begins (needs_of self.now.rules) seat.old.me.0.position place }
         requires ready { IsReadyNext (needs_of self.now.rules) self.now.places me (Going place) }
         ensures table { (seat.new.table_id ≡ seat.old.table_id) × (seat.new.id ≡ seat.old.id) }
-        ensures moved { (found : ℕ) × (result ≡ next_of (needs_of self.now.rules) me place place.stage found) × Moves (needs_of self.now.rules) self.now.places place result found seat.old.me.0 seat.new.me.0 }
+        ensures moved { (found : ℕ) × (result ≡ next_of (needs_of self.now.rules) me place place.stage found) × Moves (needs_of self.now.rules) self.now.table.shared.key.withheld self.now.places place result found seat.old.me.0 seat.new.me.0 }
     {
         let operation = place.stage.operation(self.rules, self.places, me);
         let found = self.perform::<M, W>(watch, seat, operation);
@@ -50,7 +50,7 @@ impl Form {
         requires table { (seat.old.table_id ≡ self.now.table.shared.table_id) × (M.about ≡ self.now.table.shared.key) }
         requires next { IsNext (needs_of self.now.rules) self.now.places M.me M.place operation seat.old.me.0 }
         ensures table { (seat.new.table_id ≡ seat.old.table_id) × (seat.new.id ≡ seat.old.id) }
-        ensures moved { Moves (needs_of self.now.rules) self.now.places M.place (next_of (needs_of self.now.rules) M.me M.place M.place.stage result) result seat.old.me.0 seat.new.me.0 }
+        ensures moved { Moves (needs_of self.now.rules) self.now.table.shared.key.withheld self.now.places M.place (next_of (needs_of self.now.rules) M.me M.place M.place.stage result) result seat.old.me.0 seat.new.me.0 }
     {
         match operation {
             Operation::Load { index } => self.load::<M>(seat, index),
@@ -66,7 +66,7 @@ impl Form {
         requires table { (seat.old.table_id ≡ self.now.table.shared.table_id) × (M.about ≡ self.now.table.shared.key) }
         requires next { IsNext (needs_of self.now.rules) self.now.places M.me M.place (Load index) seat.old.me.0 }
         ensures table { (seat.new.table_id ≡ seat.old.table_id) × (seat.new.id ≡ seat.old.id) }
-        ensures moved { Moves (needs_of self.now.rules) self.now.places M.place (next_of (needs_of self.now.rules) M.me M.place M.place.stage result) result seat.old.me.0 seat.new.me.0 }
+        ensures moved { Moves (needs_of self.now.rules) self.now.table.shared.key.withheld self.now.places M.place (next_of (needs_of self.now.rules) M.me M.place M.place.stage result) result seat.old.me.0 seat.new.me.0 }
     {
         self.table.shared.load::<Moved<M>>(seat, index)
     }
@@ -82,7 +82,7 @@ impl Form {
         requires table { (seat.old.table_id ≡ self.now.table.shared.table_id) × (M.about ≡ self.now.table.shared.key) }
         requires next { IsNext (needs_of self.now.rules) self.now.places M.me M.place (Exchange index old new) seat.old.me.0 }
         ensures table { (seat.new.table_id ≡ seat.old.table_id) × (seat.new.id ≡ seat.old.id) }
-        ensures moved { Moves (needs_of self.now.rules) self.now.places M.place (next_of (needs_of self.now.rules) M.me M.place M.place.stage result) result seat.old.me.0 seat.new.me.0 }
+        ensures moved { Moves (needs_of self.now.rules) self.now.table.shared.key.withheld self.now.places M.place (next_of (needs_of self.now.rules) M.me M.place M.place.stage result) result seat.old.me.0 seat.new.me.0 }
     {
         self.table
             .shared
@@ -94,7 +94,7 @@ impl Form {
         requires table { (seat.old.table_id ≡ self.now.table.shared.table_id) × (M.about ≡ self.now.table.shared.key) }
         requires next { IsNext (needs_of self.now.rules) self.now.places M.me M.place (Add index number) seat.old.me.0 }
         ensures table { (seat.new.table_id ≡ seat.old.table_id) × (seat.new.id ≡ seat.old.id) }
-        ensures moved { Moves (needs_of self.now.rules) self.now.places M.place (next_of (needs_of self.now.rules) M.me M.place M.place.stage result) result seat.old.me.0 seat.new.me.0 }
+        ensures moved { Moves (needs_of self.now.rules) self.now.table.shared.key.withheld self.now.places M.place (next_of (needs_of self.now.rules) M.me M.place M.place.stage result) result seat.old.me.0 seat.new.me.0 }
     {
         self.table.shared.fetch_add::<Moved<M>>(seat, index, number)
     }
@@ -110,7 +110,7 @@ impl Form {
         requires table { (seat.old.table_id ≡ self.now.table.shared.table_id) × (M.about ≡ self.now.table.shared.key) }
         requires next { IsNext (needs_of self.now.rules) self.now.places M.me M.place (Store index number) seat.old.me.0 }
         ensures table { (seat.new.table_id ≡ seat.old.table_id) × (seat.new.id ≡ seat.old.id) }
-        ensures moved { Moves (needs_of self.now.rules) self.now.places M.place (next_of (needs_of self.now.rules) M.me M.place M.place.stage result) result seat.old.me.0 seat.new.me.0 }
+        ensures moved { Moves (needs_of self.now.rules) self.now.table.shared.key.withheld self.now.places M.place (next_of (needs_of self.now.rules) M.me M.place M.place.stage result) result seat.old.me.0 seat.new.me.0 }
     {
         self.tell(watch, index);
         let (found, written) = self.write::<M>(seat, index, number);
@@ -123,7 +123,7 @@ impl Form {
         requires table { (seat.old.table_id ≡ self.now.table.shared.table_id) × (M.about ≡ self.now.table.shared.key) }
         requires next { IsNext (needs_of self.now.rules) self.now.places M.me M.place (Swap index number) seat.old.me.0 }
         ensures table { (seat.new.table_id ≡ seat.old.table_id) × (seat.new.id ≡ seat.old.id) }
-        ensures moved { Moves (needs_of self.now.rules) self.now.places M.place (next_of (needs_of self.now.rules) M.me M.place M.place.stage result) result seat.old.me.0 seat.new.me.0 }
+        ensures moved { Moves (needs_of self.now.rules) self.now.table.shared.key.withheld self.now.places M.place (next_of (needs_of self.now.rules) M.me M.place M.place.stage result) result seat.old.me.0 seat.new.me.0 }
     {
         self.table.shared.swap::<Moved<M>>(seat, index, number)
     }

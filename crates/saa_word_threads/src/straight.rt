@@ -74,7 +74,7 @@ impl Form {
         requires refused { started (needs_of self.now.rules) place.old.position call ≡ Done place.old.position (Says false) }
         ensures same { (place.new.seat.table_id ≡ place.old.seat.table_id) × (place.new.number ≡ place.old.number) }
         ensures patience { patience_of place.new ≡ patience }
-        ensures called { IsCalled (needs_of self.now.rules) call place.old.position.registration result place.new.position.registration place.old.seat.me.0 place.new.seat.me.0 }
+        ensures called { IsCalled (needs_of self.now.rules) self.now.table.shared.key.withheld call place.old.position.registration result place.new.position.registration place.old.seat.me.0 place.new.seat.me.0 }
     {
         place.last_ask = LastAsk { patience };
         self.call(rt, watch, place, call)
@@ -96,7 +96,7 @@ impl Form {
         requires starts { started (needs_of self.now.rules) place.old.position call ≡ going place.old.position (AskLoad ask) }
         ensures same { (place.new.seat.table_id ≡ place.old.seat.table_id) × (place.new.number ≡ place.old.number) }
         ensures patience { patience_of place.new ≡ patience }
-        ensures called { IsCalled (needs_of self.now.rules) call place.old.position.registration result place.new.position.registration place.old.seat.me.0 place.new.seat.me.0 }
+        ensures called { IsCalled (needs_of self.now.rules) self.now.table.shared.key.withheld call place.old.position.registration result place.new.position.registration place.old.seat.me.0 place.new.seat.me.0 }
     {
         place.last_ask = LastAsk { patience };
         let begun = Begun::of(call, place);
@@ -146,7 +146,7 @@ impl Form {
         requires dealt { place.old.seat.table_id ≡ self.now.table.shared.table_id }
         ensures same { (place.new.seat.table_id ≡ place.old.seat.table_id) × (place.new.number ≡ place.old.number) }
         ensures patience { patience_of place.new ≡ patience_of place.old }
-        ensures called { (answer : Answer) × (result ≡ is_granted answer) × IsCalled (needs_of self.now.rules) Poll place.old.position.registration answer place.new.position.registration place.old.seat.me.0 place.new.seat.me.0 }
+        ensures called { (answer : Answer) × (result ≡ is_granted answer) × IsCalled (needs_of self.now.rules) self.now.table.shared.key.withheld Poll place.old.position.registration answer place.new.position.registration place.old.seat.me.0 place.new.seat.me.0 }
     {
         if let Registration::Once(value, _request) = place.position.registration {
             place.position.registration = Registration::Idle;
@@ -169,7 +169,7 @@ impl Form {
         requires taken { is_taken (needs_of self.now.rules).is_lock call ≡ true }
         requires starts { started (needs_of self.now.rules) place.old.position call ≡ released_as place.old.position (Asked request) }
         ensures same { (place.new.seat.table_id ≡ place.old.seat.table_id) × (place.new.number ≡ place.old.number) }
-        ensures called { (answer : Answer) × (result ≡ is_yes answer) × IsCalled (needs_of self.now.rules) call place.old.position.registration answer place.new.position.registration place.old.seat.me.0 place.new.seat.me.0 }
+        ensures called { (answer : Answer) × (result ≡ is_yes answer) × IsCalled (needs_of self.now.rules) self.now.table.shared.key.withheld call place.old.position.registration answer place.new.position.registration place.old.seat.me.0 place.new.seat.me.0 }
     {
         let begun = Begun::of(call, place);
         let me = place.number;
@@ -242,7 +242,7 @@ impl Form {
         requires told { (M.about ≡ self.now.table.shared.key) × (M.place ≡ at.value) × (M.me ≡ me) }
         requires next { IsNext (needs_of self.now.rules) self.now.places me at.value (Load 0) seat.old.me.0 }
         ensures table { (seat.new.table_id ≡ seat.old.table_id) × (seat.new.id ≡ seat.old.id) }
-        ensures moved { Moves (needs_of self.now.rules) self.now.places at.value (next_of (needs_of self.now.rules) me at.value at.value.stage result) result seat.old.me.0 seat.new.me.0 }
+        ensures moved { Moves (needs_of self.now.rules) self.now.table.shared.key.withheld self.now.places at.value (next_of (needs_of self.now.rules) me at.value at.value.stage result) result seat.old.me.0 seat.new.me.0 }
     {
         self.load::<M>(seat, 0)
     }
@@ -261,7 +261,7 @@ impl Form {
         requires told { (M.about ≡ self.now.table.shared.key) × (M.place ≡ at.value) × (M.me ≡ me) }
         requires next { IsNext (needs_of self.now.rules) self.now.places me at.value (Exchange 0 old new) seat.old.me.0 }
         ensures table { (seat.new.table_id ≡ seat.old.table_id) × (seat.new.id ≡ seat.old.id) }
-        ensures moved { Moves (needs_of self.now.rules) self.now.places at.value (next_of (needs_of self.now.rules) me at.value at.value.stage result) result seat.old.me.0 seat.new.me.0 }
+        ensures moved { Moves (needs_of self.now.rules) self.now.table.shared.key.withheld self.now.places at.value (next_of (needs_of self.now.rules) me at.value at.value.stage result) result seat.old.me.0 seat.new.me.0 }
     {
         self.exchange::<M>(seat, 0, old, new)
     }
@@ -283,11 +283,11 @@ impl Form {
         requires table { seat.old.table_id ≡ self.now.table.shared.table_id }
         requires number { (seat.old.me.0.deals ≡ false) × (seat.old.me.0.number ≡ me) × (me < self.now.places) }
         requires ranged { IsRanged (needs_of self.now.rules) (AskLoad ask) }
-        requires midway { MidwayNext (needs_of self.now.rules) self.now.places me begun.call.value begun.registered.value begun.seat.value.me.0 (record position.old { stage = AskLoad ask }) seat.old.me.0 (unless_joining (record position.old { stage = AskLoad ask }) (next_of (needs_of self.now.rules) me (record position.old { stage = AskLoad ask }) (AskLoad ask) found)) }
+        requires midway { MidwayNext (needs_of self.now.rules) self.now.table.shared.key.withheld self.now.places me begun.call.value begun.registered.value begun.seat.value.me.0 (record position.old { stage = AskLoad ask }) seat.old.me.0 (unless_joining (record position.old { stage = AskLoad ask }) (next_of (needs_of self.now.rules) me (record position.old { stage = AskLoad ask }) (AskLoad ask) found)) }
         ensures table { (seat.new.table_id ≡ seat.old.table_id) × (seat.new.id ≡ seat.old.id) }
         ensures number { (seat.new.me.0.deals ≡ false) × (seat.new.me.0.number ≡ me) }
         ensures since { IsSince seat.new.me.0.position position.new }
-        ensures events { HasEvents (needs_of self.now.rules) begun.call.value begun.registered.value result position.new.registration begun.seat.value.me.0 seat.new.me.0 }
+        ensures events { HasEvents (needs_of self.now.rules) self.now.table.shared.key.withheld begun.call.value begun.registered.value result position.new.registration begun.seat.value.me.0 seat.new.me.0 }
     {
         let place = Position {
             stage: Stage::AskLoad { ask },
@@ -318,11 +318,11 @@ impl Form {
         requires table { seat.old.table_id ≡ self.now.table.shared.table_id }
         requires number { (seat.old.me.0.deals ≡ false) × (seat.old.me.0.number ≡ me) × (me < self.now.places) }
         requires ranged { IsRanged (needs_of self.now.rules) (AskExchange ask (word_of count_bits first)) }
-        requires midway { MidwayNext (needs_of self.now.rules) self.now.places me begun.call.value begun.registered.value begun.seat.value.me.0 (record position.old { stage = AskExchange ask (word_of count_bits first) }) seat.old.me.0 (unless_joining (record position.old { stage = AskExchange ask (word_of count_bits first) }) (next_of (needs_of self.now.rules) me (record position.old { stage = AskExchange ask (word_of count_bits first) }) (AskExchange ask (word_of count_bits first)) found)) }
+        requires midway { MidwayNext (needs_of self.now.rules) self.now.table.shared.key.withheld self.now.places me begun.call.value begun.registered.value begun.seat.value.me.0 (record position.old { stage = AskExchange ask (word_of count_bits first) }) seat.old.me.0 (unless_joining (record position.old { stage = AskExchange ask (word_of count_bits first) }) (next_of (needs_of self.now.rules) me (record position.old { stage = AskExchange ask (word_of count_bits first) }) (AskExchange ask (word_of count_bits first)) found)) }
         ensures table { (seat.new.table_id ≡ seat.old.table_id) × (seat.new.id ≡ seat.old.id) }
         ensures number { (seat.new.me.0.deals ≡ false) × (seat.new.me.0.number ≡ me) }
         ensures since { IsSince seat.new.me.0.position position.new }
-        ensures events { HasEvents (needs_of self.now.rules) begun.call.value begun.registered.value result position.new.registration begun.seat.value.me.0 seat.new.me.0 }
+        ensures events { HasEvents (needs_of self.now.rules) self.now.table.shared.key.withheld begun.call.value begun.registered.value result position.new.registration begun.seat.value.me.0 seat.new.me.0 }
     {
         let seen = Word::unpack(first);
         let place = Position {
@@ -352,11 +352,11 @@ impl Form {
         requires table { seat.old.table_id ≡ self.now.table.shared.table_id }
         requires number { (seat.old.me.0.deals ≡ false) × (seat.old.me.0.number ≡ me) × (me < self.now.places) }
         requires ranged { IsRanged (needs_of self.now.rules) (ReleaseLoad (Asked request)) }
-        requires midway { MidwayNext (needs_of self.now.rules) self.now.places me begun.call.value begun.registered.value begun.seat.value.me.0 (record position.old { stage = ReleaseLoad (Asked request); back = Tells }) seat.old.me.0 (next_of (needs_of self.now.rules) me (record position.old { stage = ReleaseLoad (Asked request); back = Tells }) (ReleaseLoad (Asked request)) found) }
+        requires midway { MidwayNext (needs_of self.now.rules) self.now.table.shared.key.withheld self.now.places me begun.call.value begun.registered.value begun.seat.value.me.0 (record position.old { stage = ReleaseLoad (Asked request); back = Tells }) seat.old.me.0 (next_of (needs_of self.now.rules) me (record position.old { stage = ReleaseLoad (Asked request); back = Tells }) (ReleaseLoad (Asked request)) found) }
         ensures table { (seat.new.table_id ≡ seat.old.table_id) × (seat.new.id ≡ seat.old.id) }
         ensures number { (seat.new.me.0.deals ≡ false) × (seat.new.me.0.number ≡ me) }
         ensures since { IsSince seat.new.me.0.position position.new }
-        ensures events { HasEvents (needs_of self.now.rules) begun.call.value begun.registered.value result position.new.registration begun.seat.value.me.0 seat.new.me.0 }
+        ensures events { HasEvents (needs_of self.now.rules) self.now.table.shared.key.withheld begun.call.value begun.registered.value result position.new.registration begun.seat.value.me.0 seat.new.me.0 }
     {
         let place = Position {
             stage: Stage::ReleaseLoad {
@@ -387,11 +387,11 @@ impl Form {
         requires table { seat.old.table_id ≡ self.now.table.shared.table_id }
         requires number { (seat.old.me.0.deals ≡ false) × (seat.old.me.0.number ≡ me) × (me < self.now.places) }
         requires ranged { IsRanged (needs_of self.now.rules) (ReleaseExchange (Asked request) (word_of count_bits first)) }
-        requires midway { MidwayNext (needs_of self.now.rules) self.now.places me begun.call.value begun.registered.value begun.seat.value.me.0 (record position.old { stage = ReleaseExchange (Asked request) (word_of count_bits first); back = Tells }) seat.old.me.0 (next_of (needs_of self.now.rules) me (record position.old { stage = ReleaseExchange (Asked request) (word_of count_bits first); back = Tells }) (ReleaseExchange (Asked request) (word_of count_bits first)) found) }
+        requires midway { MidwayNext (needs_of self.now.rules) self.now.table.shared.key.withheld self.now.places me begun.call.value begun.registered.value begun.seat.value.me.0 (record position.old { stage = ReleaseExchange (Asked request) (word_of count_bits first); back = Tells }) seat.old.me.0 (next_of (needs_of self.now.rules) me (record position.old { stage = ReleaseExchange (Asked request) (word_of count_bits first); back = Tells }) (ReleaseExchange (Asked request) (word_of count_bits first)) found) }
         ensures table { (seat.new.table_id ≡ seat.old.table_id) × (seat.new.id ≡ seat.old.id) }
         ensures number { (seat.new.me.0.deals ≡ false) × (seat.new.me.0.number ≡ me) }
         ensures since { IsSince seat.new.me.0.position position.new }
-        ensures events { HasEvents (needs_of self.now.rules) begun.call.value begun.registered.value result position.new.registration begun.seat.value.me.0 seat.new.me.0 }
+        ensures events { HasEvents (needs_of self.now.rules) self.now.table.shared.key.withheld begun.call.value begun.registered.value result position.new.registration begun.seat.value.me.0 seat.new.me.0 }
     {
         let seen = Word::unpack(first);
         let place = Position {
@@ -422,11 +422,11 @@ impl Form {
         requires table { seat.old.table_id ≡ self.now.table.shared.table_id }
         requires number { (seat.old.me.0.deals ≡ false) × (seat.old.me.0.number ≡ me) × (me < self.now.places) }
         requires ranged { IsRanged (needs_of self.now.rules) place.stage }
-        requires midway { MidwayNext (needs_of self.now.rules) self.now.places me begun.call.value begun.registered.value begun.seat.value.me.0 place seat.old.me.0 (unless_joining place (next_of (needs_of self.now.rules) me place place.stage found)) }
+        requires midway { MidwayNext (needs_of self.now.rules) self.now.table.shared.key.withheld self.now.places me begun.call.value begun.registered.value begun.seat.value.me.0 place seat.old.me.0 (unless_joining place (next_of (needs_of self.now.rules) me place place.stage found)) }
         ensures table { (seat.new.table_id ≡ seat.old.table_id) × (seat.new.id ≡ seat.old.id) }
         ensures number { (seat.new.me.0.deals ≡ false) × (seat.new.me.0.number ≡ me) }
         ensures since { IsSince seat.new.me.0.position result.0 }
-        ensures events { HasEvents (needs_of self.now.rules) begun.call.value begun.registered.value result.1 result.0.registration begun.seat.value.me.0 seat.new.me.0 }
+        ensures events { HasEvents (needs_of self.now.rules) self.now.table.shared.key.withheld begun.call.value begun.registered.value result.1 result.0.registration begun.seat.value.me.0 seat.new.me.0 }
     {
         match unless_joining(place, place.resume(self.rules, me, found)) {
             Next::Going(next) => self.look_and_go_on(rt, watch, seat, me, next, patience, begun),
@@ -452,7 +452,7 @@ impl Form {
         ensures table { (seat.new.table_id ≡ seat.old.table_id) × (seat.new.id ≡ seat.old.id) }
         ensures number { (seat.new.me.0.deals ≡ false) × (seat.new.me.0.number ≡ me) }
         ensures since { IsSince seat.new.me.0.position result.0 }
-        ensures events { HasEvents (needs_of self.now.rules) begun.call.value begun.registered.value result.1 result.0.registration begun.seat.value.me.0 seat.new.me.0 }
+        ensures events { HasEvents (needs_of self.now.rules) self.now.table.shared.key.withheld begun.call.value begun.registered.value result.1 result.0.registration begun.seat.value.me.0 seat.new.me.0 }
     {
         match self.look_on(watch, seat, me, place, patience, &begun) {
             Next::Going(next) => self.go_on(rt, watch, seat, me, next, begun),
@@ -475,11 +475,11 @@ impl Form {
         requires table { seat.old.table_id ≡ self.now.table.shared.table_id }
         requires number { (seat.old.me.0.deals ≡ false) × (seat.old.me.0.number ≡ me) × (me < self.now.places) }
         requires ranged { IsRanged (needs_of self.now.rules) place.stage }
-        requires midway { MidwayNext (needs_of self.now.rules) self.now.places me begun.call.value begun.registered.value begun.seat.value.me.0 place seat.old.me.0 (next_of (needs_of self.now.rules) me place place.stage found) }
+        requires midway { MidwayNext (needs_of self.now.rules) self.now.table.shared.key.withheld self.now.places me begun.call.value begun.registered.value begun.seat.value.me.0 place seat.old.me.0 (next_of (needs_of self.now.rules) me place place.stage found) }
         ensures table { (seat.new.table_id ≡ seat.old.table_id) × (seat.new.id ≡ seat.old.id) }
         ensures number { (seat.new.me.0.deals ≡ false) × (seat.new.me.0.number ≡ me) }
         ensures since { IsSince seat.new.me.0.position result.0 }
-        ensures events { HasEvents (needs_of self.now.rules) begun.call.value begun.registered.value result.1 result.0.registration begun.seat.value.me.0 seat.new.me.0 }
+        ensures events { HasEvents (needs_of self.now.rules) self.now.table.shared.key.withheld begun.call.value begun.registered.value result.1 result.0.registration begun.seat.value.me.0 seat.new.me.0 }
     {
         match place.resume(self.rules, me, found) {
             Next::Going(next) => self.go_on(rt, watch, seat, me, next, begun),

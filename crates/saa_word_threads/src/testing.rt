@@ -8,7 +8,7 @@ ghost use Rattle.saa_word_steps.specs.declared.call.Answer.{Answer};
 ghost use Rattle.saa_word_steps.specs.declared.call.WordCall.TheVariants.{Cancel, Register, RegisterMode, Release, ReleaseShare, TryShare};
 ghost use Rattle.saa_word_threads.specs.Locks.{IsDealtBy as IsDealtByLock, IsMade as IsMadeAtLock, IsWaited as IsWaitedAtLock};
 ghost use Rattle.saa_word_threads.specs.Public.{IsMade, IsWaited, is_yes, tried};
-ghost use Rattle.saa_word_threads.specs.Semaphores.{IsDealtBy};
+ghost use Rattle.saa_word_threads.specs.Semaphores.{IsDealtBy, about_of};
 
 use crate::lock::{Lock, Mode, Place as LockPlace, SHARED, TryLockError, tried};
 pub use crate::looking::{NONE, Patience, WAITING};
@@ -31,7 +31,7 @@ pub fn release_watched<R: Wait, W: Watch, const MAX: usize>(
     count: usize,
 ) -> bool
     requires { IsDealtBy semaphore.now place.old }
-    ensures { (answer : Answer) × (result ≡ is_yes answer) × IsMade (permit_needs MAX) (Release count) place.old answer place.new }
+    ensures { (answer : Answer) × (result ≡ is_yes answer) × IsMade (permit_needs MAX) (about_of semaphore.now).withheld (Release count) place.old answer place.new }
 {
     yes(
         semaphore
@@ -48,7 +48,7 @@ pub fn cancel_watched<R: Wait, W: Watch, const MAX: usize>(
     place: &mut Place,
 )
     requires { IsDealtBy semaphore.now place.old }
-    ensures { (answer : Answer) × IsMade (permit_needs MAX) Cancel place.old answer place.new }
+    ensures { (answer : Answer) × IsMade (permit_needs MAX) (about_of semaphore.now).withheld Cancel place.old answer place.new }
 {
     semaphore.form.call(rt, watch, place, WordCall::Cancel);
 }
@@ -63,7 +63,7 @@ pub fn acquire_patiently<R: Wait, W: Watch, const MAX: usize>(
     patience: Patience,
 ) -> bool
     requires { IsDealtBy semaphore.now place.old }
-    ensures { IsWaited (permit_needs MAX) (Register count) place.old result place.new }
+    ensures { IsWaited (permit_needs MAX) (about_of semaphore.now).withheld (Register count) place.old result place.new }
 {
     semaphore.wait_patiently(rt, watch, place, count, patience)
 }

@@ -20,14 +20,14 @@ pub ask_on-requires-clause-midway : goal.ask_on-requires-clause-midway
 ask_on-requires-clause-midway g c =
     let here : c.args.place.now.number < c.args.self.now.places = search rules in
     rw (c.of-begun.ensures.call, c.of-begun.ensures.registered, c.of-begun.ensures.seat)
-    (sought-next (needs_of c.args.self.now.rules) c.args.self.now.places c.args.place.now.number c.args.call c.args.place.now.position
+    (sought-next (needs_of c.args.self.now.rules) c.args.self.now.table.shared.key.withheld c.args.self.now.places c.args.place.now.number c.args.call c.args.place.now.position
     (record c.args.place.now.position { stage = AskLoad c.args.ask }) c.args.place.now.seat.me.0 c.seek_by_load-found.new.seat.me.0 c.seek_by_load-found.result here
     c.args.place.now.numbered.1 c.args.place.now.since c.requires.taken c.requires.starts c.of-looking.result.value c.of-looking.ensures
     c.seek_by_load-found.ensures.sought)
 
 pub returns-then-not-grants-clause-called : goal.returns-then-not-grants-clause-called
 returns-then-not-grants-clause-called g c =
-    going-called (needs_of c.args.self.now.rules) c.args.call c.args.place.now.position c.args.place.now.since.0
+    going-called (needs_of c.args.self.now.rules) c.args.self.now.table.shared.key.withheld c.args.call c.args.place.now.position c.args.place.now.since.0
     (record c.args.place.now.position { stage = AskLoad c.args.ask }) c.ask_on.result c.ask_on.new.position.registration
     c.args.place.now.seat.me.0 c.ask_on.new.seat.me.0 c.requires.starts
     (rw (c.of-begun.ensures.call, c.of-begun.ensures.registered, c.of-begun.ensures.seat) at c.ask_on.ensures.events)
@@ -37,14 +37,14 @@ ask_anew-requires-clause-midway g c =
     let here : c.args.place.now.number < c.args.self.now.places = search rules in
     let grants : grants_at (needs_of c.args.self.now.rules) c.unpack-seen.result c.args.ask ≡ true = search rules in
     rw (c.of-begun.ensures.call, c.of-begun.ensures.registered, c.of-begun.ensures.seat)
-    (subst (λ (s : Word). MidwayNext (needs_of c.args.self.now.rules) c.args.self.now.places c.args.place.now.number c.args.call
+    (subst (λ (s : Word). MidwayNext (needs_of c.args.self.now.rules) c.args.self.now.table.shared.key.withheld c.args.self.now.places c.args.place.now.number c.args.call
     c.args.place.now.position.registration c.args.place.now.seat.me.0 (record c.args.place.now.position { stage = AskExchange c.args.ask s })
     c.seek_by_exchange-other.new.seat.me.0 (unless_joining (record c.args.place.now.position { stage = AskExchange c.args.ask s })
     (next_of (needs_of c.args.self.now.rules) c.args.place.now.number
     (record c.args.place.now.position { stage = AskExchange c.args.ask s }) (AskExchange c.args.ask s) c.seek_by_exchange-other.result))) c.unpack-seen.ensures
-    (changed-sought (needs_of c.args.self.now.rules) c.args.self.now.places c.args.place.now.number c.args.call c.args.place.now.position
+    (changed-sought (needs_of c.args.self.now.rules) c.args.self.now.table.shared.key.withheld c.args.self.now.places c.args.place.now.number c.args.call c.args.place.now.position
     (record c.args.place.now.position { stage = AskLoad c.args.ask }) c.args.place.now.seat.me.0 c.seek_by_load-found.new.seat.me.0 c.seek_by_load-found.result here c.args.place.now.numbered.1
-    c.args.place.now.since c.requires.taken c.requires.starts c.of-looking.result.value c.of-looking.ensures (ask-looks (needs_of c.args.self.now.rules) c.args.self.now.places c.args.place.now.number c.args.place.now.position
+    c.args.place.now.since c.requires.taken c.requires.starts c.of-looking.result.value c.of-looking.ensures (ask-looks (needs_of c.args.self.now.rules) c.args.self.now.table.shared.key.withheld c.args.self.now.places c.args.place.now.number c.args.place.now.position
     c.args.ask c.seek_by_load-found.result c.unpack-seen.result c.args.place.now.seat.me.0 c.seek_by_load-found.new.seat.me.0 c.of-looking.result.value
     c.unpack-seen.ensures grants c.of-looking.ensures c.seek_by_load-found.ensures.sought)
     (record c.args.place.now.position { stage = AskExchange c.args.ask c.unpack-seen.result })
@@ -54,7 +54,7 @@ ask_anew-requires-clause-midway g c =
 
 pub returns-then-other-old-clause-called : goal.returns-then-other-old-clause-called
 returns-then-other-old-clause-called g c =
-    going-called (needs_of c.args.self.now.rules) c.args.call c.args.place.now.position c.args.place.now.since.0
+    going-called (needs_of c.args.self.now.rules) c.args.self.now.table.shared.key.withheld c.args.call c.args.place.now.position c.args.place.now.since.0
     (record c.args.place.now.position { stage = AskLoad c.args.ask }) c.ask_anew.result c.ask_anew.new.position.registration
     c.args.place.now.seat.me.0 c.ask_anew.new.seat.me.0 c.requires.starts
     (rw (c.of-begun.ensures.call, c.of-begun.ensures.registered, c.of-begun.ensures.seat) at c.ask_anew.ensures.events)
@@ -64,19 +64,19 @@ returns-then-ask-clause-called g c =
     let here : c.args.place.now.number < c.args.self.now.places = search rules in
     let grants : grants_at (needs_of c.args.self.now.rules) c.unpack-seen.result c.args.ask ≡ true = search rules in
     let hit : c.seek_by_exchange-other.result ≡ word_number count_bits c.unpack-seen.result = search rules in
-    going-called (needs_of c.args.self.now.rules) c.args.call c.args.place.now.position c.args.place.now.since.0
+    going-called (needs_of c.args.self.now.rules) c.args.self.now.table.shared.key.withheld c.args.call c.args.place.now.position c.args.place.now.since.0
     (record c.args.place.now.position { stage = AskLoad c.args.ask }) (Says true) (Once granted_value c.args.ask.request)
     c.args.place.now.seat.me.0 c.seek_by_exchange-other.new.seat.me.0 c.requires.starts
-    ((registered-events (needs_of c.args.self.now.rules) c.args.self.now.places c.args.place.now.number c.args.call c.args.place.now.position c.args.ask
+    ((registered-events (needs_of c.args.self.now.rules) c.args.self.now.table.shared.key.withheld c.args.self.now.places c.args.place.now.number c.args.call c.args.place.now.position c.args.ask
     c.unpack-seen.result c.args.place.now.seat.me.0 c.seek_by_exchange-other.new.seat.me.0 c.seek_by_exchange-other.result hit
-    (changed-next (needs_of c.args.self.now.rules) c.args.self.now.places c.args.place.now.number c.args.call c.args.place.now.position
+    (changed-next (needs_of c.args.self.now.rules) c.args.self.now.table.shared.key.withheld c.args.self.now.places c.args.place.now.number c.args.call c.args.place.now.position
     (record c.args.place.now.position { stage = AskLoad c.args.ask }) c.args.place.now.seat.me.0 c.seek_by_load-found.new.seat.me.0 c.seek_by_load-found.result here c.args.place.now.numbered.1
-    c.args.place.now.since c.requires.taken c.requires.starts c.of-looking.result.value c.of-looking.ensures (ask-looks (needs_of c.args.self.now.rules) c.args.self.now.places c.args.place.now.number c.args.place.now.position
+    c.args.place.now.since c.requires.taken c.requires.starts c.of-looking.result.value c.of-looking.ensures (ask-looks (needs_of c.args.self.now.rules) c.args.self.now.table.shared.key.withheld c.args.self.now.places c.args.place.now.number c.args.place.now.position
     c.args.ask c.seek_by_load-found.result c.unpack-seen.result c.args.place.now.seat.me.0 c.seek_by_load-found.new.seat.me.0 c.of-looking.result.value
     c.unpack-seen.ensures grants c.of-looking.ensures c.seek_by_load-found.ensures.sought)
     (record c.args.place.now.position { stage = AskExchange c.args.ask c.unpack-seen.result })
     (ask-goes (needs_of c.args.self.now.rules) c.args.place.now.number c.args.place.now.position c.args.ask c.seek_by_load-found.result c.unpack-seen.result c.unpack-seen.ensures grants)
-    c.seek_by_exchange-other.new.seat.me.0 c.seek_by_exchange-other.result c.of-changing.result.value c.of-changing.ensures (ask-takes (needs_of c.args.self.now.rules) c.args.self.now.places c.args.place.now.number c.args.place.now.position
+    c.seek_by_exchange-other.new.seat.me.0 c.seek_by_exchange-other.result c.of-changing.result.value c.of-changing.ensures (ask-takes (needs_of c.args.self.now.rules) c.args.self.now.table.shared.key.withheld c.args.self.now.places c.args.place.now.number c.args.place.now.position
     c.args.ask c.seek_by_exchange-other.result c.unpack-seen.result c.seek_by_load-found.new.seat.me.0 c.seek_by_exchange-other.new.seat.me.0
     c.of-changing.result.value hit c.of-changing.ensures c.seek_by_exchange-other.ensures.sought)) c.if-ask.true).0)
 
@@ -86,19 +86,19 @@ returns-clause-called g c =
     let grants : grants_at (needs_of c.args.self.now.rules) c.unpack-seen.result c.args.ask ≡ true = search rules in
     let hit : c.seek_by_exchange-other.result ≡ word_number count_bits c.unpack-seen.result = search rules in
     rw (c.granted_try.ensures) (
-    going-called (needs_of c.args.self.now.rules) c.args.call c.args.place.now.position c.args.place.now.since.0
+    going-called (needs_of c.args.self.now.rules) c.args.self.now.table.shared.key.withheld c.args.call c.args.place.now.position c.args.place.now.since.0
     (record c.args.place.now.position { stage = AskLoad c.args.ask }) (tried_answer (needs_of c.args.self.now.rules) true) c.args.place.now.position.registration
     c.args.place.now.seat.me.0 c.seek_by_exchange-other.new.seat.me.0 c.requires.starts
-    ((tried-events (needs_of c.args.self.now.rules) c.args.self.now.places c.args.place.now.number c.args.call c.args.place.now.position c.args.ask
+    ((tried-events (needs_of c.args.self.now.rules) c.args.self.now.table.shared.key.withheld c.args.self.now.places c.args.place.now.number c.args.call c.args.place.now.position c.args.ask
     c.unpack-seen.result c.args.place.now.seat.me.0 c.seek_by_exchange-other.new.seat.me.0 c.seek_by_exchange-other.result hit
-    (changed-next (needs_of c.args.self.now.rules) c.args.self.now.places c.args.place.now.number c.args.call c.args.place.now.position
+    (changed-next (needs_of c.args.self.now.rules) c.args.self.now.table.shared.key.withheld c.args.self.now.places c.args.place.now.number c.args.call c.args.place.now.position
     (record c.args.place.now.position { stage = AskLoad c.args.ask }) c.args.place.now.seat.me.0 c.seek_by_load-found.new.seat.me.0 c.seek_by_load-found.result here c.args.place.now.numbered.1
-    c.args.place.now.since c.requires.taken c.requires.starts c.of-looking.result.value c.of-looking.ensures (ask-looks (needs_of c.args.self.now.rules) c.args.self.now.places c.args.place.now.number c.args.place.now.position
+    c.args.place.now.since c.requires.taken c.requires.starts c.of-looking.result.value c.of-looking.ensures (ask-looks (needs_of c.args.self.now.rules) c.args.self.now.table.shared.key.withheld c.args.self.now.places c.args.place.now.number c.args.place.now.position
     c.args.ask c.seek_by_load-found.result c.unpack-seen.result c.args.place.now.seat.me.0 c.seek_by_load-found.new.seat.me.0 c.of-looking.result.value
     c.unpack-seen.ensures grants c.of-looking.ensures c.seek_by_load-found.ensures.sought)
     (record c.args.place.now.position { stage = AskExchange c.args.ask c.unpack-seen.result })
     (ask-goes (needs_of c.args.self.now.rules) c.args.place.now.number c.args.place.now.position c.args.ask c.seek_by_load-found.result c.unpack-seen.result c.unpack-seen.ensures grants)
-    c.seek_by_exchange-other.new.seat.me.0 c.seek_by_exchange-other.result c.of-changing.result.value c.of-changing.ensures (ask-takes (needs_of c.args.self.now.rules) c.args.self.now.places c.args.place.now.number c.args.place.now.position
+    c.seek_by_exchange-other.new.seat.me.0 c.seek_by_exchange-other.result c.of-changing.result.value c.of-changing.ensures (ask-takes (needs_of c.args.self.now.rules) c.args.self.now.table.shared.key.withheld c.args.self.now.places c.args.place.now.number c.args.place.now.position
     c.args.ask c.seek_by_exchange-other.result c.unpack-seen.result c.seek_by_load-found.new.seat.me.0 c.seek_by_exchange-other.new.seat.me.0
     c.of-changing.result.value hit c.of-changing.ensures c.seek_by_exchange-other.ensures.sought)) c.if-ask.false).0))
 
@@ -106,9 +106,9 @@ pub seek_by_exchange-other-requires-clause-next : goal.seek_by_exchange-other-re
 seek_by_exchange-other-requires-clause-next g c =
     let here : c.args.place.now.number < c.args.self.now.places = search rules in
     let grants : grants_at (needs_of c.args.self.now.rules) c.unpack-seen.result c.args.ask ≡ true = search rules in
-    change-next (needs_of c.args.self.now.rules) c.args.self.now.places c.args.place.now.number c.args.call c.args.place.now.position
+    change-next (needs_of c.args.self.now.rules) c.args.self.now.table.shared.key.withheld c.args.self.now.places c.args.place.now.number c.args.call c.args.place.now.position
     (record c.args.place.now.position { stage = AskLoad c.args.ask }) c.args.place.now.seat.me.0 c.seek_by_load-found.new.seat.me.0 c.seek_by_load-found.result here c.args.place.now.numbered.1
-    c.args.place.now.since c.requires.taken c.requires.starts c.of-looking.result.value c.of-looking.ensures (ask-looks (needs_of c.args.self.now.rules) c.args.self.now.places c.args.place.now.number c.args.place.now.position
+    c.args.place.now.since c.requires.taken c.requires.starts c.of-looking.result.value c.of-looking.ensures (ask-looks (needs_of c.args.self.now.rules) c.args.self.now.table.shared.key.withheld c.args.self.now.places c.args.place.now.number c.args.place.now.position
     c.args.ask c.seek_by_load-found.result c.unpack-seen.result c.args.place.now.seat.me.0 c.seek_by_load-found.new.seat.me.0 c.of-looking.result.value
     c.unpack-seen.ensures grants c.of-looking.ensures c.seek_by_load-found.ensures.sought)
     (record c.args.place.now.position { stage = AskExchange c.args.ask c.unpack-seen.result })

@@ -16,11 +16,11 @@ go_on-answer-requires-clause-midway g c =
 
 pub returns-in-Done-clause-called : goal.returns-in-Done-clause-called
 returns-in-Done-clause-called g c =
-    done-called (needs_of c.args.self.now.rules) c.args.call c.args.place.now.position c.args.place.now.since.0 c.in-Done.position c.in-Done.answer
+    done-called (needs_of c.args.self.now.rules) c.args.self.now.table.shared.key.withheld c.args.call c.args.place.now.position c.args.place.now.since.0 c.in-Done.position c.in-Done.answer
     c.args.place.now.seat.me.0 c.args.place.now.seat.me.0 (sym c.start.ensures ∙ c.in-Done.is) refl
 
 pub returns-in-Going-clause-called : goal.returns-in-Going-clause-called
 returns-in-Going-clause-called g c =
-    going-called (needs_of c.args.self.now.rules) c.args.call c.args.place.now.position c.args.place.now.since.0 c.in-Going.first c.go_on-answer.result.1
+    going-called (needs_of c.args.self.now.rules) c.args.self.now.table.shared.key.withheld c.args.call c.args.place.now.position c.args.place.now.since.0 c.in-Going.first c.go_on-answer.result.1
     c.go_on-answer.result.0.registration c.args.place.now.seat.me.0 c.go_on-answer.new.seat.me.0 (sym c.start.ensures ∙ c.in-Going.is)
     (rw (c.of-begun.ensures.call, c.of-begun.ensures.registered, c.of-begun.ensures.seat) at c.go_on-answer.ensures.events)

@@ -10,13 +10,13 @@ invariant_of-place-clause-since c =
 
 pub returns-in-Done-clause-called : goal.returns-in-Done-clause-called
 returns-in-Done-clause-called c =
-    done-called (needs_of c.args.self.now.rules) c.args.call c.args.place.now.position c.args.place.now.since.0 c.in-Done.position c.in-Done.answer
+    done-called (needs_of c.args.self.now.rules) c.args.self.now.table.shared.key.withheld c.args.call c.args.place.now.position c.args.place.now.since.0 c.in-Done.position c.in-Done.answer
     c.args.place.now.seat.me.0 c.args.place.now.seat.me.0 (sym c.start.ensures ∙ c.in-Done.is) refl
 
 pub invariant_of-place-in-Done-act-clause-since : goal.invariant_of-place-in-Done-act-clause-since
 invariant_of-place-in-Done-act-clause-since c =
     let here : c.args.place.now.number < c.args.self.now.places = search rules in
-    midway-since (needs_of c.args.self.now.rules) c.args.self.now.places c.args.place.now.number c.args.call c.args.place.now.position.registration
+    midway-since (needs_of c.args.self.now.rules) c.args.self.now.table.shared.key.withheld c.args.self.now.places c.args.place.now.number c.args.call c.args.place.now.position.registration
     c.args.place.now.seat.me.0 c.in-Going.first c.args.place.now.seat.me.0 c.act.new.seat.me.0 c.in-Done-act.ensures.moved.0
     (midway-first (needs_of c.args.self.now.rules) c.args.self.now.places c.args.place.now.number c.args.call c.args.place.now.position c.in-Going.first
     c.args.place.now.seat.me.0 here c.args.place.now.since c.requires.taken (sym c.start.ensures ∙ c.in-Going.is))
@@ -32,9 +32,9 @@ unreachable-requires c =
 pub returns-in-Done-act-clause-called : goal.returns-in-Done-act-clause-called
 returns-in-Done-act-clause-called c =
     let here : c.args.place.now.number < c.args.self.now.places = search rules in
-    going-called (needs_of c.args.self.now.rules) c.args.call c.args.place.now.position c.args.place.now.since.0 c.in-Going.first c.in-Done-act.answer
+    going-called (needs_of c.args.self.now.rules) c.args.self.now.table.shared.key.withheld c.args.call c.args.place.now.position c.args.place.now.since.0 c.in-Going.first c.in-Done-act.answer
     c.in-Done-act.position.registration c.args.place.now.seat.me.0 c.act.new.seat.me.0 (sym c.start.ensures ∙ c.in-Going.is)
-    (midway-done (needs_of c.args.self.now.rules) c.args.self.now.places c.args.place.now.number c.args.call c.args.place.now.position.registration
+    (midway-done (needs_of c.args.self.now.rules) c.args.self.now.table.shared.key.withheld c.args.self.now.places c.args.place.now.number c.args.call c.args.place.now.position.registration
     c.args.place.now.seat.me.0 c.in-Going.first c.args.place.now.seat.me.0 c.act.new.seat.me.0 c.in-Done-act.ensures.moved.0
     (midway-first (needs_of c.args.self.now.rules) c.args.self.now.places c.args.place.now.number c.args.call c.args.place.now.position c.in-Going.first
     c.args.place.now.seat.me.0 here c.args.place.now.since c.requires.taken (sym c.start.ensures ∙ c.in-Going.is))

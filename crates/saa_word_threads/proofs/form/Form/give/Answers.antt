@@ -18,7 +18,7 @@ pub give_on-answer-requires-clause-midway : goal.give_on-answer-requires-clause-
 give_on-answer-requires-clause-midway g c =
     let here : c.args.place.now.number < c.args.self.now.places = search rules in
     rw (c.of-begun.ensures.call, c.of-begun.ensures.registered, c.of-begun.ensures.seat)
-    (looked-next (needs_of c.args.self.now.rules) c.args.self.now.places c.args.place.now.number c.args.call c.args.place.now.position
+    (looked-next (needs_of c.args.self.now.rules) c.args.self.now.table.shared.key.withheld c.args.self.now.places c.args.place.now.number c.args.call c.args.place.now.position
     (record c.args.place.now.position { stage = ReleaseLoad (Asked c.args.request); back = Tells }) c.args.place.now.seat.me.0 c.look-found.new.seat.me.0 c.look-found.result here c.args.place.now.numbered.1
     c.args.place.now.since c.requires.taken c.requires.starts c.of-looking.result.value c.of-looking.ensures c.look-found.ensures.moved)
 
@@ -26,7 +26,7 @@ pub returns-in_default-clause-called : goal.returns-in_default-clause-called
 returns-in_default-clause-called g c = (
   c.give_on-answer.result,
   c.yes.ensures,
-  going-called (needs_of c.args.self.now.rules) c.args.call c.args.place.now.position c.args.place.now.since.0
+  going-called (needs_of c.args.self.now.rules) c.args.self.now.table.shared.key.withheld c.args.call c.args.place.now.position c.args.place.now.since.0
       (record c.args.place.now.position { stage = ReleaseLoad (Asked c.args.request); back = Tells }) c.give_on-answer.result c.give_on-answer.new.position.registration
       c.args.place.now.seat.me.0 c.give_on-answer.new.seat.me.0 c.requires.starts
       (rw (c.of-begun.ensures.call, c.of-begun.ensures.registered, c.of-begun.ensures.seat) at c.give_on-answer.ensures.events),
@@ -37,11 +37,11 @@ give_anew-answer-requires-clause-midway g c =
     let here : c.args.place.now.number < c.args.self.now.places = search rules in
     let lowers : lowers_to (needs_of c.args.self.now.rules) c.unpack-seen.result c.args.request ≡ Some c.in-Some.count = sym c.lowers.ensures ∙ c.in-Some.is in
     rw (c.of-begun.ensures.call, c.of-begun.ensures.registered, c.of-begun.ensures.seat)
-    (subst (λ (s : Word). MidwayNext (needs_of c.args.self.now.rules) c.args.self.now.places c.args.place.now.number c.args.call
+    (subst (λ (s : Word). MidwayNext (needs_of c.args.self.now.rules) c.args.self.now.table.shared.key.withheld c.args.self.now.places c.args.place.now.number c.args.call
     c.args.place.now.position.registration c.args.place.now.seat.me.0 (record c.args.place.now.position { stage = ReleaseExchange (Asked c.args.request) s; back = Tells })
     c.change-other.new.seat.me.0 (next_of (needs_of c.args.self.now.rules) c.args.place.now.number
     (record c.args.place.now.position { stage = ReleaseExchange (Asked c.args.request) s; back = Tells }) (ReleaseExchange (Asked c.args.request) s) c.change-other.result)) c.unpack-seen.ensures
-    (changed-next (needs_of c.args.self.now.rules) c.args.self.now.places c.args.place.now.number c.args.call c.args.place.now.position
+    (changed-next (needs_of c.args.self.now.rules) c.args.self.now.table.shared.key.withheld c.args.self.now.places c.args.place.now.number c.args.call c.args.place.now.position
     (record c.args.place.now.position { stage = ReleaseLoad (Asked c.args.request); back = Tells }) c.args.place.now.seat.me.0 c.look-found.new.seat.me.0 c.look-found.result here c.args.place.now.numbered.1
     c.args.place.now.since c.requires.taken c.requires.starts c.of-looking.result.value c.of-looking.ensures c.look-found.ensures.moved
     (record c.args.place.now.position { stage = ReleaseExchange (Asked c.args.request) c.unpack-seen.result; back = Tells })
@@ -53,7 +53,7 @@ pub returns-then-other-old-clause-called : goal.returns-then-other-old-clause-ca
 returns-then-other-old-clause-called g c = (
   c.give_anew-answer.result,
   c.yes-then-other-old.ensures,
-  going-called (needs_of c.args.self.now.rules) c.args.call c.args.place.now.position c.args.place.now.since.0
+  going-called (needs_of c.args.self.now.rules) c.args.self.now.table.shared.key.withheld c.args.call c.args.place.now.position c.args.place.now.since.0
       (record c.args.place.now.position { stage = ReleaseLoad (Asked c.args.request); back = Tells }) c.give_anew-answer.result c.give_anew-answer.new.position.registration
       c.args.place.now.seat.me.0 c.give_anew-answer.new.seat.me.0 c.requires.starts
       (rw (c.of-begun.ensures.call, c.of-begun.ensures.registered, c.of-begun.ensures.seat) at c.give_anew-answer.ensures.events),
@@ -66,12 +66,12 @@ returns-clause-called g c =
     let hit : c.change-other.result ≡ word_number count_bits c.unpack-seen.result = search rules in (
       Says true,
       refl,
-      going-called (needs_of c.args.self.now.rules) c.args.call c.args.place.now.position c.args.place.now.since.0
+      going-called (needs_of c.args.self.now.rules) c.args.self.now.table.shared.key.withheld c.args.call c.args.place.now.position c.args.place.now.since.0
           (record c.args.place.now.position { stage = ReleaseLoad (Asked c.args.request); back = Tells }) (Says true) c.args.place.now.position.registration
           c.args.place.now.seat.me.0 c.change-other.new.seat.me.0 c.requires.starts
-          (gave-events (needs_of c.args.self.now.rules) c.args.self.now.places c.args.place.now.number c.args.call c.args.place.now.position c.args.request
+          (gave-events (needs_of c.args.self.now.rules) c.args.self.now.table.shared.key.withheld c.args.self.now.places c.args.place.now.number c.args.call c.args.place.now.position c.args.request
           c.in-Some.count c.unpack-seen.result c.args.place.now.seat.me.0 c.change-other.new.seat.me.0 c.change-other.result hit lowers
-          (changed-next (needs_of c.args.self.now.rules) c.args.self.now.places c.args.place.now.number c.args.call c.args.place.now.position
+          (changed-next (needs_of c.args.self.now.rules) c.args.self.now.table.shared.key.withheld c.args.self.now.places c.args.place.now.number c.args.call c.args.place.now.position
           (record c.args.place.now.position { stage = ReleaseLoad (Asked c.args.request); back = Tells }) c.args.place.now.seat.me.0 c.look-found.new.seat.me.0 c.look-found.result here c.args.place.now.numbered.1
           c.args.place.now.since c.requires.taken c.requires.starts c.of-looking.result.value c.of-looking.ensures c.look-found.ensures.moved
           (record c.args.place.now.position { stage = ReleaseExchange (Asked c.args.request) c.unpack-seen.result; back = Tells })
@@ -84,7 +84,7 @@ pub change-other-requires-clause-next : goal.change-other-requires-clause-next
 change-other-requires-clause-next g c =
     let here : c.args.place.now.number < c.args.self.now.places = search rules in
     let lowers : lowers_to (needs_of c.args.self.now.rules) c.unpack-seen.result c.args.request ≡ Some c.in-Some.count = sym c.lowers.ensures ∙ c.in-Some.is in
-    change-next (needs_of c.args.self.now.rules) c.args.self.now.places c.args.place.now.number c.args.call c.args.place.now.position
+    change-next (needs_of c.args.self.now.rules) c.args.self.now.table.shared.key.withheld c.args.self.now.places c.args.place.now.number c.args.call c.args.place.now.position
     (record c.args.place.now.position { stage = ReleaseLoad (Asked c.args.request); back = Tells }) c.args.place.now.seat.me.0 c.look-found.new.seat.me.0 c.look-found.result here
     c.args.place.now.numbered.1 c.args.place.now.since c.requires.taken c.requires.starts c.of-looking.result.value c.of-looking.ensures c.look-found.ensures.moved
     (record c.args.place.now.position { stage = ReleaseExchange (Asked c.args.request) c.unpack-seen.result; back = Tells })

@@ -10,7 +10,7 @@ loop-preserved-in-Going g c = record {
   deals = c.in-Going.ensures.moved.2.extends.deals ∙ c.loop.invariant.deals;
   number = c.in-Going.ensures.moved.2.extends.number ∙ c.loop.invariant.number;
   midway =
-      midway-going (needs_of c.args.self.now.rules) c.args.self.now.places c.args.me c.args.begun.call.value c.args.begun.registered.value
+      midway-going (needs_of c.args.self.now.rules) c.args.self.now.table.shared.key.withheld c.args.self.now.places c.args.me c.args.begun.call.value c.args.begun.registered.value
       c.args.begun.seat.value.me.0 c.loop.place c.loop.seat.me.0 c.act.new.seat.me.0 c.in-Going.ensures.moved.0 c.loop.invariant.midway
       c.loop.invariant.number c.in-Going.next c.in-Going.ensures.moved.1 c.in-Going.ensures.moved.2;
 }
@@ -22,19 +22,19 @@ loop-preserved g c = record {
   deals = c.in-Waits.ensures.moved.2.extends.deals ∙ c.loop.invariant.deals;
   number = c.in-Waits.ensures.moved.2.extends.number ∙ c.loop.invariant.number;
   midway =
-      midway-waits (needs_of c.args.self.now.rules) c.args.self.now.places c.args.me c.args.begun.call.value c.args.begun.registered.value
+      midway-waits (needs_of c.args.self.now.rules) c.args.self.now.table.shared.key.withheld c.args.self.now.places c.args.me c.args.begun.call.value c.args.begun.registered.value
       c.args.begun.seat.value.me.0 c.loop.place c.loop.seat.me.0 c.act.new.seat.me.0 c.in-Waits.ensures.moved.0 c.loop.invariant.midway
       c.loop.invariant.number c.in-Waits.ensures.moved.1 c.in-Waits.ensures.moved.2;
 }
 
 pub returns-in-Done-clause-since : goal.returns-in-Done-clause-since
 returns-in-Done-clause-since g c =
-    midway-since (needs_of c.args.self.now.rules) c.args.self.now.places c.args.me c.args.begun.call.value c.args.begun.registered.value
+    midway-since (needs_of c.args.self.now.rules) c.args.self.now.table.shared.key.withheld c.args.self.now.places c.args.me c.args.begun.call.value c.args.begun.registered.value
     c.args.begun.seat.value.me.0 c.loop.place c.loop.seat.me.0 c.act.new.seat.me.0 c.in-Done.ensures.moved.0 c.loop.invariant.midway
     c.loop.invariant.number c.in-Done.behind c.in-Done.answer c.in-Done.ensures.moved.1 c.in-Done.ensures.moved.2
 
 pub returns-in-Done-clause-events : goal.returns-in-Done-clause-events
 returns-in-Done-clause-events g c =
-    midway-done (needs_of c.args.self.now.rules) c.args.self.now.places c.args.me c.args.begun.call.value c.args.begun.registered.value
+    midway-done (needs_of c.args.self.now.rules) c.args.self.now.table.shared.key.withheld c.args.self.now.places c.args.me c.args.begun.call.value c.args.begun.registered.value
     c.args.begun.seat.value.me.0 c.loop.place c.loop.seat.me.0 c.act.new.seat.me.0 c.in-Done.ensures.moved.0 c.loop.invariant.midway
     c.loop.invariant.number c.in-Done.behind c.in-Done.answer c.in-Done.ensures.moved.1 c.in-Done.ensures.moved.2

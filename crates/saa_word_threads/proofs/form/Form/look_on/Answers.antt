@@ -6,14 +6,14 @@ use Rattle.saa_word_threads.proofs.form.Form.look_on.Goals as goal
 
 pub returns-in-Done-clause-midway : goal.returns-in-Done-clause-midway
 returns-in-Done-clause-midway g c =
-    midway-stays (needs_of c.args.self.now.rules) c.args.self.now.places c.args.me c.args.begun.now.call.value c.args.begun.now.registered.value
+    midway-stays (needs_of c.args.self.now.rules) c.args.self.now.table.shared.key.withheld c.args.self.now.places c.args.me c.args.begun.now.call.value c.args.begun.now.registered.value
     c.args.begun.now.seat.value.me.0 c.loop-turn.place c.loop-turn.seat.me.0 c.seek.new.seat.me.0 (Done c.in-Done.behind c.in-Done.answer)
     c.loop-turn.invariant.midway c.loop-turn.invariant.number c.in-Done.ensures.sought
 
 pub loop-turn-preserved : goal.loop-turn-preserved
 loop-turn-preserved g c =
     let same =
-    stays-same (needs_of c.args.self.now.rules) c.args.self.now.places c.args.me c.loop-turn.place (Going c.in-Going.next) c.loop-turn.seat.me.0 c.seek.new.seat.me.0
+    stays-same (needs_of c.args.self.now.rules) c.args.self.now.table.shared.key.withheld c.args.self.now.places c.args.me c.loop-turn.place (Going c.in-Going.next) c.loop-turn.seat.me.0 c.seek.new.seat.me.0
     c.in-Going.ensures.sought in
     record {
       table = search rules;
@@ -21,7 +21,7 @@ loop-turn-preserved g c =
       deals = same.0 ∙ c.loop-turn.invariant.deals;
       number = same.1 ∙ c.loop-turn.invariant.number;
       midway =
-          midway-stays (needs_of c.args.self.now.rules) c.args.self.now.places c.args.me c.args.begun.now.call.value c.args.begun.now.registered.value
+          midway-stays (needs_of c.args.self.now.rules) c.args.self.now.table.shared.key.withheld c.args.self.now.places c.args.me c.args.begun.now.call.value c.args.begun.now.registered.value
           c.args.begun.now.seat.value.me.0 c.loop-turn.place c.loop-turn.seat.me.0 c.seek.new.seat.me.0 (Going c.in-Going.next)
           c.loop-turn.invariant.midway c.loop-turn.invariant.number c.in-Going.ensures.sought;
     }
@@ -29,7 +29,7 @@ loop-turn-preserved g c =
 pub loop-turn-preserved-in-Waits : goal.loop-turn-preserved-in-Waits
 loop-turn-preserved-in-Waits g c =
     let same =
-    stays-same (needs_of c.args.self.now.rules) c.args.self.now.places c.args.me c.loop-turn.place Waits c.loop-turn.seat.me.0 c.seek.new.seat.me.0
+    stays-same (needs_of c.args.self.now.rules) c.args.self.now.table.shared.key.withheld c.args.self.now.places c.args.me c.loop-turn.place Waits c.loop-turn.seat.me.0 c.seek.new.seat.me.0
     c.in-Waits.ensures.sought in
     record {
       table = search rules;
@@ -37,7 +37,7 @@ loop-turn-preserved-in-Waits g c =
       deals = same.0 ∙ c.loop-turn.invariant.deals;
       number = same.1 ∙ c.loop-turn.invariant.number;
       midway =
-          midway-stays (needs_of c.args.self.now.rules) c.args.self.now.places c.args.me c.args.begun.now.call.value c.args.begun.now.registered.value
+          midway-stays (needs_of c.args.self.now.rules) c.args.self.now.table.shared.key.withheld c.args.self.now.places c.args.me c.args.begun.now.call.value c.args.begun.now.registered.value
           c.args.begun.now.seat.value.me.0 c.loop-turn.place c.loop-turn.seat.me.0 c.seek.new.seat.me.0 Waits
           c.loop-turn.invariant.midway c.loop-turn.invariant.number c.in-Waits.ensures.sought;
     }

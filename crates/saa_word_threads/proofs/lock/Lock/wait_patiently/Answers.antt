@@ -1,4 +1,4 @@
-use Rattle.std.proofs.Common.{◌∙◌, ◌≡◌, Bool, true, sym, subst}
+use Rattle.std.proofs.Common.{◌∙◌, ◌≡◌, ℕ, Bool, true, sym, subst}
 use Rattle.saa_word_steps.specs.declared.call.WordCall.TheVariants.{Poll}
 use Rattle.saa_word_steps.specs.declared.rules.Rules.{Rules}
 use Rattle.saa_word_steps.specs.Needs.{lock_needs, needs_of}
@@ -11,17 +11,19 @@ returns-clause-waited g c =
     let made = c.register_patiently.ensures.called in
     let awaited = c.await_grant.ensures.called in
     let yes : true ≡ is_yes made.0 = sym c.if-not-register_patiently.false ∙ made.1 in
-    let polled : IsCalled lock_needs Poll (registered c.register_patiently.new.place.inner) awaited.0 (registered c.await_grant.new.place)
+    let polled : IsCalled lock_needs 0 Poll (registered c.register_patiently.new.place.inner) awaited.0 (registered c.await_grant.new.place)
     (view_of c.register_patiently.new.place.inner) (view_of c.await_grant.new.place) =
-    subst (λ (r : Rules). IsCalled (needs_of r) Poll (registered c.register_patiently.new.place.inner) awaited.0 (registered c.await_grant.new.place)
-    (view_of c.register_patiently.new.place.inner) (view_of c.await_grant.new.place)) c.args.self.now.modes awaited.2 in (
+    subst (λ (n : ℕ). IsCalled lock_needs n Poll (registered c.register_patiently.new.place.inner) awaited.0 (registered c.await_grant.new.place)
+    (view_of c.register_patiently.new.place.inner) (view_of c.await_grant.new.place)) c.args.self.now.free
+    (subst (λ (r : Rules). IsCalled (needs_of r) c.args.self.now.form.table.shared.key.withheld Poll (registered c.register_patiently.new.place.inner) awaited.0
+    (registered c.await_grant.new.place) (view_of c.register_patiently.new.place.inner) (view_of c.await_grant.new.place)) c.args.self.now.modes awaited.2) in (
       (c.await_grant.ensures.same.1 ∙ made.2.0.0, c.await_grant.ensures.same.0 ∙ made.2.0.1),
       (
         made.0,
         registered c.register_patiently.new.place.inner,
         view_of c.register_patiently.new.place.inner,
         made.2.1,
-        subst (λ (b : Bool). IsWaitedFrom b lock_needs (registered c.register_patiently.new.place.inner) (registered c.await_grant.new.place)
+        subst (λ (b : Bool). IsWaitedFrom b lock_needs 0 (registered c.register_patiently.new.place.inner) (registered c.await_grant.new.place)
             (view_of c.register_patiently.new.place.inner) (view_of c.await_grant.new.place) c.await_grant.result) yes
             (awaited.0, polled, awaited.1),
       ),

@@ -11,9 +11,9 @@ returns-clause-waited g c =
     let made = c.register_patiently.ensures.called in
     let awaited = c.await_grant.ensures.called in
     let yes : true ≡ is_yes made.0 = sym c.if-not-register_patiently.false ∙ made.1 in
-    let polled : IsCalled (permit_needs g.row.MAX) Poll (registered c.register_patiently.new.place) awaited.0 (registered c.await_grant.new.place)
+    let polled : IsCalled (permit_needs g.row.MAX) c.args.self.now.form.table.shared.key.withheld Poll (registered c.register_patiently.new.place) awaited.0 (registered c.await_grant.new.place)
     (view_of c.register_patiently.new.place) (view_of c.await_grant.new.place) =
-    subst (λ (r : Rules). IsCalled (needs_of r) Poll (registered c.register_patiently.new.place) awaited.0 (registered c.await_grant.new.place)
+    subst (λ (r : Rules). IsCalled (needs_of r) c.args.self.now.form.table.shared.key.withheld Poll (registered c.register_patiently.new.place) awaited.0 (registered c.await_grant.new.place)
     (view_of c.register_patiently.new.place) (view_of c.await_grant.new.place)) c.args.self.now.permits awaited.2 in (
       (c.await_grant.ensures.same.1 ∙ made.2.0.0, c.await_grant.ensures.same.0 ∙ made.2.0.1),
       (
@@ -21,7 +21,7 @@ returns-clause-waited g c =
         registered c.register_patiently.new.place,
         view_of c.register_patiently.new.place,
         made.2.1,
-        subst (λ (b : Bool). IsWaitedFrom b (permit_needs g.row.MAX) (registered c.register_patiently.new.place) (registered c.await_grant.new.place)
+        subst (λ (b : Bool). IsWaitedFrom b (permit_needs g.row.MAX) c.args.self.now.form.table.shared.key.withheld (registered c.register_patiently.new.place) (registered c.await_grant.new.place)
             (view_of c.register_patiently.new.place) (view_of c.await_grant.new.place) c.await_grant.result) yes
             (awaited.0, polled, awaited.1),
       ),
