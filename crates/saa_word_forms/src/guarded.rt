@@ -4,8 +4,10 @@
 //! turn is passed on, so it should never be contended. No clause says so.
 
 ghost use Rattle.std.specs.Prelude.{◌≡◌, All, IfOk, IfSome, vec_len};
+ghost use Rattle.saa_core_spec.specs.declared.lock.Mode.TheVariants.{Exclusive, Shared as Sharing};
 ghost use Rattle.saa_word_steps.specs.declared.call.WordCall.TheVariants.{TryLock, TryShare};
-ghost use Rattle.saa_word_forms.specs.Turns.{HasLock, HasShare, IsTriedAndGranted};
+ghost use Rattle.saa_word_steps.specs.declared.rules.Rules.TheVariants.{Modes};
+ghost use Rattle.saa_word_forms.specs.Turns.{HasLock, HasShare, IsTriedAndGranted, IsWaitedFor};
 ghost use Rattle.saa_word_threads.specs.Dealt.{IsLedTo, numbers};
 ghost use Rattle.saa_word_threads.specs.Locks.{AreNew, HasLeft, IsDealtBy, IsLeftOf, about_of, table_of, view_left};
 
@@ -31,7 +33,7 @@ impl<T> Guarded<T> {
     ) -> Result<(Self, Vec<Place>), AllocError>
     where
         T: Drop,
-        ensures made { IfOk result (λ made. (about_of made.0.lock).places ≡ places) }
+        ensures made { IfOk result (λ made. about_of made.0.lock ≡ record { rules = Modes; withheld = 0; places = places }) }
         ensures dealt { IfOk result (λ made. (vec_len made.1 ≡ places) × AreNew (table_of made.0.lock) 0 made.1.items) }
         ensures ours { IfOk result (λ made. All (IsDealtBy made.0.lock) made.1.items) }
     {
@@ -87,7 +89,9 @@ impl<'l, T> Worker<'l, T> {
         &'a mut self,
         rt: &'a R,
     ) -> (Alone<'a, 'l, R>, RwLockWriteGuard<'l, T>)
-        ensures { HasLock result.0.at.now.place }
+        ensures lock { result.0.at.now.lock ≡ self.old.at.lock }
+        ensures granted { HasLock result.0.at.now.place }
+        ensures taken { IsWaitedFor Exclusive self.old.at.place result.0.at.now.place }
     {
         let turn = Alone::take(rt, &mut self.at);
         (turn, self.value.write(rt))
@@ -98,6 +102,7 @@ impl<'l, T> Worker<'l, T> {
         &'a mut self,
         rt: &'a R,
     ) -> Option<(Alone<'a, 'l, R>, RwLockWriteGuard<'l, T>)>
+        ensures lock { IfSome result (λ taken. taken.0.at.now.lock ≡ self.old.at.lock) }
         ensures granted { IfSome result (λ taken. HasLock taken.0.at.now.place) }
         ensures tried { IfSome result (λ taken. IsTriedAndGranted TryLock self.old.at.place taken.0.at.now.place) }
     {
@@ -110,7 +115,9 @@ impl<'l, T> Worker<'l, T> {
         &'a mut self,
         rt: &'a R,
     ) -> (Shared<'a, 'l, R>, RwLockReadGuard<'l, T>)
-        ensures { HasShare result.0.at.now.place }
+        ensures lock { result.0.at.now.lock ≡ self.old.at.lock }
+        ensures granted { HasShare result.0.at.now.place }
+        ensures taken { IsWaitedFor Sharing self.old.at.place result.0.at.now.place }
     {
         let turn = Shared::take(rt, &mut self.at);
         (turn, self.value.read(rt))
@@ -121,6 +128,7 @@ impl<'l, T> Worker<'l, T> {
         &'a mut self,
         rt: &'a R,
     ) -> Option<(Shared<'a, 'l, R>, RwLockReadGuard<'l, T>)>
+        ensures lock { IfSome result (λ taken. taken.0.at.now.lock ≡ self.old.at.lock) }
         ensures granted { IfSome result (λ taken. HasShare taken.0.at.now.place) }
         ensures tried { IfSome result (λ taken. IsTriedAndGranted TryShare self.old.at.place taken.0.at.now.place) }
     {

@@ -1,8 +1,10 @@
 //! A mutex on the word's lock, for a fixed set of workers, and its guard.
 
 ghost use Rattle.std.specs.Prelude.{◌≡◌, All, IfOk, IfSome, vec_len};
+ghost use Rattle.saa_core_spec.specs.declared.lock.Mode.TheVariants.{Exclusive};
 ghost use Rattle.saa_word_steps.specs.declared.call.WordCall.TheVariants.{TryLock};
-ghost use Rattle.saa_word_forms.specs.Turns.{IsTriedAndGranted};
+ghost use Rattle.saa_word_steps.specs.declared.rules.Rules.TheVariants.{Modes};
+ghost use Rattle.saa_word_forms.specs.Turns.{IsTriedAndGranted, IsWaitedFor};
 ghost use Rattle.saa_word_threads.specs.Dealt.{IsLedTo, numbers};
 ghost use Rattle.saa_word_threads.specs.Locks.{AreNew, HasLeft, IsDealtBy, IsLeftOf, about_of, table_of, view_left};
 
@@ -39,7 +41,7 @@ impl<T> Mutex<T> {
     pub fn new(alloc: Global, value: T, places: u16) -> Result<(Self, Vec<Place>), AllocError>
     where
         T: Drop,
-        ensures made { IfOk result (λ made. (about_of made.0).places ≡ places) }
+        ensures made { IfOk result (λ made. about_of made.0 ≡ record { rules = Modes; withheld = 0; places = places }) }
         ensures dealt { IfOk result (λ made. (vec_len made.1 ≡ places) × AreNew (table_of made.0) 0 made.1.items) }
         ensures ours { IfOk result (λ made. All (IsDealtBy made.0) made.1.items) }
     {
@@ -101,7 +103,10 @@ impl<'l, T> MutexWorker<'l, T> {
     ///
     /// The worker is the guard's until that is dropped. A waiter spins, yields and then parks. A thread that takes it with a second worker while it
     /// has the guard of a first waits for itself, so for ever.
-    pub fn lock<'a, R: Wait>(&'a mut self, rt: &'a R) -> MutexGuard<'a, 'l, R, T> {
+    pub fn lock<'a, R: Wait>(&'a mut self, rt: &'a R) -> MutexGuard<'a, 'l, R, T>
+        ensures lock { result.turn.at.now.lock ≡ self.old.lock }
+        ensures taken { IsWaitedFor Exclusive self.old.place result.turn.at.now.place }
+    {
         let (turn, value) = self.worker.write(rt);
         MutexGuard::new(turn, value)
     }
@@ -110,7 +115,8 @@ impl<'l, T> MutexWorker<'l, T> {
     ///
     /// `None` changes nothing.
     pub fn try_lock<'a, R: Wait>(&'a mut self, rt: &'a R) -> Option<MutexGuard<'a, 'l, R, T>>
-        ensures { IfSome result (λ guard. IsTriedAndGranted TryLock self.old.place guard.turn.at.now.place) }
+        ensures lock { IfSome result (λ guard. guard.turn.at.now.lock ≡ self.old.lock) }
+        ensures tried { IfSome result (λ guard. IsTriedAndGranted TryLock self.old.place guard.turn.at.now.place) }
     {
         let (turn, value) = self.worker.try_write(rt)?;
         Some(MutexGuard::new(turn, value))

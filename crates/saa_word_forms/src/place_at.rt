@@ -4,11 +4,13 @@
 //! is lowered by `lower`. The first two ask for a `PutDown`, which only dropping a guard of a value makes; the types don't say of which value.
 
 ghost use Rattle.std.specs.Prelude.{◌≡◌, is_ok, true};
+ghost use Rattle.saa_core_spec.specs.declared.lock.Mode.TheVariants.{Exclusive, Shared};
 ghost use Rattle.saa_word_steps.specs.declared.call.Answer.{Answer};
-ghost use Rattle.saa_word_steps.specs.declared.call.WordCall.TheVariants.{ReleaseLock, ReleaseShare, TryLock, TryShare};
-ghost use Rattle.saa_word_threads.specs.Locks.{IsDealtBy, IsMade};
-ghost use Rattle.saa_word_threads.specs.Public.{tried};
-ghost use Rattle.saa_word_forms.specs.Turns.{HasLock, HasShare};
+ghost use Rattle.saa_word_steps.specs.declared.call.WordCall.TheVariants.{Cancel, ClearPoison, Downgrade, ReleaseLock, ReleaseShare, TryLock, TryShare};
+ghost use Rattle.saa_word_threads.specs.declared.lock.Place.{Place};
+ghost use Rattle.saa_word_threads.specs.Locks.{IsDealtBy, IsMade, IsWaited};
+ghost use Rattle.saa_word_threads.specs.Public.{is_yes, tried};
+ghost use Rattle.saa_word_forms.specs.Turns.{HasLock, HasShare, IsLoweredOrWaitedFor, IsWaitedFor};
 
 use saa_word_threads::lock::{Left, Lock, Place};
 use std::marker::PhantomData;
@@ -74,6 +76,7 @@ impl<'l> PlaceAt<'l> {
 
     // Takes the lock for one owner alone, if that needs no wait: by one try.
     pub(crate) fn try_lock<R: Wait>(&mut self, rt: &R) -> bool
+        ensures lock { self.new.lock ≡ self.old.lock }
         ensures granted { result ≡ true → HasLock self.new.place }
         ensures tried { (answer : Answer) × (result ≡ is_ok (tried answer)) × IsMade TryLock self.old.place answer self.new.place }
     {
@@ -85,7 +88,9 @@ impl<'l> PlaceAt<'l> {
 
     // Waits for the lock for one owner alone. A lock that says it is poisoned, as none here ever is, is cleared and asked again.
     pub(crate) fn lock<R: Wait>(&mut self, rt: &R)
-        ensures { HasLock self.new.place }
+        ensures lock { self.new.lock ≡ self.old.lock }
+        ensures granted { HasLock self.new.place }
+        ensures taken { IsWaitedFor Exclusive self.old.place self.new.place }
     {
         for _ in rt.forever() {
             if self.ask_lock(rt) {
@@ -98,13 +103,15 @@ impl<'l> PlaceAt<'l> {
 
     // Waits for the lock once. `false`: it is poisoned, or the place is registered.
     fn ask_lock<R: Wait>(&mut self, rt: &R) -> bool
-        ensures { result ≡ true → HasLock self.new.place }
+        ensures lock { self.new.lock ≡ self.old.lock }
+        ensures waited { IsWaited Exclusive self.old.place result self.new.place }
     {
         self.lock.lock(rt, &mut self.place)
     }
 
     // Takes a share, if that needs no wait: by one try.
     pub(crate) fn try_share<R: Wait>(&mut self, rt: &R) -> bool
+        ensures lock { self.new.lock ≡ self.old.lock }
         ensures granted { result ≡ true → HasShare self.new.place }
         ensures tried { (answer : Answer) × (result ≡ is_ok (tried answer)) × IsMade TryShare self.old.place answer self.new.place }
     {
@@ -116,7 +123,9 @@ impl<'l> PlaceAt<'l> {
 
     // Waits for a share, as `lock` does for all of it.
     pub(crate) fn share<R: Wait>(&mut self, rt: &R)
-        ensures { HasShare self.new.place }
+        ensures lock { self.new.lock ≡ self.old.lock }
+        ensures granted { HasShare self.new.place }
+        ensures taken { IsWaitedFor Shared self.old.place self.new.place }
     {
         for _ in rt.forever() {
             if self.ask_share(rt) {
@@ -129,7 +138,8 @@ impl<'l> PlaceAt<'l> {
 
     // Waits for a share once. `false`: the lock is poisoned, or the place is registered.
     fn ask_share<R: Wait>(&mut self, rt: &R) -> bool
-        ensures { result ≡ true → HasShare self.new.place }
+        ensures lock { self.new.lock ≡ self.old.lock }
+        ensures waited { IsWaited Shared self.old.place result self.new.place }
     {
         self.lock.share(rt, &mut self.place)
     }
@@ -145,7 +155,9 @@ impl<'l> PlaceAt<'l> {
         value: Lowered<'l, T>,
     ) -> RwLockReadGuard<'l, T>
         requires { HasLock self.old.place }
-        ensures { HasShare self.new.place }
+        ensures lock { self.new.lock ≡ self.old.lock }
+        ensures granted { HasShare self.new.place }
+        ensures lowered { IsLoweredOrWaitedFor self.old.place self.new.place }
     {
         let Lowered { reader } = value;
         if !self.ask_lower(rt) {
@@ -156,14 +168,17 @@ impl<'l> PlaceAt<'l> {
 
     // Makes the lock of its one owner a share. `false`: it is no one owner's.
     fn ask_lower<R: Wait>(&mut self, rt: &R) -> bool
-        requires { HasLock self.old.place }
-        ensures { result ≡ true → HasShare self.new.place }
+        ensures lock { self.new.lock ≡ self.old.lock }
+        ensures called { (answer : Answer) × (result ≡ is_yes answer) × IsMade Downgrade self.old.place answer self.new.place }
     {
         self.lock.downgrade(rt, &mut self.place)
     }
 
     // Makes a lock that is poisoned free, and a place that is registered idle: neither is ever so where the lock's calls aren't handed out.
-    fn mend<R: Wait>(&mut self, rt: &R) {
+    fn mend<R: Wait>(&mut self, rt: &R)
+        ensures lock { self.new.lock ≡ self.old.lock }
+        ensures cleared { (cleared : Place) × (said : Answer) × (answer : Answer) × IsMade ClearPoison self.old.place said cleared × IsMade Cancel cleared answer self.new.place }
+    {
         self.lock.clear_poison(rt, &mut self.place);
         self.lock.cancel(rt, &mut self.place);
     }
@@ -171,7 +186,8 @@ impl<'l> PlaceAt<'l> {
     // Ends the turn of one owner alone, behind the guard of the value.
     pub(crate) fn end_lock<R: Wait>(&mut self, rt: &R, value: PutDown)
         requires { HasLock self.old.place }
-        ensures { (answer : Answer) × IsMade ReleaseLock self.old.place answer self.new.place }
+        ensures lock { self.new.lock ≡ self.old.lock }
+        ensures ended { (answer : Answer) × IsMade ReleaseLock self.old.place answer self.new.place }
     {
         let PutDown { by: _by } = value;
         self.lock.release_lock(rt, &mut self.place);
@@ -180,7 +196,8 @@ impl<'l> PlaceAt<'l> {
     // Ends a share, behind the guard of the value.
     pub(crate) fn end_share<R: Wait>(&mut self, rt: &R, value: PutDown)
         requires { HasShare self.old.place }
-        ensures { (answer : Answer) × IsMade ReleaseShare self.old.place answer self.new.place }
+        ensures lock { self.new.lock ≡ self.old.lock }
+        ensures ended { (answer : Answer) × IsMade ReleaseShare self.old.place answer self.new.place }
     {
         let PutDown { by: _by } = value;
         self.lock.release_share(rt, &mut self.place);

@@ -1,8 +1,10 @@
 //! A reader-writer lock on the word's lock, for a fixed set of workers, and its two guards.
 
 ghost use Rattle.std.specs.Prelude.{◌≡◌, All, IfOk, IfSome, vec_len};
+ghost use Rattle.saa_core_spec.specs.declared.lock.Mode.TheVariants.{Exclusive, Shared as Sharing};
 ghost use Rattle.saa_word_steps.specs.declared.call.WordCall.TheVariants.{TryLock, TryShare};
-ghost use Rattle.saa_word_forms.specs.Turns.{IsTriedAndGranted};
+ghost use Rattle.saa_word_steps.specs.declared.rules.Rules.TheVariants.{Modes};
+ghost use Rattle.saa_word_forms.specs.Turns.{IsLoweredOrWaitedFor, IsTriedAndGranted, IsWaitedFor};
 ghost use Rattle.saa_word_threads.specs.Dealt.{IsLedTo, numbers};
 ghost use Rattle.saa_word_threads.specs.Locks.{AreNew, HasLeft, IsDealtBy, IsLeftOf, about_of, table_of, view_left};
 
@@ -40,7 +42,7 @@ impl<T> RwLock<T> {
     pub fn new(alloc: Global, value: T, places: u16) -> Result<(Self, Vec<Place>), AllocError>
     where
         T: Drop,
-        ensures made { IfOk result (λ made. (about_of made.0).places ≡ places) }
+        ensures made { IfOk result (λ made. about_of made.0 ≡ record { rules = Modes; withheld = 0; places = places }) }
         ensures dealt { IfOk result (λ made. (vec_len made.1 ≡ places) × AreNew (table_of made.0) 0 made.1.items) }
         ensures ours { IfOk result (λ made. All (IsDealtBy made.0) made.1.items) }
     {
@@ -102,7 +104,10 @@ impl<'l, T> RwLockWorker<'l, T> {
     ///
     /// The worker is the guard's until that is dropped. A waiter spins, yields and then parks. A thread that asks with a second worker while it has the
     /// guard of a first may wait for itself, so for ever: behind a writer readers wait too.
-    pub fn read<'a, R: Wait>(&'a mut self, rt: &'a R) -> RwLockReadGuard<'a, 'l, R, T> {
+    pub fn read<'a, R: Wait>(&'a mut self, rt: &'a R) -> RwLockReadGuard<'a, 'l, R, T>
+        ensures lock { result.turn.at.now.lock ≡ self.old.lock }
+        ensures taken { IsWaitedFor Sharing self.old.place result.turn.at.now.place }
+    {
         let (turn, value) = self.worker.read(rt);
         RwLockReadGuard::new(turn, value)
     }
@@ -111,7 +116,8 @@ impl<'l, T> RwLockWorker<'l, T> {
     ///
     /// `None` changes nothing.
     pub fn try_read<'a, R: Wait>(&'a mut self, rt: &'a R) -> Option<RwLockReadGuard<'a, 'l, R, T>>
-        ensures { IfSome result (λ guard. IsTriedAndGranted TryShare self.old.place guard.turn.at.now.place) }
+        ensures lock { IfSome result (λ guard. guard.turn.at.now.lock ≡ self.old.lock) }
+        ensures tried { IfSome result (λ guard. IsTriedAndGranted TryShare self.old.place guard.turn.at.now.place) }
     {
         let (turn, value) = self.worker.try_read(rt)?;
         Some(RwLockReadGuard::new(turn, value))
@@ -121,7 +127,10 @@ impl<'l, T> RwLockWorker<'l, T> {
     ///
     /// The worker is the guard's until that is dropped. A waiter spins, yields and then parks. A thread that asks with a second worker while it has the
     /// guard of a first waits for itself, so for ever.
-    pub fn write<'a, R: Wait>(&'a mut self, rt: &'a R) -> RwLockWriteGuard<'a, 'l, R, T> {
+    pub fn write<'a, R: Wait>(&'a mut self, rt: &'a R) -> RwLockWriteGuard<'a, 'l, R, T>
+        ensures lock { result.turn.at.now.lock ≡ self.old.lock }
+        ensures taken { IsWaitedFor Exclusive self.old.place result.turn.at.now.place }
+    {
         let cell = self.worker.value();
         let (turn, value) = self.worker.write(rt);
         RwLockWriteGuard::new(Writing::new(turn, cell), value)
@@ -131,7 +140,8 @@ impl<'l, T> RwLockWorker<'l, T> {
     ///
     /// `None` changes nothing.
     pub fn try_write<'a, R: Wait>(&'a mut self, rt: &'a R) -> Option<RwLockWriteGuard<'a, 'l, R, T>>
-        ensures { IfSome result (λ guard. IsTriedAndGranted TryLock self.old.place guard.turn.at.now.place) }
+        ensures lock { IfSome result (λ guard. guard.turn.at.now.lock ≡ self.old.lock) }
+        ensures tried { IfSome result (λ guard. IsTriedAndGranted TryLock self.old.place guard.turn.at.now.place) }
     {
         let cell = self.worker.value();
         let (turn, value) = self.worker.try_write(rt)?;
@@ -158,7 +168,10 @@ impl<'a, 'l, R: Wait, T> Guard<Writer<'l, T>, Writing<'a, 'l, R, T>> {
     ///
     /// Never waits for an owner. Who reads through the new guard sees what was written through this one. Readers behind a writer that waits go on
     /// waiting. Costs a walk of the line, and a wake for each who is let in.
-    pub fn downgrade(guard: Self) -> RwLockReadGuard<'a, 'l, R, T> {
+    pub fn downgrade(guard: Self) -> RwLockReadGuard<'a, 'l, R, T>
+        ensures lock { result.turn.at.now.lock ≡ guard.entry.turn.at.now.lock }
+        ensures lowered { IsLoweredOrWaitedFor guard.entry.turn.at.now.place result.turn.at.now.place }
+    {
         let (turn, value) = guard.into_parts();
         let (turn, value) = turn.lower(value);
         RwLockReadGuard::new(turn, value)

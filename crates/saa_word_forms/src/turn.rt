@@ -4,8 +4,9 @@
 //! holder may leak (`mem::forget`). Passing it on asks for a `PutDown`, and for the proof that the place's last call took what the turn is of.
 
 ghost use Rattle.std.specs.Prelude.{◌≡◌, IfSome};
+ghost use Rattle.saa_core_spec.specs.declared.lock.Mode.TheVariants.{Exclusive, Shared as Sharing};
 ghost use Rattle.saa_word_steps.specs.declared.call.WordCall.TheVariants.{TryLock, TryShare};
-ghost use Rattle.saa_word_forms.specs.Turns.{HasLock, HasShare, IsTriedAndGranted, TookLock, TookShare};
+ghost use Rattle.saa_word_forms.specs.Turns.{HasLock, HasShare, IsLoweredOrWaitedFor, IsTriedAndGranted, IsWaitedFor, TookLock, TookShare};
 
 use crate::place_at::{Lowered, PlaceAt, PutDown};
 use std::sync::{RwLock, RwLockReadGuard, RwLockWriteGuard, Wait};
@@ -29,6 +30,7 @@ pub struct Alone<'a, 'l, R: Wait> {
 impl<'a, 'l, R: Wait> Alone<'a, 'l, R> {
     // Takes the turn if it is free and nobody waits for it.
     pub(crate) fn try_take(rt: &'a R, at: &'a mut PlaceAt<'l>) -> Option<Self>
+        ensures lock { IfSome result (λ turn. turn.at.now.lock ≡ at.old.lock) }
         ensures granted { IfSome result (λ turn. HasLock turn.at.now.place) }
         ensures tried { IfSome result (λ turn. IsTriedAndGranted TryLock at.old.place turn.at.now.place) }
     {
@@ -41,7 +43,9 @@ impl<'a, 'l, R: Wait> Alone<'a, 'l, R> {
 
     // Waits for the turn.
     pub(crate) fn take(rt: &'a R, at: &'a mut PlaceAt<'l>) -> Self
-        ensures { HasLock result.at.now.place }
+        ensures lock { result.at.now.lock ≡ at.old.lock }
+        ensures granted { HasLock result.at.now.place }
+        ensures taken { IsWaitedFor Exclusive at.old.place result.at.now.place }
     {
         at.lock(rt);
         Alone { at, rt }
@@ -66,6 +70,7 @@ pub struct Shared<'a, 'l, R: Wait> {
 impl<'a, 'l, R: Wait> Shared<'a, 'l, R> {
     // Takes a share of the turn if one is left and nobody waits.
     pub(crate) fn try_take(rt: &'a R, at: &'a mut PlaceAt<'l>) -> Option<Self>
+        ensures lock { IfSome result (λ turn. turn.at.now.lock ≡ at.old.lock) }
         ensures granted { IfSome result (λ turn. HasShare turn.at.now.place) }
         ensures tried { IfSome result (λ turn. IsTriedAndGranted TryShare at.old.place turn.at.now.place) }
     {
@@ -78,7 +83,9 @@ impl<'a, 'l, R: Wait> Shared<'a, 'l, R> {
 
     // Waits for a share of the turn.
     pub(crate) fn take(rt: &'a R, at: &'a mut PlaceAt<'l>) -> Self
-        ensures { HasShare result.at.now.place }
+        ensures lock { result.at.now.lock ≡ at.old.lock }
+        ensures granted { HasShare result.at.now.place }
+        ensures taken { IsWaitedFor Sharing at.old.place result.at.now.place }
     {
         at.share(rt);
         Shared { at, rt }
@@ -107,7 +114,7 @@ impl<'a, 'l, R: Wait, T> Writing<'a, 'l, R, T> {
     pub(crate) fn new(turn: Alone<'a, 'l, R>, value: &'l RwLock<T>) -> Self
         requires { HasLock turn.at.now.place }
         ensures granted { HasLock result.at.now.place }
-        ensures place { result.at.now.place ≡ turn.entry.at.now.place }
+        ensures place { (result.at.now.place ≡ turn.entry.at.now.place) × (result.at.now.lock ≡ turn.entry.at.now.lock) }
     {
         let Alone { at, rt } = turn;
         Writing { at, rt, value }
@@ -119,7 +126,9 @@ impl<'a, 'l, R: Wait, T> Writing<'a, 'l, R, T> {
         writer: RwLockWriteGuard<'l, T>,
     ) -> (Shared<'a, 'l, R>, RwLockReadGuard<'l, T>)
         requires { HasLock self.at.now.place }
-        ensures { HasShare result.0.at.now.place }
+        ensures lock { result.0.at.now.lock ≡ self.entry.at.now.lock }
+        ensures granted { HasShare result.0.at.now.place }
+        ensures lowered { IsLoweredOrWaitedFor self.entry.at.now.place result.0.at.now.place }
     {
         let Writing { at, rt, value } = self;
         let reader = at.lower(rt, Lowered::from_writer(writer, value, rt));
