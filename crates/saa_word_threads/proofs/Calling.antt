@@ -316,12 +316,12 @@ sought-stays needs withheld places me place found v w looked =
     ]
 
 pub stays-same : (needs : Needs) (withheld places me : ℕ) (place : Place) (next : Next) (v w : View) → MovesOrStays needs withheld places me place next v w
-    → (w.deals ≡ v.deals) × (w.number ≡ v.number)
-stays-same needs withheld places me place next v w (inl moved) = (moved.2.extends.deals, moved.2.extends.number)
-stays-same needs withheld places me place next v w (inr stays) = (ap (λ (u : View). u.deals) stays.1, ap (λ (u : View). u.number) stays.1)
+    → (w.role ≡ v.role) × (w.number ≡ v.number)
+stays-same needs withheld places me place next v w (inl moved) = (moved.2.extends.role, moved.2.extends.number)
+stays-same needs withheld places me place next v w (inr stays) = (ap (λ (u : View). u.role) stays.1, ap (λ (u : View). u.number) stays.1)
 
 pub sought-same : (needs : Needs) (withheld places me : ℕ) (place : Place) (found : ℕ) (v w : View) → IsSought needs withheld places me place found v w
-    → (w.deals ≡ v.deals) × (w.number ≡ v.number)
+    → (w.role ≡ v.role) × (w.number ≡ v.number)
 sought-same needs withheld places me place found v w looked =
     stays-same needs withheld places me place (unless_joining place (next_of needs me place place.stage found)) v w
     (sought-stays needs withheld places me place found v w looked)

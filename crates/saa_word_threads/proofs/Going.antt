@@ -19,6 +19,7 @@ use Rattle.saa_word_steps.specs.declared.place.Stage.TheVariants.{Quiet, AskLoad
 use Rattle.saa_word_steps.specs.Needs.{Needs, fits_count, left_count}
 use Rattle.saa_word_steps.specs.Steps.{decided, given, going, granted, next_of, operation_of, released, started, word_at}
 use Rattle.saa_word_steps.specs.Readings.{is_taken, tried_answer}
+use Rattle.saa_word_threads.specs.declared.table.Role.TheVariants.{Acting}
 use Rattle.saa_word_threads.specs.declared.table.View.{View}
 use Rattle.saa_word_threads.specs.Called.{HasEvents, Midway, MidwayNext}
 use Rattle.saa_word_threads.specs.Straight.{grants_at, lowers_to}
@@ -80,11 +81,11 @@ module _ (needs : Needs) (withheld places me : ℕ) (call : WordCall) (rest look
     still = told.extends.number ∙ number
 
     -- the exchange is what it makes next
-    pub change-next : v.deals ≡ false → (operation : Operation) → operation ≡ operation_of needs places me changes.stage
+    pub change-next : v.role ≡ Acting → (operation : Operation) → operation ≡ operation_of needs places me changes.stage
         → (two : Place) → two ≡ changes → IsNext needs places me two operation w
-    change-next dealt operation makes two is_two =
+    change-next acts operation makes two is_two =
         subst (λ (p : Place). IsNext needs places me p operation w) (sym is_two) (record {
-          deals = told.extends.deals ∙ dealt;
+          role = told.extends.role ∙ acts;
           number = still;
           here = here;
           begins = midway-changes.begins;

@@ -170,7 +170,7 @@ named-append (event ∷ front) rest =
 -- a view is its own beginning
 pub extends-none : (v : View) → Extends v [] v
 extends-none v = record {
-  deals = refl;
+  role = refl;
   number = refl;
   part = sym (append-nil v.part);
   more = [];
@@ -192,7 +192,7 @@ latest-append place front rest one other =
 -- two growths are one
 pub extends-append : (u v w : View) (front rest : List Event) → Extends u front v → Extends v rest w → Extends u (front ++ rest) w
 extends-append u v w front rest one other = record {
-  deals = other.deals ∙ one.deals;
+  role = other.role ∙ one.role;
   number = other.number ∙ one.number;
   part = other.part ∙ ap (λ (l : List Event). l ++ rest) one.part ∙ append_assoc u.part front rest;
   more = one.more ++ other.more;

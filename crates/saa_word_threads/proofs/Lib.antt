@@ -1,7 +1,9 @@
 pub mod Growing
+pub mod Gathering
 pub mod Beginning
 pub mod Moving
 pub mod Calling
 pub mod Opening
 pub mod Going
+pub mod Leaving
 pub mod Inner

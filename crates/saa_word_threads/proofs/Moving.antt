@@ -3,7 +3,7 @@ use Rattle.std.proofs.Common.{◌≡◌, ◌≢◌, ℕ, zero, suc, ◌+◌, ◌
 use Rattle.std.proofs.Math.ListN.{set, length-set}
 use Rattle.std.proofs.lemmas.List.{get_or-set_same, get_or-set_other, set-get_or}
 use Rattle.std.proofs.lemmas.Bool.{cases_Bool}
-use mathlib.Core.Option.{some, some-ne-none}
+use mathlib.Core.Option.{some}
 use lib.ListN.{get_elem?}
 use Rattle.atomic_table.specs.Table.{Allows, Me, State, keeps}
 use Rattle.atomic_table.proofs.Lists.{at_set, set_again, set_here, set_else}
@@ -25,11 +25,14 @@ use Rattle.saa_word_proofs.proofs.RefinementLemmas.Lists.{all-same, updated-at}
 use Rattle.saa_word_proofs.proofs.RefinementLemmas.Steps.{step}
 use Rattle.saa_word_proofs.proofs.SoloLemmas.Alone.{rules-lawful}
 use Rattle.saa_word_threads.specs.declared.table.About.{About}
+use Rattle.saa_word_threads.specs.declared.table.Role.{Role}
+use Rattle.saa_word_threads.specs.declared.table.Role.TheVariants.{Dealer, Acting, Spent}
 use Rattle.saa_word_threads.specs.declared.table.View.{View}
-use Rattle.saa_word_threads.specs.Kept.{Fits, FitsAs, Kept, position_in, positions, row_of}
+use Rattle.saa_word_threads.specs.Kept.{AreGathered, Fits, FitsAs, Kept, position_in, positions, row_of}
 use Rattle.saa_word_steps.specs.declared.rules.Rules.{Rules}
 use Rattle.saa_word_threads.specs.Told.{Begins, Extends, IsNext, IsSought, Moves, prepares}
 use Rattle.saa_word_threads.proofs.Beginning.{begins-refines, updated-twice}
+use Rattle.saa_word_threads.proofs.Gathering.{found-within, gathered-stay, place-fits, spent-apart}
 use Rattle.saa_word_threads.proofs.Growing.{has-append, has-other, part-append, part-none, part-own, run-append, seen-apart, seen-legal, seen-on, seen-part}
 
 -- Lists
@@ -46,12 +49,6 @@ set-updated words at number inside =
           let differs : other ≢ at = λ is. let wrong : other == at ≡ true = ap (λ (n : ℕ). other == n) (sym is) ∙ number_same other in absurd (cc) in
           rw apart (get_or-set_other words at other number 0 differs)
     ])
-
--- a member of a list is within it
-pub found-within : (views : List View) (seat : ℕ) (v : View) → get_elem? views seat ≡ some v → seat < length views
-found-within [] seat v found = absurd (some-ne-none v (sym found))
-found-within (u ∷ views) zero v found = omega arith
-found-within (u ∷ views) (suc seat) v found = let within = found-within views seat v found in omega arith
 
 -- numbers that differ
 differs : (one other : ℕ) → one ≢ other → one == other ≡ false
@@ -109,14 +106,10 @@ module _ (needs : Needs) (lawful : AreNeeds needs) (wide : needs.top < 2 ^ count
 
 -- Views and the history
 
-place-fits : (history : List (ℕ × Event)) (seats seat : ℕ) (v : View) → v.deals ≡ false → Fits history seats seat v → FitsAs history seats seat v false
-place-fits history seats seat v deals fits = subst (λ (b : Bool). FitsAs history seats seat v b) deals fits
-
 -- a view of another seat fits a history with events of the mover behind it
-other-fits : (history : List (ℕ × Event)) (seats seat me : ℕ) (v : View) (deals : Bool) (events : List Event) → seat ≢ suc me
-    → FitsAs history seats seat v deals → FitsAs (history ++ of_place me events) seats seat v deals
-other-fits history seats seat me v true events apart fits = fits
-other-fits history seats seat me v false events apart fits =
+apart-fits : (history : List (ℕ × Event)) (seats seat me : ℕ) (v : View) (events : List Event) → seat ≢ suc me
+    → FitsAs history seats seat v Acting → FitsAs (history ++ of_place me events) seats seat v Acting
+apart-fits history seats seat me v events apart fits =
     let other : me ≢ v.number = λ e. apart (fits.0 ∙ ap suc (sym e)) in
     let none : has_part v.number (of_place me events) ≡ false = has-other v.number me events (differs me v.number other) in (
       fits.0,
@@ -130,21 +123,28 @@ other-fits history seats seat me v false events apart fits =
     append-none [] = refl
     append-none (event ∷ l) = ap (λ (m : List Event). event ∷ m) (append-none l)
 
+other-fits : (history : List (ℕ × Event)) (seats seat me : ℕ) (v : View) (role : Role) (events : List Event) → seat ≢ suc me
+    → FitsAs history seats seat v role → FitsAs (history ++ of_place me events) seats seat v role
+other-fits history seats seat me v Dealer events apart fits = fits
+other-fits history seats seat me v Acting events apart fits = apart-fits history seats seat me v events apart fits
+other-fits history seats seat me v Spent events apart fits = apart-fits history seats seat me v events apart fits
+
 -- the mover's view behind its step
 abbrev pub moved_view : View → List (ℕ × Event) → List Event → Place → View
 moved_view v history events place = record {
-  deals = v.deals;
+  role = v.role;
   number = v.number;
   position = place;
   seen = seen_by v.number (history ++ of_place v.number events);
   part = v.part ++ events;
+  gathered = v.gathered;
 }
 
-moved-fits : (history : List (ℕ × Event)) (seats seat : ℕ) (v : View) (events : List Event) (place : Place) → v.deals ≡ false → Fits history seats seat v
+moved-fits : (history : List (ℕ × Event)) (seats seat : ℕ) (v : View) (events : List Event) (place : Place) → v.role ≡ Acting → Fits history seats seat v
     → Fits (history ++ of_place v.number events) seats seat (moved_view v history events place)
-moved-fits history seats seat v events place deals fits =
-    let own = place-fits history seats seat v deals fits in
-    subst (λ (b : Bool). FitsAs (history ++ of_place v.number events) seats seat (moved_view v history events place) b) (sym deals) (
+moved-fits history seats seat v events place acts fits =
+    let own = place-fits history seats seat v acts fits in
+    subst (λ (r : Role). FitsAs (history ++ of_place v.number events) seats seat (moved_view v history events place) r) (sym acts) (
       own.0,
       refl,
       ap (λ (l : List Event). l ++ events) own.2
@@ -152,13 +152,13 @@ moved-fits history seats seat v events place deals fits =
           ∙ ap (λ (l : List Event). part_of v.number history ++ l) (part-own v.number events)),
     )
 
-moved-extends : (history : List (ℕ × Event)) (seats seat : ℕ) (v : View) (events : List Event) (place : Place) → v.deals ≡ false → Fits history seats seat v
+moved-extends : (history : List (ℕ × Event)) (seats seat : ℕ) (v : View) (events : List Event) (place : Place) → v.role ≡ Acting → Fits history seats seat v
     → Extends v events (moved_view v history events place)
-moved-extends history seats seat v events place deals fits =
-    let own = place-fits history seats seat v deals fits in
+moved-extends history seats seat v events place acts fits =
+    let own = place-fits history seats seat v acts fits in
     let on = seen-on v.number history events in
     record {
-      deals = refl;
+      role = refl;
       number = refl;
       part = refl;
       more = on.more;
@@ -179,9 +179,9 @@ unchanged about s kept at number seat v same is =
 
 module _ (about : About) (few : about.places < 65536) (wide : (needs_of about.rules).top < 2 ^ count_bits) where
   module _ (s : State (Unit {0}) View) (kept : Kept about s) (seat : ℕ) (v : View) (at : get_elem? s.views seat ≡ some v)
-      (place : Place) (deals : v.deals ≡ false) (here : v.number < about.places) (begins : Begins (needs_of about.rules) v.position place) where
-    fits : FitsAs kept.history (length s.views) seat v false
-    fits = place-fits kept.history (length s.views) seat v deals (kept.each seat v at)
+      (place : Place) (acts : v.role ≡ Acting) (here : v.number < about.places) (begins : Begins (needs_of about.rules) v.position place) where
+    fits : FitsAs kept.history (length s.views) seat v Acting
+    fits = place-fits kept.history (length s.views) seat v acts (kept.each seat v at)
 
     stands : positions s.views v.number ≡ v.position
     stands = ap (λ (n : ℕ). position_in (get_elem? s.views n)) (sym fits.0) ∙ ap position_in at
@@ -226,9 +226,20 @@ module _ (about : About) (few : about.places < 65536) (wide : (needs_of about.ru
     each-after other w (inl own) =
         subst (λ (n : ℕ). Fits (kept.history ++ of_place v.number made.events) (length s.views) n w) (sym own.0)
         (subst (λ (u : View). Fits (kept.history ++ of_place v.number made.events) (length s.views) seat u) own.1
-        (moved-fits kept.history (length s.views) seat v made.events behind deals (kept.each seat v at)))
+        (moved-fits kept.history (length s.views) seat v made.events behind acts (kept.each seat v at)))
     each-after other w (inr apart) =
-        other-fits kept.history (length s.views) other v.number w w.deals made.events (λ e. apart.0 (e ∙ sym fits.0)) (kept.each other w apart.1)
+        other-fits kept.history (length s.views) other v.number w w.role made.events (λ e. apart.0 (e ∙ sym fits.0)) (kept.each other w apart.1)
+
+    -- what was gathered stays where it is: the mover's view wasn't
+    stays : (other : ℕ) (w : View) → get_elem? s.views other ≡ some w → w.role ≡ Spent → get_elem? after.views other ≡ some w
+    stays other w is gone =
+        set_else s.views seat other view (spent-apart s.views seat other v w at (λ r. let wrong : Acting ≡ Spent = sym acts ∙ r in absurd (cc)) is gone) ∙ is
+
+    gathers-after : (other : ℕ) (w : View) → ((other ≡ seat) × (view ≡ w)) ⊎ ((other ≢ seat) × (get_elem? s.views other ≡ some w))
+        → AreGathered after.views w.gathered
+    gathers-after other w (inl own) =
+        subst (λ (u : View). AreGathered after.views u.gathered) own.1 (gathered-stay s.views after.views stays v.gathered (kept.gathers seat v at))
+    gathers-after other w (inr apart) = gathered-stay s.views after.views stays w.gathered (kept.gathers other w apart.1)
 
     -- a place that isn't dealt has no event still
     fresh-after : (other : ℕ) → length s.views ≤ suc other → has_part other (kept.history ++ of_place v.number made.events) ≡ false
@@ -250,6 +261,8 @@ module _ (about : About) (few : about.places < 65536) (wide : (needs_of about.ru
       each = λ other w is.
           subst (λ (n : ℕ). Fits (kept.history ++ of_place v.number made.events) n other w) (sym (length-set s.views seat view))
           (each-after other w (at_set s.views seat other view w is));
+      gathers = λ other w is. gathers-after other w (at_set s.views seat other view w is);
+      few = subst (λ (n : ℕ). n ≤ suc about.places) (sym (length-set s.views seat view)) kept.few;
       fresh = λ other beyond. fresh-after other (subst (λ (n : ℕ). n ≤ suc other) (length-set s.views seat view) beyond);
     }
 
@@ -258,7 +271,7 @@ module _ (about : About) (few : about.places < 65536) (wide : (needs_of about.ru
       position = refl;
       events = made.events;
       names = made.names;
-      extends = moved-extends kept.history (length s.views) seat v made.events behind deals (kept.each seat v at);
+      extends = moved-extends kept.history (length s.views) seat v made.events behind acts (kept.each seat v at);
       legal =
           seen-legal (needs_of about.rules) about.withheld v.number (kept.history ++ of_place v.number made.events) made.last
           (run-append (needs_of about.rules) (opening about.withheld) kept.last made.last kept.history (of_place v.number made.events) kept.run made.run);
@@ -275,28 +288,28 @@ module _ (about : About) (few : about.places < 65536) (wide : (needs_of about.ru
     }
 
   -- Whatever the table is when a place makes the operation of its stage, that keeps the rule, and tells the place what it does
-  pub moves : (slots id : ℕ) (me : Me (Unit {0}) View) (place : Place) → me.0.deals ≡ false → me.0.number < about.places
+  pub moves : (slots id : ℕ) (me : Me (Unit {0}) View) (place : Place) → me.0.role ≡ Acting → me.0.number < about.places
       → Begins (needs_of about.rules) me.0.position place
       → Allows (Kept about) slots id me (word_at (operation_of (needs_of about.rules) about.places me.0.number place.stage))
       (written_by (operation_of (needs_of about.rules) about.places me.0.number place.stage))
-      (λ number next. Moves (needs_of about.rules) about.withheld about.places place (next_of (needs_of about.rules) me.0.number place place.stage number) number me.0 next.0)
-  moves slots id me place deals here begins = λ s kept sized at small. (
-    view s kept id me.0 at place deals here begins,
+      (λ number next. Moves (needs_of about.rules) about.withheld about.places place (next_of (needs_of about.rules) me.0.number place place.stage number) number me.0 next.0 × (next.1 ≡ me.1))
+  moves slots id me place acts here begins = λ s kept sized at small. (
+    view s kept id me.0 at place acts here begins,
     keeps,
     tt,
-    kept-after s kept id me.0 at place deals here begins,
-    told-after s kept id me.0 at place deals here begins,
+    kept-after s kept id me.0 at place acts here begins,
+    (told-after s kept id me.0 at place acts here begins, refl),
   )
 
   -- The same of a look: where the place would go on to join, nothing has happened, if then its operation writes what it found
-  pub seeks : (slots id : ℕ) (me : Me (Unit {0}) View) (place : Place) → me.0.deals ≡ false → me.0.number < about.places
+  pub seeks : (slots id : ℕ) (me : Me (Unit {0}) View) (place : Place) → me.0.role ≡ Acting → me.0.number < about.places
       → Begins (needs_of about.rules) me.0.position place
       → ((found : ℕ) → prepares (next_of (needs_of about.rules) me.0.number place place.stage found) ≡ true
       → written_by (operation_of (needs_of about.rules) about.places me.0.number place.stage) found ≡ found)
       → Allows (Kept about) slots id me (word_at (operation_of (needs_of about.rules) about.places me.0.number place.stage))
       (written_by (operation_of (needs_of about.rules) about.places me.0.number place.stage))
-      (λ number next. IsSought (needs_of about.rules) about.withheld about.places me.0.number place number me.0 next.0)
-  seeks slots id me place deals here begins same = λ s kept sized at small.
+      (λ number next. IsSought (needs_of about.rules) about.withheld about.places me.0.number place number me.0 next.0 × (next.1 ≡ me.1))
+  seeks slots id me place acts here begins same = λ s kept sized at small.
       let op : Operation = operation_of (needs_of about.rules) about.places me.0.number place.stage in
       let number : ℕ = row_of s.words (word_at op) in
       elim (cases_Bool (prepares (next_of (needs_of about.rules) me.0.number place place.stage number))) [
@@ -305,14 +318,14 @@ module _ (about : About) (few : about.places < 65536) (wide : (needs_of about.ru
           keeps,
           tt,
           unchanged about s kept (word_at op) (written_by op number) id me.0 (same number joins) at,
-          rw joins refl,
+          (rw joins refl, refl),
         )
         | inr goes ↦ (
-          view s kept id me.0 at place deals here begins,
+          view s kept id me.0 at place acts here begins,
           keeps,
           tt,
-          kept-after s kept id me.0 at place deals here begins,
-          rw goes (told-after s kept id me.0 at place deals here begins),
+          kept-after s kept id me.0 at place acts here begins,
+          (rw goes (told-after s kept id me.0 at place acts here begins), refl),
         )
       ]
 
@@ -321,17 +334,17 @@ pub allowed : (about : About) (rules : Rules) (places : ℕ) (picked : About) (p
     → about.rules ≡ rules → about.places ≡ places → places < 65536 → (needs_of rules).top < 2 ^ count_bits → picked ≡ about
     → IsNext (needs_of rules) places number place operation me.0
     → Allows (Kept about) slots id me (word_at operation) (written_by operation)
-    (λ found next. Moves (needs_of picked.rules) picked.withheld picked.places place (next_of (needs_of picked.rules) number place place.stage found) found me.0 next.0)
+    (λ found next. Moves (needs_of picked.rules) picked.withheld picked.places place (next_of (needs_of picked.rules) number place place.stage found) found me.0 next.0 × (next.1 ≡ me.1))
 allowed about rules places picked place number slots id me operation rules_are places_are few wide picks is =
     subst (λ (a : About). Allows (Kept about) slots id me (word_at operation) (written_by operation)
-    (λ found next. Moves (needs_of a.rules) a.withheld a.places place (next_of (needs_of a.rules) number place place.stage found) found me.0 next.0)) (sym picks)
+    (λ found next. Moves (needs_of a.rules) a.withheld a.places place (next_of (needs_of a.rules) number place place.stage found) found me.0 next.0 × (next.1 ≡ me.1))) (sym picks)
     (subst (λ (o : Operation). Allows (Kept about) slots id me (word_at o) (written_by o)
-    (λ found next. Moves (needs_of about.rules) about.withheld about.places place (next_of (needs_of about.rules) number place place.stage found) found me.0 next.0)) made_is
+    (λ found next. Moves (needs_of about.rules) about.withheld about.places place (next_of (needs_of about.rules) number place place.stage found) found me.0 next.0 × (next.1 ≡ me.1))) made_is
     (subst (λ (n : ℕ). Allows (Kept about) slots id me
     (word_at (operation_of (needs_of about.rules) about.places n place.stage)) (written_by (operation_of (needs_of about.rules) about.places n place.stage))
-    (λ found next. Moves (needs_of about.rules) about.withheld about.places place (next_of (needs_of about.rules) n place place.stage found) found me.0 next.0)) is.number
+    (λ found next. Moves (needs_of about.rules) about.withheld about.places place (next_of (needs_of about.rules) n place place.stage found) found me.0 next.0 × (next.1 ≡ me.1))) is.number
     (moves about (subst (λ n. n < 65536) (sym places_are) few) (subst (λ (r : Rules). (needs_of r).top < 2 ^ count_bits) (sym rules_are) wide) slots id me place
-    is.deals here (subst (λ (r : Rules). Begins (needs_of r) me.0.position place) (sym rules_are) is.begins))))
+    is.role here (subst (λ (r : Rules). Begins (needs_of r) me.0.position place) (sym rules_are) is.begins))))
   where
     here : me.0.number < about.places
     here = let h = is.here in let n = is.number in omega (arith, places_are)
@@ -347,21 +360,21 @@ pub allowed-look : (about : About) (rules : Rules) (places : ℕ) (picked : Abou
     → (picked ≡ about) × (picked_place ≡ place) × (picked_number ≡ number) → IsNext (needs_of rules) places number place made me.0
     → ((found : ℕ) → prepares (next_of (needs_of rules) number place place.stage found) ≡ true → written_by made found ≡ found)
     → Allows (Kept about) slots id me (word_at made) (written_by made)
-    (λ found next. IsSought (needs_of picked.rules) picked.withheld picked.places picked_number picked_place found me.0 next.0)
+    (λ found next. IsSought (needs_of picked.rules) picked.withheld picked.places picked_number picked_place found me.0 next.0 × (next.1 ≡ me.1))
 allowed-look about rules places picked picked_place place picked_number number slots id me made rules_are places_are few wide picks is same =
     subst (λ (a : About). Allows (Kept about) slots id me (word_at made) (written_by made)
-    (λ found next. IsSought (needs_of a.rules) a.withheld a.places picked_number picked_place found me.0 next.0)) (sym picks.0)
+    (λ found next. IsSought (needs_of a.rules) a.withheld a.places picked_number picked_place found me.0 next.0 × (next.1 ≡ me.1))) (sym picks.0)
     (subst (λ (p : Place). Allows (Kept about) slots id me (word_at made) (written_by made)
-    (λ found next. IsSought (needs_of about.rules) about.withheld about.places picked_number p found me.0 next.0)) (sym picks.1)
+    (λ found next. IsSought (needs_of about.rules) about.withheld about.places picked_number p found me.0 next.0 × (next.1 ≡ me.1))) (sym picks.1)
     (subst (λ (n : ℕ). Allows (Kept about) slots id me (word_at made) (written_by made)
-    (λ found next. IsSought (needs_of about.rules) about.withheld about.places n place found me.0 next.0)) (sym picks.2)
+    (λ found next. IsSought (needs_of about.rules) about.withheld about.places n place found me.0 next.0 × (next.1 ≡ me.1))) (sym picks.2)
     (subst (λ (o : Operation). Allows (Kept about) slots id me (word_at o) (written_by o)
-    (λ found next. IsSought (needs_of about.rules) about.withheld about.places number place found me.0 next.0)) made_is
+    (λ found next. IsSought (needs_of about.rules) about.withheld about.places number place found me.0 next.0 × (next.1 ≡ me.1))) made_is
     (subst (λ (n : ℕ). Allows (Kept about) slots id me
     (word_at (operation_of (needs_of about.rules) about.places n place.stage)) (written_by (operation_of (needs_of about.rules) about.places n place.stage))
-    (λ found next. IsSought (needs_of about.rules) about.withheld about.places n place found me.0 next.0)) is.number
+    (λ found next. IsSought (needs_of about.rules) about.withheld about.places n place found me.0 next.0 × (next.1 ≡ me.1))) is.number
     (seeks about (subst (λ n. n < 65536) (sym places_are) few) (subst (λ (r : Rules). (needs_of r).top < 2 ^ count_bits) (sym rules_are) wide) slots id me place
-    is.deals here (subst (λ (r : Rules). Begins (needs_of r) me.0.position place) (sym rules_are) is.begins) same_here)))))
+    is.role here (subst (λ (r : Rules). Begins (needs_of r) me.0.position place) (sym rules_are) is.begins) same_here)))))
   where
     here : me.0.number < about.places
     here = let h = is.here in let n = is.number in omega (arith, places_are)

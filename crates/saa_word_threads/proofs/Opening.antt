@@ -8,13 +8,13 @@ use mathlib.Core.Option.{some, some-injective, some-ne-none}
 use lib.ListN.{get_elem?}
 use Rattle.atomic_table.specs.Table.{Splits, State, opening as table_opening}
 use Rattle.atomic_table.specs.Seated.{TableId}
-use Rattle.atomic_table.proofs.Lists.{at_set}
+use Rattle.atomic_table.proofs.Lists.{at_set, set_else}
 use Rattle.saa_core_words.specs.Words.{count_bits}
 use Rattle.saa_word_steps.specs.declared.event.Event.{Event}
 use Rattle.saa_word_steps.specs.declared.place.Place.{Place as Position}
 use Rattle.saa_word_steps.specs.AbstractState.{opening}
 use Rattle.saa_word_steps.specs.Needs.{needs_of}
-use Rattle.saa_word_proofs.specs.History.{BeginsWith}
+use Rattle.saa_word_proofs.specs.History.{BeginsWith, LeadsTo}
 use Rattle.saa_word_proofs.specs.Promises.{Observes, opening_row}
 use Rattle.saa_word_proofs.specs.Refinement.{Refines}
 use Rattle.saa_word_proofs.proofs.RefinementLemmas.Lists.{all-same}
@@ -22,9 +22,12 @@ use Rattle.saa_word_proofs.proofs.RefinementLemmas.Promises.{opens, says-so}
 use Rattle.saa_word_proofs.proofs.RefinementLemmas.Seen.{begins-seen}
 use Rattle.saa_word_threads.specs.declared.place.Place.{Place}
 use Rattle.saa_word_threads.specs.declared.table.About.{About}
+use Rattle.saa_word_threads.specs.declared.table.Role.{Role}
+use Rattle.saa_word_threads.specs.declared.table.Role.TheVariants.{Dealer, Acting, Spent}
 use Rattle.saa_word_threads.specs.declared.table.View.{View}
 use Rattle.saa_word_threads.specs.Dealt.{AreNew, IsLedTo, IsNew}
-use Rattle.saa_word_threads.specs.Kept.{Fits, FitsAs, Kept, dealer, newcomer, position_in, positions, row_of}
+use Rattle.saa_word_threads.specs.Kept.{AreGathered, Fits, FitsAs, Kept, dealer, newcomer, position_in, positions, row_of}
+use Rattle.saa_word_threads.proofs.Gathering.{gathered-stay, place-fits, spent-apart}
 use Rattle.saa_word_threads.proofs.Growing.{none-seen, part-none}
 
 -- The beginning
@@ -49,6 +52,10 @@ module _ (about : About) (wide : (needs_of about.rules).top < 2 ^ count_bits) (c
   first-fits zero v is = subst (Fits [] 1 0) (some-injective (dealer 0) v is) (refl, refl)
   first-fits (suc seat) v is = absurd (some-ne-none v (sym is))
 
+  first-gathers : (seat : ℕ) (v : View) → get_elem? (dealer 0 ∷ []) seat ≡ some v → AreGathered (dealer 0 ∷ []) v.gathered
+  first-gathers zero v is = subst (λ (u : View). AreGathered (dealer 0 ∷ []) u.gathered) (some-injective (dealer 0) v is) tt
+  first-gathers (suc seat) v is = absurd (some-ne-none v (sym is))
+
   pub kept-opening : (words : List ℕ) → words ≡ set (replicate (about.places + about.places + 1) 0) 0 about.withheld
       → Kept about (table_opening words [] (dealer 0))
   kept-opening words is = record {
@@ -65,6 +72,8 @@ module _ (about : About) (wide : (needs_of about.rules).top < 2 ^ count_bits) (c
         (opening-words about.withheld about.places))
         (opens (needs_of about.rules) wide about.places about.withheld count));
     each = first-fits;
+    gathers = first-gathers;
+    few = omega arith;
     fresh = λ place beyond. refl;
   }
 
@@ -97,12 +106,20 @@ first-within : (views : List View) (v : View) → get_elem? views 0 ≡ some v �
 first-within [] v is = absurd (some-ne-none v (sym is))
 first-within (u ∷ views) v is = omega arith
 
-fits-longer : (history : List (ℕ × Event)) (seats more seat : ℕ) (w : View) (deals : Bool) → seat ≢ 0 → FitsAs history seats seat w deals
-    → FitsAs history more seat w deals
-fits-longer history seats more seat w true apart fits = absurd (apart fits.0)
-fits-longer history seats more seat w false apart fits = fits
+fits-longer : (history : List (ℕ × Event)) (seats more seat : ℕ) (w : View) (role : Role) → seat ≢ 0 → FitsAs history seats seat w role
+    → FitsAs history more seat w role
+fits-longer history seats more seat w Dealer apart fits = absurd (apart fits.0)
+fits-longer history seats more seat w Acting apart fits = fits
+fits-longer history seats more seat w Spent apart fits = fits
 
-module _ (about : About) (number : ℕ) (s : State (Unit {0}) View) (kept : Kept about s) (id : ℕ) (at : get_elem? s.views id ≡ some (dealer number)) where
+-- a seat that was there stays where it was
+found-front : (views : List View) (w v : View) (seat : ℕ) → get_elem? views seat ≡ some v → get_elem? (views ++ w ∷ []) seat ≡ some v
+found-front [] w v seat is = absurd (some-ne-none v (sym is))
+found-front (u ∷ views) w v zero is = is
+found-front (u ∷ views) w v (suc seat) is = found-front views w v seat is
+
+module _ (about : About) (number : ℕ) (s : State (Unit {0}) View) (kept : Kept about s) (id : ℕ) (at : get_elem? s.views id ≡ some (dealer number))
+    (more : number < about.places) where
   first : (id ≡ 0) × (number + 1 ≡ length s.views)
   first = kept.each id (dealer number) at
 
@@ -122,7 +139,7 @@ module _ (about : About) (number : ℕ) (s : State (Unit {0}) View) (kept : Kept
   kept-fits seat w (inl own) =
       subst (Fits kept.history (length s.views + 1) seat) own.1 (own.0 ∙ first.0, (let f = first.1 in omega arith))
   kept-fits seat w (inr other) =
-      fits-longer kept.history (length s.views) (length s.views + 1) seat w w.deals (λ e. other.0 (e ∙ sym first.0)) (kept.each seat w other.1)
+      fits-longer kept.history (length s.views) (length s.views + 1) seat w w.role (λ e. other.0 (e ∙ sym first.0)) (kept.each seat w other.1)
 
   dealt-fits : (seat : ℕ) (w : View) → (get_elem? (set s.views id (dealer (number + 1))) seat ≡ some w)
       ⊎ ((seat ≡ length (set s.views id (dealer (number + 1)))) × (newcomer number ≡ w)) → Fits kept.history (length s.views + 1) seat w
@@ -131,6 +148,22 @@ module _ (about : About) (number : ℕ) (s : State (Unit {0}) View) (kept : Kept
       let is : suc number ≡ seat = (let f = first.1 in let l = last.0 in let m = length-set s.views id (dealer (number + 1)) in omega arith) in
       subst (Fits kept.history (length s.views + 1) seat) last.1
       (subst (λ (n : ℕ). Fits kept.history (length s.views + 1) n (newcomer number)) is newcomer-fits)
+
+  -- what was gathered is where it was
+  stays : (seat : ℕ) (v : View) → get_elem? s.views seat ≡ some v → v.role ≡ Spent → get_elem? views seat ≡ some v
+  stays seat v is gone =
+      found-front (set s.views id (dealer (number + 1))) (newcomer number) v seat
+      (set_else s.views id seat (dealer (number + 1)) (spent-apart s.views id seat (dealer number) v at (λ r. let wrong : Dealer ≡ Spent = r in absurd (cc)) is gone) ∙ is)
+
+  kept-gathers : (seat : ℕ) (w : View) → ((seat ≡ id) × (dealer (number + 1) ≡ w)) ⊎ ((seat ≢ id) × (get_elem? s.views seat ≡ some w))
+      → AreGathered views w.gathered
+  kept-gathers seat w (inl own) = subst (λ (u : View). AreGathered views u.gathered) own.1 tt
+  kept-gathers seat w (inr other) = gathered-stay s.views views stays w.gathered (kept.gathers seat w other.1)
+
+  dealt-gathers : (seat : ℕ) (w : View) → (get_elem? (set s.views id (dealer (number + 1))) seat ≡ some w)
+      ⊎ ((seat ≡ length (set s.views id (dealer (number + 1)))) × (newcomer number ≡ w)) → AreGathered views w.gathered
+  dealt-gathers seat w (inl there) = kept-gathers seat w (at_set s.views id seat (dealer (number + 1)) w there)
+  dealt-gathers seat w (inr last) = subst (λ (u : View). AreGathered views u.gathered) last.1 tt
 
   pub kept-dealt : Kept about (record { words = s.words; homes = s.homes; views = views })
   kept-dealt = record {
@@ -146,15 +179,19 @@ module _ (about : About) (number : ℕ) (s : State (Unit {0}) View) (kept : Kept
     each = λ seat w is.
         subst (λ (n : ℕ). Fits kept.history n seat w) (sym views-length)
         (dealt-fits seat w (found-snoc (set s.views id (dealer (number + 1))) (newcomer number) w seat is));
+    gathers = λ seat w is.
+        dealt-gathers seat w (found-snoc (set s.views id (dealer (number + 1))) (newcomer number) w seat is);
+    few = (let l = views-length in let f = first.1 in omega arith);
     fresh = λ place beyond.
         kept.fresh place (let l = views-length in omega arith);
   }
 
 -- the dealer deals a place
-pub deals : (about : About) (number id : ℕ) (v : View) → v ≡ dealer number → Splits (Kept about) id v (dealer (v.number + 1)) (newcomer v.number)
-deals about number id v is =
+pub deals : (about : About) (number id : ℕ) (v : View) → v ≡ dealer number → number < about.places
+    → Splits (Kept about) id v (dealer (v.number + 1)) (newcomer v.number)
+deals about number id v is more =
     subst (λ (u : View). Splits (Kept about) id u (dealer (u.number + 1)) (newcomer u.number)) (sym is)
-    (λ s kept at. kept-dealt about number s kept id at)
+    (λ s kept at. kept-dealt about number s kept id at more)
 
 -- a list of new places with one more
 pub new-more : (table : TableId) (from : ℕ) (places : List Place) (place : Place) → AreNew table from places → IsNew table (from + length places) place
@@ -165,18 +202,22 @@ new-more table from (first ∷ places) place all one =
 
 -- The end
 
+pub leads-to : (about : About) (s : State (Unit {0}) View) (words : List ℕ) (kept : Kept about s) → s.words ≡ words
+    → LeadsTo (needs_of about.rules) about.places about.withheld kept.history (row_of words)
+leads-to about s words kept is = record {
+  last = kept.last;
+  run = kept.run;
+  shown = subst (λ (l : List ℕ). Observes (needs_of about.rules) about.places (row_of l) kept.last) is
+      (says-so (needs_of about.rules) about.places (row_of s.words) (positions s.views) kept.last kept.refines);
+}
+
 pub led-to : (about : About) (s : State (Unit {0}) View) (seat : ℕ) (v : View) (words : List ℕ) → Kept about s → get_elem? s.views seat ≡ some v
-    → v.deals ≡ false → s.words ≡ words → IsLedTo about words v
-led-to about s seat v words kept at deals is =
-    let fits : FitsAs kept.history (length s.views) seat v false = subst (λ (b : Bool). FitsAs kept.history (length s.views) seat v b) deals (kept.each seat v at) in
+    → v.role ≡ Acting → s.words ≡ words → IsLedTo about words v
+led-to about s seat v words kept at role is =
+    let fits : FitsAs kept.history (length s.views) seat v Acting = place-fits kept.history (length s.views) seat v role (kept.each seat v at) in
     record {
       history = kept.history;
-      leads = record {
-        last = kept.last;
-        run = kept.run;
-        shown = subst (λ (l : List ℕ). Observes (needs_of about.rules) about.places (row_of l) kept.last) is
-            (says-so (needs_of about.rules) about.places (row_of s.words) (positions s.views) kept.last kept.refines);
-      };
+      leads = leads-to about s words kept is;
       begins = subst (BeginsWith kept.history) (sym fits.1) (begins-seen v.number kept.history);
       latest = fits.1;
       part = fits.2;

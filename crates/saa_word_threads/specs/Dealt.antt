@@ -1,10 +1,10 @@
 -- What a form deals as it is made, and what it gives as it is closed.
-use Rattle.std.specs.Prelude.{◌≡◌, ℕ, ◌+◌, nat_lt, if◌then◌else◌, List, [], ◌∷◌, Option, Some, None, slice_index}
+use Rattle.std.specs.Prelude.{◌≡◌, ℕ, ◌+◌, ◌≤◌, false, nat_lt, if◌then◌else◌, All, List, [], ◌∷◌, Option, Some, None, slice_index}
 use Rattle.std.specs.Slots.{slots_items}
 use Rattle.atomic_table.specs.Seated.{TableId}
 use Rattle.saa_word_steps.specs.declared.event.Event.{Event}
 use Rattle.saa_word_steps.specs.Needs.{needs_of}
-use Rattle.saa_word_proofs.specs.History.{BeginsWith, LeadsTo, part_of, seen_by}
+use Rattle.saa_word_proofs.specs.History.{BeginsWith, LeadsTo, has_part, part_of, seen_by}
 use Rattle.saa_word_proofs.specs.Promises.{idle_place}
 use Rattle.saa_word_threads.specs.declared.table.About.{About}
 use Rattle.saa_word_threads.specs.declared.table.View.{View}
@@ -30,6 +30,18 @@ pub record IsLedTo (about : About) (words : List ℕ) (v : View) : Type 0 where
   pub begins : BeginsWith history v.seen
   pub latest : v.seen ≡ seen_by v.number history
   pub part : v.part ≡ part_of v.number history
+
+-- A place's view is of a history: that begins with what the place has seen, which is all of it up to the place's last event, and its part at
+-- that place is just the place's events
+abbrev pub IsOf : List (ℕ × Event) → View → Type 0
+IsOf history v = BeginsWith history v.seen × (v.seen ≡ seen_by v.number history) × (v.part ≡ part_of v.number history)
+
+-- There is one legal history that leads to these words, and each of these views is of it. No number but those of the places has an event in it
+pub record AreLedTo (about : About) (words : List ℕ) (views : List View) : Type 0 where
+  pub history : List (ℕ × Event)
+  pub leads : LeadsTo (needs_of about.rules) about.places about.withheld history (row_of words)
+  pub each : All (IsOf history) views
+  pub others : (number : ℕ) → about.places ≤ number → has_part number history ≡ false
 
 -- the numbers of the words at the end
 abbrev pub numbers : Words → List ℕ

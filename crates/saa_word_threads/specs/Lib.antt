@@ -1,4 +1,5 @@
 pub mod Kept
+pub mod Gathered
 pub mod Told
 pub mod Called
 pub mod Dealt

@@ -18,13 +18,14 @@ use Rattle.saa_word_steps.specs.Readings.{is_idle, is_taken}
 use Rattle.saa_word_proofs.specs.History.{named, part_of, seen_by}
 use Rattle.saa_word_proofs.specs.CallStages.{IsReadyNext}
 use Rattle.saa_word_proofs.specs.StepRefinement.{named_at, place_after}
+use Rattle.saa_word_threads.specs.declared.table.Role.TheVariants.{Acting}
 use Rattle.saa_word_threads.specs.declared.table.View.{View}
 use Rattle.saa_word_threads.specs.declared.table.About.{About}
 
 -- A place's view grows by these events: they are what its part has more. What it has seen begins with what it had seen; behind that are
 -- events of others and just these of its own, one of them last
 pub record Extends (v : View) (events : List Event) (w : View) : Type 0 where
-  pub deals : w.deals ≡ v.deals
+  pub role : w.role ≡ v.role
   pub number : w.number ≡ v.number
   pub part : w.part ≡ v.part ++ events
   pub more : List (ℕ × Event)
@@ -51,6 +52,7 @@ pub record Moves (needs : Needs) (withheld places : ℕ) (place : Place) (next :
 abbrev pub told : About → Place → ℕ → Step (Unit {0}) → Me (Unit {0}) View → ℕ → Me (Unit {0}) View → Type 0
 told about place me st before found after =
     Moves (needs_of about.rules) about.withheld about.places place (next_of (needs_of about.rules) me place place.stage found) found before.0 after.0
+    × (after.1 ≡ before.1)
 
 -- whether a place goes on to join the waiters
 abbrev pub prepares_at : Stage → Bool
@@ -80,7 +82,8 @@ MovesOrStays needs withheld places me place next v w =
     ((found : ℕ) × (next ≡ next_of needs me place place.stage found) × Moves needs withheld places place next found v w) ⊎ ((next ≡ Going place) × (w ≡ v))
 
 abbrev pub sought : About → Place → ℕ → Step (Unit {0}) → Me (Unit {0}) View → ℕ → Me (Unit {0}) View → Type 0
-sought about place me st before found after = IsSought (needs_of about.rules) about.withheld about.places me place found before.0 after.0
+sought about place me st before found after =
+    IsSought (needs_of about.rules) about.withheld about.places me place found before.0 after.0 × (after.1 ≡ before.1)
 
 -- an answer that was given at once is taken
 abbrev pub taken_once : Registration → Registration
@@ -102,9 +105,9 @@ Begins needs was place =
     (place ≡ was)
     ⊎ ((rest : Place) × (call : WordCall) × IsSince was rest × (is_taken needs.is_lock call ≡ true) × (place ≡ place_after rest (started needs rest call)))
 
--- A place of this number, which is no dealer's, makes this operation next, out of so many places
+-- A place of this number makes this operation next, out of so many places
 pub record IsNext (needs : Needs) (places me : ℕ) (place : Place) (operation : Operation) (v : View) : Type 0 where
-  pub deals : v.deals ≡ false
+  pub role : v.role ≡ Acting
   pub number : v.number ≡ me
   pub here : me < places
   pub begins : Begins needs v.position place

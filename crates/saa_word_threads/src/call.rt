@@ -1,8 +1,9 @@
 //! A whole call of a place: the steps from its start to its answer.
 
-ghost use Rattle.std.specs.Prelude.{◌≡◌, ◌<◌, true, false};
+ghost use Rattle.std.specs.Prelude.{◌≡◌, ◌<◌, true};
 ghost use Rattle.saa_word_steps.specs.Readings.{is_taken};
 ghost use Rattle.saa_word_steps.specs.Needs.{needs_of};
+ghost use Rattle.saa_word_threads.specs.declared.table.Role.TheVariants.{Acting};
 ghost use Rattle.saa_word_threads.specs.Told.{IsSince};
 ghost use Rattle.saa_word_threads.specs.Called.{HasEvents, IsCalled, Midway, is_single};
 ghost use Rattle.saa_word_threads.specs.Public.{HasLeft, patience_of};
@@ -131,10 +132,10 @@ impl Form {
         begun: Begun,
     ) -> (Position, Answer)
         requires table { seat.old.table_id ≡ self.now.table.shared.table_id }
-        requires number { (seat.old.me.0.deals ≡ false) × (seat.old.me.0.number ≡ me) × (me < self.now.places) }
+        requires number { (seat.old.me.0.role ≡ Acting) × (seat.old.me.0.number ≡ me) × (me < self.now.places) }
         requires midway { Midway (needs_of self.now.rules) self.now.places me begun.call.value begun.registered.value begun.seat.value.me.0 first seat.old.me.0 }
-        ensures table { (seat.new.table_id ≡ seat.old.table_id) × (seat.new.id ≡ seat.old.id) }
-        ensures number { (seat.new.me.0.deals ≡ false) × (seat.new.me.0.number ≡ me) }
+        ensures table { (seat.new.table_id ≡ seat.old.table_id) × (seat.new.id ≡ seat.old.id) × (seat.new.me.1 ≡ seat.old.me.1) }
+        ensures number { (seat.new.me.0.role ≡ Acting) × (seat.new.me.0.number ≡ me) }
         ensures since { IsSince seat.new.me.0.position result.0 }
         ensures events { HasEvents (needs_of self.now.rules) self.now.table.shared.key.withheld begun.call.value begun.registered.value result.1 result.0.registration begun.seat.value.me.0 seat.new.me.0 }
     {

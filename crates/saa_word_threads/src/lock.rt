@@ -3,13 +3,13 @@
 //! Every call is one call of a place of the form (`call`), and is held to `specs/Locks.antt`, which says the same of a lock's places as
 //! `specs/Public.antt` of a semaphore's. Which owners may be there together is said by the steps (`saa_word_steps`), and nowhere here.
 
-ghost use Rattle.std.specs.Prelude.{◌≡◌, All, IfOk, vec_len};
+ghost use Rattle.std.specs.Prelude.{◌≡◌, All, IfOk, map, vec_len};
 ghost use Rattle.saa_core_spec.specs.declared.lock.Mode.TheVariants.{Exclusive, Shared};
 ghost use Rattle.saa_word_steps.specs.declared.call.Answer.{Answer};
 ghost use Rattle.saa_word_steps.specs.declared.call.WordCall.TheVariants.{TryLock, TryShare, RegisterMode, ReleaseLock, ReleaseShare, Downgrade, PoisonLock, ClearPoison, IsFree, IsLocked, IsShared, IsPoisoned, TryPoll, Poll, Cancel};
 ghost use Rattle.saa_word_steps.specs.declared.rules.Rules.TheVariants.{Modes};
 ghost use Rattle.saa_word_steps.specs.Readings.{mode_number};
-ghost use Rattle.saa_word_threads.specs.Dealt.{IsLedTo, numbers};
+ghost use Rattle.saa_word_threads.specs.Dealt.{AreLedTo, IsLedTo, numbers};
 ghost use Rattle.saa_word_threads.specs.Patience.{none, waiting};
 ghost use Rattle.saa_word_threads.specs.Public.{is_yes, polled_lock, tried};
 
@@ -398,6 +398,21 @@ impl Lock {
         let Lock { form } = self;
         let Left { inner } = left;
         form.close(inner)
+    }
+
+    /// The words at the end, with all these places as the witnesses of the one history that led there; never blocks. Costs O(`lefts`).
+    pub fn close_all(self, lefts: Vec<Left>) -> Words
+        requires { All (IsLeftOf self) lefts.items }
+        ensures places { result.places ≡ (about_of self).places }
+        ensures led { AreLedTo (about_of self) (numbers result) (map view_left lefts.items) }
+    {
+        let Lock { form } = self;
+        let mut witness = None;
+        for left in lefts {
+            let Left { inner } = left;
+            witness = Some(form.gather(witness, inner));
+        }
+        form.close_over(witness)
     }
 }
 

@@ -12,6 +12,7 @@ ghost use Rattle.saa_word_steps.specs.declared.place.Next.TheVariants.{Going};
 ghost use Rattle.saa_word_steps.specs.Steps.{next_of};
 ghost use Rattle.saa_word_steps.specs.Needs.{needs_of};
 ghost use Rattle.saa_word_proofs.specs.CallStages.{IsReadyNext};
+ghost use Rattle.saa_word_threads.specs.declared.table.Role.TheVariants.{Acting};
 ghost use Rattle.saa_word_threads.specs.Called.{Midway, MidwayNext};
 ghost use Rattle.saa_word_threads.specs.Told.{Begins, IsNext, IsSought, MovesOrStays, prepares, unless_joining};
 
@@ -83,10 +84,10 @@ impl Form {
         begun: &Begun,
     ) -> Next
         requires table { seat.old.table_id ≡ self.now.table.shared.table_id }
-        requires number { (seat.old.me.0.deals ≡ false) × (seat.old.me.0.number ≡ me) × (me < self.now.places) }
+        requires number { (seat.old.me.0.role ≡ Acting) × (seat.old.me.0.number ≡ me) × (me < self.now.places) }
         requires midway { Midway (needs_of self.now.rules) self.now.places me begun.now.call.value begun.now.registered.value begun.now.seat.value.me.0 first seat.old.me.0 }
-        ensures table { (seat.new.table_id ≡ seat.old.table_id) × (seat.new.id ≡ seat.old.id) }
-        ensures number { (seat.new.me.0.deals ≡ false) × (seat.new.me.0.number ≡ me) }
+        ensures table { (seat.new.table_id ≡ seat.old.table_id) × (seat.new.id ≡ seat.old.id) × (seat.new.me.1 ≡ seat.old.me.1) }
+        ensures number { (seat.new.me.0.role ≡ Acting) × (seat.new.me.0.number ≡ me) }
         ensures midway { MidwayNext (needs_of self.now.rules) self.now.table.shared.key.withheld self.now.places me begun.now.call.value begun.now.registered.value begun.now.seat.value.me.0 first seat.new.me.0 result }
     {
         let mut place = first;
@@ -123,11 +124,11 @@ impl Form {
         place: Position,
     ) -> Next
         requires table { seat.old.table_id ≡ self.now.table.shared.table_id }
-        requires number { (seat.old.me.0.deals ≡ false) × (seat.old.me.0.number ≡ me) × (me < self.now.places) }
+        requires number { (seat.old.me.0.role ≡ Acting) × (seat.old.me.0.number ≡ me) × (me < self.now.places) }
         requires told { (M.about ≡ self.now.table.shared.key) × (M.place ≡ place) × (M.me ≡ me) }
         requires begins { Begins (needs_of self.now.rules) seat.old.me.0.position place }
         requires ready { IsReadyNext (needs_of self.now.rules) self.now.places me (Going place) }
-        ensures table { (seat.new.table_id ≡ seat.old.table_id) × (seat.new.id ≡ seat.old.id) }
+        ensures table { (seat.new.table_id ≡ seat.old.table_id) × (seat.new.id ≡ seat.old.id) × (seat.new.me.1 ≡ seat.old.me.1) }
         ensures sought { MovesOrStays (needs_of self.now.rules) self.now.table.shared.key.withheld self.now.places me place result seat.old.me.0 seat.new.me.0 }
     {
         let at = Snapshot::of(&place);
@@ -160,8 +161,8 @@ impl Form {
         requires table { seat.old.table_id ≡ self.now.table.shared.table_id }
         requires told { (M.about ≡ self.now.table.shared.key) × (M.place ≡ at.value) × (M.me ≡ me) }
         requires next { IsNext (needs_of self.now.rules) self.now.places me at.value (Load 0) seat.old.me.0 }
-        ensures table { (seat.new.table_id ≡ seat.old.table_id) × (seat.new.id ≡ seat.old.id) }
-        ensures number { (seat.new.me.0.deals ≡ false) × (seat.new.me.0.number ≡ me) }
+        ensures table { (seat.new.table_id ≡ seat.old.table_id) × (seat.new.id ≡ seat.old.id) × (seat.new.me.1 ≡ seat.old.me.1) }
+        ensures number { (seat.new.me.0.role ≡ Acting) × (seat.new.me.0.number ≡ me) }
         ensures sought { IsSought (needs_of self.now.rules) self.now.table.shared.key.withheld self.now.places me at.value result seat.old.me.0 seat.new.me.0 }
     {
         self.table.shared.load::<Sought<M>>(seat, 0)
@@ -181,8 +182,8 @@ impl Form {
         requires told { (M.about ≡ self.now.table.shared.key) × (M.place ≡ at.value) × (M.me ≡ me) }
         requires next { IsNext (needs_of self.now.rules) self.now.places me at.value (Exchange 0 old new) seat.old.me.0 }
         requires made { (found : ℕ) → prepares (next_of (needs_of self.now.rules) me at.value at.value.stage found) ≡ true → (found == old) ≡ false }
-        ensures table { (seat.new.table_id ≡ seat.old.table_id) × (seat.new.id ≡ seat.old.id) }
-        ensures number { (seat.new.me.0.deals ≡ false) × (seat.new.me.0.number ≡ me) }
+        ensures table { (seat.new.table_id ≡ seat.old.table_id) × (seat.new.id ≡ seat.old.id) × (seat.new.me.1 ≡ seat.old.me.1) }
+        ensures number { (seat.new.me.0.role ≡ Acting) × (seat.new.me.0.number ≡ me) }
         ensures sought { IsSought (needs_of self.now.rules) self.now.table.shared.key.withheld self.now.places me at.value result seat.old.me.0 seat.new.me.0 }
     {
         self.table

@@ -1,21 +1,25 @@
 //! A form is made, with its places, and closed.
 
-ghost use Rattle.std.specs.Prelude.{◌^◌, ◌≡◌, ◌+◌, ◌<◌, ◌≤◌, [], IfOk, replicate, slice_set, vec_capacity, vec_len};
+ghost use Rattle.std.specs.Prelude.{◌^◌, ◌≡◌, ◌+◌, ◌<◌, ◌≤◌, List, [], ◌∷◌, ◌++◌, IfOk, Some, replicate, slice_set, vec_capacity, vec_len};
 ghost use Rattle.saa_core_words.specs.Words.{count_bits};
 ghost use Rattle.saa_word_steps.specs.Needs.{needs_of};
-ghost use Rattle.saa_word_threads.specs.Kept.{dealer};
-ghost use Rattle.saa_word_threads.specs.Dealt.{AreNew, IsLedTo, IsNew, numbers};
+ghost use Rattle.saa_word_threads.specs.declared.table.Role.TheVariants.{Acting};
+ghost use Rattle.saa_word_threads.specs.declared.table.View.{View};
+ghost use Rattle.saa_word_threads.specs.Kept.{dealer, gathering};
+ghost use Rattle.saa_word_threads.specs.Gathered.{IsWitness};
+ghost use Rattle.saa_word_threads.specs.Dealt.{AreLedTo, AreNew, IsLedTo, IsNew, numbers};
 
 use crate::form::Form;
 use crate::mark::Marks;
 use crate::place::{Left, Place};
 use crate::straight::LastAsk;
-use crate::table::{About, Dealt, View};
+use crate::table::{About, Dealt, Gathered, Leaver, View};
 use crate::words::Words;
 use atomic_table::{Seat, Table};
 use saa_word_steps::place::{Back, Place as Position, Registration, Stage};
 use saa_word_steps::rules::Rules;
 use std::alloc::{AllocError, Global};
+use std::marker::Brand;
 use std::sync::atomic::AtomicBool;
 
 impl Form {
@@ -103,6 +107,52 @@ impl Form {
             marks: _,
         } = self;
         let Left { seat, number: _ } = left;
+        let closed = table.close_with(seat);
+        Words { closed, places }
+    }
+
+    // What places that have left had seen, in one of them: what the witness knew, and what this place had seen.
+    pub(crate) fn gather(&self, witness: Option<Left>, left: Left) -> Left
+        requires table { left.seat.table_id ≡ self.now.table.shared.table_id }
+        requires witness { (views : List View) × IsWitness self.now.table.shared.table_id witness views }
+        ensures known { (views : List View) → IsWitness self.now.table.shared.table_id witness views → IsWitness self.now.table.shared.table_id (Some result) (views ++ left.seat.me.0 ∷ []) }
+    {
+        let Some(mut gathering) = witness else {
+            return left;
+        };
+        let Left { seat, number: _ } = left;
+        self.join::<Brand>(&mut gathering.seat, seat);
+        gathering
+    }
+
+    // A place's view gathers another one, which is spent.
+    fn join<M: Leaver>(&self, seat: &mut Seat<(), View>, other: Seat<(), View>)
+        requires table { (seat.old.table_id ≡ self.now.table.shared.table_id) × (other.table_id ≡ self.now.table.shared.table_id) }
+        requires acting { (seat.old.me.0.role ≡ Acting) × (other.me.0.role ≡ Acting) }
+        requires empty { other.me.1 ≡ [] }
+        requires gone { M.view ≡ other.me.0 }
+        ensures table { (seat.new.table_id ≡ seat.old.table_id) × (seat.new.id ≡ seat.old.id) × (seat.new.me.1 ≡ seat.old.me.1) }
+        ensures gathered { seat.new.me.0 ≡ gathering seat.old.me.0 other.me.0 }
+    {
+        self.table.shared.join_seat::<Gathered<M>>(seat, other);
+    }
+
+    // The words at the end. They are those that the one history leads to, of which the witness knows all these parts.
+    pub(crate) fn close_over(self, witness: Option<Left>) -> Words
+        requires { (views : List View) × IsWitness self.table.shared.table_id witness views }
+        ensures places { result.places ≡ self.places }
+        ensures led { (views : List View) → IsWitness self.table.shared.table_id witness views → AreLedTo self.table.shared.key (numbers result) views }
+    {
+        let Form {
+            table,
+            rules: _,
+            places,
+            marks: _,
+        } = self;
+        let Some(Left { seat, number: _ }) = witness else {
+            let closed = table.close();
+            return Words { closed, places };
+        };
         let closed = table.close_with(seat);
         Words { closed, places }
     }

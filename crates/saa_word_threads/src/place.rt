@@ -3,8 +3,9 @@
 //! Places are dealt by the form that they are used with, and by nothing else; they can't be copied. Between its calls a place is as it was
 //! behind its last step, or has taken an answer that was given at once since.
 
-ghost use Rattle.std.specs.Prelude.{◌≡◌, ◌+◌, ◌<◌, false};
+ghost use Rattle.std.specs.Prelude.{◌≡◌, ◌+◌, ◌<◌, []};
 ghost use Rattle.saa_word_steps.specs.Readings.{is_idle};
+ghost use Rattle.saa_word_threads.specs.declared.table.Role.TheVariants.{Acting};
 ghost use Rattle.saa_word_threads.specs.Told.{IsSince};
 
 use crate::straight::LastAsk;
@@ -23,7 +24,8 @@ pub struct Place {
     pub(crate) position: Position,
     // The last call that asked here, which only contracts read.
     pub(crate) last_ask: LastAsk,
-    ghost numbered: { (seat.me.0.deals ≡ false) × (seat.me.0.number ≡ number) },
+    ghost numbered: { (seat.me.0.role ≡ Acting) × (seat.me.0.number ≡ number) },
+    ghost empty: { seat.me.1 ≡ [] },
     ghost within: { number + number + 1 < seat.table_id.words },
     ghost since: { IsSince seat.me.0.position position },
 }
@@ -42,7 +44,8 @@ impl Place {
 pub struct Left {
     pub(crate) seat: Seat<(), View>,
     pub(crate) number: u16,
-    ghost numbered: { (seat.me.0.deals ≡ false) × (seat.me.0.number ≡ number) },
+    ghost numbered: { (seat.me.0.role ≡ Acting) × (seat.me.0.number ≡ number) },
+    ghost empty: { seat.me.1 ≡ [] },
 }
 
 impl Left {

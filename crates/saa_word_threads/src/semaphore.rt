@@ -3,14 +3,14 @@
 //! Every call is one call of a place of the form (`call`), and is held to `specs/Public.antt`. The history of all calls is one: it leads to
 //! the words, begins with what each place has seen, and has of each place just its own events.
 
-ghost use Rattle.std.specs.Prelude.{◌≡◌, ◌<◌, All, IfOk, min, vec_len};
+ghost use Rattle.std.specs.Prelude.{◌≡◌, ◌<◌, All, IfOk, map, min, vec_len};
 ghost use Rattle.saa_core_spec.specs.declared.polling.Error.{Error};
 ghost use Rattle.saa_word_steps.specs.Needs.{permit_needs};
 ghost use Rattle.saa_word_steps.specs.declared.call.Answer.{Answer};
 ghost use Rattle.saa_word_steps.specs.declared.call.Answer.TheVariants.{Number};
 ghost use Rattle.saa_word_steps.specs.declared.call.WordCall.TheVariants.{Try, Register, Release, Available, TryPoll, Poll, Cancel};
 ghost use Rattle.saa_word_steps.specs.declared.rules.Rules.TheVariants.{Permits};
-ghost use Rattle.saa_word_threads.specs.Dealt.{AreNew, IsLedTo, numbers};
+ghost use Rattle.saa_word_threads.specs.Dealt.{AreLedTo, AreNew, IsLedTo, numbers};
 ghost use Rattle.saa_word_threads.specs.Patience.{none, waiting};
 ghost use Rattle.saa_word_threads.specs.Public.{HasLeft, IsMade, IsWaited, is_yes, patience_of, polled, view_left};
 
@@ -230,6 +230,20 @@ impl<const MAX: usize> SemaphoreOf<MAX> {
     {
         let SemaphoreOf { form } = self;
         form.close(left)
+    }
+
+    /// The words at the end, with all these places as the witnesses of the one history that led there; never blocks. Costs O(`lefts`).
+    pub fn close_all(self, lefts: Vec<Left>) -> Words
+        requires { All (IsLeftOf self) lefts.items }
+        ensures places { result.places ≡ (about_of self.entry).places }
+        ensures led { AreLedTo (about_of self.entry) (numbers result) (map view_left lefts.items) }
+    {
+        let SemaphoreOf { form } = self;
+        let mut witness = None;
+        for left in lefts {
+            witness = Some(form.gather(witness, left));
+        }
+        form.close_over(witness)
     }
 }
 

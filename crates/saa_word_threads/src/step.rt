@@ -3,12 +3,13 @@
 //! Each operation has a function of its own, of the place and the stage that its caller names in contracts alone; `act` makes the one that a
 //! place's stage says.
 
-ghost use Rattle.std.specs.Prelude.{◌≡◌, ◌+◌, ◌<◌, ℕ, false};
+ghost use Rattle.std.specs.Prelude.{◌≡◌, ◌+◌, ◌<◌, ℕ};
 ghost use Rattle.saa_word_steps.specs.Steps.{next_of};
 ghost use Rattle.saa_word_steps.specs.Needs.{needs_of};
 ghost use Rattle.saa_word_steps.specs.declared.place.Next.TheVariants.{Going};
 ghost use Rattle.saa_word_steps.specs.declared.operation.Operation.TheVariants.{Load, Exchange, Add, Swap, Store};
 ghost use Rattle.saa_word_proofs.specs.CallStages.{IsReadyNext};
+ghost use Rattle.saa_word_threads.specs.declared.table.Role.TheVariants.{Acting};
 ghost use Rattle.saa_word_threads.specs.Told.{Begins, IsNext, Moves};
 
 use crate::form::Form;
@@ -28,11 +29,11 @@ impl Form {
         place: Position,
     ) -> Next
         requires table { seat.old.table_id ≡ self.now.table.shared.table_id }
-        requires number { (seat.old.me.0.deals ≡ false) × (seat.old.me.0.number ≡ me) × (me < self.now.places) }
+        requires number { (seat.old.me.0.role ≡ Acting) × (seat.old.me.0.number ≡ me) × (me < self.now.places) }
         requires told { (M.about ≡ self.now.table.shared.key) × (M.place ≡ place) × (M.me ≡ me) }
         requires begins { Begins (needs_of self.now.rules) seat.old.me.0.position place }
         requires ready { IsReadyNext (needs_of self.now.rules) self.now.places me (Going place) }
-        ensures table { (seat.new.table_id ≡ seat.old.table_id) × (seat.new.id ≡ seat.old.id) }
+        ensures table { (seat.new.table_id ≡ seat.old.table_id) × (seat.new.id ≡ seat.old.id) × (seat.new.me.1 ≡ seat.old.me.1) }
         ensures moved { (found : ℕ) × (result ≡ next_of (needs_of self.now.rules) me place place.stage found) × Moves (needs_of self.now.rules) self.now.table.shared.key.withheld self.now.places place result found seat.old.me.0 seat.new.me.0 }
     {
         let operation = place.stage.operation(self.rules, self.places, me);
@@ -49,7 +50,7 @@ impl Form {
     ) -> u64
         requires table { (seat.old.table_id ≡ self.now.table.shared.table_id) × (M.about ≡ self.now.table.shared.key) }
         requires next { IsNext (needs_of self.now.rules) self.now.places M.me M.place operation seat.old.me.0 }
-        ensures table { (seat.new.table_id ≡ seat.old.table_id) × (seat.new.id ≡ seat.old.id) }
+        ensures table { (seat.new.table_id ≡ seat.old.table_id) × (seat.new.id ≡ seat.old.id) × (seat.new.me.1 ≡ seat.old.me.1) }
         ensures moved { Moves (needs_of self.now.rules) self.now.table.shared.key.withheld self.now.places M.place (next_of (needs_of self.now.rules) M.me M.place M.place.stage result) result seat.old.me.0 seat.new.me.0 }
     {
         match operation {
@@ -65,7 +66,7 @@ impl Form {
     pub(crate) fn load<M: Mover>(&self, seat: &mut Seat<(), View>, index: usize) -> u64
         requires table { (seat.old.table_id ≡ self.now.table.shared.table_id) × (M.about ≡ self.now.table.shared.key) }
         requires next { IsNext (needs_of self.now.rules) self.now.places M.me M.place (Load index) seat.old.me.0 }
-        ensures table { (seat.new.table_id ≡ seat.old.table_id) × (seat.new.id ≡ seat.old.id) }
+        ensures table { (seat.new.table_id ≡ seat.old.table_id) × (seat.new.id ≡ seat.old.id) × (seat.new.me.1 ≡ seat.old.me.1) }
         ensures moved { Moves (needs_of self.now.rules) self.now.table.shared.key.withheld self.now.places M.place (next_of (needs_of self.now.rules) M.me M.place M.place.stage result) result seat.old.me.0 seat.new.me.0 }
     {
         self.table.shared.load::<Moved<M>>(seat, index)
@@ -81,7 +82,7 @@ impl Form {
     ) -> u64
         requires table { (seat.old.table_id ≡ self.now.table.shared.table_id) × (M.about ≡ self.now.table.shared.key) }
         requires next { IsNext (needs_of self.now.rules) self.now.places M.me M.place (Exchange index old new) seat.old.me.0 }
-        ensures table { (seat.new.table_id ≡ seat.old.table_id) × (seat.new.id ≡ seat.old.id) }
+        ensures table { (seat.new.table_id ≡ seat.old.table_id) × (seat.new.id ≡ seat.old.id) × (seat.new.me.1 ≡ seat.old.me.1) }
         ensures moved { Moves (needs_of self.now.rules) self.now.table.shared.key.withheld self.now.places M.place (next_of (needs_of self.now.rules) M.me M.place M.place.stage result) result seat.old.me.0 seat.new.me.0 }
     {
         self.table
@@ -93,7 +94,7 @@ impl Form {
     fn add<M: Mover>(&self, seat: &mut Seat<(), View>, index: usize, number: u64) -> u64
         requires table { (seat.old.table_id ≡ self.now.table.shared.table_id) × (M.about ≡ self.now.table.shared.key) }
         requires next { IsNext (needs_of self.now.rules) self.now.places M.me M.place (Add index number) seat.old.me.0 }
-        ensures table { (seat.new.table_id ≡ seat.old.table_id) × (seat.new.id ≡ seat.old.id) }
+        ensures table { (seat.new.table_id ≡ seat.old.table_id) × (seat.new.id ≡ seat.old.id) × (seat.new.me.1 ≡ seat.old.me.1) }
         ensures moved { Moves (needs_of self.now.rules) self.now.table.shared.key.withheld self.now.places M.place (next_of (needs_of self.now.rules) M.me M.place M.place.stage result) result seat.old.me.0 seat.new.me.0 }
     {
         self.table.shared.fetch_add::<Moved<M>>(seat, index, number)
@@ -109,7 +110,7 @@ impl Form {
     ) -> u64
         requires table { (seat.old.table_id ≡ self.now.table.shared.table_id) × (M.about ≡ self.now.table.shared.key) }
         requires next { IsNext (needs_of self.now.rules) self.now.places M.me M.place (Store index number) seat.old.me.0 }
-        ensures table { (seat.new.table_id ≡ seat.old.table_id) × (seat.new.id ≡ seat.old.id) }
+        ensures table { (seat.new.table_id ≡ seat.old.table_id) × (seat.new.id ≡ seat.old.id) × (seat.new.me.1 ≡ seat.old.me.1) }
         ensures moved { Moves (needs_of self.now.rules) self.now.table.shared.key.withheld self.now.places M.place (next_of (needs_of self.now.rules) M.me M.place M.place.stage result) result seat.old.me.0 seat.new.me.0 }
     {
         self.tell(watch, index);
@@ -122,7 +123,7 @@ impl Form {
     pub(crate) fn swap<M: Mover>(&self, seat: &mut Seat<(), View>, index: usize, number: u64) -> u64
         requires table { (seat.old.table_id ≡ self.now.table.shared.table_id) × (M.about ≡ self.now.table.shared.key) }
         requires next { IsNext (needs_of self.now.rules) self.now.places M.me M.place (Swap index number) seat.old.me.0 }
-        ensures table { (seat.new.table_id ≡ seat.old.table_id) × (seat.new.id ≡ seat.old.id) }
+        ensures table { (seat.new.table_id ≡ seat.old.table_id) × (seat.new.id ≡ seat.old.id) × (seat.new.me.1 ≡ seat.old.me.1) }
         ensures moved { Moves (needs_of self.now.rules) self.now.table.shared.key.withheld self.now.places M.place (next_of (needs_of self.now.rules) M.me M.place M.place.stage result) result seat.old.me.0 seat.new.me.0 }
     {
         self.table.shared.swap::<Moved<M>>(seat, index, number)

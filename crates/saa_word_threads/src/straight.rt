@@ -16,6 +16,7 @@ ghost use Rattle.saa_word_steps.specs.declared.place.Given.TheVariants.{Asked};
 ghost use Rattle.saa_word_steps.specs.Steps.{IsRanged, going, next_of, released_as, started};
 ghost use Rattle.saa_word_steps.specs.Readings.{is_taken, tried_answer};
 ghost use Rattle.saa_word_steps.specs.Needs.{needs_of};
+ghost use Rattle.saa_word_threads.specs.declared.table.Role.TheVariants.{Acting};
 ghost use Rattle.saa_word_threads.specs.Patience.{none};
 ghost use Rattle.saa_word_threads.specs.Public.{is_granted, is_yes, patience_of};
 ghost use Rattle.saa_word_threads.specs.Straight.{grants_at, lowers_to};
@@ -241,7 +242,7 @@ impl Form {
         requires table { seat.old.table_id ≡ self.now.table.shared.table_id }
         requires told { (M.about ≡ self.now.table.shared.key) × (M.place ≡ at.value) × (M.me ≡ me) }
         requires next { IsNext (needs_of self.now.rules) self.now.places me at.value (Load 0) seat.old.me.0 }
-        ensures table { (seat.new.table_id ≡ seat.old.table_id) × (seat.new.id ≡ seat.old.id) }
+        ensures table { (seat.new.table_id ≡ seat.old.table_id) × (seat.new.id ≡ seat.old.id) × (seat.new.me.1 ≡ seat.old.me.1) }
         ensures moved { Moves (needs_of self.now.rules) self.now.table.shared.key.withheld self.now.places at.value (next_of (needs_of self.now.rules) me at.value at.value.stage result) result seat.old.me.0 seat.new.me.0 }
     {
         self.load::<M>(seat, 0)
@@ -260,7 +261,7 @@ impl Form {
         requires table { seat.old.table_id ≡ self.now.table.shared.table_id }
         requires told { (M.about ≡ self.now.table.shared.key) × (M.place ≡ at.value) × (M.me ≡ me) }
         requires next { IsNext (needs_of self.now.rules) self.now.places me at.value (Exchange 0 old new) seat.old.me.0 }
-        ensures table { (seat.new.table_id ≡ seat.old.table_id) × (seat.new.id ≡ seat.old.id) }
+        ensures table { (seat.new.table_id ≡ seat.old.table_id) × (seat.new.id ≡ seat.old.id) × (seat.new.me.1 ≡ seat.old.me.1) }
         ensures moved { Moves (needs_of self.now.rules) self.now.table.shared.key.withheld self.now.places at.value (next_of (needs_of self.now.rules) me at.value at.value.stage result) result seat.old.me.0 seat.new.me.0 }
     {
         self.exchange::<M>(seat, 0, old, new)
@@ -281,11 +282,11 @@ impl Form {
         begun: Begun,
     ) -> Answer
         requires table { seat.old.table_id ≡ self.now.table.shared.table_id }
-        requires number { (seat.old.me.0.deals ≡ false) × (seat.old.me.0.number ≡ me) × (me < self.now.places) }
+        requires number { (seat.old.me.0.role ≡ Acting) × (seat.old.me.0.number ≡ me) × (me < self.now.places) }
         requires ranged { IsRanged (needs_of self.now.rules) (AskLoad ask) }
         requires midway { MidwayNext (needs_of self.now.rules) self.now.table.shared.key.withheld self.now.places me begun.call.value begun.registered.value begun.seat.value.me.0 (record position.old { stage = AskLoad ask }) seat.old.me.0 (unless_joining (record position.old { stage = AskLoad ask }) (next_of (needs_of self.now.rules) me (record position.old { stage = AskLoad ask }) (AskLoad ask) found)) }
-        ensures table { (seat.new.table_id ≡ seat.old.table_id) × (seat.new.id ≡ seat.old.id) }
-        ensures number { (seat.new.me.0.deals ≡ false) × (seat.new.me.0.number ≡ me) }
+        ensures table { (seat.new.table_id ≡ seat.old.table_id) × (seat.new.id ≡ seat.old.id) × (seat.new.me.1 ≡ seat.old.me.1) }
+        ensures number { (seat.new.me.0.role ≡ Acting) × (seat.new.me.0.number ≡ me) }
         ensures since { IsSince seat.new.me.0.position position.new }
         ensures events { HasEvents (needs_of self.now.rules) self.now.table.shared.key.withheld begun.call.value begun.registered.value result position.new.registration begun.seat.value.me.0 seat.new.me.0 }
     {
@@ -316,11 +317,11 @@ impl Form {
         begun: Begun,
     ) -> Answer
         requires table { seat.old.table_id ≡ self.now.table.shared.table_id }
-        requires number { (seat.old.me.0.deals ≡ false) × (seat.old.me.0.number ≡ me) × (me < self.now.places) }
+        requires number { (seat.old.me.0.role ≡ Acting) × (seat.old.me.0.number ≡ me) × (me < self.now.places) }
         requires ranged { IsRanged (needs_of self.now.rules) (AskExchange ask (word_of count_bits first)) }
         requires midway { MidwayNext (needs_of self.now.rules) self.now.table.shared.key.withheld self.now.places me begun.call.value begun.registered.value begun.seat.value.me.0 (record position.old { stage = AskExchange ask (word_of count_bits first) }) seat.old.me.0 (unless_joining (record position.old { stage = AskExchange ask (word_of count_bits first) }) (next_of (needs_of self.now.rules) me (record position.old { stage = AskExchange ask (word_of count_bits first) }) (AskExchange ask (word_of count_bits first)) found)) }
-        ensures table { (seat.new.table_id ≡ seat.old.table_id) × (seat.new.id ≡ seat.old.id) }
-        ensures number { (seat.new.me.0.deals ≡ false) × (seat.new.me.0.number ≡ me) }
+        ensures table { (seat.new.table_id ≡ seat.old.table_id) × (seat.new.id ≡ seat.old.id) × (seat.new.me.1 ≡ seat.old.me.1) }
+        ensures number { (seat.new.me.0.role ≡ Acting) × (seat.new.me.0.number ≡ me) }
         ensures since { IsSince seat.new.me.0.position position.new }
         ensures events { HasEvents (needs_of self.now.rules) self.now.table.shared.key.withheld begun.call.value begun.registered.value result position.new.registration begun.seat.value.me.0 seat.new.me.0 }
     {
@@ -350,11 +351,11 @@ impl Form {
         begun: Begun,
     ) -> Answer
         requires table { seat.old.table_id ≡ self.now.table.shared.table_id }
-        requires number { (seat.old.me.0.deals ≡ false) × (seat.old.me.0.number ≡ me) × (me < self.now.places) }
+        requires number { (seat.old.me.0.role ≡ Acting) × (seat.old.me.0.number ≡ me) × (me < self.now.places) }
         requires ranged { IsRanged (needs_of self.now.rules) (ReleaseLoad (Asked request)) }
         requires midway { MidwayNext (needs_of self.now.rules) self.now.table.shared.key.withheld self.now.places me begun.call.value begun.registered.value begun.seat.value.me.0 (record position.old { stage = ReleaseLoad (Asked request); back = Tells }) seat.old.me.0 (next_of (needs_of self.now.rules) me (record position.old { stage = ReleaseLoad (Asked request); back = Tells }) (ReleaseLoad (Asked request)) found) }
-        ensures table { (seat.new.table_id ≡ seat.old.table_id) × (seat.new.id ≡ seat.old.id) }
-        ensures number { (seat.new.me.0.deals ≡ false) × (seat.new.me.0.number ≡ me) }
+        ensures table { (seat.new.table_id ≡ seat.old.table_id) × (seat.new.id ≡ seat.old.id) × (seat.new.me.1 ≡ seat.old.me.1) }
+        ensures number { (seat.new.me.0.role ≡ Acting) × (seat.new.me.0.number ≡ me) }
         ensures since { IsSince seat.new.me.0.position position.new }
         ensures events { HasEvents (needs_of self.now.rules) self.now.table.shared.key.withheld begun.call.value begun.registered.value result position.new.registration begun.seat.value.me.0 seat.new.me.0 }
     {
@@ -385,11 +386,11 @@ impl Form {
         begun: Begun,
     ) -> Answer
         requires table { seat.old.table_id ≡ self.now.table.shared.table_id }
-        requires number { (seat.old.me.0.deals ≡ false) × (seat.old.me.0.number ≡ me) × (me < self.now.places) }
+        requires number { (seat.old.me.0.role ≡ Acting) × (seat.old.me.0.number ≡ me) × (me < self.now.places) }
         requires ranged { IsRanged (needs_of self.now.rules) (ReleaseExchange (Asked request) (word_of count_bits first)) }
         requires midway { MidwayNext (needs_of self.now.rules) self.now.table.shared.key.withheld self.now.places me begun.call.value begun.registered.value begun.seat.value.me.0 (record position.old { stage = ReleaseExchange (Asked request) (word_of count_bits first); back = Tells }) seat.old.me.0 (next_of (needs_of self.now.rules) me (record position.old { stage = ReleaseExchange (Asked request) (word_of count_bits first); back = Tells }) (ReleaseExchange (Asked request) (word_of count_bits first)) found) }
-        ensures table { (seat.new.table_id ≡ seat.old.table_id) × (seat.new.id ≡ seat.old.id) }
-        ensures number { (seat.new.me.0.deals ≡ false) × (seat.new.me.0.number ≡ me) }
+        ensures table { (seat.new.table_id ≡ seat.old.table_id) × (seat.new.id ≡ seat.old.id) × (seat.new.me.1 ≡ seat.old.me.1) }
+        ensures number { (seat.new.me.0.role ≡ Acting) × (seat.new.me.0.number ≡ me) }
         ensures since { IsSince seat.new.me.0.position position.new }
         ensures events { HasEvents (needs_of self.now.rules) self.now.table.shared.key.withheld begun.call.value begun.registered.value result position.new.registration begun.seat.value.me.0 seat.new.me.0 }
     {
@@ -420,11 +421,11 @@ impl Form {
         begun: Begun,
     ) -> (Position, Answer)
         requires table { seat.old.table_id ≡ self.now.table.shared.table_id }
-        requires number { (seat.old.me.0.deals ≡ false) × (seat.old.me.0.number ≡ me) × (me < self.now.places) }
+        requires number { (seat.old.me.0.role ≡ Acting) × (seat.old.me.0.number ≡ me) × (me < self.now.places) }
         requires ranged { IsRanged (needs_of self.now.rules) place.stage }
         requires midway { MidwayNext (needs_of self.now.rules) self.now.table.shared.key.withheld self.now.places me begun.call.value begun.registered.value begun.seat.value.me.0 place seat.old.me.0 (unless_joining place (next_of (needs_of self.now.rules) me place place.stage found)) }
-        ensures table { (seat.new.table_id ≡ seat.old.table_id) × (seat.new.id ≡ seat.old.id) }
-        ensures number { (seat.new.me.0.deals ≡ false) × (seat.new.me.0.number ≡ me) }
+        ensures table { (seat.new.table_id ≡ seat.old.table_id) × (seat.new.id ≡ seat.old.id) × (seat.new.me.1 ≡ seat.old.me.1) }
+        ensures number { (seat.new.me.0.role ≡ Acting) × (seat.new.me.0.number ≡ me) }
         ensures since { IsSince seat.new.me.0.position result.0 }
         ensures events { HasEvents (needs_of self.now.rules) self.now.table.shared.key.withheld begun.call.value begun.registered.value result.1 result.0.registration begun.seat.value.me.0 seat.new.me.0 }
     {
@@ -447,10 +448,10 @@ impl Form {
         begun: Begun,
     ) -> (Position, Answer)
         requires table { seat.old.table_id ≡ self.now.table.shared.table_id }
-        requires number { (seat.old.me.0.deals ≡ false) × (seat.old.me.0.number ≡ me) × (me < self.now.places) }
+        requires number { (seat.old.me.0.role ≡ Acting) × (seat.old.me.0.number ≡ me) × (me < self.now.places) }
         requires midway { Midway (needs_of self.now.rules) self.now.places me begun.call.value begun.registered.value begun.seat.value.me.0 place seat.old.me.0 }
-        ensures table { (seat.new.table_id ≡ seat.old.table_id) × (seat.new.id ≡ seat.old.id) }
-        ensures number { (seat.new.me.0.deals ≡ false) × (seat.new.me.0.number ≡ me) }
+        ensures table { (seat.new.table_id ≡ seat.old.table_id) × (seat.new.id ≡ seat.old.id) × (seat.new.me.1 ≡ seat.old.me.1) }
+        ensures number { (seat.new.me.0.role ≡ Acting) × (seat.new.me.0.number ≡ me) }
         ensures since { IsSince seat.new.me.0.position result.0 }
         ensures events { HasEvents (needs_of self.now.rules) self.now.table.shared.key.withheld begun.call.value begun.registered.value result.1 result.0.registration begun.seat.value.me.0 seat.new.me.0 }
     {
@@ -473,11 +474,11 @@ impl Form {
         begun: Begun,
     ) -> (Position, Answer)
         requires table { seat.old.table_id ≡ self.now.table.shared.table_id }
-        requires number { (seat.old.me.0.deals ≡ false) × (seat.old.me.0.number ≡ me) × (me < self.now.places) }
+        requires number { (seat.old.me.0.role ≡ Acting) × (seat.old.me.0.number ≡ me) × (me < self.now.places) }
         requires ranged { IsRanged (needs_of self.now.rules) place.stage }
         requires midway { MidwayNext (needs_of self.now.rules) self.now.table.shared.key.withheld self.now.places me begun.call.value begun.registered.value begun.seat.value.me.0 place seat.old.me.0 (next_of (needs_of self.now.rules) me place place.stage found) }
-        ensures table { (seat.new.table_id ≡ seat.old.table_id) × (seat.new.id ≡ seat.old.id) }
-        ensures number { (seat.new.me.0.deals ≡ false) × (seat.new.me.0.number ≡ me) }
+        ensures table { (seat.new.table_id ≡ seat.old.table_id) × (seat.new.id ≡ seat.old.id) × (seat.new.me.1 ≡ seat.old.me.1) }
+        ensures number { (seat.new.me.0.role ≡ Acting) × (seat.new.me.0.number ≡ me) }
         ensures since { IsSince seat.new.me.0.position result.0 }
         ensures events { HasEvents (needs_of self.now.rules) self.now.table.shared.key.withheld begun.call.value begun.registered.value result.1 result.0.registration begun.seat.value.me.0 seat.new.me.0 }
     {

@@ -3,21 +3,37 @@
 //! Held to `specs/Kept.antt`: there is one legal history that leads to the words, and each place knows its part of it. What a step tells
 //! its place is `specs/Told.antt`.
 
-use atomic_table::{Play, Split, TableRule};
+use atomic_table::{Join, Play, Split, TableRule};
 use saa_word_steps::event::Event;
 use saa_word_steps::place::Place as Position;
 use saa_word_steps::rules::Rules;
 use std::collections::LinkedList;
 use std::marker::{Brand, PhantomData};
 
+/// What a seat is: the dealer's, that of a place that makes calls, or that of one that has left and whose view another one has gathered, which
+/// makes no step any more.
+pub enum Role {
+    Dealer,
+    Acting,
+    Spent,
+}
+
+/// Of a place that has left: its number, the history as it was at its last event, and its own events in it.
+pub struct Departed {
+    pub number: u16,
+    pub seen: LinkedList<(u16, Event)>,
+    pub part: LinkedList<Event>,
+}
+
 /// What a seat knows. The dealer: how many places it has dealt. A place: its number, where it stood behind its last step, the history as it
-/// was at its last event, and its own events in it. No value of it is made.
+/// was at its last event, its own events in it, and what it has gathered of places that have left. No value of it is made.
 pub struct View {
-    pub deals: bool,
+    pub role: Role,
     pub number: u16,
     pub position: Position,
     pub seen: LinkedList<(u16, Event)>,
     pub part: LinkedList<Event>,
+    pub gathered: LinkedList<Departed>,
 }
 
 /// What a table is told when it is made: the rules, how much is held, and how many places there are.
@@ -95,4 +111,30 @@ impl Split<View> for Dealt {
     ghost left = { λ v. dealer (v.number + 1) };
 
     ghost right = { λ v. newcomer v.number };
+}
+
+/// Which view another one gathers. The call picks it.
+pub trait Leaver {
+    ghost use Rattle.saa_word_threads.specs.declared.table.View.{View};
+
+    ghost view: { View };
+}
+
+impl Leaver for Brand {
+    ghost use Rattle.saa_word_threads.specs.Kept.{newcomer};
+
+    ghost view = { newcomer 0 };
+}
+
+/// A place that has left gathers what another one that has left had seen.
+pub struct Gathered<M> {
+    of: PhantomData<M>,
+}
+
+impl<M: Leaver> Join<View> for Gathered<M> {
+    ghost use Rattle.saa_word_threads.specs.Kept.{gathering, spent};
+
+    ghost both = { gathering };
+
+    ghost spent = { spent M.view };
 }

@@ -39,7 +39,7 @@ impl Form {
     ) -> (u64, Written)
         requires table { (seat.old.table_id ≡ self.now.table.shared.table_id) × (M.about ≡ self.now.table.shared.key) }
         requires next { IsNext (needs_of self.now.rules) self.now.places M.me M.place (Store index number) seat.old.me.0 }
-        ensures table { (seat.new.table_id ≡ seat.old.table_id) × (seat.new.id ≡ seat.old.id) }
+        ensures table { (seat.new.table_id ≡ seat.old.table_id) × (seat.new.id ≡ seat.old.id) × (seat.new.me.1 ≡ seat.old.me.1) }
         ensures moved { Moves (needs_of self.now.rules) self.now.table.shared.key.withheld self.now.places M.place (next_of (needs_of self.now.rules) M.me M.place M.place.stage result.0) result.0 seat.old.me.0 seat.new.me.0 }
         ensures written { result.1.index ≡ index }
     {

@@ -80,6 +80,14 @@ fn is_closed<R: Wait>(rt: &R, lock: Lock, place: LockPlace) -> bool
     place == 0 && words.main() == 0
 }
 
+// The main word of a lock that is closed where no place has left.
+fn is_closed_alone(alloc: Global) -> Result<bool, AllocError> {
+    let (lock, _places) = Lock::new(alloc, 1)?;
+    let lefts: Vec<LockLeft> = Vec::new(alloc);
+    let words: Words = lock.close_all(lefts);
+    Ok(words.main() == 0)
+}
+
 // Uses a lock at its only place; whether all was told as it must be.
 pub(crate) fn is_right<R: Wait>(rt: &R, alloc: Global) -> Result<bool, AllocError> {
     let (lock, mut places): (Lock, Vec<LockPlace>) = Lock::new(alloc, 1)?;
@@ -88,5 +96,6 @@ pub(crate) fn is_right<R: Wait>(rt: &R, alloc: Global) -> Result<bool, AllocErro
     };
     let is_called = makes_each_call(rt, &lock, &mut place);
     let is_closed = is_closed(rt, lock, place);
+    let is_closed = is_closed && is_closed_alone(alloc)?;
     Ok(is_called && is_closed && Lock::MAX_SHARED_OWNERS == 62)
 }

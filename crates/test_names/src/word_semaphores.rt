@@ -82,8 +82,10 @@ pub(crate) fn is_right<R: Wait>(rt: &R, alloc: Global) -> Result<bool, AllocErro
     Ok(is_called && is_closed && SemaphoreOf::<2>::MAX_PERMITS == 2)
 }
 
-// Whether a semaphore of no other bound has 63 permits, and as many places as are asked for.
+// Whether a semaphore of no other bound has 63 permits, and as many places as are asked for; and what is withheld where no place has left.
 pub(crate) fn has_63(alloc: Global) -> Result<bool, AllocError> {
-    let (_semaphore, places) = Semaphore::new(alloc, 0, 3)?;
-    Ok(Semaphore::MAX_PERMITS == 63 && places.len() == 3)
+    let (semaphore, places) = Semaphore::new(alloc, 1, 3)?;
+    let lefts: Vec<Left> = Vec::new(alloc);
+    let words: Words = semaphore.close_all(lefts);
+    Ok(Semaphore::MAX_PERMITS == 63 && places.len() == 3 && words.main() == 1)
 }

@@ -13,6 +13,8 @@ mod beside;
 #[cfg(test)]
 mod bounds;
 #[cfg(test)]
+mod closing;
+#[cfg(test)]
 mod compared;
 #[cfg(test)]
 mod crowd;

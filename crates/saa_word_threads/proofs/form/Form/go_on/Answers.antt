@@ -7,7 +7,8 @@ pub loop-preserved-in-Going : goal.loop-preserved-in-Going
 loop-preserved-in-Going g c = record {
   table = search rules;
   same = search rules;
-  deals = c.in-Going.ensures.moved.2.extends.deals ∙ c.loop.invariant.deals;
+  empty = search rules;
+  role = c.in-Going.ensures.moved.2.extends.role ∙ c.loop.invariant.role;
   number = c.in-Going.ensures.moved.2.extends.number ∙ c.loop.invariant.number;
   midway =
       midway-going (needs_of c.args.self.now.rules) c.args.self.now.table.shared.key.withheld c.args.self.now.places c.args.me c.args.begun.call.value c.args.begun.registered.value
@@ -19,7 +20,8 @@ pub loop-preserved : goal.loop-preserved
 loop-preserved g c = record {
   table = search rules;
   same = search rules;
-  deals = c.in-Waits.ensures.moved.2.extends.deals ∙ c.loop.invariant.deals;
+  empty = search rules;
+  role = c.in-Waits.ensures.moved.2.extends.role ∙ c.loop.invariant.role;
   number = c.in-Waits.ensures.moved.2.extends.number ∙ c.loop.invariant.number;
   midway =
       midway-waits (needs_of c.args.self.now.rules) c.args.self.now.table.shared.key.withheld c.args.self.now.places c.args.me c.args.begun.call.value c.args.begun.registered.value

@@ -18,7 +18,8 @@ loop-turn-preserved g c =
     record {
       table = search rules;
       same = search rules;
-      deals = same.0 ∙ c.loop-turn.invariant.deals;
+      empty = search rules;
+      role = same.0 ∙ c.loop-turn.invariant.role;
       number = same.1 ∙ c.loop-turn.invariant.number;
       midway =
           midway-stays (needs_of c.args.self.now.rules) c.args.self.now.table.shared.key.withheld c.args.self.now.places c.args.me c.args.begun.now.call.value c.args.begun.now.registered.value
@@ -34,7 +35,8 @@ loop-turn-preserved-in-Waits g c =
     record {
       table = search rules;
       same = search rules;
-      deals = same.0 ∙ c.loop-turn.invariant.deals;
+      empty = search rules;
+      role = same.0 ∙ c.loop-turn.invariant.role;
       number = same.1 ∙ c.loop-turn.invariant.number;
       midway =
           midway-stays (needs_of c.args.self.now.rules) c.args.self.now.table.shared.key.withheld c.args.self.now.places c.args.me c.args.begun.now.call.value c.args.begun.now.registered.value

@@ -1,5 +1,6 @@
-use Rattle.std.proofs.Common.{◌≡◌, false}
+use Rattle.std.proofs.Common.{◌≡◌}
 use Rattle.saa_word_steps.specs.Needs.{needs_of}
+use Rattle.saa_word_threads.specs.declared.table.Role.TheVariants.{Acting}
 use Rattle.saa_word_threads.specs.Called.{Midway}
 use Rattle.saa_word_threads.proofs.form.Form.look_on.Given as goal
 
@@ -11,7 +12,8 @@ abbrev pub invariant-loop-turn : goal.invariant-loop-turn
 invariant-loop-turn g l = record {
   table : l.seat.table_id ≡ l.fn.seat.table_id;
   same : l.seat.id ≡ l.fn.seat.id;
-  deals : l.seat.me.0.deals ≡ false;
+  empty : l.seat.me.1 ≡ l.fn.seat.me.1;
+  role : l.seat.me.0.role ≡ Acting;
   number : l.seat.me.0.number ≡ l.me;
   midway : Midway (needs_of l.self.rules) l.self.places l.me l.begun.call.value l.begun.registered.value l.begun.seat.value.me.0 l.place l.seat.me.0;
 }

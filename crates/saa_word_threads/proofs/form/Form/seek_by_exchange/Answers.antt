@@ -19,4 +19,4 @@ pub returns-clause-number : goal.returns-clause-number
 returns-clause-number g c =
     let same =
     sought-same (needs_of g.M.Mover.about.rules) g.M.Mover.about.withheld g.M.Mover.about.places g.M.Mover.me g.M.Mover.place c.compare_exchange.result c.args.seat.now.me.0
-    c.compare_exchange.new.seat.me.0 c.compare_exchange.ensures.2 in (same.0 ∙ c.requires.next.deals, same.1 ∙ c.requires.next.number)
+    c.compare_exchange.new.seat.me.0 c.compare_exchange.ensures.2.0 in (same.0 ∙ c.requires.next.role, same.1 ∙ c.requires.next.number)
