@@ -29,4 +29,4 @@ pub gathered-stay : (views after : List View) → ((seat : ℕ) (v : View) → g
     → (gathered : List Departed) → AreGathered views gathered → AreGathered after gathered
 gathered-stay views after stays [] all = tt
 gathered-stay views after stays (gone ∷ rest) all =
-    ((all.0.0, stays (suc gone.number) all.0.0 all.0.1 all.0.2, all.0.2, all.0.3), gathered-stay views after stays rest all.1)
+    ((all.0.0, stays (suc gone.number) all.0.0 all.0.1 all.0.2, all.0.2, all.0.3, all.0.4), gathered-stay views after stays rest all.1)

@@ -1,29 +1,34 @@
 -- A place that has left gathers what another one had seen, and what the words are that it is a witness of.
-use Rattle.std.proofs.Common.{◌≡◌, ◌≢◌, ℕ, zero, suc, ◌≤◌, ◌<◌, ◌⊎◌, List, [], ◌∷◌, ◌++◌, length, get_or, refl, sym, ap, subst, ◌∙◌, arith, inl, inr, append-nil, append_assoc}
+use Rattle.std.proofs.Common.{◌≡◌, ◌≢◌, ℕ, zero, suc, ◌≤◌, ◌<◌, ◌⊎◌, ◌==◌, ◌||◌, Bool, true, false, List, [], ◌∷◌, ◌++◌, length, get_or, refl, sym, ap, subst, ◌∙◌, arith, inl, inr, append-nil, append_assoc}
 use Rattle.std.specs.Prelude.{All, map}
 use Rattle.std.proofs.Math.ListN.{set, length-set}
-use mathlib.Core.Option.{some}
+use mathlib.Core.Option.{Option, none as no_view, some}
 use lib.ListN.{get_elem?}
 use Rattle.atomic_table.specs.Table.{Joins, State}
 use Rattle.atomic_table.proofs.Lists.{at_set, set_else, set_here}
 use Rattle.saa_word_steps.specs.declared.event.Event.{Event}
 use Rattle.saa_word_steps.specs.declared.place.Place.{Place as Position}
+use Rattle.saa_word_steps.specs.declared.place.Stage.TheVariants.{Quiet}
 use Rattle.saa_word_steps.specs.Needs.{needs_of}
 use Rattle.saa_word_proofs.specs.History.{BeginsWith, part_of, seen_by}
+use Rattle.saa_word_proofs.specs.Promises.{IsAtRest}
 use Rattle.saa_word_proofs.specs.Refinement.{Refines}
 use Rattle.saa_word_proofs.proofs.RefinementLemmas.Lists.{updated-same}
 use Rattle.saa_word_proofs.proofs.RefinementLemmas.Seen.{begins-seen}
+use Rattle.saa_word_proofs.proofs.SoloLemmas.Quiet.{at-rest}
+use Rattle.std.proofs.lemmas.Bool.{cases_Bool, cases_lt}
+use Rattle.saa_core_spec.proofs.Counts.{same_number}
 use Rattle.saa_word_threads.specs.declared.table.About.{About}
 use Rattle.saa_word_threads.specs.declared.table.Departed.{Departed}
 use Rattle.saa_word_threads.specs.declared.table.Role.{Role}
 use Rattle.saa_word_threads.specs.declared.table.Role.TheVariants.{Acting, Spent}
 use Rattle.saa_word_threads.specs.declared.table.View.{View}
-use Rattle.saa_word_threads.specs.Dealt.{AreLedTo, IsOf}
+use Rattle.saa_word_threads.specs.Dealt.{AreLedTo, IsOf, has_number}
 use Rattle.saa_word_threads.specs.Gathered.{IsAmong, Knows}
 use Rattle.saa_word_threads.specs.Kept.{AreGathered, Fits, FitsAs, IsGathered, Kept, departed, gathering, position_in, positions, row_of, spent}
 use Rattle.saa_word_threads.proofs.Gathering.{found-within, gathered-stay, place-fits, spent-apart}
 use Rattle.saa_word_threads.proofs.Moving.{positions-set}
-use Rattle.saa_word_threads.proofs.Opening.{leads-to}
+use Rattle.saa_word_threads.proofs.Opening.{shows}
 
 -- a view that stands where another one stood changes no position
 positions-same : (views : List View) (seat number : ℕ) (v w : View) → seat ≡ suc number → get_elem? views seat ≡ some v → w.position ≡ v.position
@@ -38,7 +43,7 @@ acting v acts gone = let wrong : Acting ≡ Spent = sym acts ∙ gone in absurd 
 -- One place gathers the view of another one
 
 module _ (about : About) (s : State (Unit {0}) View) (kept : Kept about s) (id other : ℕ) (v w : View) (acts : v.role ≡ Acting) (left : w.role ≡ Acting)
-    (at : get_elem? s.views id ≡ some v) (apart : other ≢ id) (found : get_elem? (set s.views id (gathering v w)) other ≡ some w) where
+    (rests : w.position.stage ≡ Quiet) (at : get_elem? s.views id ≡ some v) (apart : other ≢ id) (found : get_elem? (set s.views id (gathering v w)) other ≡ some w) where
   there : get_elem? s.views other ≡ some w
   there = sym (set_else s.views id other (gathering v w) apart) ∙ found
 
@@ -83,6 +88,7 @@ module _ (about : About) (s : State (Unit {0}) View) (kept : Kept about s) (id o
     spent w,
     ap (get_elem? behind) (sym theirs.0) ∙ set_here between other (spent w) (found-within between other w found),
     refl,
+    rests,
     refl,
   )
 
@@ -107,11 +113,11 @@ module _ (about : About) (s : State (Unit {0}) View) (kept : Kept about s) (id o
     fresh = λ place beyond. kept.fresh place (subst (λ (n : ℕ). n ≤ suc place) long beyond);
   }
 
-pub joins : (about : About) (id other : ℕ) (v w gone : View) → v.role ≡ Acting → w.role ≡ Acting → gone ≡ w
+pub joins : (about : About) (id other : ℕ) (v w gone : View) → v.role ≡ Acting → w.role ≡ Acting → w.position.stage ≡ Quiet → gone ≡ w
     → Joins (Kept about) id v other w (gathering v w) (spent gone)
-joins about id other v w gone acts left is =
+joins about id other v w gone acts left rests is =
     subst (λ (u : View). Joins (Kept about) id v other w (gathering v w) (spent u)) (sym is)
-    (λ s kept at apart found. kept-joined about s kept id other v w acts left at apart found)
+    (λ s kept at apart found. kept-joined about s kept id other v w acts left rests at apart found)
 
 -- What is known then
 
@@ -143,7 +149,7 @@ module _ (about : About) (s : State (Unit {0}) View) (kept : Kept about s) (seat
   gathered-fits gone is =
       let fits : FitsAs kept.history (length s.views) (suc gone.number) is.0 Spent =
       subst (λ (r : Role). FitsAs kept.history (length s.views) (suc gone.number) is.0 r) is.2 (kept.each (suc gone.number) is.0 is.1) in
-      subst (IsKept kept.history) (sym is.3) (fits.1, fits.2)
+      subst (IsKept kept.history) (sym is.4) (fits.1, fits.2)
 
   among-fits : (gone : Departed) (gathered : List Departed) → AreGathered s.views gathered → IsAmong gone gathered → IsKept kept.history gone
   among-fits gone [] all among = absurd among
@@ -161,13 +167,60 @@ module _ (about : About) (s : State (Unit {0}) View) (kept : Kept about s) (seat
   all-of (w ∷ rest) known zero unknown within = is-of kept.history w (known-fits (departed w) known.0)
   all-of (w ∷ rest) known (suc index) unknown within = all-of rest known.1 index unknown (omega arith)
 
+  -- a place that is known rests
+  among-rests : (gone : Departed) (gathered : List Departed) → AreGathered s.views gathered → IsAmong gone gathered
+      → (positions s.views gone.number).stage ≡ Quiet
+  among-rests gone [] all among = absurd among
+  among-rests gone (other ∷ rest) all (inl is) =
+      subst (λ (d : Departed). (positions s.views d.number).stage ≡ Quiet) is
+      (ap (λ (o : Option View). (position_in o).stage) all.0.1 ∙ all.0.3)
+  among-rests gone (other ∷ rest) all (inr among) = among-rests gone rest all.1 among
+
+  known-rests : v.position.stage ≡ Quiet → (gone : Departed) → IsAmong gone (departed v ∷ v.gathered) → (positions s.views gone.number).stage ≡ Quiet
+  known-rests rests gone (inl is) =
+      let fits = place-fits kept.history (length s.views) seat v acts (kept.each seat v at) in
+      subst (λ (d : Departed). (positions s.views d.number).stage ≡ Quiet) is
+      (ap (λ (n : ℕ). (position_in (get_elem? s.views n)).stage) (sym fits.0) ∙ ap (λ (o : Option View). (position_in o).stage) at ∙ rests)
+  known-rests rests gone (inr among) = among-rests gone v.gathered (kept.gathers seat v at) among
+
+  pub has-rests : v.position.stage ≡ Quiet → (number : ℕ) (views : List View) → Knows v views → has_number number views ≡ true
+      → (positions s.views number).stage ≡ Quiet
+  has-rests rests number [] known has = absurd (cc)
+  has-rests rests number (w ∷ rest) known has =
+      elim (cases_Bool (w.number == number)) [
+        | inl same ↦
+            subst (λ (n : ℕ). (positions s.views n).stage ≡ Quiet) (same_number w.number number same) (known-rests rests (departed w) known.0)
+        | inr another ↦ has-rests rests number rest known.1 (ap (λ (b : Bool). b || has_number number rest) (sym another) ∙ has)
+      ]
+
+-- one that isn't dealt is idle
+stands-idle : (view : Option View) → ((v : View) → view ≡ some v → ⊥) → (position_in view).stage ≡ Quiet
+stands-idle no_view not = refl
+stands-idle (some v) not = absurd (not v refl)
+
+-- nothing is owed where all places rest
+settled-all : (about : About) (s : State (Unit {0}) View) (words : List ℕ) (views : List View) (kept : Kept about s) → s.words ≡ words
+    → ((number : ℕ) → has_number number views ≡ true → (positions s.views number).stage ≡ Quiet)
+    → ((number : ℕ) → number < about.places → has_number number views ≡ true) → IsAtRest (needs_of about.rules) (row_of words) kept.last
+settled-all about s words views kept is rests all =
+    subst (λ (l : List ℕ). IsAtRest (needs_of about.rules) (row_of l) kept.last) is
+    (at-rest (needs_of about.rules) about.places (row_of s.words) (positions s.views) kept.last kept.refines (λ number.
+    elim (cases_lt number about.places) [
+      | inl within ↦ rests number (all number within)
+      | inr beyond ↦
+          stands-idle (get_elem? s.views (suc number))
+          (λ v at. let within = found-within s.views (suc number) v at in let few = kept.few in omega arith)
+    ]))
+
 pub led-all : (about : About) (s : State (Unit {0}) View) (seat : ℕ) (v : View) (words : List ℕ) (views : List View) → Kept about s
-    → get_elem? s.views seat ≡ some v → v.role ≡ Acting → s.words ≡ words → Knows v views → AreLedTo about words views
-led-all about s seat v words views kept at acts is known = record {
+    → get_elem? s.views seat ≡ some v → v.role ≡ Acting → v.position.stage ≡ Quiet → s.words ≡ words → Knows v views → AreLedTo about words views
+led-all about s seat v words views kept at acts rests is known = record {
   history = kept.history;
-  leads = leads-to about s words kept is;
+  leads = record { last = kept.last; run = kept.run; shown = shows about s words kept is };
   each = all-of about s kept seat v at acts views known;
   others = λ number beyond. kept.fresh number (let f = kept.few in omega arith);
+  settled =
+      settled-all about s words views kept is (λ number has. has-rests about s kept seat v at acts rests number views known has);
 }
 
 pub led-none : (about : About) (s : State (Unit {0}) View) (words : List ℕ) (views : List View) → Kept about s → s.words ≡ words → views ≡ []
@@ -175,9 +228,10 @@ pub led-none : (about : About) (s : State (Unit {0}) View) (words : List ℕ) (v
 led-none about s words views kept is none =
     subst (AreLedTo about words) (sym none) (record {
       history = kept.history;
-      leads = leads-to about s words kept is;
+      leads = record { last = kept.last; run = kept.run; shown = shows about s words kept is };
       each = λ index unknown within. absurd (omega arith);
       others = λ number beyond. kept.fresh number (let f = kept.few in omega arith);
+      settled = settled-all about s words [] kept is (λ number has. absurd (cc));
     })
 
 -- The loop that gathers them

@@ -202,14 +202,15 @@ new-more table from (first ∷ places) place all one =
 
 -- The end
 
+pub shows : (about : About) (s : State (Unit {0}) View) (words : List ℕ) (kept : Kept about s) → s.words ≡ words
+    → Observes (needs_of about.rules) about.places (row_of words) kept.last
+shows about s words kept is =
+    subst (λ (l : List ℕ). Observes (needs_of about.rules) about.places (row_of l) kept.last) is
+    (says-so (needs_of about.rules) about.places (row_of s.words) (positions s.views) kept.last kept.refines)
+
 pub leads-to : (about : About) (s : State (Unit {0}) View) (words : List ℕ) (kept : Kept about s) → s.words ≡ words
     → LeadsTo (needs_of about.rules) about.places about.withheld kept.history (row_of words)
-leads-to about s words kept is = record {
-  last = kept.last;
-  run = kept.run;
-  shown = subst (λ (l : List ℕ). Observes (needs_of about.rules) about.places (row_of l) kept.last) is
-      (says-so (needs_of about.rules) about.places (row_of s.words) (positions s.views) kept.last kept.refines);
-}
+leads-to about s words kept is = record { last = kept.last; run = kept.run; shown = shows about s words kept is }
 
 pub led-to : (about : About) (s : State (Unit {0}) View) (seat : ℕ) (v : View) (words : List ℕ) → Kept about s → get_elem? s.views seat ≡ some v
     → v.role ≡ Acting → s.words ≡ words → IsLedTo about words v

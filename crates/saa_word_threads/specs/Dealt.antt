@@ -1,11 +1,11 @@
 -- What a form deals as it is made, and what it gives as it is closed.
-use Rattle.std.specs.Prelude.{◌≡◌, ℕ, ◌+◌, ◌≤◌, false, nat_lt, if◌then◌else◌, All, List, [], ◌∷◌, Option, Some, None, slice_index}
+use Rattle.std.specs.Prelude.{◌≡◌, ℕ, ◌+◌, ◌<◌, ◌≤◌, Bool, true, false, ◌||◌, ◌==◌, nat_lt, if◌then◌else◌, All, List, [], ◌∷◌, Option, Some, None, slice_index}
 use Rattle.std.specs.Slots.{slots_items}
 use Rattle.atomic_table.specs.Seated.{TableId}
 use Rattle.saa_word_steps.specs.declared.event.Event.{Event}
 use Rattle.saa_word_steps.specs.Needs.{needs_of}
 use Rattle.saa_word_proofs.specs.History.{BeginsWith, LeadsTo, has_part, part_of, seen_by}
-use Rattle.saa_word_proofs.specs.Promises.{idle_place}
+use Rattle.saa_word_proofs.specs.Promises.{IsAtRest, idle_place}
 use Rattle.saa_word_threads.specs.declared.table.About.{About}
 use Rattle.saa_word_threads.specs.declared.table.View.{View}
 use Rattle.saa_word_threads.specs.declared.place.Place.{Place}
@@ -36,12 +36,19 @@ pub record IsLedTo (about : About) (words : List ℕ) (v : View) : Type 0 where
 abbrev pub IsOf : List (ℕ × Event) → View → Type 0
 IsOf history v = BeginsWith history v.seen × (v.seen ≡ seen_by v.number history) × (v.part ≡ part_of v.number history)
 
--- There is one legal history that leads to these words, and each of these views is of it. No number but those of the places has an event in it
+-- whether a view of the place of this number is among these
+abbrev pub has_number : ℕ → List View → Bool
+has_number number [] = false
+has_number number (v ∷ rest) = (v.number == number) || has_number number rest
+
+-- There is one legal history that leads to these words, and each of these views is of it. No number but those of the places has an event in it.
+-- Where views of all places are here, nothing is owed at the end: the flag is clear, each answer that was granted is shown, and the queue is settled
 pub record AreLedTo (about : About) (words : List ℕ) (views : List View) : Type 0 where
   pub history : List (ℕ × Event)
   pub leads : LeadsTo (needs_of about.rules) about.places about.withheld history (row_of words)
   pub each : All (IsOf history) views
   pub others : (number : ℕ) → about.places ≤ number → has_part number history ≡ false
+  pub settled : ((number : ℕ) → number < about.places → has_number number views ≡ true) → IsAtRest (needs_of about.rules) (row_of words) leads.last
 
 -- the numbers of the words at the end
 abbrev pub numbers : Words → List ℕ

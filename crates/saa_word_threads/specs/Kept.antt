@@ -5,6 +5,7 @@ use lib.ListN.{get_elem?}
 use Rattle.atomic_table.specs.Table.{State}
 use Rattle.saa_word_steps.specs.declared.event.Event.{Event}
 use Rattle.saa_word_steps.specs.declared.place.Place.{Place}
+use Rattle.saa_word_steps.specs.declared.place.Stage.TheVariants.{Quiet}
 use Rattle.saa_word_steps.specs.AbstractState.{AbstractState, IsRun, opening}
 use Rattle.saa_word_steps.specs.Needs.{needs_of}
 use Rattle.saa_word_proofs.specs.History.{has_part, part_of, seen_by}
@@ -44,9 +45,10 @@ FitsAs history seats seat v role = (seat ≡ suc v.number) × (v.seen ≡ seen_b
 abbrev pub Fits : List (ℕ × Event) → ℕ → ℕ → View → Type 0
 Fits history seats seat v = FitsAs history seats seat v v.role
 
--- what a view has gathered is of places that make no step any more
+-- what a view has gathered is of places that rest, and make no step any more
 abbrev pub IsGathered : List View → Departed → Type 0
-IsGathered views gone = (v : View) × (get_elem? views (suc gone.number) ≡ some v) × (v.role ≡ Spent) × (gone ≡ departed v)
+IsGathered views gone =
+    (v : View) × (get_elem? views (suc gone.number) ≡ some v) × (v.role ≡ Spent) × (v.position.stage ≡ Quiet) × (gone ≡ departed v)
 
 abbrev pub AreGathered : List View → List Departed → Type 0
 AreGathered views [] = Unit {0}

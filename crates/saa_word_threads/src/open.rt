@@ -3,6 +3,7 @@
 ghost use Rattle.std.specs.Prelude.{◌^◌, ◌≡◌, ◌+◌, ◌<◌, ◌≤◌, List, [], ◌∷◌, ◌++◌, IfOk, Some, replicate, slice_set, vec_capacity, vec_len};
 ghost use Rattle.saa_core_words.specs.Words.{count_bits};
 ghost use Rattle.saa_word_steps.specs.Needs.{needs_of};
+ghost use Rattle.saa_word_steps.specs.declared.place.Stage.TheVariants.{Quiet};
 ghost use Rattle.saa_word_threads.specs.declared.table.Role.TheVariants.{Acting};
 ghost use Rattle.saa_word_threads.specs.declared.table.View.{View};
 ghost use Rattle.saa_word_threads.specs.Kept.{dealer, gathering};
@@ -129,6 +130,7 @@ impl Form {
     fn join<M: Leaver>(&self, seat: &mut Seat<(), View>, other: Seat<(), View>)
         requires table { (seat.old.table_id ≡ self.now.table.shared.table_id) × (other.table_id ≡ self.now.table.shared.table_id) }
         requires acting { (seat.old.me.0.role ≡ Acting) × (other.me.0.role ≡ Acting) }
+        requires rests { other.me.0.position.stage ≡ Quiet }
         requires empty { other.me.1 ≡ [] }
         requires gone { M.view ≡ other.me.0 }
         ensures table { (seat.new.table_id ≡ seat.old.table_id) × (seat.new.id ≡ seat.old.id) × (seat.new.me.1 ≡ seat.old.me.1) }
