@@ -19,12 +19,19 @@ const LOOK: u64 = 1 << 24;
 // The parts of the rests: how many spin hints were given, in the low bits, and above them how often calls yielded. Both wrap around.
 const YIELD: u64 = 1 << 40;
 
+// The parts of what calls spent before they blocked at the mutex: how many spin hints they gave, in the low bits, above them how often they
+// tried, and above that how often they yielded. All wrap around.
+const TRY: u64 = 1 << 32;
+
+const TRIER_YIELD: u64 = 1 << 48;
+
 /// The main word of a core as it was when the mutex was left last, and how many calls look at it.
 #[derive(Drop)]
 pub(crate) struct Hint {
     word: AtomicU64,
     counts: AtomicU64,
     rests: AtomicU64,
+    blocked: AtomicU64,
 }
 
 impl Hint {
@@ -34,6 +41,7 @@ impl Hint {
             word: AtomicU64::new(0),
             counts: AtomicU64::new(0),
             rests: AtomicU64::new(0),
+            blocked: AtomicU64::new(0),
         }
     }
 
@@ -51,6 +59,23 @@ impl Hint {
     pub(crate) fn rested(&self) -> (u64, u64) {
         let rests = self.rests.load(Ordering::SeqCst);
         (rests % YIELD, rests / YIELD)
+    }
+
+    /// How often calls tried for a mutex that others had, how many spin hints they gave and how often they yielded, of those that then went
+    /// on to block there.
+    pub(crate) fn blocked(&self) -> (u64, u64, u64) {
+        let blocked = self.blocked.load(Ordering::SeqCst);
+        let tries = blocked % TRIER_YIELD / TRY;
+        (tries, blocked % TRY, blocked / TRIER_YIELD)
+    }
+
+    /// Tells what a call spent that is about to block at the mutex. It is told before, so that a test can hold the mutex until then.
+    pub(crate) fn block(&self, spent: &Spent) {
+        let (tries, spins, yields) = spent.told();
+        let tried = tries.wrapping_mul(TRY);
+        let yielded = yields.wrapping_mul(TRIER_YIELD);
+        let told = spins.wrapping_add(tried).wrapping_add(yielded);
+        self.blocked.fetch_add(told, Ordering::SeqCst);
     }
 
     /// Whether a call looks.

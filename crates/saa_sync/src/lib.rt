@@ -18,6 +18,7 @@ pub mod lock_api;
 pub mod pager;
 pub mod patience;
 pub mod permit;
+mod rest;
 mod seat;
 pub mod semaphore;
 mod shell;

@@ -1,7 +1,6 @@
 //! How often a call looks and yields that can't have what it asks for, before it registers or parks.
 
-use std::hint::spin_loop;
-use std::thread::yield_now;
+use crate::rest;
 
 /// How often a call looks, and then yields, before it does what costs more.
 ///
@@ -57,7 +56,7 @@ impl Patience {
     }
 }
 
-/// What a call spent before it registered, which tests read. What counts a spin hint gives it, and what counts a yield yields.
+/// What a call spent where it stayed awake, which tests read. A rest is counted by the token that it was made.
 #[derive(Drop)]
 pub(crate) struct Spent {
     looks: u32,
@@ -89,6 +88,13 @@ impl Spent {
         self.looks = self.looks.wrapping_add(1);
     }
 
+    /// Adds what another call spent. Each count wraps around.
+    pub(crate) fn add(&mut self, other: &Spent) {
+        self.looks = self.looks.wrapping_add(other.looks);
+        self.spins = self.spins.wrapping_add(other.spins);
+        self.yields = self.yields.wrapping_add(other.yields);
+    }
+
     /// Rests between two looks or tries, by the number of the first from 0: longer each time, up to a bound.
     pub(crate) fn rest(&mut self, turn: u32) {
         for _spin in 0..FIRST_REST.saturating_mul(2u32.saturating_pow(turn.min(DOUBLINGS))) {
@@ -96,15 +102,13 @@ impl Spent {
         }
     }
 
-    // Gives one spin hint.
-    fn spin(&mut self) {
-        spin_loop();
-        self.spins = self.spins.wrapping_add(1);
+    /// Gives one spin hint.
+    pub(crate) fn spin(&mut self) {
+        self.spins = rest::spin().count(self.spins);
     }
 
-    // Yields once.
-    fn give_way(&mut self) {
-        yield_now();
-        self.yields = self.yields.wrapping_add(1);
+    /// Yields once.
+    pub(crate) fn give_way(&mut self) {
+        self.yields = rest::give_way().count(self.yields);
     }
 }

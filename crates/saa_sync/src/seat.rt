@@ -4,11 +4,10 @@
 //! yields is a value, `Patience`, so that tests can make every wait park.
 
 pub use crate::patience::Patience;
+use crate::patience::Spent;
 use crate::timed::Deadline;
-use std::hint::spin_loop;
 use std::sync::atomic::{AtomicU64, Ordering};
 use std::sync::{Condvar, CondvarTimeouts, MutexGuard, Wait};
-use std::thread::yield_now;
 use std::time::{Clock, Duration};
 
 /// How long a task that waits at its seat stays awake, in every threaded form. Measured with 2, 4 and 8 threads on 4 processors: a sleep costs some five
@@ -58,18 +57,17 @@ impl Seat {
     }
 
     /// Looks, and then yields, until the seat is rung, or so often that it is time to sleep.
-    pub fn linger(&self, patience: Patience) {
-        for _turn in 0..patience.looks {
+    pub(crate) fn linger(&self, patience: Patience, spent: &mut Spent) {
+        for turn in 0..patience.turns() {
+            spent.look();
             if self.is_rung() {
                 return;
             }
-            spin_loop();
-        }
-        for _turn in 0..patience.yields {
-            if self.is_rung() {
-                return;
+            if turn < patience.looks {
+                spent.spin();
+            } else {
+                spent.give_way();
             }
-            yield_now();
         }
     }
 
@@ -83,18 +81,25 @@ impl Seat {
     }
 
     /// Looks and yields as [`Self::linger`] does, and no longer than there is time.
-    pub fn linger_until(&self, patience: Patience, clock: &impl Clock, deadline: Deadline) {
-        for _turn in 0..patience.looks {
+    pub(crate) fn linger_until(
+        &self,
+        patience: Patience,
+        clock: &impl Clock,
+        deadline: Deadline,
+        spent: &mut Spent,
+    ) {
+        for turn in 0..patience.turns() {
+            spent.look();
             if self.is_rung() {
                 return;
             }
-            spin_loop();
-        }
-        for _turn in 0..patience.yields {
-            if self.is_rung() || deadline.left(clock).is_none() {
+            if turn < patience.looks {
+                spent.spin();
+            } else if deadline.left(clock).is_some() {
+                spent.give_way();
+            } else {
                 return;
             }
-            yield_now();
         }
     }
 

@@ -67,6 +67,9 @@ pub(crate) struct Inside<P: Primitive> {
     wakers: Wakers,
     // How often calls locked the mutex, which tests read. It wraps around.
     turns: u64,
+    // What tests read too: what calls spent that found the mutex taken and had it at a later try, and what waiters spent at their seats.
+    contended: Spent,
+    lingered: Spent,
 }
 
 impl<P: Tries> Inside<P> {
@@ -76,6 +79,20 @@ impl<P: Tries> Inside<P> {
         ensures { self.new.core ≡ self.old.core }
     {
         self.turns = self.turns.wrapping_add(1);
+    }
+
+    // Counts what a call spent that found the mutex taken at first.
+    fn count_tries(&mut self, spent: &Spent)
+        ensures { self.new.core ≡ self.old.core }
+    {
+        self.contended.add(spent);
+    }
+
+    // Counts what a waiter spent at its seat.
+    fn count_linger(&mut self, spent: &Spent)
+        ensures { self.new.core ≡ self.old.core }
+    {
+        self.lingered.add(spent);
     }
 
     /// The slot of the oldest pending wake, taken out of the core's list; mostly there is none.
@@ -266,6 +283,8 @@ impl<R: Wait + Drop, P: Tries> Shell<R, P> {
                 core,
                 wakers,
                 turns: 0,
+                contended: Spent::new(),
+                lingered: Spent::new(),
             }),
             seats,
             patience,
@@ -305,14 +324,23 @@ impl<R: Wait + Drop, P: Tries> Shell<R, P> {
     // nanoseconds, and each try takes the mutex's cache line from the task that makes turns there. It sleeps where that doesn't help.
     #[inline(never)]
     fn lock_once_left(&self) -> MutexGuard<'_, Inside<P>> {
-        let mut rests = Spent::new();
+        let mut spent = Spent::new();
         for turn in 0..MUTEX_TRIES {
-            rests.rest(turn);
-            if let Some(inside) = self.lock.try_lock() {
+            spent.rest(turn);
+            if let Some(mut inside) = self.try_again(&mut spent) {
+                inside.count_tries(&spent);
                 return inside;
             }
         }
+        self.hint.block(&spent);
         self.lock.lock(&self.rt)
+    }
+
+    // Tries once for the mutex, and counts that.
+    #[inline(always)]
+    fn try_again(&self, spent: &mut Spent) -> Option<MutexGuard<'_, Inside<P>>> {
+        spent.look();
+        self.lock.try_lock()
     }
 
     /// Makes one step of the core under the mutex, and then makes the core's pending wakes, with the mutex free.
@@ -400,7 +428,7 @@ impl<R: Wait + Drop, P: Tries> Shell<R, P> {
 
     // Looks at the hint, which is kept up meanwhile.
     #[inline(never)]
-    fn look_on(&self, ask: P::Ask) -> Option<u8> {
+    pub(crate) fn look_on(&self, ask: P::Ask) -> Option<u8> {
         let is_first = self.hint.arrive();
         let mut spent = Spent::new();
         let answer = self.look_while(ask, is_first, &mut spent);
@@ -638,10 +666,12 @@ impl<R: Wait + Drop, P: Tries> Shell<R, P> {
         ensures lost { mode_of ticket.old ≡ Some true → IfErr result (λ error. error ≡ NotRegistered) }
     {
         let seat = self.seat_of(ticket);
+        let mut spent = Spent::new();
         if let Some(seat) = seat {
-            seat.linger(self.patience);
+            seat.linger(self.patience, &mut spent);
         }
         let mut inside = self.lock();
+        inside.count_linger(&spent);
         for _ in self.rt.forever() {
             match inside.poll(ticket, How::Sync) {
                 Err(Error::NotReady) => {}
@@ -728,6 +758,28 @@ impl<R: Wait + Drop, P: Tries> Shell<R, P> {
     /// How many spin hints these calls gave, and how often they yielded. For the tests of the forms above.
     pub fn rested(&self) -> (u64, u64) {
         self.hint.rested()
+    }
+
+    /// How often calls tried for a mutex that others had, how many spin hints they gave and how often they yielded: of those that then
+    /// went on to block there. Takes no turn at the mutex. For the tests of the forms above.
+    pub fn blocked(&self) -> (u64, u64, u64) {
+        self.hint.blocked()
+    }
+
+    /// The same of those that had the mutex at one of these tries. For the tests of the forms above.
+    pub fn contended(&self) -> (u64, u64, u64) {
+        self.lock.lock(&self.rt).contended.told()
+    }
+
+    /// How often waiters looked at their seats, how many spin hints they gave there and how often they yielded: of those that were
+    /// answered or parked since. For the tests of the forms above.
+    pub fn lingered(&self) -> (u64, u64, u64) {
+        self.lock.lock(&self.rt).lingered.told()
+    }
+
+    // Counts one more call that looks, and never ends to.
+    pub(crate) fn add_looker(&self) {
+        let _is_first = self.hint.arrive();
     }
 
     /// How many seats are rung; for the tests of the forms above.

@@ -195,3 +195,13 @@ pub fn call_untold<R: Wait + Drop, P: Tries, A, F: FnOnce(&mut P) -> A + Drop>(
     let mut inside = shell.lock();
     step(&mut inside.core)
 }
+
+/// Looks as a call does that found nothing at its first turn at the mutex, until its patience is over. `None`: it would register then.
+pub fn look_on<R: Wait + Drop, P: Tries>(shell: &Shell<R, P>, ask: P::Ask) -> Option<u8> {
+    shell.look_on(ask)
+}
+
+/// Has the shell count one more call that looks, and never ends to. Who looks beside it isn't the first, so what was shown holds for it.
+pub fn add_looker<R: Wait + Drop, P: Tries>(shell: &Shell<R, P>) {
+    shell.add_looker();
+}

@@ -1,6 +1,6 @@
 //! Tests of what no contract says: that a threaded call reaches its core, that a wait waits, spins for a while, and is woken.
 //!
-//! Every test joins its threads, ends by itself, and rests nothing on timing.
+//! Every test joins its threads, ends by itself, and rests nothing on timing, but for one that asks that rests last.
 #![tactic(auto)]
 
 #[cfg(test)]

@@ -1,6 +1,10 @@
-//! Tests of calls that look before they register: what they see, that they never pass a waiter, and that their patience ends.
+//! Tests of calls that look before they register: what they see, that they never pass a waiter, and that their patience ends; and of how
+//! calls rest at the mutex and at their seats.
 
 mod counts;
 mod hints;
+mod meetings;
 mod order;
+mod releases;
 mod turns;
+mod waiters;

@@ -10,6 +10,7 @@ ghost use Rattle.saa_core.specs.Tickets.{HasAnswer, Polled, fault_of, is_busy, i
 ghost use Rattle.saa_core.specs.Beginning.{mode_of};
 
 use super::{Begun, Inside, Shell};
+use crate::patience::Spent;
 use crate::timed::Deadline;
 use crate::tries::Tries;
 use saa_core::ticket::{Error, Full, How, Ticket};
@@ -94,12 +95,14 @@ impl<R: Wait + Clock + Drop, P: Tries> Shell<R, P> {
         ensures unanswered { IsNone result.1 → ticket.new ≡ ticket.old }
     {
         let seat = self.seat_of(ticket);
+        let mut spent = Spent::new();
         if let Some(seat) = seat
             && deadline.left(&self.rt).is_some()
         {
-            seat.linger_until(self.patience, &self.rt, deadline);
+            seat.linger_until(self.patience, &self.rt, deadline, &mut spent);
         }
         let mut inside = self.lock();
+        inside.count_linger(&spent);
         for _ in self.rt.forever() {
             let Some(left) = deadline.left(&self.rt) else {
                 return (inside, None);

@@ -628,8 +628,8 @@ fn looks_for<R: Wait + Clock + Drop + Copy>(
     Ok(is_full.then_some(lasted))
 }
 
-// What is counted as a rest is one. No processor gives 2 million spin hints in a millisecond, nor yields 20,000 times in half of one, and looks
-// alone take a tenth of that.
+// What is counted as a rest is one. No processor gives 2 million spin hints in a millisecond, nor yields 20,000 times in half of one, and where the test
+// is optimised, looks alone take a hundredth of that.
 #[test]
 fn rests_last(rt: HostRuntime) -> Result<(), Fail> {
     let spun = looks_for(&rt, rt.alloc(), SPINS)?;
