@@ -64,11 +64,11 @@ impl Patience {
     // Each rest is longer than the one before, since each look takes the main word's cache line from the place that has its turn.
     fn rest<W: Watch>(self, watch: &W, turn: u32) {
         if turn >= self.looks {
-            watch.pause(Pause::Yields);
+            Pause::Yields.make(watch);
             return;
         }
         let spins = FIRST_REST.saturating_mul(2u32.saturating_pow(turn.min(DOUBLINGS)));
-        watch.pause(Pause::Rests(spins));
+        Pause::Rests(spins).make(watch);
     }
 }
 

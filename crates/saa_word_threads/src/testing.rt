@@ -16,7 +16,7 @@ pub use crate::mark::{is_parked, is_parked_at};
 use crate::place::Place;
 use crate::semaphore::SemaphoreOf;
 use crate::straight::yes;
-pub use crate::watch::{Moment, Pause, Watch};
+pub use crate::watch::{Made, Moment, Pause, Watch};
 use saa_core_words::word::Word;
 use saa_word_steps::call::WordCall;
 use saa_word_steps::place::{Ask, Stage};

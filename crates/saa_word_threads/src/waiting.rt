@@ -20,7 +20,7 @@ impl Form {
         if let Stage::Take { .. } = stage {
             self.await_answer(rt, watch, me);
         } else {
-            watch.pause(Pause::Defers);
+            Pause::Defers.make(watch);
         }
     }
 
@@ -34,13 +34,13 @@ impl Form {
             if self.table.shared.peek(index) != 0 {
                 return;
             }
-            watch.pause(Pause::SpinsForAnswer);
+            Pause::SpinsForAnswer.make(watch);
         }
         for _turn in 0..YIELDS {
             if self.table.shared.peek(index) != 0 {
                 return;
             }
-            watch.pause(Pause::YieldsForAnswer);
+            Pause::YieldsForAnswer.make(watch);
         }
         // Why this order: the place that shows the answer looks at this mark once the answer is written, and parking looks at the word once the mark
         // is set. The other way round an answer between the two would wake nobody.

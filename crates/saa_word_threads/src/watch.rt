@@ -1,10 +1,11 @@
-//! What a call tells somebody who looks on, and the pauses that it makes through them.
+//! What a call tells somebody who looks on, and the pauses that it makes.
 //!
 //! Each moment is told by the thread that makes the call. So a test can count moments, and hold a call at one. No step rests on it, and
 //! where nobody looks on it costs nothing.
 //!
-//! A call makes each of its pauses by `Watch::pause`, and in no other way: so it can't tell of a pause that it leaves out, and what a test counts is what
-//! a call rests where nobody looks on. That a pause which is made lasts is read off this file: off `make`, and off the one body of `pause` here.
+//! A call makes each of its pauses by `Pause::make`, which makes it and then tells it by a `Made`, which nothing else makes. So a call can't tell of a pause
+//! that it leaves out, no watch can leave one out, and what a test counts is what a call rests where nobody looks on. That a pause which is made lasts is
+//! read off the body of `make`.
 
 use std::hint::spin_loop;
 use std::thread::yield_now;
@@ -49,10 +50,24 @@ pub enum Pause {
     YieldsForAnswer,
 }
 
-impl Pause {
-    /// Makes it.
+/// Says that a pause was made; only [`Pause::make`] makes one.
+#[derive(Drop)]
+pub struct Made {
+    pause: Pause,
+}
+
+impl Made {
+    /// Which it was.
     #[inline(always)]
-    pub fn make(self) {
+    pub fn pause(&self) -> Pause {
+        self.pause
+    }
+}
+
+impl Pause {
+    /// Makes it, and then tells it.
+    #[inline(always)]
+    pub fn make<W: Watch>(self, watch: &W) {
         match self {
             Pause::Rests(turns) => {
                 for _turn in 0..turns {
@@ -62,6 +77,7 @@ impl Pause {
             Pause::SpinsForAnswer => spin_loop(),
             Pause::Yields | Pause::Defers | Pause::YieldsForAnswer => yield_now(),
         }
+        watch.paused(&Made { pause: self });
     }
 }
 
@@ -70,11 +86,9 @@ pub trait Watch {
     /// Called at each moment.
     fn at(&self, moment: Moment);
 
-    /// Makes a pause of the call. Who looks on may count it first.
+    /// Called behind each pause of the call.
     #[inline(always)]
-    fn pause(&self, pause: Pause) {
-        pause.make();
-    }
+    fn paused(&self, _made: &Made) {}
 }
 
 /// Nobody looks on.

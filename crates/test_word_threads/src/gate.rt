@@ -1,7 +1,7 @@
 //! Holds a call at a moment of it, until others have made theirs.
 
 use crate::tally::Tally;
-use saa_word_threads::testing::{Moment, Pause, Watch};
+use saa_word_threads::testing::{Made, Moment, Watch};
 use std::sync::Wait;
 use std::sync::atomic::{AtomicBool, Ordering};
 use std::thread::yield_now;
@@ -77,7 +77,7 @@ impl Watch for Gate {
         }
     }
 
-    fn pause(&self, pause: Pause) {
-        self.tally.pause(pause);
+    fn paused(&self, made: &Made) {
+        self.tally.paused(made);
     }
 }

@@ -1,7 +1,7 @@
 //! Tests of the word's semaphore and lock on threads: that their calls do on shared words what their contracts say, wait, and are woken;
 //! and of the mutex and the reader-writer lock on it.
 //!
-//! Every test joins its threads, ends by itself, and rests nothing on timing.
+//! Every test joins its threads, ends by itself, and rests nothing on timing, but for `pauses`, which asks that pauses last.
 #![tactic(auto)]
 
 #[cfg(test)]
@@ -32,6 +32,8 @@ mod looking;
 mod owner;
 #[cfg(test)]
 mod parking;
+#[cfg(test)]
+mod pauses;
 #[cfg(test)]
 mod public_waits;
 #[cfg(test)]

@@ -12,7 +12,7 @@ use crate::tally::Tally;
 use saa_word_threads::lock::{Lock, Mode, Place};
 use saa_word_threads::semaphore::{Place as PermitPlace, Semaphore};
 use saa_word_threads::testing::{
-    Moment, Pause, WAITING, Watch, acquire_patiently, is_answered, is_parked, is_parked_at,
+    Made, Moment, WAITING, Watch, acquire_patiently, is_answered, is_parked, is_parked_at,
     release_share_watched, wait_patiently,
 };
 use std::alloc::AllocError;
@@ -131,10 +131,10 @@ impl Watch for AtWaiter<'_, '_> {
         }
     }
 
-    fn pause(&self, pause: Pause) {
+    fn paused(&self, made: &Made) {
         let scene = self.scene;
         scene.check(!is_parked(scene.lock, WAITER));
-        scene.tally.pause(pause);
+        scene.tally.paused(made);
     }
 }
 
@@ -161,8 +161,8 @@ impl Watch for AtOwner<'_, '_> {
         }
     }
 
-    fn pause(&self, pause: Pause) {
-        self.scene.answering.pause(pause);
+    fn paused(&self, made: &Made) {
+        self.scene.answering.paused(made);
     }
 }
 

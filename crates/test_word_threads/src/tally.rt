@@ -1,6 +1,6 @@
 //! A watch that counts the moments and the pauses of a call.
 
-use saa_word_threads::testing::{Moment, Pause, Watch};
+use saa_word_threads::testing::{Made, Moment, Pause, Watch};
 use std::sync::atomic::{AtomicU64, Ordering};
 
 /// How often each moment of a call came, and how often it made each pause.
@@ -134,12 +134,12 @@ impl Watch for Tally {
         }
     }
 
-    fn pause(&self, pause: Pause) {
+    fn paused(&self, made: &Made) {
+        let pause = made.pause();
         if self.is_late(pause) {
             self.disorders.fetch_add(1, Ordering::SeqCst);
         }
         let (count, more) = self.length_of(pause);
         count.fetch_add(more, Ordering::SeqCst);
-        pause.make();
     }
 }
