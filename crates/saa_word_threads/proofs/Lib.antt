@@ -6,4 +6,5 @@ pub mod Calling
 pub mod Opening
 pub mod Going
 pub mod Leaving
+pub mod Comparing
 pub mod Inner
