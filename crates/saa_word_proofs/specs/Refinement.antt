@@ -17,7 +17,7 @@ use Rattle.saa_word_steps.specs.declared.place.Back.TheVariants.{Takes}
 use Rattle.saa_word_steps.specs.declared.place.Taking.TheVariants.{Gives}
 use Rattle.saa_word_steps.specs.declared.place.Afterwards.TheVariants.{Again}
 use Rattle.saa_word_steps.specs.declared.place.Stage.{Stage}
-use Rattle.saa_word_steps.specs.declared.place.Stage.TheVariants.{Quiet, AskLoad, AskExchange, Prepare, Join, ReleaseLoad, ReleaseExchange, BackLoad, BackStore, Forward, CutToClose, CutToGoRound, Close, Empty, GoRound, ShowLoad, ShowStore, Take, FlagLoad, FlagExchange, LookLoad, LookStore, Unlink, DropTail, PoisonLoad, PoisonExchange}
+use Rattle.saa_word_steps.specs.declared.place.Stage.TheVariants.{AskLoad, AskExchange, Prepare, Join, ReleaseLoad, ReleaseExchange, BackLoad, BackStore, Forward, CutToClose, CutToGoRound, Close, Empty, GoRound, ShowLoad, ShowStore, Take, FlagLoad, FlagExchange, LookLoad, LookStore, Unlink, DropTail, PoisonLoad, PoisonExchange}
 use Rattle.saa_word_steps.specs.Needs.{Needs, fits_count}
 use Rattle.saa_word_steps.specs.AbstractState.{AbstractState, IsFront, IsSettledAt, is_empty, is_in, takes_of, held_by}
 use Rattle.saa_word_steps.specs.Steps.{IsRanged, left_from}
@@ -57,6 +57,31 @@ is_holder (DropTail seen older) = true
 is_holder (ShowLoad current value (Again seen)) = true
 is_holder (ShowStore current next value (Again seen)) = true
 is_holder _ = false
+
+-- whether a place is to join the line, or to ask so that it would
+abbrev pub joins_line : Stage → Bool
+joins_line (AskLoad ask) = ask.joins
+joins_line (AskExchange ask seen) = ask.joins
+joins_line (Prepare request seen) = true
+joins_line (Join request seen) = true
+joins_line _ = false
+
+-- whether a place uses a word of its own at a stage
+abbrev pub uses_own : Stage → Bool
+uses_own (Prepare request seen) = true
+uses_own (Join request seen) = true
+uses_own (Take taking) = true
+uses_own FlagLoad = true
+uses_own (FlagExchange seen) = true
+uses_own (LookLoad seen current newer previous) = true
+uses_own (LookStore seen current newer line) = true
+uses_own (Unlink seen newer line older) = true
+uses_own (DropTail seen older) = true
+uses_own _ = false
+
+-- A visitor has no words: it stands at no stage that uses one of its own, and at none that leads to one
+abbrev pub IsVisiting : Stage → Type 0
+IsVisiting stage = (joins_line stage ≡ false) × (uses_own stage ≡ false)
 
 -- an ask has to wait behind a main word
 abbrev pub waits_behind : Needs → Word → ℕ → Bool
@@ -233,11 +258,12 @@ pub record IsLine (words : ℕ → LineWord) (line cut uncut : List (ℕ × ℕ)
   pub stays : IsBehind words 0 uncut
   pub some : is_empty uncut ≡ true → cut ≡ []
 
--- a place is held by the object exactly where it is registered in the line; there are no others
+-- a place is held by the object exactly where it is registered in the line. Any number from the last place on is a visitor's, who has no words of its own: it
+-- isn't registered in the line, and doesn't join it
 pub record AreSeats (places : ℕ) (standing : ℕ → Place) (state : AbstractState) : Type 0 where
   pub held : (place : ℕ) → held_by place state ≡ one_if (is_slot (standing place).registration)
   pub within : (place : ℕ) → is_slot (standing place).registration ≡ true → place < places
-  pub beyond : (place : ℕ) → places ≤ place → (standing place).stage ≡ Quiet
+  pub beyond : (place : ℕ) → places ≤ place → joins_line (standing place).stage ≡ false
 
 -- the answer words are what is shown
 pub record AreAnswers (places : ℕ) (row : ℕ → ℕ) (shown : ℕ → Option ℕ) : Type 0 where

@@ -1,6 +1,6 @@
 //! What is proved of the steps, as contracts of functions that do nothing.
 
-ghost use Rattle.std.specs.Prelude.{◌^◌, ◌≡◌, ℕ, ◌<◌, ◌≤◌, true, List, [], ◌++◌};
+ghost use Rattle.std.specs.Prelude.{◌^◌, ◌≡◌, ℕ, ◌<◌, ◌≤◌, true, false, List, [], ◌++◌};
 ghost use Rattle.saa_core_words.specs.Words.{count_bits};
 ghost use Rattle.saa_word_steps.specs.declared.call.WordCall.{WordCall};
 ghost use Rattle.saa_word_steps.specs.declared.place.Place.{Place};
@@ -12,7 +12,7 @@ ghost use Rattle.saa_word_steps.specs.Steps.{next_of, operation_of, started, wor
 ghost use Rattle.saa_word_steps.specs.Readings.{is_taken};
 ghost use Rattle.saa_word_steps.specs.declared.place.Stage.TheVariants.{Quiet};
 ghost use Rattle.saa_word_steps.specs.declared.place.Next.TheVariants.{Waits};
-ghost use Rattle.saa_word_proofs.specs.Refinement.{Refines};
+ghost use Rattle.saa_word_proofs.specs.Refinement.{joins_line, Refines};
 ghost use Rattle.saa_word_proofs.specs.Rows.{updated};
 ghost use Rattle.saa_word_proofs.specs.StepRefinement.{StepRefines, named_at, place_after};
 ghost use Rattle.saa_word_proofs.specs.CallStages.{IsBegun, IsUnder, IsUnderNext};
@@ -21,10 +21,11 @@ ghost use Rattle.saa_word_proofs.specs.Promises.{Observes, idle_place, opening_r
 
 /// Each step of each place refines a list of events of the abstract state, each enabled where it comes; what an answer names of them is
 /// said by the stage and the number that the place found; and the row with the word that it wrote and the place as it goes on refine the
-/// state behind these events again. The index of the word that it uses is within the row. A step that waits is no event.
+/// state behind these events again. The index of the word that it uses is within the row. A step that waits is no event. So it is for a visitor, whose
+/// number is no place's: the refinement keeps it from the stages at which a place joins the line or uses a word of its own.
 pub fn steps()
     ensures { (needs : Needs) → AreNeeds needs → needs.top < 2 ^ count_bits
-        → (places : ℕ) (row : ℕ → ℕ) (standing : ℕ → Place) (state : AbstractState) (me : ℕ) → places < 65536 → me < places
+        → (places : ℕ) (row : ℕ → ℕ) (standing : ℕ → Place) (state : AbstractState) (me : ℕ) → places < 65536
         → Refines needs places row standing state → (made : StepRefines needs places row standing state me (standing me).stage)
         × (next_of needs me (standing me) (standing me).stage (row (word_at (operation_of needs places me (standing me).stage))) ≡ Waits → made.events ≡ []) }
 {}
@@ -44,10 +45,12 @@ pub fn opens()
         → Refines needs places (opening_row count) (λ place. idle_place) (opening count) }
 {}
 
-/// A call that starts at a place in none uses no word and is no event: words and places refine it still. It has named nothing.
+/// A call that starts at a place in none uses no word and is no event: words and places refine it still. It has named nothing. A visitor may start any
+/// that won't join the line.
 pub fn starts()
     ensures stands { (needs : Needs) → needs.top < 2 ^ count_bits → (places : ℕ) (row : ℕ → ℕ) (standing : ℕ → Place) (state : AbstractState) (me : ℕ) (call : WordCall)
-        → me < places → Refines needs places row standing state → (standing me).stage ≡ Quiet → is_taken needs.is_lock call ≡ true
+        → (places ≤ me → joins_line (place_after (standing me) (started needs (standing me) call)).stage ≡ false)
+        → Refines needs places row standing state → (standing me).stage ≡ Quiet → is_taken needs.is_lock call ≡ true
         → Refines needs places row (updated standing me (place_after (standing me) (started needs (standing me) call))) state }
     ensures begun { (needs : Needs) (place : Place) (call : WordCall) → place.stage ≡ Quiet
         → IsBegun needs call place.registration (started needs place call) }

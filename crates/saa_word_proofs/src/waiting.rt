@@ -15,7 +15,7 @@ ghost use Rattle.saa_word_proofs.specs.Blocking.{IsBlockedAt};
 /// an answer that is to be shown, or finds the flag set; and where poison finds one owner and the flag set. The row of words is left as it
 /// is.
 pub fn waits()
-    ensures { (needs : Needs) (places : ℕ) (row : ℕ → ℕ) (standing : ℕ → Place) (state : AbstractState) (me : ℕ) → me < places
+    ensures { (needs : Needs) (places : ℕ) (row : ℕ → ℕ) (standing : ℕ → Place) (state : AbstractState) (me : ℕ)
         → Refines needs places row standing state
         → next_of needs me (standing me) (standing me).stage (row (word_at (operation_of needs places me (standing me).stage))) ≡ Waits
         → IsBlockedAt state me (main_of row) (standing me).stage

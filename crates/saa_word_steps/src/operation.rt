@@ -32,9 +32,9 @@ pub enum Operation {
 }
 
 impl Stage {
-    /// The operation that the place of this number makes at the stage, out of so many places.
+    /// The operation that the place of this number makes at the stage, out of so many places. A visitor, who has no words of its own, has any number.
     pub fn operation(self, rules: Rules, places: u16, me: u16) -> Operation
-        requires within { me < places }
+        requires within { me < 65535 }
         requires wide { (needs_of rules).top < 2 ^ count_bits }
         requires ranged { IsRanged (needs_of rules) self }
         ensures { result ≡ operation_of (needs_of rules) places me self }

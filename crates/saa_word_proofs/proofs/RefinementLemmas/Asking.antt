@@ -1,5 +1,5 @@
 -- Steps that ask and join: each keeps that words and places refine the abstract state.
-use Rattle.std.proofs.Common.{◌^◌, ◌≡◌, ℕ, ◌+◌, ◌<◌, Bool, true, false, not, ◌||◌, List, [], ◌∷◌, ◌==◌, if◌then◌else◌, refl, sym, ap, subst, ◌∙◌, arith, inl, inr}
+use Rattle.std.proofs.Common.{◌≤◌, ◌^◌, ◌≡◌, ℕ, ◌+◌, ◌<◌, Bool, true, false, not, ◌||◌, List, [], ◌∷◌, ◌==◌, if◌then◌else◌, refl, sym, ap, subst, ◌∙◌, arith, inl, inr}
 use Rattle.std.proofs.lemmas.Bool.{cases_Bool}
 use Rattle.saa_core_spec.specs.Values.{poisoned_value}
 use Rattle.saa_core_spec.proofs.Counts.{same_number}
@@ -17,7 +17,7 @@ use Rattle.saa_word_steps.specs.declared.event.Event.TheVariants.{AskedPoisoned,
 use Rattle.saa_word_steps.specs.AbstractState.{AbstractState, must_wait, is_empty, is_in}
 use Rattle.saa_word_steps.specs.Steps.{decided, found_poisoned, granted, going, done}
 use Rattle.saa_word_steps.specs.Readings.{tried_answer}
-use Rattle.saa_word_proofs.specs.Refinement.{is_holder, IsAlone, IsShowing, waits_behind, Refines}
+use Rattle.saa_word_proofs.specs.Refinement.{joins_line, is_holder, IsAlone, IsShowing, waits_behind, Refines}
 use Rattle.saa_word_proofs.specs.Rows.{main_of, updated}
 use Rattle.saa_word_proofs.specs.Registering.{is_slot}
 use Rattle.saa_word_proofs.specs.StepRefinement.{StepRefines, decided_events}
@@ -27,9 +27,9 @@ use Rattle.saa_word_proofs.proofs.RefinementLemmas.Outcomes.{not-holder, Outcome
 
 -- a place that only reads answers by the main word as it stands
 pub step-ReadLoad : (needs : Needs) → AreNeeds needs → needs.top < 2 ^ count_bits → (places : ℕ) (row : ℕ → ℕ) (standing : ℕ → Place) (state : AbstractState) (me : ℕ)
-    → places < 65536 → me < places → (s : Refines needs places row standing state)
+    → places < 65536 → (s : Refines needs places row standing state)
     → (reading : Reading) → (standing me).stage ≡ ReadLoad reading → StepRefines needs places row standing state me (ReadLoad reading)
-step-ReadLoad needs lawful wide places row standing state me room here s reading at = record {
+step-ReadLoad needs lawful wide places row standing state me room s reading at = record {
   events = Read (main_of row).count (main_of row).is_poisoned ∷ [];
   last = state;
   run = ((sym s.main.count, sym s.main.poison), refl);
@@ -37,7 +37,7 @@ step-ReadLoad needs lawful wide places row standing state me room here s reading
   calm = λ semaphore. refl;
   inside = omega arith;
   stands = loaded needs places row (updated standing me (record (standing me) { stage = Quiet })) state 0
-      (moved needs places row standing state me s (record (standing me) { stage = Quiet }) here refl tt tt (λ gives. absurd (cc)) tt
+      (moved needs places row standing state me s (record (standing me) { stage = Quiet }) (λ out. refl) refl tt tt (λ gives. absurd (cc)) tt
       (subst (λ stage. IsShowing (s.owed me) (s.worth me) stage) at (s.stages.showing me)) (ap is_holder (sym at))
       (λ is. absurd (not-holder needs places row standing state me s (ap is_holder at) is)));
 }
@@ -76,10 +76,10 @@ names_by needs ask seen is_poisoned =
 
 -- An ask that is decided by the main word as it stands
 pub decided-outcome : (needs : Needs) → needs.top < 2 ^ count_bits → (places : ℕ) (row : ℕ → ℕ) (standing : ℕ → Place) (state : AbstractState) (me : ℕ)
-    → me < places → (s : Refines needs places row standing state) → is_holder (standing me).stage ≡ false → s.owed me ≡ []
-    → (ask : Ask) → ask.request < 65536 → (ask.joins ≡ true → is_slot (standing me).registration ≡ false)
+    → (s : Refines needs places row standing state) → is_holder (standing me).stage ≡ false → s.owed me ≡ []
+    → (ask : Ask) → (places ≤ me → ask.joins ≡ false) → ask.request < 65536 → (ask.joins ≡ true → is_slot (standing me).registration ≡ false)
     → Outcome needs places row standing state me (decided needs (standing me) ask (main_of row)) (decided_events needs ask.request ask.joins (main_of row))
-decided-outcome needs wide places row standing state me here s none nothing ask small idle = by (main_of row).is_poisoned refl
+decided-outcome needs wide places row standing state me s none nothing ask unjoined small idle = by (main_of row).is_poisoned refl
   where
     no_holder : s.holder ≡ me + 1 → ⊥
     no_holder = not-holder needs places row standing state me s none
@@ -97,7 +97,7 @@ decided-outcome needs wide places row standing state me here s none nothing ask 
             run = (sym s.main.poison ∙ poisoned, refl);
             names = refl;
             calm = λ semaphore. refl;
-            stands = moved needs places row standing state me s (record (standing me) { registration = Once poisoned_value ask.request; stage = Quiet }) here
+            stands = moved needs places row standing state me s (record (standing me) { registration = Once poisoned_value ask.request; stage = Quiet }) (λ out. refl)
                 (sym (idle joins)) tt tt still tt nothing (sym none) (λ is. absurd (no_holder is));
           })
           | inr tries ↦ rw tries (record {
@@ -106,7 +106,7 @@ decided-outcome needs wide places row standing state me here s none nothing ask 
             run = (sym s.main.poison ∙ poisoned, refl);
             names = refl;
             calm = λ semaphore. refl;
-            stands = moved needs places row standing state me s (record (standing me) { stage = Quiet }) here refl
+            stands = moved needs places row standing state me s (record (standing me) { stage = Quiet }) (λ out. refl) refl
                 tt tt still tt nothing (sym none) (λ is. absurd (no_holder is));
           })
         ]
@@ -123,7 +123,7 @@ decided-outcome needs wide places row standing state me here s none nothing ask 
                   run = refl;
                   names = refl;
                   calm = λ semaphore. refl;
-                  stands = moved needs places row standing state me s (record (standing me) { stage = Prepare ask.request seen }) here refl
+                  stands = moved needs places row standing state me s (record (standing me) { stage = Prepare ask.request seen }) (λ out. (let wrong : true ≡ false = sym joins ∙ unjoined out in absurd (cc))) refl
                       (count-small (row 0)) (small, idle joins, tail-small (row 0), waits, clean) still tt nothing (sym none) (λ is. absurd (no_holder is));
                 })
                 | inr refused ↦ rw (waits, refused) (record {
@@ -132,7 +132,7 @@ decided-outcome needs wide places row standing state me here s none nothing ask 
                   run = ((calm, must), refl);
                   names = refl;
                   calm = λ semaphore. refl;
-                  stands = moved needs places row standing state me s (record (standing me) { stage = Quiet }) here refl
+                  stands = moved needs places row standing state me s (record (standing me) { stage = Quiet }) (λ out. refl) refl
                       tt tt still tt nothing (sym none) (λ is. absurd (no_holder is));
                 })
               ]
@@ -151,7 +151,7 @@ decided-outcome needs wide places row standing state me here s none nothing ask 
                         run = ((calm, alone, fits), same);
                         names = refl;
                         calm = λ semaphore. refl;
-                        stands = moved needs places row standing state me s (record (standing me) { registration = Once 0 ask.request; stage = Quiet }) here
+                        stands = moved needs places row standing state me s (record (standing me) { registration = Once 0 ask.request; stage = Quiet }) (λ out. refl)
                             (sym (idle joins)) tt tt still tt nothing (sym none) (λ is. absurd (no_holder is));
                       })
                       | inr tries ↦ rw (free, nothing_taken, tries) (record {
@@ -160,7 +160,7 @@ decided-outcome needs wide places row standing state me here s none nothing ask 
                         run = ((calm, alone, fits), same);
                         names = refl;
                         calm = λ semaphore. refl;
-                        stands = moved needs places row standing state me s (record (standing me) { stage = Quiet }) here refl
+                        stands = moved needs places row standing state me s (record (standing me) { stage = Quiet }) (λ out. refl) refl
                             tt tt still tt nothing (sym none) (λ is. absurd (no_holder is));
                       })
                     ]
@@ -170,7 +170,7 @@ decided-outcome needs wide places row standing state me here s none nothing ask 
                   run = refl;
                   names = refl;
                   calm = λ semaphore. refl;
-                  stands = moved needs places row standing state me s (record (standing me) { stage = AskExchange ask seen }) here refl
+                  stands = moved needs places row standing state me s (record (standing me) { stage = AskExchange ask seen }) unjoined refl
                       (count-small (row 0), both.1) (small, idle, both.0, clean) still tt nothing (sym none) (λ is. absurd (no_holder is));
                 })
               ]
@@ -178,11 +178,11 @@ decided-outcome needs wide places row standing state me here s none nothing ask 
 
 -- a place that asks loads the main word and is decided by it
 pub step-AskLoad : (needs : Needs) → AreNeeds needs → needs.top < 2 ^ count_bits → (places : ℕ) (row : ℕ → ℕ) (standing : ℕ → Place) (state : AbstractState) (me : ℕ)
-    → places < 65536 → me < places → (s : Refines needs places row standing state)
+    → places < 65536 → (s : Refines needs places row standing state)
     → (ask : Ask) → (standing me).stage ≡ AskLoad ask → StepRefines needs places row standing state me (AskLoad ask)
-step-AskLoad needs lawful wide places row standing state me room here s ask at =
+step-AskLoad needs lawful wide places row standing state me room s ask at =
     let alone : IsAlone needs (standing me).registration (standing me).back (AskLoad ask) =
     subst (λ stage. IsAlone needs (standing me).registration (standing me).back stage) at (s.stages.alone me) in
-    let out = decided-outcome needs wide places row standing state me here s (ap is_holder at)
-    (subst (λ stage. IsShowing (s.owed me) (s.worth me) stage) at (s.stages.showing me)) ask alone.0 alone.1 in
+    let out = decided-outcome needs wide places row standing state me s (ap is_holder at)
+    (subst (λ stage. IsShowing (s.owed me) (s.worth me) stage) at (s.stages.showing me)) ask (λ out. ap joins_line (sym at) ∙ s.seats.beyond me out) alone.0 alone.1 in
     only-looked needs places row standing state me (AskLoad ask) out refl refl refl refl

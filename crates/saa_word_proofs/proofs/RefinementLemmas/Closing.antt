@@ -19,18 +19,18 @@ use Rattle.saa_word_proofs.proofs.RefinementLemmas.Rows.{main-found, count-small
 use Rattle.saa_word_proofs.proofs.RefinementLemmas.Granting.{granted, close-run, some-append, newest-rest, settled-append, settled-main, front-bounded, front-none, front-some, parts-linked, holder-none, nobody, granting}
 use Rattle.saa_word_proofs.proofs.RefinementLemmas.Linking.{flag-held, flag-knows}
 use Rattle.saa_word_proofs.proofs.RefinementLemmas.Holders.{calm-held}
-use Rattle.saa_word_proofs.proofs.RefinementLemmas.Ending.{end_stage, ended, ended-ranged, ended-alone, ended-apart, ended-own, ended-showing, ended-holder}
+use Rattle.saa_word_proofs.proofs.RefinementLemmas.Ending.{end_stage, ended, ended-ranged, ended-alone, ended-apart, ended-joins, ended-own, ended-showing, ended-holder}
 
 -- the exchange succeeds
 closed-step : (needs : Needs) → AreNeeds needs → (places : ℕ) (row : ℕ → ℕ) (standing : ℕ → Place) (state : AbstractState) (me : ℕ)
-    → me < places → (s : Refines needs places row standing state)
+    → (s : Refines needs places row standing state)
     → (seen : Word) (count top : ℕ) → row 0 == word_number count_bits seen ≡ true
     → s.holder ≡ me + 1 → IsRanged needs (Close seen count top) → IsAlone needs (standing me).registration (standing me).back (Close seen count top)
     → s.owed me ≡ []
     → (takes_back (standing me).back ≡ true → is_in me state.line ≡ false)
     → IsHolding needs (line_of row) me state.count state.line s.cut (Close seen count top)
     → StepRefines needs places row standing state me (Close seen count top)
-closed-step needs lawful places row standing state me here s seen count top same mine ranged alone none apart holding =
+closed-step needs lawful places row standing state me s seen count top same mine ranged alone none apart holding =
     let back : Back = (standing me).back in
     let work : Work state.count state.line seen = holding.0 in
     let rest : List (ℕ × ℕ) = work.behind ++ work.joined in
@@ -61,7 +61,7 @@ closed-step needs lawful places row standing state me here s seen count top same
                 let front : work.front ≡ [] = front-none work.front top holding.3 empty in
                 rw (same, empty, ended (standing me) back)
                 (granting needs places row standing state me s number (end_stage back) work.front rest 0 false
-                here mine none work.parts linked.0 linked.1 main (ended-ranged needs back) (ended-alone needs (standing me).registration back alone.1)
+                (λ out. ended-joins back) mine none work.parts linked.0 linked.1 main (ended-ranged needs back) (ended-alone needs (standing me).registration back alone.1)
                 (λ gives. apart (sym (ended-apart back) ∙ gives)) (ended-own (line_of row me) back) (ended-showing work.front 0 back front)
                 (ended-holder back ∙ sym (nobody me))
                 (λ is. absurd (omega (arith, is))) (λ other apart. holder-none s.holder me other mine apart))
@@ -69,21 +69,21 @@ closed-step needs lawful places row standing state me here s seen count top same
                 let front : is_empty work.front ≡ false = front-some work.front top holding.3 there in
                 rw (same, there)
                 (granting needs places row standing state me s number (ShowLoad top 0 Ends) work.front rest 0 false
-                here mine none work.parts linked.0 linked.1 main tt alone.1 apart tt (sym holding.3, front, refl) (sym (nobody me))
+                (λ out. refl) mine none work.parts linked.0 linked.1 main tt alone.1 apart tt (sym holding.3, front, refl) (sym (nobody me))
                 (λ is. absurd (omega (arith, is))) (λ other apart. holder-none s.holder me other mine apart))
           ];
     }
 
 -- the exchange fails: another word stands there
 missed-step : (needs : Needs) (places : ℕ) (row : ℕ → ℕ) (standing : ℕ → Place) (state : AbstractState) (me : ℕ)
-    → me < places → (s : Refines needs places row standing state)
+    → (s : Refines needs places row standing state)
     → (seen : Word) (count top : ℕ) → (standing me).stage ≡ Close seen count top → row 0 == word_number count_bits seen ≡ false
     → s.holder ≡ me + 1 → IsRanged needs (Close seen count top) → IsAlone needs (standing me).registration (standing me).back (Close seen count top)
     → s.owed me ≡ []
     → (takes_back (standing me).back ≡ true → is_in me state.line ≡ false)
     → IsHolding needs (line_of row) me state.count state.line s.cut (Close seen count top)
     → StepRefines needs places row standing state me (Close seen count top)
-missed-step needs places row standing state me here s seen count top at differs mine ranged alone none apart holding =
+missed-step needs places row standing state me s seen count top at differs mine ranged alone none apart holding =
     let work : Work state.count state.line seen = holding.0 in
     record {
       events = [];
@@ -107,7 +107,7 @@ missed-step needs places row standing state me here s seen count top at differs 
                 } in
                 rw (differs, same)
                 (loaded needs places row (updated standing me (record (standing me) { stage = Close (main_of row) count top })) state 0
-                (moved needs places row standing state me s (record (standing me) { stage = Close (main_of row) count top }) here refl
+                (moved needs places row standing state me s (record (standing me) { stage = Close (main_of row) count top }) (λ out. refl) refl
                 (count-small (row 0), ranged.1) (tail-small (row 0), alone.1) apart tt none (ap is_holder (sym at))
                 (λ is. (
                   now,
@@ -123,7 +123,7 @@ missed-step needs places row standing state me here s seen count top at differs 
             | inr changed ↦
                 rw (differs, changed)
                 (loaded needs places row (updated standing me (record (standing me) { stage = GoRound seen count top })) state 0
-                (moved needs places row standing state me s (record (standing me) { stage = GoRound seen count top }) here refl
+                (moved needs places row standing state me s (record (standing me) { stage = GoRound seen count top }) (λ out. refl) refl
                 ranged alone.1 apart tt none (ap is_holder (sym at))
                 (λ is. (work, holding.1, holding.2, holding.3, holding.4))))
           ];
@@ -131,9 +131,9 @@ missed-step needs places row standing state me here s seen count top at differs 
 
 -- A holder that closes the line publishes what it granted, or goes on with the word that it found
 pub step-Close : (needs : Needs) → AreNeeds needs → needs.top < 2 ^ count_bits → (places : ℕ) (row : ℕ → ℕ) (standing : ℕ → Place) (state : AbstractState) (me : ℕ)
-    → places < 65536 → me < places → (s : Refines needs places row standing state)
+    → places < 65536 → (s : Refines needs places row standing state)
     → (seen : Word) (count top : ℕ) → (standing me).stage ≡ Close seen count top → StepRefines needs places row standing state me (Close seen count top)
-step-Close needs lawful wide places row standing state me room here s seen count top at =
+step-Close needs lawful wide places row standing state me room s seen count top at =
     let mine : s.holder ≡ me + 1 = flag-held needs places row standing state me s (ap is_holder at) in
     let ranged = subst (λ (stage : Stage). IsRanged needs stage) at (s.stages.ranged me) in
     let alone = subst (λ (stage : Stage). IsAlone needs (standing me).registration (standing me).back stage) at (s.stages.alone me) in
@@ -141,6 +141,6 @@ step-Close needs lawful wide places row standing state me room here s seen count
     let apart = apart-at needs places row standing state me s (Close seen count top) at in
     let holding = flag-knows needs places row standing state me s (Close seen count top) at refl in
     elim (cases_Bool (row 0 == word_number count_bits seen)) [
-      | inl same ↦ closed-step needs lawful places row standing state me here s seen count top same mine ranged alone none apart holding
-      | inr differs ↦ missed-step needs places row standing state me here s seen count top at differs mine ranged alone none apart holding
+      | inl same ↦ closed-step needs lawful places row standing state me s seen count top same mine ranged alone none apart holding
+      | inr differs ↦ missed-step needs places row standing state me s seen count top at differs mine ranged alone none apart holding
     ]

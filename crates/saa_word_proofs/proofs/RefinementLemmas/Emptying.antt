@@ -58,14 +58,14 @@ older-first words older (asker ∷ rest) link some first linked =
 
 -- the exchange succeeds
 emptied-step : (needs : Needs) → AreNeeds needs → (places : ℕ) (row : ℕ → ℕ) (standing : ℕ → Place) (state : AbstractState) (me : ℕ)
-    → me < places → (s : Refines needs places row standing state)
+    → (s : Refines needs places row standing state)
     → (seen : Word) (current count : ℕ) (word : LineWord) → row 0 == word_number count_bits seen ≡ true
     → s.holder ≡ me + 1 → IsRanged needs (Empty seen current count word)
     → IsAlone needs (standing me).registration (standing me).back (Empty seen current count word)
     → (gives_up (standing me).back (Empty seen current count word) ≡ true → is_in me state.line ≡ false) → s.owed me ≡ []
     → IsHolding needs (line_of row) me state.count state.line s.cut (Empty seen current count word)
     → StepRefines needs places row standing state me (Empty seen current count word)
-emptied-step needs lawful places row standing state me here s seen current count word same mine ranged alone apart none holding =
+emptied-step needs lawful places row standing state me s seen current count word same mine ranged alone apart none holding =
     let work : Work state.count state.line seen = holding.0 in
     let rest : List (ℕ × ℕ) = work.behind ++ work.joined in
     let found : main_of row ≡ seen = main-found (row 0) seen ranged.0 alone.0 same in
@@ -108,7 +108,7 @@ emptied-step needs lawful places row standing state me here s seen current count
       stands =
           rw same
           (granting needs places row standing state me s (word_number count_bits (settled_word count 0)) (ShowLoad current 0 Ends) all [] 0 false
-          here mine none parts linked tt main tt alone.1 apart tt
+          (λ out. refl) mine none parts linked tt main tt alone.1 apart tt
           (newest-last 0 work.front asker ∙ sym one.stands, some-last work.front asker, refl)
           (sym (nobody me))
           (λ is. absurd (omega (arith, is))) (λ other apart. holder-none s.holder me other mine apart));
@@ -116,7 +116,7 @@ emptied-step needs lawful places row standing state me here s seen current count
 
 -- the exchange fails: another word stands there, and all but the last go round
 missed-step : (needs : Needs) (places : ℕ) (row : ℕ → ℕ) (standing : ℕ → Place) (state : AbstractState) (me : ℕ)
-    → me < places → (s : Refines needs places row standing state)
+    → (s : Refines needs places row standing state)
     → (seen : Word) (current count : ℕ) (word : LineWord) → (standing me).stage ≡ Empty seen current count word
     → row 0 == word_number count_bits seen ≡ false
     → s.holder ≡ me + 1 → IsRanged needs (Empty seen current count word)
@@ -124,7 +124,7 @@ missed-step : (needs : Needs) (places : ℕ) (row : ℕ → ℕ) (standing : ℕ
     → (gives_up (standing me).back (Empty seen current count word) ≡ true → is_in me state.line ≡ false) → s.owed me ≡ []
     → IsHolding needs (line_of row) me state.count state.line s.cut (Empty seen current count word)
     → StepRefines needs places row standing state me (Empty seen current count word)
-missed-step needs places row standing state me here s seen current count word at differs mine ranged alone apart none holding =
+missed-step needs places row standing state me s seen current count word at differs mine ranged alone apart none holding =
     let work : Work state.count state.line seen = holding.0 in
     let rest : List (ℕ × ℕ) = work.behind ++ work.joined in
     let fewer : ℕ = count - needs.takes word.request in
@@ -151,13 +151,13 @@ missed-step needs places row standing state me here s seen current count word at
                 let front : work.front ≡ [] = front-none work.front word.older older only in
                 rw (differs, only)
                 (loaded needs places row (updated standing me (record (standing me) { stage = GoRound seen fewer 0 })) state 0
-                (moved needs places row standing state me s (record (standing me) { stage = GoRound seen fewer 0 }) here refl
+                (moved needs places row standing state me s (record (standing me) { stage = GoRound seen fewer 0 }) (λ out. refl) refl
                 (ranged.0, small) alone.1 apart tt none (ap is_holder (sym at))
                 (λ is. (work, holding.1 ∙ sym front, (holding.2, left), sym (ap (λ (l : List (ℕ × ℕ)). newest 0 l) front), holding.3.1))))
             | inr others ↦
                 rw (differs, others)
                 (loaded needs places row (updated standing me (record (standing me) { stage = CutToGoRound seen current fewer word })) state 0
-                (moved needs places row standing state me s (record (standing me) { stage = CutToGoRound seen current fewer word }) here refl
+                (moved needs places row standing state me s (record (standing me) { stage = CutToGoRound seen current fewer word }) (λ out. refl) refl
                 (ranged.0, small) alone.1 apart tt none (ap is_holder (sym at))
                 (λ is. (work, holding.1, (holding.2, left), holding.3, holding.4))))
           ];
@@ -165,10 +165,10 @@ missed-step needs places row standing state me here s seen current count word at
 
 -- Where all fit, the line is emptied; else all but the last of them go round
 pub step-Empty : (needs : Needs) → AreNeeds needs → needs.top < 2 ^ count_bits → (places : ℕ) (row : ℕ → ℕ) (standing : ℕ → Place) (state : AbstractState) (me : ℕ)
-    → places < 65536 → me < places → (s : Refines needs places row standing state)
+    → places < 65536 → (s : Refines needs places row standing state)
     → (seen : Word) (current count : ℕ) (word : LineWord) → (standing me).stage ≡ Empty seen current count word
     → StepRefines needs places row standing state me (Empty seen current count word)
-step-Empty needs lawful wide places row standing state me room here s seen current count word at =
+step-Empty needs lawful wide places row standing state me room s seen current count word at =
     let mine : s.holder ≡ me + 1 = flag-held needs places row standing state me s (ap is_holder at) in
     let ranged = subst (λ (stage : Stage). IsRanged needs stage) at (s.stages.ranged me) in
     let alone = subst (λ (stage : Stage). IsAlone needs (standing me).registration (standing me).back stage) at (s.stages.alone me) in
@@ -176,6 +176,6 @@ step-Empty needs lawful wide places row standing state me room here s seen curre
     let none = subst (λ (stage : Stage). IsShowing (s.owed me) (s.worth me) stage) at (s.stages.showing me) in
     let holding = subst (λ (stage : Stage). IsHolding needs (line_of row) me state.count state.line s.cut stage) at (s.stages.holding me mine) in
     elim (cases_Bool (row 0 == word_number count_bits seen)) [
-      | inl same ↦ emptied-step needs lawful places row standing state me here s seen current count word same mine ranged alone apart none holding
-      | inr differs ↦ missed-step needs places row standing state me here s seen current count word at differs mine ranged alone apart none holding
+      | inl same ↦ emptied-step needs lawful places row standing state me s seen current count word same mine ranged alone apart none holding
+      | inr differs ↦ missed-step needs places row standing state me s seen current count word at differs mine ranged alone apart none holding
     ]

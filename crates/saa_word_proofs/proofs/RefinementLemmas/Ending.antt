@@ -10,7 +10,7 @@ use Rattle.saa_word_steps.specs.declared.place.Stage.{Stage}
 use Rattle.saa_word_steps.specs.declared.place.Stage.TheVariants.{Quiet, Take}
 use Rattle.saa_word_steps.specs.Needs.{Needs}
 use Rattle.saa_word_steps.specs.Steps.{IsRanged, finished}
-use Rattle.saa_word_proofs.specs.Refinement.{is_holder, takes_back, gives_up, IsReturning, IsAlone, IsOwn, IsShowing}
+use Rattle.saa_word_proofs.specs.Refinement.{joins_line, is_holder, takes_back, gives_up, IsReturning, IsAlone, IsOwn, IsShowing}
 use Rattle.saa_word_proofs.specs.StepRefinement.{place_after}
 
 -- where a place stands that is done with the line
@@ -39,6 +39,12 @@ pub ended-apart : (back : Back) → gives_up back (end_stage back) ≡ takes_bac
 ended-apart Tells = refl
 ended-apart Ends = refl
 ended-apart (Takes request) = refl
+
+-- and doesn't join the line
+pub ended-joins : (back : Back) → joins_line (end_stage back) ≡ false
+ended-joins Tells = refl
+ended-joins Ends = refl
+ended-joins (Takes request) = refl
 
 pub ended-own : (word : LineWord) (back : Back) → IsOwn word (end_stage back)
 ended-own word Tells = tt

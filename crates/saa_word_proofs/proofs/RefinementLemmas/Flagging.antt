@@ -57,7 +57,7 @@ flag-outcome needs places row standing state me here s none nothing leaving fals
       names = refl;
       calm = λ semaphore. refl;
       stands = subst (λ (p : Place). Refines needs places row (updated standing me p) state) (sym (ended (standing me) back))
-          (moved needs places row standing state me s (record (standing me) { stage = end_stage back }) here refl
+          (moved needs places row standing state me s (record (standing me) { stage = end_stage back }) (λ out. absurd (omega (arith, out, here))) refl
           (ended-ranged needs back) (ended-alone needs registration back (returning-leaving registration back leaving))
           (λ gives. ap (is_in me) empty) (ended-own (line_of row me) back) (ended-showing (s.owed me) (s.worth me) back nothing)
           (ended-holder back ∙ sym none) (λ it. absurd (not-holder needs places row standing state me s none it)));
@@ -68,7 +68,7 @@ flag-outcome needs places row standing state me here s none nothing leaving fals
   run = refl;
   names = refl;
   calm = λ semaphore. refl;
-  stands = moved needs places row standing state me s (record (standing me) { stage = FlagExchange (main_of row) }) here refl
+  stands = moved needs places row standing state me s (record (standing me) { stage = FlagExchange (main_of row) }) (λ out. absurd (omega (arith, out, here))) refl
       (count-small (row 0)) (leaving, tail-small (row 0), some, clear) (λ gives. absurd (cc)) tt nothing (sym none)
       (λ it. absurd (not-holder needs places row standing state me s none it));
 }
@@ -134,7 +134,7 @@ flag-set needs places row standing state me here s nothing leaving seen small ta
       main = main-now needs state (me + 1) word small tail_small count tail (sym (ap not (link-some me))) poison s.main.barren s.main.bounded
           (λ free. let wrong : true ≡ false = sym free ∙ link-some me in absurd (cc)) s.main.settled;
       line = subst (λ (w : ℕ → LineWord). IsLine w state.line s.cut s.uncut) (sym (line-main row number)) s.line;
-      seats = seats-next places standing state me place s.seats here refl;
+      seats = seats-next places standing state me place s.seats (λ out. absurd (omega (arith, out, here))) refl;
       answers = answers-main places row number state.shown s.answers;
       debts = subst (λ (w : ℕ → LineWord). AreDebts w state.due s.owed s.shower s.worth) (sym (line-main row number)) s.debts;
       stages = subst (λ (w : ℕ → LineWord). AreStages needs w (updated standing me place) state.count state.line s.cut (me + 1) s.owed s.worth)

@@ -65,9 +65,9 @@ raised-main needs lawful wide state number holder more front rest calm was fits 
 
 -- A holder that retries adds what it granted to the count, shows the answers, and walks anew
 pub step-GoRound : (needs : Needs) → AreNeeds needs → needs.top < 2 ^ count_bits → (places : ℕ) (row : ℕ → ℕ) (standing : ℕ → Place) (state : AbstractState) (me : ℕ)
-    → places < 65536 → me < places → (s : Refines needs places row standing state)
+    → places < 65536 → (s : Refines needs places row standing state)
     → (seen : Word) (count top : ℕ) → (standing me).stage ≡ GoRound seen count top → StepRefines needs places row standing state me (GoRound seen count top)
-step-GoRound needs lawful wide places row standing state me room here s seen count top at =
+step-GoRound needs lawful wide places row standing state me room s seen count top at =
     let mine : s.holder ≡ me + 1 = flag-held needs places row standing state me s (ap is_holder at) in
     let none = subst (λ (stage : Stage). IsShowing (s.owed me) (s.worth me) stage) at (s.stages.showing me) in
     let holding = subst (λ (stage : Stage). IsHolding needs (line_of row) me state.count state.line s.cut stage) at (s.stages.holding me mine) in
@@ -101,7 +101,7 @@ step-GoRound needs lawful wide places row standing state me room here s seen cou
                 let front : work.front ≡ [] = front-none work.front top holding.3 empty in
                 rw empty
                 (granting needs places row standing state me s number (BackLoad now now.tail 0) work.front rest s.holder state.unclosed
-                here mine none work.parts linked.0 linked.1 main (count-small number) alone apart tt front holder
+                (λ out. refl) mine none work.parts linked.0 linked.1 main (count-small number) alone apart tt front holder
                 (λ is. (
                   record { front = rest; behind = []; joined = []; parts = sym (append-nil rest); tail = tail; count = held },
                   refl,
@@ -112,7 +112,7 @@ step-GoRound needs lawful wide places row standing state me room here s seen cou
                 let front : is_empty work.front ≡ false = front-some work.front top holding.3 there in
                 rw there
                 (granting needs places row standing state me s number (ShowLoad top 0 (Again now)) work.front rest s.holder state.unclosed
-                here mine none work.parts linked.0 linked.1 main (count-small number) alone apart tt (sym holding.3, front, refl) holder
+                (λ out. refl) mine none work.parts linked.0 linked.1 main (count-small number) alone apart tt (sym holding.3, front, refl) holder
                 (λ is. (
                   record { front = []; behind = rest; joined = []; parts = sym (append-nil rest); tail = main.tail; count = held },
                   refl,

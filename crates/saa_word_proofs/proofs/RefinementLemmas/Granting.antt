@@ -15,7 +15,7 @@ use Rattle.saa_word_steps.specs.declared.event.Event.{Event}
 use Rattle.saa_word_steps.specs.declared.event.Event.TheVariants.{Granted, Closed}
 use Rattle.saa_word_steps.specs.AbstractState.{AbstractState, IsEnabled, after_event, IsRun, IsFront, IsSettledAt, is_empty, is_in, takes_of, answered_with, held_by}
 use Rattle.saa_word_steps.specs.Steps.{IsRanged, settled_word}
-use Rattle.saa_word_proofs.specs.Refinement.{newest, is_holder, gives_up, IsAlone, IsOwn, IsShowing, IsHolding, IsMain, IsLine, AreSeats, AreDebts, Refines}
+use Rattle.saa_word_proofs.specs.Refinement.{joins_line, newest, is_holder, gives_up, IsAlone, IsOwn, IsShowing, IsHolding, IsMain, IsLine, AreSeats, AreDebts, Refines}
 use Rattle.saa_word_proofs.specs.Rows.{IsBehind, line_of, updated}
 use Rattle.saa_word_proofs.specs.Registering.{is_slot}
 use Rattle.saa_word_proofs.specs.StepRefinement.{never_poisons}
@@ -308,7 +308,7 @@ out-of-rest place front rest line parts out =
 -- The holder grants a front by a write to the main word, and goes on at a stage
 pub granting : (needs : Needs) (places : ℕ) (row : ℕ → ℕ) (standing : ℕ → Place) (state : AbstractState) (me : ℕ) (s : Refines needs places row standing state)
     (number : ℕ) (stage : Stage) (front rest : List (ℕ × ℕ)) (next : ℕ) (unclosed : Bool)
-    → me < places → s.holder ≡ me + 1 → s.owed me ≡ [] → state.line ≡ front ++ rest → IsBehind (line_of row) 0 front → IsBehind (line_of row) 0 rest
+    → (places ≤ me → joins_line stage ≡ false) → s.holder ≡ me + 1 → s.owed me ≡ [] → state.line ≡ front ++ rest → IsBehind (line_of row) 0 front → IsBehind (line_of row) 0 rest
     → IsMain needs number (granted needs state front rest unclosed) next
     → IsRanged needs stage → IsAlone needs (standing me).registration (standing me).back stage
     → (gives_up (standing me).back stage ≡ true → is_in me state.line ≡ false) → IsOwn (line_of row me) stage → IsShowing front 0 stage
@@ -317,10 +317,10 @@ pub granting : (needs : Needs) (places : ℕ) (row : ℕ → ℕ) (standing : �
     → ((other : ℕ) → (other ≡ me → ⊥) → (s.holder == other + 1) ≡ (next == other + 1))
     → Refines needs places (updated row 0 number) (updated standing me (record (standing me) { stage = stage }))
     (granted needs state front rest unclosed)
-granting needs places row standing state me s number stage front rest next unclosed here mine none parts linked stays main ranged alone apart own showing
+granting needs places row standing state me s number stage front rest next unclosed free mine none parts linked stays main ranged alone apart own showing
     holder holding others =
     let once = held-once places standing state s.seats in
-    let seats = seats-next places standing state me (record (standing me) { stage = stage }) s.seats here refl in
+    let seats = seats-next places standing state me (record (standing me) { stage = stage }) s.seats free refl in
     let debts = debts-granted (line_of row) state s.owed s.shower s.worth me 0 front rest s.debts (omega arith) parts once none linked in
     let stages = stages-next needs (line_of row) (line_of row) standing state.count (state.count + takes_of needs front) state.line rest s.cut []
     s.holder next s.owed (updated s.owed me front) s.worth (updated s.worth me 0) me (record (standing me) { stage = stage }) s.stages

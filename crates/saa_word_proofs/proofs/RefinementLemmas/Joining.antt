@@ -16,7 +16,7 @@ use Rattle.saa_word_steps.specs.declared.event.Event.TheVariants.{Got, Joined}
 use Rattle.saa_word_steps.specs.AbstractState.{AbstractState, is_empty, is_in, held_by, must_wait, IsSettledAt}
 use Rattle.saa_word_steps.specs.Steps.{IsRanged, IsSmall}
 use Rattle.saa_word_steps.proofs.AbstractRuns.{joined-settled}
-use Rattle.saa_word_proofs.specs.Refinement.{newest, is_holder, gives_up, IsAlone, IsOwn, IsShowing, waits_behind, IsMain, IsLine, AreSeats, AreDebts, AreStages, Refines}
+use Rattle.saa_word_proofs.specs.Refinement.{joins_line, newest, is_holder, gives_up, IsAlone, IsOwn, IsShowing, waits_behind, IsMain, IsLine, AreSeats, AreDebts, AreStages, Refines}
 use Rattle.saa_word_proofs.specs.Rows.{line_of, main_of, updated}
 use Rattle.saa_word_proofs.specs.Registering.{is_slot}
 use Rattle.saa_word_proofs.specs.StepRefinement.{StepRefines}
@@ -29,13 +29,13 @@ use Rattle.saa_word_proofs.proofs.RefinementLemmas.Outcomes.{not-holder, answers
 
 -- Somebody is granted at once: the count is raised, and nobody waits
 raised : (needs : Needs) → AreNeeds needs → needs.top < 2 ^ count_bits → (places : ℕ) (row : ℕ → ℕ) (standing : ℕ → Place) (state : AbstractState) (me : ℕ)
-    → me < places → (s : Refines needs places row standing state) → is_holder (standing me).stage ≡ false → s.owed me ≡ []
+    → (s : Refines needs places row standing state) → is_holder (standing me).stage ≡ false → s.owed me ≡ []
     → state.poisoned ≡ false → (request : ℕ) (seen : Word) → IsSmall seen → main_of row ≡ seen → seen.tail == 0 ≡ true
     → fits_count needs seen.count request ≡ true
     → (place : Place) → place.stage ≡ Quiet → is_slot place.registration ≡ is_slot (standing me).registration
     → Refines needs places (updated row 0 (word_number count_bits (record seen { count = seen.count + needs.takes request }))) (updated standing me place)
     (record state { count = state.count + needs.takes request })
-raised needs lawful wide places row standing state me here s none nothing calm request seen small is alone fits place quiet same =
+raised needs lawful wide places row standing state me s none nothing calm request seen small is alone fits place quiet same =
     let tail : seen.tail ≡ newest 0 state.line = ap (λ (w : Word). w.tail) (sym is) ∙ s.main.tail in
     let count : seen.count ≡ state.count = ap (λ (w : Word). w.count) (sym is) ∙ s.main.count in
     let empty : state.line ≡ [] = empty-nil state.line (sym (newest-empty state.line) ∙ ap (λ (n : ℕ). n == 0) (sym tail) ∙ alone) in
@@ -58,7 +58,7 @@ raised needs lawful wide places row standing state me here s none nothing calm r
           (λ closed. subst (λ (l : List (ℕ × ℕ)). IsSettledAt needs (state.count + needs.takes request) l) (sym empty) tt);
       line = subst (λ (w : ℕ → LineWord). IsLine w state.line s.cut s.uncut) (sym (line-main row number)) s.line;
       seats =
-          let seats = seats-next places standing state me place s.seats here same in
+          let seats = seats-next places standing state me place s.seats (λ out. ap joins_line quiet) same in
           record { held = seats.held; within = seats.within; beyond = seats.beyond };
       answers = answers-main places row number state.shown s.answers;
       debts = subst (λ (w : ℕ → LineWord). AreDebts w state.due s.owed s.shower s.worth) (sym (line-main row number)) s.debts;
@@ -78,9 +78,9 @@ raised needs lawful wide places row standing state me here s none nothing calm r
 
 -- a place raises the count, where the main word is as it saw it, and else is decided by the main word as it stands
 pub step-AskExchange : (needs : Needs) → AreNeeds needs → needs.top < 2 ^ count_bits → (places : ℕ) (row : ℕ → ℕ) (standing : ℕ → Place) (state : AbstractState) (me : ℕ)
-    → places < 65536 → me < places → (s : Refines needs places row standing state)
+    → places < 65536 → (s : Refines needs places row standing state)
     → (ask : Ask) (seen : Word) → (standing me).stage ≡ AskExchange ask seen → StepRefines needs places row standing state me (AskExchange ask seen)
-step-AskExchange needs lawful wide places row standing state me room here s ask seen at =
+step-AskExchange needs lawful wide places row standing state me room s ask seen at =
     let alone : IsAlone needs (standing me).registration (standing me).back (AskExchange ask seen) =
     subst (λ stage. IsAlone needs (standing me).registration (standing me).back stage) at (s.stages.alone me) in
     let ranged : IsRanged needs (AskExchange ask seen) = subst (λ stage. IsRanged needs stage) at (s.stages.ranged me) in
@@ -102,7 +102,7 @@ step-AskExchange needs lawful wide places row standing state me room here s ask 
               names = rw same refl;
               calm = λ semaphore. refl;
               inside = omega arith;
-              stands = rw (same, joins) (raised needs lawful wide places row standing state me here s none nothing calm ask.request seen ranged.0 is
+              stands = rw (same, joins) (raised needs lawful wide places row standing state me s none nothing calm ask.request seen ranged.0 is
                   alone.2 ranged.1 (record (standing me) { registration = Once 0 ask.request; stage = Quiet }) refl (sym (alone.1 joins)));
             }
             | inr tries ↦ record {
@@ -112,12 +112,12 @@ step-AskExchange needs lawful wide places row standing state me room here s ask 
               names = rw same refl;
               calm = λ semaphore. refl;
               inside = omega arith;
-              stands = rw (same, tries) (raised needs lawful wide places row standing state me here s none nothing calm ask.request seen ranged.0 is
+              stands = rw (same, tries) (raised needs lawful wide places row standing state me s none nothing calm ask.request seen ranged.0 is
                   alone.2 ranged.1 (record (standing me) { stage = Quiet }) refl refl);
             }
           ]
       | inr differs ↦
-          let out = decided-outcome needs wide places row standing state me here s none nothing ask alone.0 alone.1 in
+          let out = decided-outcome needs wide places row standing state me s none nothing ask (λ out. ap joins_line (sym at) ∙ s.seats.beyond me out) alone.0 alone.1 in
           only-looked needs places row standing state me (AskExchange ask seen) out refl (rw differs refl) (rw differs refl) (rw differs refl)
     ]
 
@@ -180,7 +180,7 @@ step-Prepare needs lawful wide places row standing state me room here s request 
               (rw s.line.parts (omega (arith, there, times-append place s.cut s.uncut))))) s.line.stays;
           some = s.line.some;
         };
-        seats = seats-next places standing state me (record (standing me) { stage = Join request seen }) s.seats here refl;
+        seats = seats-next places standing state me (record (standing me) { stage = Join request seen }) s.seats (λ out. absurd (omega (arith, out, here))) refl;
         answers = record {
           words = λ place inside. row-other row (me + 1) number (places + place + 1) (λ is. absurd (omega (arith, is, here))) ∙ s.answers.words place inside;
           small = s.answers.small;
@@ -261,7 +261,7 @@ joined needs lawful wide places row standing state me room here s none nothing c
         held = held-joined places standing state me request s.seats idle;
         within = each-updated (λ (n : ℕ) (p : Place). is_slot p.registration ≡ true → n < places) standing me place (λ slot. here)
             (λ other apart. s.seats.within other);
-        beyond = each-updated (λ (n : ℕ) (p : Place). places ≤ n → p.stage ≡ Quiet) standing me place (λ out. refl) (λ other apart. s.seats.beyond other);
+        beyond = each-updated (λ (n : ℕ) (p : Place). places ≤ n → joins_line p.stage ≡ false) standing me place (λ out. refl) (λ other apart. s.seats.beyond other);
       };
       answers = answers-main places row number state.shown s.answers;
       debts = subst (λ (w : ℕ → LineWord). AreDebts w state.due s.owed s.shower s.worth) (sym (line-main row number)) s.debts;
@@ -312,7 +312,7 @@ step-Join needs lawful wide places row standing state me room here s request see
           }
       | inr differs ↦
           let ask : Ask = record { request = request; joins = true } in
-          let out = decided-outcome needs wide places row standing state me here s none nothing ask alone.0 (λ joins. alone.1) in
+          let out = decided-outcome needs wide places row standing state me s none nothing ask (λ out. absurd (omega (arith, out, here))) alone.0 (λ joins. alone.1) in
           only-looked needs places row standing state me (Join request seen) out refl (rw differs refl) (rw differs refl) (rw differs refl)
     ]
   where

@@ -9,12 +9,11 @@ use Rattle.saa_word_steps.specs.declared.place.Place.{Place}
 use Rattle.saa_word_steps.specs.declared.place.Registration.TheVariants.{Idle}
 use Rattle.saa_word_steps.specs.declared.place.Back.TheVariants.{Ends as EndsCall}
 use Rattle.saa_word_steps.specs.declared.place.Stage.{Stage}
-use Rattle.saa_word_steps.specs.declared.place.Stage.TheVariants.{Quiet}
 use Rattle.saa_word_steps.specs.Needs.{Needs}
 use Rattle.saa_word_steps.specs.declared.event.Event.TheVariants.{Left}
 use Rattle.saa_word_steps.specs.AbstractState.{AbstractState, IsRun, is_empty, is_in, held_by}
 use Rattle.saa_word_steps.specs.Steps.{IsRanged, left_line}
-use Rattle.saa_word_proofs.specs.Refinement.{newest, is_holder, gives_up, IsAlone, IsOwn, IsShowing, Work, IsFound, IsHolding, IsMain, AreSeats, AreDebts, Refines}
+use Rattle.saa_word_proofs.specs.Refinement.{joins_line, newest, is_holder, gives_up, IsAlone, IsOwn, IsShowing, Work, IsFound, IsHolding, IsMain, AreSeats, AreDebts, Refines}
 use Rattle.saa_word_proofs.specs.Rows.{IsBehind, line_of, updated}
 use Rattle.saa_word_proofs.specs.Registering.{is_slot}
 use Rattle.saa_word_proofs.specs.History.{of_place}
@@ -172,7 +171,7 @@ seats-left places standing state me request before after stage was here parts =
           omega (arith, counted other, ap one_if (number_other me other (λ is. apart (sym is))), was.held other));
       within = each-updated (λ (n : ℕ) (p : Place). is_slot p.registration ≡ true → n < places) standing me place_now (λ slot. here)
           (λ other apart. was.within other);
-      beyond = each-updated (λ (n : ℕ) (p : Place). places ≤ n → p.stage ≡ Quiet) standing me place_now (λ out. absurd (omega (arith, out, here)))
+      beyond = each-updated (λ (n : ℕ) (p : Place). places ≤ n → joins_line p.stage ≡ false) standing me place_now (λ out. absurd (omega (arith, out, here)))
           (λ other apart. was.beyond other);
     }
 

@@ -1,5 +1,5 @@
 -- The holder of the flag writes the line word of a place that stands in the line: what this leaves as it was.
-use Rattle.std.proofs.Common.{◌≡◌, ℕ, ◌+◌, ◌<◌, pred, true, false, List, [], ◌∷◌, ◌++◌, ◌==◌, Some, is_some, refl, sym, ap, subst, ◌∙◌, arith, inl, inr}
+use Rattle.std.proofs.Common.{◌≤◌, ◌≡◌, ℕ, ◌+◌, ◌<◌, pred, true, false, List, [], ◌∷◌, ◌++◌, ◌==◌, Some, is_some, refl, sym, ap, subst, ◌∙◌, arith, inl, inr}
 use Rattle.std.proofs.lemmas.Bool.{cases_Bool}
 use Rattle.saa_core_spec.specs.Object.{one_if, times}
 use Rattle.saa_core_spec.proofs.Counts.{number_same, same_number}
@@ -11,7 +11,7 @@ use Rattle.saa_word_steps.specs.declared.place.Stage.{Stage}
 use Rattle.saa_word_steps.specs.Needs.{Needs}
 use Rattle.saa_word_steps.specs.AbstractState.{AbstractState, is_empty, is_in}
 use Rattle.saa_word_steps.specs.Steps.{IsRanged}
-use Rattle.saa_word_proofs.specs.Refinement.{newest, oldest, IsAhead, is_holder, gives_up, IsAlone, IsOwn, IsShowing, Work, IsHolding, IsAt, IsMain, IsLine, AreSeats, Refines}
+use Rattle.saa_word_proofs.specs.Refinement.{joins_line, newest, oldest, IsAhead, is_holder, gives_up, IsAlone, IsOwn, IsShowing, Work, IsHolding, IsAt, IsMain, IsLine, AreSeats, Refines}
 use Rattle.saa_word_proofs.specs.Rows.{IsBehind, line_of, updated}
 use Rattle.saa_word_proofs.specs.Registering.{is_slot}
 use Rattle.saa_word_proofs.proofs.RefinementLemmas.Lists.{in-some, behind-frame, behind-rest, newest-append, newest-last, empty-nil}
@@ -92,14 +92,14 @@ line-room number = (omega arith, omega arith, omega arith)
 -- The holder writes the line word of a place in line, and goes on as a holder that knows the line by the new words
 pub relinked : (needs : Needs) (places : ℕ) (row : ℕ → ℕ) (standing : ℕ → Place) (state : AbstractState) (me : ℕ) (s : Refines needs places row standing state)
     (next : Stage) (at number : ℕ) (off rest : List (ℕ × ℕ))
-    → me < places → s.holder ≡ me + 1 → 0 < times at state.line
+    → (places ≤ me → joins_line next ≡ false) → s.holder ≡ me + 1 → 0 < times at state.line
     → IsLine (line_of (updated row (at + 1) number)) state.line off rest
     → IsRanged needs next → IsAlone needs (standing me).registration (standing me).back next
     → (gives_up (standing me).back next ≡ true → is_in me state.line ≡ false)
     → IsOwn (line_of (updated row (at + 1) number) me) next → IsShowing (s.owed me) (s.worth me) next
     → is_holder next ≡ true → IsHolding needs (line_of (updated row (at + 1) number)) me state.count state.line off next
     → Refines needs places (updated row (at + 1) number) (updated standing me (record (standing me) { stage = next })) state
-relinked needs places row standing state me s next at number off rest here flag there line ranged alone apart own showing holder holding =
+relinked needs places row standing state me s next at number off rest free flag there line ranged alone apart own showing holder holding =
     let seat = in-line places standing state at s.seats there in
     record {
       holder = s.holder;
@@ -111,7 +111,7 @@ relinked needs places row standing state me s next at number off rest here flag 
       free = λ nobody. absurd (omega (arith, flag, same_number s.holder 0 nobody));
       main = subst (λ (n : ℕ). IsMain needs n state s.holder) (sym (row-other row (at + 1) number 0 (λ is. omega (arith, is)))) s.main;
       line = line;
-      seats = seats-next places standing state me (record (standing me) { stage = next }) s.seats here refl;
+      seats = seats-next places standing state me (record (standing me) { stage = next }) s.seats free refl;
       answers = record {
         words = λ place below.
             row-other row (at + 1) number (places + place + 1) (λ is. omega (arith, is, seat.0)) ∙ s.answers.words place below;

@@ -68,7 +68,7 @@ step-LookLoad needs lawful wide places row standing state me room here s seen cu
     → Refines needs places (updated row current (row current)) (updated standing me (record (standing me) { stage = next })) state =
     λ next ranged alone apart own showing holder holding.
     loaded needs places row (updated standing me (record (standing me) { stage = next })) state current
-    (moved needs places row standing state me s (record (standing me) { stage = next }) here refl ranged alone apart own showing
+    (moved needs places row standing state me s (record (standing me) { stage = next }) (λ out. absurd (omega (arith, out, here))) refl ranged alone apart own showing
     (holder ∙ ap is_holder (sym at)) (λ is. holding)) in
     record {
       events = [];
@@ -135,7 +135,7 @@ step-LookStore needs lawful wide places row standing state me room here s seen c
     → Refines needs places (updated row current number) (updated standing me (record (standing me) { stage = next })) state =
     λ next ranged alone apart own showing holder holding.
     subst (λ (link : ℕ). Refines needs places (updated row link number) (updated standing me (record (standing me) { stage = next })) state) (sym store.link)
-    (relinked needs places row standing state me s next (pred current) number s.cut s.uncut here flag store.waits store.linked
+    (relinked needs places row standing state me s next (pred current) number s.cut s.uncut (λ out. absurd (omega (arith, out, here))) flag store.waits store.linked
     ranged alone apart own showing holder holding) in
     record {
       events = [];

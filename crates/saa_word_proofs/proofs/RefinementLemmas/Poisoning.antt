@@ -19,7 +19,7 @@ use Rattle.saa_word_steps.specs.declared.event.Event.TheVariants.{Poisoned, NotP
 use Rattle.saa_word_steps.specs.AbstractState.{AbstractState, IsOwned, is_empty, is_in, answered_with, held_by}
 use Rattle.saa_word_steps.specs.Steps.{IsRanged, going, poisoning, settled_word}
 use Rattle.saa_word_steps.specs.Readings.{poisoned_word}
-use Rattle.saa_word_proofs.specs.Refinement.{newest, is_holder, takes_back, IsAlone, IsOwn, IsShowing, IsLine, AreDebts, AreStages, Refines}
+use Rattle.saa_word_proofs.specs.Refinement.{joins_line, newest, is_holder, takes_back, IsAlone, IsOwn, IsShowing, IsLine, AreDebts, AreStages, Refines}
 use Rattle.saa_word_proofs.specs.Rows.{line_of, main_of, updated}
 use Rattle.saa_word_proofs.specs.StepRefinement.{StepRefines, poisoning_events}
 use Rattle.saa_word_proofs.proofs.RefinementLemmas.Lists.{updated-same}
@@ -28,7 +28,7 @@ use Rattle.saa_word_proofs.proofs.RefinementLemmas.Rows.{moved, loaded, main-fou
 use Rattle.saa_word_proofs.proofs.RefinementLemmas.Holders.{main-now, nobody-holds}
 use Rattle.saa_word_proofs.proofs.RefinementLemmas.Outcomes.{Outcome, not-holder, answers-main, only-looked}
 use Rattle.saa_word_proofs.proofs.RefinementLemmas.Linking.{linked-all}
-use Rattle.saa_word_proofs.proofs.RefinementLemmas.Ending.{end_stage, ended, ended-ranged, ended-alone, ended-own, ended-showing, ended-holder, returning-any}
+use Rattle.saa_word_proofs.proofs.RefinementLemmas.Ending.{end_stage, ended, ended-ranged, ended-alone, ended-joins, ended-own, ended-showing, ended-holder, returning-any}
 use Rattle.saa_word_proofs.proofs.RefinementLemmas.Granting.{in-waits, in-no, front-none, front-some, held-once, shower_after, debts-granted, nobody}
 
 -- a mark whose negation is false is set
@@ -50,10 +50,10 @@ not-owned false false test calm = refl
 
 -- Poison that is decided by the main word as it stands
 poisoning-outcome : (needs : Needs) (places : ℕ) (row : ℕ → ℕ) (standing : ℕ → Place) (state : AbstractState) (me : ℕ)
-    → me < places → (s : Refines needs places row standing state) → is_holder (standing me).stage ≡ false → s.owed me ≡ []
+    → (s : Refines needs places row standing state) → is_holder (standing me).stage ≡ false → s.owed me ≡ []
     → needs.is_lock ≡ true → takes_back (standing me).back ≡ false
     → Outcome needs places row standing state me (poisoning (standing me) (main_of row)) (poisoning_events (main_of row))
-poisoning-outcome needs places row standing state me here s none nothing lock tells =
+poisoning-outcome needs places row standing state me s none nothing lock tells =
     let seen : Word = main_of row in
     elim (cases_Bool (seen.is_poisoned || not (seen.count == lock_count Exclusive))) [
       | inl refused ↦
@@ -68,7 +68,7 @@ poisoning-outcome needs places row standing state me here s none nothing lock te
             run = (other, refl);
             names = refl;
             calm = λ semaphore. refl;
-            stands = moved needs places row standing state me s (record (standing me) { stage = Quiet }) here refl
+            stands = moved needs places row standing state me s (record (standing me) { stage = Quiet }) (λ out. refl) refl
                 tt tt (λ gives. absurd (cc)) tt nothing (sym none) (λ is. absurd (not-holder needs places row standing state me s none is));
           })
       | inr owned ↦
@@ -90,7 +90,7 @@ poisoning-outcome needs places row standing state me here s none nothing lock te
                   run = refl;
                   names = refl;
                   calm = λ semaphore. refl;
-                  stands = moved needs places row standing state me s (record (standing me) { stage = PoisonExchange seen }) here refl
+                  stands = moved needs places row standing state me s (record (standing me) { stage = PoisonExchange seen }) (λ out. refl) refl
                       (count-small (row 0)) (lock, tells, tail-small (row 0), same_number seen.count (lock_count Exclusive) both.1, clear, both.0)
                       (λ gives. absurd (cc)) tt nothing (sym none) (λ is. absurd (not-holder needs places row standing state me s none is));
                 }))
@@ -99,12 +99,12 @@ poisoning-outcome needs places row standing state me here s none nothing lock te
 
 -- The poisoner looks at the main word
 pub step-PoisonLoad : (needs : Needs) → AreNeeds needs → needs.top < 2 ^ count_bits → (places : ℕ) (row : ℕ → ℕ) (standing : ℕ → Place) (state : AbstractState) (me : ℕ)
-    → places < 65536 → me < places → (s : Refines needs places row standing state)
+    → places < 65536 → (s : Refines needs places row standing state)
     → (standing me).stage ≡ PoisonLoad → StepRefines needs places row standing state me PoisonLoad
-step-PoisonLoad needs lawful wide places row standing state me room here s at =
+step-PoisonLoad needs lawful wide places row standing state me room s at =
     let alone : IsAlone needs (standing me).registration (standing me).back PoisonLoad =
     subst (λ (stage : Stage). IsAlone needs (standing me).registration (standing me).back stage) at (s.stages.alone me) in
-    let out = poisoning-outcome needs places row standing state me here s (ap is_holder at)
+    let out = poisoning-outcome needs places row standing state me s (ap is_holder at)
     (subst (λ (stage : Stage). IsShowing (s.owed me) (s.worth me) stage) at (s.stages.showing me)) alone.0 alone.1 in
     only-looked needs places row standing state me PoisonLoad out refl refl refl refl
 
@@ -122,17 +122,17 @@ held-poisoned state place once =
 
 -- A lock is poisoned by a write to the main word: who waited is owed by the place that poisoned, which goes on at a stage
 poisoned-stands : (needs : Needs) (places : ℕ) (row : ℕ → ℕ) (standing : ℕ → Place) (state : AbstractState) (me : ℕ) (s : Refines needs places row standing state)
-    (stage : Stage) → me < places → s.holder == 0 ≡ true → s.owed me ≡ [] → needs.is_lock ≡ true
+    (stage : Stage) → joins_line stage ≡ false → s.holder == 0 ≡ true → s.owed me ≡ [] → needs.is_lock ≡ true
     → IsRanged needs stage → IsAlone needs (standing me).registration (standing me).back stage
     → IsOwn (line_of row me) stage → IsShowing state.line 2 stage → is_holder stage ≡ false
     → Refines needs places (updated row 0 (word_number count_bits poisoned_word)) (updated standing me (record (standing me) { stage = stage }))
     (poisoned_after state)
-poisoned-stands needs places row standing state me s stage here unheld none lock ranged alone own showing holder =
+poisoned-stands needs places row standing state me s stage never unheld none lock ranged alone own showing holder =
     let number : ℕ = word_number count_bits poisoned_word in
     let place : Place = record (standing me) { stage = stage } in
     let zero : s.holder ≡ 0 = same_number s.holder 0 unheld in
     let once = held-once places standing state s.seats in
-    let seats = seats-next places standing state me place s.seats here refl in
+    let seats = seats-next places standing state me place s.seats (λ out. never) refl in
     let linked = linked-all (line_of row) state.line s.cut s.uncut s.line (s.free unheld) in
     let debts = debts-granted (line_of row) state s.owed s.shower s.worth me 2 state.line [] s.debts (omega arith) (sym (append-nil state.line))
     once none linked in
@@ -168,9 +168,9 @@ poisoned-stands needs places row standing state me s stage here unheld none lock
 
 -- A poisoner that saw a lock of one owner poisons it, and shows that to all waiters; or decides by the word that it found
 pub step-PoisonExchange : (needs : Needs) → AreNeeds needs → needs.top < 2 ^ count_bits → (places : ℕ) (row : ℕ → ℕ) (standing : ℕ → Place) (state : AbstractState) (me : ℕ)
-    → places < 65536 → me < places → (s : Refines needs places row standing state)
+    → places < 65536 → (s : Refines needs places row standing state)
     → (seen : Word) → (standing me).stage ≡ PoisonExchange seen → StepRefines needs places row standing state me (PoisonExchange seen)
-step-PoisonExchange needs lawful wide places row standing state me room here s seen at =
+step-PoisonExchange needs lawful wide places row standing state me room s seen at =
     let alone : IsAlone needs (standing me).registration (standing me).back (PoisonExchange seen) =
     subst (λ (stage : Stage). IsAlone needs (standing me).registration (standing me).back stage) at (s.stages.alone me) in
     let ranged : IsRanged needs (PoisonExchange seen) = subst (λ (stage : Stage). IsRanged needs stage) at (s.stages.ranged me) in
@@ -199,18 +199,18 @@ step-PoisonExchange needs lawful wide places row standing state me room here s s
                       (subst (λ (p : Place). Refines needs places (updated row 0 (word_number count_bits poisoned_word)) (updated standing me p)
                       (poisoned_after state))
                       (sym (ended (standing me) (standing me).back))
-                      (poisoned-stands needs places row standing state me s (end_stage (standing me).back) here unheld nothing alone.0
+                      (poisoned-stands needs places row standing state me s (end_stage (standing me).back) (ended-joins (standing me).back) unheld nothing alone.0
                       (ended-ranged needs (standing me).back) (ended-alone needs (standing me).registration (standing me).back returning)
                       (ended-own (line_of row me) (standing me).back)
                       (ended-showing state.line 2 (standing me).back (front-none state.line seen.tail tail alone_there)) (ended-holder (standing me).back)))
                   | inr others ↦
                       rw (same, others)
-                      (poisoned-stands needs places row standing state me s (ShowLoad seen.tail 2 Ends) here unheld nothing alone.0
+                      (poisoned-stands needs places row standing state me s (ShowLoad seen.tail 2 Ends) refl unheld nothing alone.0
                       tt returning tt (sym tail, front-some state.line seen.tail tail others, refl) refl)
                 ];
           }
       | inr differs ↦
-          let out = poisoning-outcome needs places row standing state me here s none nothing alone.0 alone.1 in
+          let out = poisoning-outcome needs places row standing state me s none nothing alone.0 alone.1 in
           only-looked needs places row standing state me (PoisonExchange seen) out refl (rw differs refl) (rw differs refl) (rw differs refl)
     ]
 
@@ -257,15 +257,15 @@ never-poisoned needs places row standing state s differs =
 
 -- Poison is cleared by a write to the main word, where nobody waits
 cleared-stands : (needs : Needs) (places : ℕ) (row : ℕ → ℕ) (standing : ℕ → Place) (state : AbstractState) (me : ℕ) (s : Refines needs places row standing state)
-    → me < places → is_holder (standing me).stage ≡ false → s.owed me ≡ [] → state.poisoned ≡ true
+    → is_holder (standing me).stage ≡ false → s.owed me ≡ [] → state.poisoned ≡ true
     → Refines needs places (updated row 0 (word_number count_bits (settled_word 0 0))) (updated standing me (record (standing me) { stage = Quiet }))
     (record state { poisoned = false })
-cleared-stands needs places row standing state me s here none nothing poisoned =
+cleared-stands needs places row standing state me s none nothing poisoned =
     let barren = s.main.barren poisoned in
     let unheld : s.holder == 0 ≡ true = nobody-holds needs places row standing state s (ap is_empty barren.1) in
     let number : ℕ = word_number count_bits (settled_word 0 0) in
     let place : Place = record (standing me) { stage = Quiet } in
-    let seats = seats-next places standing state me place s.seats here refl in
+    let seats = seats-next places standing state me place s.seats (λ out. refl) refl in
     let stages = stages-next needs (line_of row) (line_of row) standing state.count state.count state.line state.line s.cut s.cut
     s.holder s.holder s.owed s.owed s.worth s.worth me place s.stages
     tt tt (λ gives. absurd (cc)) tt nothing (sym none ∙ s.stages.one me) (λ is. absurd (not-holder needs places row standing state me s none is))
@@ -291,9 +291,9 @@ cleared-stands needs places row standing state me s here none nothing poisoned =
 
 -- A call that clears poison does so in one exchange, or finds none
 pub step-Clear : (needs : Needs) → AreNeeds needs → needs.top < 2 ^ count_bits → (places : ℕ) (row : ℕ → ℕ) (standing : ℕ → Place) (state : AbstractState) (me : ℕ)
-    → places < 65536 → me < places → (s : Refines needs places row standing state)
+    → places < 65536 → (s : Refines needs places row standing state)
     → (standing me).stage ≡ Clear → StepRefines needs places row standing state me Clear
-step-Clear needs lawful wide places row standing state me room here s at =
+step-Clear needs lawful wide places row standing state me room s at =
     let none : is_holder (standing me).stage ≡ false = ap is_holder at in
     let nothing : s.owed me ≡ [] = subst (λ (stage : Stage). IsShowing (s.owed me) (s.worth me) stage) at (s.stages.showing me) in
     elim (cases_Bool (row 0 == word_number count_bits poisoned_word)) [
@@ -307,7 +307,7 @@ step-Clear needs lawful wide places row standing state me room here s at =
             names = rw same refl;
             calm = λ semaphore. refl;
             inside = omega arith;
-            stands = rw same (cleared-stands needs places row standing state me s here none nothing poisoned);
+            stands = rw same (cleared-stands needs places row standing state me s none nothing poisoned);
           }
       | inr differs ↦ record {
         events = NotCleared ∷ [];
@@ -317,7 +317,7 @@ step-Clear needs lawful wide places row standing state me room here s at =
         calm = λ semaphore. refl;
         inside = omega arith;
         stands = rw differs (loaded needs places row (updated standing me (record (standing me) { stage = Quiet })) state 0
-            (moved needs places row standing state me s (record (standing me) { stage = Quiet }) here refl
+            (moved needs places row standing state me s (record (standing me) { stage = Quiet }) (λ out. refl) refl
             tt tt (λ gives. absurd (cc)) tt nothing (sym none) (λ is. absurd (not-holder needs places row standing state me s none is))));
       }
     ]

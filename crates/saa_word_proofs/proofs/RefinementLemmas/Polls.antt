@@ -221,44 +221,51 @@ held-else state me held none =
     ]
 
 -- a place that is registered in the line and finds no answer
-takes-none : (needs : Needs) (places : ℕ) (row : ℕ → ℕ) (standing : ℕ → Place) (state : AbstractState) (me : ℕ) → me < places
+takes-none : (needs : Needs) (places : ℕ) (row : ℕ → ℕ) (standing : ℕ → Place) (state : AbstractState) (me : ℕ)
     → Refines needs places row standing state → (taking : Taking) → is_slot (standing me).registration ≡ true
     → taken_answer needs (standing me) taking (answer_of (row (places + me + 1) % 65536)) ≡ Waits
     → ((is_in me state.line || is_some (state.due me)) ≡ true) × (row_after row (operation_of needs places me (Take taking)) ≡ row)
-takes-none needs places row standing state me here s taking slot waits =
-    let number : row (places + me + 1) ≡ answer_number (state.shown me) = s.answers.words me here in
+takes-none needs places row standing state me s taking slot waits =
+    let number : row (places + me + 1) ≡ answer_number (state.shown me) = s.answers.words me (s.seats.within me slot) in
     let none : state.shown me ≡ None =
     none-shown needs (standing me) taking (state.shown me) (s.answers.small me)
     (ap (λ (n : ℕ). taken_answer needs (standing me) taking (answer_of (n % 65536))) (sym number) ∙ waits) in
     let empty : row (places + me + 1) ≡ 0 = number ∙ ap answer_number none in
     (held-else state me (s.seats.held me ∙ ap one_if slot) none, updated-same row (places + me + 1) 0 (sym empty))
 
--- A step that is answered that it waits
+-- A step of a place or of a visitor that is answered that it waits
+pub only-stalls-anyone : (needs : Needs) (places : ℕ) (row : ℕ → ℕ) (standing : ℕ → Place) (state : AbstractState) (me : ℕ)
+    → Refines needs places row standing state → (stage : Stage) → (standing me).stage ≡ stage
+    → next_of needs me (standing me) stage (row (word_at (operation_of needs places me stage))) ≡ Waits
+    → IsBlockedAt state me (main_of row) stage × (row_after row (operation_of needs places me stage) ≡ row)
+only-stalls-anyone needs places row standing state me s (Take Awaits) at waits =
+    let slot : is_slot (standing me).registration ≡ true =
+    subst (λ stage. IsAlone needs (standing me).registration (standing me).back stage) at (s.stages.alone me) in
+    takes-none needs places row standing state me s Awaits slot waits
+only-stalls-anyone needs places row standing state me s (Take (Gives request)) at waits =
+    let slot : (standing me).registration ≡ Slot request =
+    subst (λ stage. IsAlone needs (standing me).registration (standing me).back stage) at (s.stages.alone me) in
+    let both = takes-none needs places row standing state me s (Gives request) (ap is_slot slot) waits in
+    let out : is_in me state.line ≡ false = apart-at needs places row standing state me s (Take (Gives request)) at refl in
+    (sym (ap (λ (b : Bool). b || is_some (state.due me)) out) ∙ both.0, both.1)
+only-stalls-anyone needs places row standing state me s FlagLoad at waits =
+    (flag-stalls (standing me) (main_of row) waits, updated-same row 0 (row 0) refl)
+only-stalls-anyone needs places row standing state me s (FlagExchange seen) at waits =
+    let both = second-waits (row 0 == word_number count_bits seen) _ _ refl waits in
+    (flag-stalls (standing me) (main_of row) both.1, not-exchanged row (word_number count_bits seen) (word_number count_bits (flagged_word seen)) both.0)
+only-stalls-anyone needs places row standing state me s PoisonLoad at waits =
+    (poison-stalls (standing me) (main_of row) waits, updated-same row 0 (row 0) refl)
+only-stalls-anyone needs places row standing state me s (PoisonExchange seen) at waits =
+    let both = second-waits (row 0 == word_number count_bits seen) _ _ (either (seen.tail == 0) _ _ (on-finished (standing me) (standing me).back) refl) waits in
+    (poison-stalls (standing me) (main_of row) both.1, not-exchanged row (word_number count_bits seen) (word_number count_bits poisoned_word) both.0)
+only-stalls-anyone needs places row standing state me s stage at waits =
+    let goes = goes-on needs me (standing me) stage (row (word_at (operation_of needs places me stage))) refl in
+    let wrong : false ≡ true = sym goes ∙ ap says_wait waits in
+    absurd (cc)
+
+-- the same at a place
 pub only-stalls : (needs : Needs) (places : ℕ) (row : ℕ → ℕ) (standing : ℕ → Place) (state : AbstractState) (me : ℕ) → me < places
     → Refines needs places row standing state → (stage : Stage) → (standing me).stage ≡ stage
     → next_of needs me (standing me) stage (row (word_at (operation_of needs places me stage))) ≡ Waits
     → IsBlockedAt state me (main_of row) stage × (row_after row (operation_of needs places me stage) ≡ row)
-only-stalls needs places row standing state me here s (Take Awaits) at waits =
-    let slot : is_slot (standing me).registration ≡ true =
-    subst (λ stage. IsAlone needs (standing me).registration (standing me).back stage) at (s.stages.alone me) in
-    takes-none needs places row standing state me here s Awaits slot waits
-only-stalls needs places row standing state me here s (Take (Gives request)) at waits =
-    let slot : (standing me).registration ≡ Slot request =
-    subst (λ stage. IsAlone needs (standing me).registration (standing me).back stage) at (s.stages.alone me) in
-    let both = takes-none needs places row standing state me here s (Gives request) (ap is_slot slot) waits in
-    let out : is_in me state.line ≡ false = apart-at needs places row standing state me s (Take (Gives request)) at refl in
-    (sym (ap (λ (b : Bool). b || is_some (state.due me)) out) ∙ both.0, both.1)
-only-stalls needs places row standing state me here s FlagLoad at waits =
-    (flag-stalls (standing me) (main_of row) waits, updated-same row 0 (row 0) refl)
-only-stalls needs places row standing state me here s (FlagExchange seen) at waits =
-    let both = second-waits (row 0 == word_number count_bits seen) _ _ refl waits in
-    (flag-stalls (standing me) (main_of row) both.1, not-exchanged row (word_number count_bits seen) (word_number count_bits (flagged_word seen)) both.0)
-only-stalls needs places row standing state me here s PoisonLoad at waits =
-    (poison-stalls (standing me) (main_of row) waits, updated-same row 0 (row 0) refl)
-only-stalls needs places row standing state me here s (PoisonExchange seen) at waits =
-    let both = second-waits (row 0 == word_number count_bits seen) _ _ (either (seen.tail == 0) _ _ (on-finished (standing me) (standing me).back) refl) waits in
-    (poison-stalls (standing me) (main_of row) both.1, not-exchanged row (word_number count_bits seen) (word_number count_bits poisoned_word) both.0)
-only-stalls needs places row standing state me here s stage at waits =
-    let goes = goes-on needs me (standing me) stage (row (word_at (operation_of needs places me stage))) refl in
-    let wrong : false ≡ true = sym goes ∙ ap says_wait waits in
-    absurd (cc)
+only-stalls needs places row standing state me here s stage at waits = only-stalls-anyone needs places row standing state me s stage at waits

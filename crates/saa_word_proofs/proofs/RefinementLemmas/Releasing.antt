@@ -16,7 +16,7 @@ use Rattle.saa_word_steps.specs.Needs.{Needs, AreNeeds}
 use Rattle.saa_word_steps.specs.AbstractState.{AbstractState, IsEnabled, after_event, is_empty, count_or, IsSettledAt}
 use Rattle.saa_word_steps.specs.Steps.{IsRanged, left_from, gave_nothing, given_to, released}
 use Rattle.saa_word_steps.proofs.Giving.{left-share, left-shrinks}
-use Rattle.saa_word_proofs.specs.Refinement.{newest, is_holder, takes_back, gives_up, IsAlone, IsOwn, IsShowing, IsHolding, IsLine, AreDebts, AreStages, Refines}
+use Rattle.saa_word_proofs.specs.Refinement.{joins_line, newest, is_holder, takes_back, gives_up, IsAlone, IsOwn, IsShowing, IsHolding, IsLine, AreDebts, AreStages, Refines}
 use Rattle.saa_word_proofs.specs.Rows.{line_of, main_of, updated}
 use Rattle.saa_word_proofs.specs.StepRefinement.{StepRefines, gave, gave_not, left_events, never_poisons, place_after}
 use Rattle.saa_word_proofs.specs.History.{named}
@@ -26,7 +26,7 @@ use Rattle.saa_word_proofs.proofs.RefinementLemmas.Rows.{moved, main-found, line
 use Rattle.saa_word_proofs.proofs.RefinementLemmas.Holders.{main-now, never-barren}
 use Rattle.saa_word_proofs.proofs.RefinementLemmas.Outcomes.{Outcome, not-holder, answers-main, only-looked}
 use Rattle.saa_word_proofs.proofs.RefinementLemmas.Flagging.{link-some, not-true, apart-holders}
-use Rattle.saa_word_proofs.proofs.RefinementLemmas.Ending.{end_stage, ended, ended-ranged, ended-alone, ended-apart, ended-own, ended-showing, ended-holder, returning-any}
+use Rattle.saa_word_proofs.proofs.RefinementLemmas.Ending.{end_stage, ended, ended-ranged, ended-alone, ended-apart, ended-joins, ended-own, ended-showing, ended-holder, returning-any}
 
 -- What a place gives back, and whether it has it
 
@@ -82,53 +82,53 @@ quiet-nothing place (Takes request) = refl
 
 -- A release of what isn't held, or of a poisoned lock
 nothing-outcome : (needs : Needs) (places : ℕ) (row : ℕ → ℕ) (standing : ℕ → Place) (state : AbstractState) (me : ℕ)
-    → me < places → (s : Refines needs places row standing state) → is_holder (standing me).stage ≡ false → s.owed me ≡ []
+    → (s : Refines needs places row standing state) → is_holder (standing me).stage ≡ false → s.owed me ≡ []
     → (what : Given) → IsEnabled needs state me (gave_not what)
     → Outcome needs places row standing state me (gave_nothing (standing me) (standing me).back) (gave_not what ∷ [])
-nothing-outcome needs places row standing state me here s none nothing what allowed = record {
+nothing-outcome needs places row standing state me s none nothing what allowed = record {
   events = gave_not what ∷ [];
   last = state;
   run = (allowed, nothing-after needs state me what);
   names = nothing-named what;
   calm = λ semaphore. nothing-calm what;
   stands = subst (λ (p : Place). Refines needs places row (updated standing me p) state) (sym (quiet-nothing (standing me) (standing me).back))
-      (moved needs places row standing state me s (record (standing me) { stage = Quiet }) here refl
+      (moved needs places row standing state me s (record (standing me) { stage = Quiet }) (λ out. refl) refl
       tt tt (λ gives. absurd (cc)) tt nothing (sym none) (λ it. absurd (not-holder needs places row standing state me s none it)));
 }
 
 -- A release that is decided by the main word as it stands
 given-outcome : (needs : Needs) (places : ℕ) (row : ℕ → ℕ) (standing : ℕ → Place) (state : AbstractState) (me : ℕ)
-    → me < places → (s : Refines needs places row standing state) → is_holder (standing me).stage ≡ false → s.owed me ≡ []
+    → (s : Refines needs places row standing state) → is_holder (standing me).stage ≡ false → s.owed me ≡ []
     → takes_back (standing me).back ≡ false → (what : Given) (poisoned : Bool) (left : Option ℕ)
     → (main_of row).is_poisoned ≡ poisoned → left_from needs (main_of row).count what ≡ left
     → Outcome needs places row standing state me
     (if poisoned then gave_nothing (standing me) (standing me).back else given_to (standing me) what (main_of row) left)
     (if poisoned then gave_not what ∷ [] else left_events what left)
-given-outcome needs places row standing state me here s none nothing ends what true left mark is =
-    nothing-outcome needs places row standing state me here s none nothing what
+given-outcome needs places row standing state me s none nothing ends what true left mark is =
+    nothing-outcome needs places row standing state me s none nothing what
     (nothing-enabled needs state me what (λ calm. let wrong : true ≡ false = sym mark ∙ s.main.poison ∙ calm in absurd (cc)))
-given-outcome needs places row standing state me here s none nothing ends what false None mark is =
-    nothing-outcome needs places row standing state me here s none nothing what
+given-outcome needs places row standing state me s none nothing ends what false None mark is =
+    nothing-outcome needs places row standing state me s none nothing what
     (nothing-enabled needs state me what (λ calm. ap (λ (n : ℕ). left_from needs n what) (sym s.main.count) ∙ is))
-given-outcome needs places row standing state me here s none nothing ends what false (Some left) mark is = record {
+given-outcome needs places row standing state me s none nothing ends what false (Some left) mark is = record {
   events = [];
   last = state;
   run = refl;
   names = refl;
   calm = λ semaphore. refl;
-  stands = moved needs places row standing state me s (record (standing me) { stage = ReleaseExchange what (main_of row) }) here refl
+  stands = moved needs places row standing state me s (record (standing me) { stage = ReleaseExchange what (main_of row) }) (λ out. refl) refl
       (count-small (row 0)) (tail-small (row 0), (left, is), mark, ends) (λ gives. absurd (cc)) tt nothing (sym none)
       (λ it. absurd (not-holder needs places row standing state me s none it));
 }
 
 -- A call that is to give back looks at the main word
 pub step-ReleaseLoad : (needs : Needs) → AreNeeds needs → needs.top < 2 ^ count_bits → (places : ℕ) (row : ℕ → ℕ) (standing : ℕ → Place) (state : AbstractState) (me : ℕ)
-    → places < 65536 → me < places → (s : Refines needs places row standing state)
+    → places < 65536 → (s : Refines needs places row standing state)
     → (what : Given) → (standing me).stage ≡ ReleaseLoad what → StepRefines needs places row standing state me (ReleaseLoad what)
-step-ReleaseLoad needs lawful wide places row standing state me room here s what at =
+step-ReleaseLoad needs lawful wide places row standing state me room s what at =
     let ends : takes_back (standing me).back ≡ false =
     subst (λ stage. IsAlone needs (standing me).registration (standing me).back stage) at (s.stages.alone me) in
-    let out = given-outcome needs places row standing state me here s (ap is_holder at)
+    let out = given-outcome needs places row standing state me s (ap is_holder at)
     (subst (λ stage. IsShowing (s.owed me) (s.worth me) stage) at (s.stages.showing me)) ends
     what (main_of row).is_poisoned (left_from needs (main_of row).count what) refl refl in
     only-looked needs places row standing state me (ReleaseLoad what) out refl refl refl refl
@@ -140,9 +140,9 @@ unopened (asker ∷ rest) other closed = absurd (cc)
 
 -- Something is given back: the count falls; which place holds the flag afterwards, and what this place does then, is said by the premises
 given-back : (needs : Needs) → AreNeeds needs → needs.top < 2 ^ count_bits → (places : ℕ) (row : ℕ → ℕ) (standing : ℕ → Place) (state : AbstractState) (me : ℕ)
-    → me < places → (s : Refines needs places row standing state)
+    → (s : Refines needs places row standing state)
     → (what : Given) (left : ℕ) (seen : Word) → seen.tail < 65536 → seen.is_poisoned ≡ false → main_of row ≡ seen → left_from needs seen.count what ≡ Some left
-    → (stage : Stage) (holder : ℕ)
+    → (stage : Stage) (holder : ℕ) → joins_line stage ≡ false
     → IsRanged needs stage → IsAlone needs (standing me).registration (standing me).back stage → gives_up (standing me).back stage ≡ false
     → ((word : LineWord) → IsOwn word stage) → IsShowing (s.owed me) (s.worth me) stage
     → is_holder stage ≡ (holder == me + 1)
@@ -152,7 +152,7 @@ given-back : (needs : Needs) → AreNeeds needs → needs.top < 2 ^ count_bits �
     → ((holder == 0) ≡ true → (is_empty state.line ≡ true) × (s.holder == 0 ≡ true))
     → Refines needs places (updated row 0 (word_number count_bits (released needs seen what))) (updated standing me (record (standing me) { stage = stage }))
     (record state { count = left; unclosed = not (is_empty state.line) || state.unclosed })
-given-back needs lawful wide places row standing state me here s what left seen tail_small clean is left_is stage holder ranged alone stays own showing
+given-back needs lawful wide places row standing state me s what left seen tail_small clean is left_is stage holder never ranged alone stays own showing
     one holding ones flag nobody =
     let tail : seen.tail ≡ newest 0 state.line = ap (λ (w : Word). w.tail) (sym is) ∙ s.main.tail in
     let count : seen.count ≡ state.count = ap (λ (w : Word). w.count) (sym is) ∙ s.main.count in
@@ -178,7 +178,7 @@ given-back needs lawful wide places row standing state me here s what left seen 
           (λ closed. subst (λ (l : List (ℕ × ℕ)). IsSettledAt needs left l) (sym (unopened state.line state.unclosed closed)) tt);
       line = subst (λ (w : ℕ → LineWord). IsLine w state.line s.cut s.uncut) (sym (line-main row number)) s.line;
       seats =
-          let seats = seats-next places standing state me place s.seats here refl in
+          let seats = seats-next places standing state me place s.seats (λ out. never) refl in
           record { held = seats.held; within = seats.within; beyond = seats.beyond };
       answers = answers-main places row number state.shown s.answers;
       debts = subst (λ (w : ℕ → LineWord). AreDebts w state.due s.owed s.shower s.worth) (sym (line-main row number)) s.debts;
@@ -213,10 +213,10 @@ no-tail false false test clear = absurd (cc)
 
 -- A call that gives back lowers the count, and works on the line where there are waiters and nobody works on it
 pub step-ReleaseExchange : (needs : Needs) → AreNeeds needs → needs.top < 2 ^ count_bits → (places : ℕ) (row : ℕ → ℕ) (standing : ℕ → Place) (state : AbstractState) (me : ℕ)
-    → places < 65536 → me < places → (s : Refines needs places row standing state)
+    → places < 65536 → (s : Refines needs places row standing state)
     → (what : Given) (seen : Word) → (standing me).stage ≡ ReleaseExchange what seen
     → StepRefines needs places row standing state me (ReleaseExchange what seen)
-step-ReleaseExchange needs lawful wide places row standing state me room here s what seen at =
+step-ReleaseExchange needs lawful wide places row standing state me room s what seen at =
     let back : Back = (standing me).back in
     let alone : IsAlone needs (standing me).registration back (ReleaseExchange what seen) =
     subst (λ stage. IsAlone needs (standing me).registration back stage) at (s.stages.alone me) in
@@ -250,8 +250,8 @@ step-ReleaseExchange needs lawful wide places row standing state me room here s 
                   names = rw same (gave-named what);
                   calm = λ semaphore. gave-calm what;
                   inside = omega arith;
-                  stands = rw (same, takes) (given-back needs lawful wide places row standing state me here s what left seen alone.0 alone.2 is alone.1.1
-                      (BackLoad word word.tail 0) (me + 1) (omega (arith, word_count, less, ranged)) returning alone.3 (λ word. tt) nothing
+                  stands = rw (same, takes) (given-back needs lawful wide places row standing state me s what left seen alone.0 alone.2 is alone.1.1
+                      (BackLoad word word.tail 0) (me + 1) refl (omega (arith, word_count, less, ranged)) returning alone.3 (λ word. tt) nothing
                       (sym (number_same (me + 1)))
                       (λ it. (
                         record {
@@ -278,8 +278,8 @@ step-ReleaseExchange needs lawful wide places row standing state me room here s 
                   calm = λ semaphore. gave-calm what;
                   inside = omega arith;
                   stands = rw (same, ends, ended (standing me) back)
-                      (given-back needs lawful wide places row standing state me here s what left seen alone.0 alone.2 is alone.1.1
-                      (end_stage back) s.holder (ended-ranged needs back) (ended-alone needs (standing me).registration back returning)
+                      (given-back needs lawful wide places row standing state me s what left seen alone.0 alone.2 is alone.1.1
+                      (end_stage back) s.holder (ended-joins back) (ended-ranged needs back) (ended-alone needs (standing me).registration back returning)
                       (ended-apart back ∙ alone.3) (λ word. ended-own word back) (ended-showing (s.owed me) (s.worth me) back nothing)
                       (ended-holder back ∙ sym none ∙ s.stages.one me)
                       (λ it. absurd (not-holder needs places row standing state me s none it)) (λ other apart. refl)
@@ -288,7 +288,7 @@ step-ReleaseExchange needs lawful wide places row standing state me room here s 
                 }
           ]
       | inr differs ↦
-          let out = given-outcome needs places row standing state me here s none nothing alone.3
+          let out = given-outcome needs places row standing state me s none nothing alone.3
           what (main_of row).is_poisoned (left_from needs (main_of row).count what) refl refl in
           only-looked needs places row standing state me (ReleaseExchange what seen) out refl (rw differs refl) (rw differs refl) (rw differs refl)
     ]

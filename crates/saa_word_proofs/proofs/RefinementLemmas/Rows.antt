@@ -16,7 +16,7 @@ use Rattle.saa_word_steps.specs.declared.place.Stage.TheVariants.{Quiet, ReadLoa
 use Rattle.saa_word_steps.specs.Needs.{Needs}
 use Rattle.saa_word_steps.specs.AbstractState.{AbstractState, is_in, held_by}
 use Rattle.saa_word_steps.specs.Steps.{IsRanged, IsSmall}
-use Rattle.saa_word_proofs.specs.Refinement.{is_holder, gives_up, IsAlone, IsOwn, IsShowing, IsHolding, AreSeats, Refines}
+use Rattle.saa_word_proofs.specs.Refinement.{joins_line, is_holder, gives_up, IsAlone, IsOwn, IsShowing, IsHolding, AreSeats, Refines}
 use Rattle.saa_word_proofs.specs.Rows.{line_of, updated}
 use Rattle.saa_word_proofs.specs.Registering.{is_slot}
 use Rattle.saa_word_proofs.proofs.RefinementLemmas.Lists.{each-updated, all-same, updated-same, updated-at, updated-other}
@@ -104,13 +104,13 @@ own-any needs registration back (PoisonExchange seen) word alone slot = tt
 own-any needs registration back Clear word alone slot = tt
 
 -- a place that is registered as it was leaves the seats as they are
-pub seats-next : (places : ℕ) (standing : ℕ → Place) (state : AbstractState) (me : ℕ) (place : Place) → AreSeats places standing state → me < places
-    → is_slot place.registration ≡ is_slot (standing me).registration → AreSeats places (updated standing me place) state
-seats-next places standing state me place was here same = record {
+pub seats-next : (places : ℕ) (standing : ℕ → Place) (state : AbstractState) (me : ℕ) (place : Place) → AreSeats places standing state
+    → (places ≤ me → joins_line place.stage ≡ false) → is_slot place.registration ≡ is_slot (standing me).registration → AreSeats places (updated standing me place) state
+seats-next places standing state me place was free same = record {
   held = each-updated (λ (n : ℕ) (p : Place). held_by n state ≡ one_if (is_slot p.registration)) standing me place
       (was.held me ∙ ap one_if (sym same)) (λ other apart. was.held other);
-  within = each-updated (λ (n : ℕ) (p : Place). is_slot p.registration ≡ true → n < places) standing me place (λ slot. here) (λ other apart. was.within other);
-  beyond = each-updated (λ (n : ℕ) (p : Place). places ≤ n → p.stage ≡ Quiet) standing me place (λ out. absurd (omega (arith, out, here))) (λ other apart. was.beyond other);
+  within = each-updated (λ (n : ℕ) (p : Place). is_slot p.registration ≡ true → n < places) standing me place (λ slot. was.within me (sym same ∙ slot)) (λ other apart. was.within other);
+  beyond = each-updated (λ (n : ℕ) (p : Place). places ≤ n → joins_line p.stage ≡ false) standing me place free (λ other apart. was.beyond other);
 }
 
 -- who takes its own answer next stands in no line
@@ -120,14 +120,14 @@ apart-at needs places row standing state me s stage at gives = s.stages.apart me
 
 -- A step that leaves words and object as they are
 pub moved : (needs : Needs) (places : ℕ) (row : ℕ → ℕ) (standing : ℕ → Place) (state : AbstractState) (me : ℕ) (s : Refines needs places row standing state) (place : Place)
-    → me < places → is_slot place.registration ≡ is_slot (standing me).registration
+    → (places ≤ me → joins_line place.stage ≡ false) → is_slot place.registration ≡ is_slot (standing me).registration
     → IsRanged needs place.stage → IsAlone needs place.registration place.back place.stage
     → (gives_up place.back place.stage ≡ true → is_in me state.line ≡ false)
     → IsOwn (line_of row me) place.stage → IsShowing (s.owed me) (s.worth me) place.stage
     → is_holder place.stage ≡ is_holder (standing me).stage
     → (s.holder ≡ me + 1 → IsHolding needs (line_of row) me state.count state.line s.cut place.stage)
     → Refines needs places row (updated standing me place) state
-moved needs places row standing state me s place here same ranged alone apart own showing holder holding = record {
+moved needs places row standing state me s place free same ranged alone apart own showing holder holding = record {
   holder = s.holder;
   cut = s.cut;
   uncut = s.uncut;
@@ -137,7 +137,7 @@ moved needs places row standing state me s place here same ranged alone apart ow
   free = s.free;
   main = s.main;
   line = s.line;
-  seats = seats-next places standing state me place s.seats here same;
+  seats = seats-next places standing state me place s.seats free same;
   answers = s.answers;
   debts = s.debts;
   stages = stages-next needs (line_of row) (line_of row) standing state.count state.count state.line state.line s.cut s.cut s.holder s.holder s.owed s.owed

@@ -10,12 +10,12 @@ use Rattle.saa_word_steps.specs.declared.place.Place.{Place}
 use Rattle.saa_word_steps.specs.declared.place.Afterwards.{Afterwards}
 use Rattle.saa_word_steps.specs.declared.place.Afterwards.TheVariants.{Ends, Again}
 use Rattle.saa_word_steps.specs.declared.place.Stage.{Stage}
-use Rattle.saa_word_steps.specs.declared.place.Stage.TheVariants.{Quiet, ShowLoad, ShowStore}
+use Rattle.saa_word_steps.specs.declared.place.Stage.TheVariants.{Join, ShowLoad, ShowStore}
 use Rattle.saa_word_steps.specs.Needs.{Needs, AreNeeds}
 use Rattle.saa_word_steps.specs.AbstractState.{AbstractState, is_in, held_by, with_answer}
 use Rattle.saa_word_steps.specs.Steps.{IsRanged}
 use Rattle.saa_word_steps.proofs.AbstractRuns.{waits-some}
-use Rattle.saa_word_proofs.specs.Refinement.{newest, is_holder, gives_up, IsAlone, IsOwn, IsShowing, IsHolding, IsMain, IsLine, AreSeats, AreAnswers, AreDebts, Refines}
+use Rattle.saa_word_proofs.specs.Refinement.{joins_line, newest, is_holder, gives_up, IsAlone, IsOwn, IsShowing, IsHolding, IsMain, IsLine, AreSeats, AreAnswers, AreDebts, Refines}
 use Rattle.saa_word_proofs.specs.Rows.{IsBehind, line_of, updated}
 use Rattle.saa_word_proofs.specs.Registering.{is_slot}
 use Rattle.saa_word_proofs.specs.StepRefinement.{StepRefines}
@@ -77,10 +77,10 @@ ranged-store needs current other next value (Again seen) h = h
 
 -- The line word of the newest that is owed is looked at
 pub step-ShowLoad : (needs : Needs) → AreNeeds needs → needs.top < 2 ^ count_bits → (places : ℕ) (row : ℕ → ℕ) (standing : ℕ → Place) (state : AbstractState) (me : ℕ)
-    → places < 65536 → me < places → (s : Refines needs places row standing state)
+    → places < 65536 → (s : Refines needs places row standing state)
     → (current value : ℕ) (afterwards : Afterwards) → (standing me).stage ≡ ShowLoad current value afterwards
     → StepRefines needs places row standing state me (ShowLoad current value afterwards)
-step-ShowLoad needs lawful wide places row standing state me room here s current value afterwards at =
+step-ShowLoad needs lawful wide places row standing state me room s current value afterwards at =
     let stage : Stage = ShowLoad current value afterwards in
     let alone : IsAlone needs (standing me).registration (standing me).back stage =
     subst (λ stage. IsAlone needs (standing me).registration (standing me).back stage) at (s.stages.alone me) in
@@ -101,7 +101,7 @@ step-ShowLoad needs lawful wide places row standing state me room here s current
       calm = λ semaphore. refl;
       inside = omega (arith, link, due-inside needs places row standing state s me split.last.0 (in-some split.last.0 (s.owed me) there));
       stands = loaded needs places row (updated standing me (record (standing me) { stage = ShowStore current next value afterwards })) state current
-          (moved needs places row standing state me s (record (standing me) { stage = ShowStore current next value afterwards }) here refl
+          (moved needs places row standing state me s (record (standing me) { stage = ShowStore current next value afterwards }) (λ out. refl) refl
           (ranged-load needs current current next value afterwards ranged) alone (apart-at needs places row standing state me s stage at) tt
           (split.before, split.last, split.is, link, older, showing.2)
           (holder-load current current next value afterwards ∙ ap is_holder (sym at))
@@ -132,6 +132,11 @@ line-shown needs places row standing state s at number some =
       some = s.line.some;
     }
 
+-- a place that doesn't join says nothing of its line word
+own-free : (word : LineWord) (stage : Stage) → joins_line stage ≡ false → IsOwn word stage
+own-free word (Join request seen) never = absurd (cc)
+own-free word stage never = tt
+
 -- and each place's own line word says what it did
 pub own-shown : (needs : Needs) (places : ℕ) (row : ℕ → ℕ) (standing : ℕ → Place) (state : AbstractState) (s : Refines needs places row standing state) (at number : ℕ)
     → 0 < at → (other : ℕ) → IsOwn (line_of (updated row (places + at) number) other) (standing other).stage
@@ -142,7 +147,7 @@ own-shown needs places row standing state s at number some other =
           subst (λ (w : LineWord). IsOwn w (standing other).stage) (sym (line-answer row places at number other within some)) (s.stages.own other)
       | inr outside ↦
           let beyond : places ≤ other = grind (arith, nat_tests, outside) in
-          subst (λ stage. IsOwn (line_of (updated row (places + at) number) other) stage) (sym (s.seats.beyond other beyond)) tt
+          own-free (line_of (updated row (places + at) number) other) (standing other).stage (s.seats.beyond other beyond)
     ]
 
 -- and what the holder knows of the line is so
@@ -186,12 +191,12 @@ held-shown needs places row standing state s asker value due other =
 
 -- the same seats, for other answers that hold each place as they did
 seats-shown : (needs : Needs) (places : ℕ) (row : ℕ → ℕ) (standing : ℕ → Place) (state last : AbstractState) (s : Refines needs places row standing state) (me : ℕ) (place : Place)
-    → me < places → is_slot place.registration ≡ is_slot (standing me).registration
+    → (places ≤ me → joins_line place.stage ≡ false) → is_slot place.registration ≡ is_slot (standing me).registration
     → ((other : ℕ) → held_by other last ≡ one_if (is_slot (standing other).registration)) → AreSeats places (updated standing me place) last
-seats-shown needs places row standing state last s me place here same held = record {
+seats-shown needs places row standing state last s me place free same held = record {
   held = each-updated (λ (n : ℕ) (p : Place). held_by n last ≡ one_if (is_slot p.registration)) standing me place (held me ∙ ap one_if (sym same)) (λ other apart. held other);
-  within = each-updated (λ (n : ℕ) (p : Place). is_slot p.registration ≡ true → n < places) standing me place (λ slot. here) (λ other apart. s.seats.within other);
-  beyond = each-updated (λ (n : ℕ) (p : Place). places ≤ n → p.stage ≡ Quiet) standing me place (λ out. absurd (omega (arith, out, here))) (λ other apart. s.seats.beyond other);
+  within = each-updated (λ (n : ℕ) (p : Place). is_slot p.registration ≡ true → n < places) standing me place (λ slot. s.seats.within me (sym same ∙ slot)) (λ other apart. s.seats.within other);
+  beyond = each-updated (λ (n : ℕ) (p : Place). places ≤ n → joins_line p.stage ≡ false) standing me place free (λ other apart. s.seats.beyond other);
 }
 
 -- the answer words once an answer is shown
@@ -293,14 +298,14 @@ debts-shown needs places row standing state s me before asker number is =
 
 -- An answer is shown, whatever the place does next
 pub shown : (needs : Needs) (places : ℕ) (row : ℕ → ℕ) (standing : ℕ → Place) (state : AbstractState) (me : ℕ)
-    → me < places → (s : Refines needs places row standing state) (before : List (ℕ × ℕ)) (asker : ℕ × ℕ) → s.owed me ≡ before ++ asker ∷ []
-    → (stage : Stage) → IsRanged needs stage → IsAlone needs (standing me).registration (standing me).back stage
+    → (s : Refines needs places row standing state) (before : List (ℕ × ℕ)) (asker : ℕ × ℕ) → s.owed me ≡ before ++ asker ∷ []
+    → (stage : Stage) → joins_line stage ≡ false → IsRanged needs stage → IsAlone needs (standing me).registration (standing me).back stage
     → (gives_up (standing me).back stage ≡ true → is_in me state.line ≡ false) → ((word : LineWord) → IsOwn word stage) → IsShowing before (s.worth me) stage
     → is_holder stage ≡ is_holder (standing me).stage
     → (s.holder ≡ me + 1 → IsHolding needs (line_of row) me state.count state.line s.cut stage)
     → Refines needs places (updated row (places + (asker.0 + 1)) (answer_number (Some (s.worth me)))) (updated standing me (record (standing me) { stage = stage }))
     (record state { due = with_answer asker.0 None state.due; shown = with_answer asker.0 (state.due asker.0) state.shown })
-shown needs places row standing state me here s before asker is stage ranged alone apart own showing holder holding =
+shown needs places row standing state me s before asker is stage never ranged alone apart own showing holder holding =
     let number : ℕ = answer_number (Some (s.worth me)) in
     let place : Place = record (standing me) { stage = stage } in
     let some : 0 < asker.0 + 1 = omega arith in
@@ -318,7 +323,7 @@ shown needs places row standing state me here s before asker is stage ranged alo
       free = s.free;
       main = main-shown needs places row standing state s (asker.0 + 1) number (with_answer asker.0 None state.due) (with_answer asker.0 (state.due asker.0) state.shown) some;
       line = line-shown needs places row standing state s (asker.0 + 1) number some;
-      seats = seats-shown needs places row standing state last s me place here refl (held-shown needs places row standing state s asker.0 (s.worth me) due);
+      seats = seats-shown needs places row standing state last s me place (λ out. never) refl (held-shown needs places row standing state s asker.0 (s.worth me) due);
       answers = answers-shown needs places row standing state s asker.0 (s.worth me) due (s.debts.small me);
       debts = debts-shown needs places row standing state s me before asker number is;
       stages = stages-next needs (line_of row) (line_of (updated row (places + (asker.0 + 1)) number)) standing state.count state.count state.line state.line s.cut s.cut

@@ -17,8 +17,8 @@ use Rattle.saa_word_proofs.specs.Refinement.{Refines}
 use Rattle.saa_word_proofs.specs.Rows.{updated}
 use Rattle.saa_word_proofs.specs.StepRefinement.{StepRefines, named_at, place_after, poisoning_events, row_after, taken_events}
 use Rattle.saa_word_proofs.proofs.RefinementLemmas.Lists.{updated-same}
-use Rattle.saa_word_proofs.proofs.RefinementLemmas.Polls.{says_wait, either, on-finished, on-some, goes-on, second-waits, only-stalls}
-use Rattle.saa_word_proofs.proofs.RefinementLemmas.Steps.{step}
+use Rattle.saa_word_proofs.proofs.RefinementLemmas.Polls.{says_wait, either, on-finished, on-some, goes-on, second-waits, only-stalls-anyone}
+use Rattle.saa_word_proofs.proofs.RefinementLemmas.Steps.{step-anyone}
 
 -- What it names
 
@@ -49,15 +49,15 @@ unnamed needs me place stage found waits =
 -- What it is
 
 -- a step as it is known, by how its place goes on: one that waits is no event
-silent-by : (needs : Needs) (places : ℕ) (row : ℕ → ℕ) (standing : ℕ → Place) (state : AbstractState) (me : ℕ) → me < places
+silent-by : (needs : Needs) (places : ℕ) (row : ℕ → ℕ) (standing : ℕ → Place) (state : AbstractState) (me : ℕ)
     → Refines needs places row standing state → (made : StepRefines needs places row standing state me (standing me).stage)
     → (next : Next) → next_of needs me (standing me) (standing me).stage (row (word_at (operation_of needs places me (standing me).stage))) ≡ next
     → (other : StepRefines needs places row standing state me (standing me).stage) × (next ≡ Waits → other.events ≡ [])
-silent-by needs places row standing state me here s made (Going place) is = (made, λ waits. absurd (cc))
-silent-by needs places row standing state me here s made (Done place answer) is = (made, λ waits. absurd (cc))
-silent-by needs places row standing state me here s made Waits is =
+silent-by needs places row standing state me s made (Going place) is = (made, λ waits. absurd (cc))
+silent-by needs places row standing state me s made (Done place answer) is = (made, λ waits. absurd (cc))
+silent-by needs places row standing state me s made Waits is =
     let stage : Stage = (standing me).stage in
-    let only = only-stalls needs places row standing state me here s stage refl is in
+    let only = only-stalls-anyone needs places row standing state me s stage refl is in
     let same : Refines needs places row (updated standing me (standing me)) state =
     subst (λ (f : ℕ → Place). Refines needs places row f state) (sym (updated-same standing me (standing me) refl)) s in (
       record {
@@ -74,10 +74,18 @@ silent-by needs places row standing state me here s made Waits is =
       λ waits. refl,
     )
 
+-- The step of a place or of a visitor
+pub silent-step-anyone : (needs : Needs) → AreNeeds needs → needs.top < 2 ^ count_bits → (places : ℕ) (row : ℕ → ℕ) (standing : ℕ → Place) (state : AbstractState) (me : ℕ)
+    → places < 65536 → Refines needs places row standing state
+    → (made : StepRefines needs places row standing state me (standing me).stage)
+    × (next_of needs me (standing me) (standing me).stage (row (word_at (operation_of needs places me (standing me).stage))) ≡ Waits → made.events ≡ [])
+silent-step-anyone needs lawful wide places row standing state me room s =
+    silent-by needs places row standing state me s (step-anyone needs lawful wide places row standing state me room s (standing me).stage refl)
+    (next_of needs me (standing me) (standing me).stage (row (word_at (operation_of needs places me (standing me).stage)))) refl
+
+-- the same at a place
 pub silent-step : (needs : Needs) → AreNeeds needs → needs.top < 2 ^ count_bits → (places : ℕ) (row : ℕ → ℕ) (standing : ℕ → Place) (state : AbstractState) (me : ℕ)
     → places < 65536 → me < places → Refines needs places row standing state
     → (made : StepRefines needs places row standing state me (standing me).stage)
     × (next_of needs me (standing me) (standing me).stage (row (word_at (operation_of needs places me (standing me).stage))) ≡ Waits → made.events ≡ [])
-silent-step needs lawful wide places row standing state me room here s =
-    silent-by needs places row standing state me here s (step needs lawful wide places row standing state me room here s (standing me).stage refl)
-    (next_of needs me (standing me) (standing me).stage (row (word_at (operation_of needs places me (standing me).stage)))) refl
+silent-step needs lawful wide places row standing state me room here s = silent-step-anyone needs lawful wide places row standing state me room s

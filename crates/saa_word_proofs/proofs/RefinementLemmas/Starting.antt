@@ -23,7 +23,7 @@ use Rattle.saa_word_steps.specs.Needs.{Needs}
 use Rattle.saa_word_steps.specs.AbstractState.{AbstractState}
 use Rattle.saa_word_steps.specs.Steps.{IsRanged, polled_as, cancelled_as, registered_as, started}
 use Rattle.saa_word_steps.specs.Readings.{is_idle, is_taken, mode_number}
-use Rattle.saa_word_proofs.specs.Refinement.{is_holder, gives_up, IsAlone, IsOwn, IsShowing, Refines}
+use Rattle.saa_word_proofs.specs.Refinement.{joins_line, is_holder, gives_up, IsAlone, IsOwn, IsShowing, Refines}
 use Rattle.saa_word_proofs.specs.Rows.{line_of, updated}
 use Rattle.saa_word_proofs.specs.Registering.{is_slot}
 use Rattle.saa_word_proofs.specs.StepRefinement.{place_after}
@@ -37,12 +37,12 @@ use Rattle.saa_word_proofs.proofs.RefinementLemmas.Outcomes.{not-holder}
 
 -- a place that starts: no word was looked at, and no event happened
 begun : (needs : Needs) (places : ℕ) (row : ℕ → ℕ) (standing : ℕ → Place) (state : AbstractState) (me : ℕ) (s : Refines needs places row standing state) (place : Place)
-    → me < places → (standing me).stage ≡ Quiet → is_slot place.registration ≡ is_slot (standing me).registration
+    → (places ≤ me → joins_line place.stage ≡ false) → (standing me).stage ≡ Quiet → is_slot place.registration ≡ is_slot (standing me).registration
     → IsRanged needs place.stage → IsAlone needs place.registration place.back place.stage → gives_up place.back place.stage ≡ false
     → IsOwn (line_of row me) place.stage → ((owed : List (ℕ × ℕ)) (worth : ℕ) → owed ≡ [] → IsShowing owed worth place.stage) → is_holder place.stage ≡ false
     → Refines needs places row (updated standing me place) state
-begun needs places row standing state me s place here quiet same ranged alone keeps own showing none =
-    moved needs places row standing state me s place here same ranged alone
+begun needs places row standing state me s place free quiet same ranged alone keeps own showing none =
+    moved needs places row standing state me s place free same ranged alone
     (λ gives. (let wrong : true ≡ false = sym gives ∙ keeps in absurd (cc))) own
     (showing (s.owed me) (s.worth me) (subst (λ stage. IsShowing (s.owed me) (s.worth me) stage) quiet (s.stages.showing me))) (none ∙ ap is_holder (sym quiet))
     (λ it. absurd (not-holder needs places row standing state me s (ap is_holder quiet) it))
@@ -67,125 +67,134 @@ mode-small WaitShared = omega arith
 
 -- a reading call that starts
 reading-starts : (needs : Needs) (places : ℕ) (row : ℕ → ℕ) (standing : ℕ → Place) (state : AbstractState) (me : ℕ) (s : Refines needs places row standing state)
-    → me < places → (standing me).stage ≡ Quiet → (reading : Reading)
+    → (standing me).stage ≡ Quiet → (reading : Reading)
     → Refines needs places row (updated standing me (record (standing me) { stage = ReadLoad reading })) state
-reading-starts needs places row standing state me s here quiet reading =
-    begun needs places row standing state me s (record (standing me) { stage = ReadLoad reading }) here quiet refl tt tt refl tt (λ owed worth nothing. nothing) refl
+reading-starts needs places row standing state me s quiet reading =
+    begun needs places row standing state me s (record (standing me) { stage = ReadLoad reading }) (λ out. refl) quiet refl tt tt refl tt (λ owed worth nothing. nothing) refl
 
 -- an ask that starts
 ask-starts : (needs : Needs) (places : ℕ) (row : ℕ → ℕ) (standing : ℕ → Place) (state : AbstractState) (me : ℕ) (s : Refines needs places row standing state)
-    → me < places → (standing me).stage ≡ Quiet → (ask : Ask) → ask.request < 65536 → (ask.joins ≡ true → is_slot (standing me).registration ≡ false)
+    → (standing me).stage ≡ Quiet → (ask : Ask) → (places ≤ me → ask.joins ≡ false) → ask.request < 65536 → (ask.joins ≡ true → is_slot (standing me).registration ≡ false)
     → Refines needs places row (updated standing me (record (standing me) { stage = AskLoad ask })) state
-ask-starts needs places row standing state me s here quiet ask small idle =
-    begun needs places row standing state me s (record (standing me) { stage = AskLoad ask }) here quiet refl tt (small, idle) refl tt
+ask-starts needs places row standing state me s quiet ask free small idle =
+    begun needs places row standing state me s (record (standing me) { stage = AskLoad ask }) free quiet refl tt (small, idle) refl tt
     (λ owed worth nothing. nothing) refl
 
 -- a try that starts
 try-starts : (needs : Needs) (places : ℕ) (row : ℕ → ℕ) (standing : ℕ → Place) (state : AbstractState) (me : ℕ) (s : Refines needs places row standing state)
-    → me < places → (standing me).stage ≡ Quiet → (request : ℕ) → request < 65536
+    → (standing me).stage ≡ Quiet → (request : ℕ) → request < 65536
     → Refines needs places row (updated standing me (record (standing me) { stage = AskLoad (record { request = request; joins = false }) })) state
-try-starts needs places row standing state me s here quiet request small =
-    ask-starts needs places row standing state me s here quiet (record { request = request; joins = false }) small (λ joins. absurd (cc))
+try-starts needs places row standing state me s quiet request small =
+    ask-starts needs places row standing state me s quiet (record { request = request; joins = false }) (λ out. refl) small (λ joins. absurd (cc))
 
 -- a registration that starts
 register-starts : (needs : Needs) (places : ℕ) (row : ℕ → ℕ) (standing : ℕ → Place) (state : AbstractState) (me : ℕ) (s : Refines needs places row standing state)
-    → me < places → (standing me).stage ≡ Quiet → (request : ℕ) → request < 65536
+    → (standing me).stage ≡ Quiet → (request : ℕ) → (places ≤ me → joins_line (place_after (standing me) (registered_as (standing me) request)).stage ≡ false)
+    → request < 65536
     → Refines needs places row (updated standing me (place_after (standing me) (registered_as (standing me) request))) state
-register-starts needs places row standing state me s here quiet request small =
+register-starts needs places row standing state me s quiet request free small =
     elim (cases_Bool (is_idle (standing me).registration)) [
-      | inl idle ↦ rw idle (ask-starts needs places row standing state me s here quiet (record { request = request; joins = true }) small
+      | inl idle ↦ rw idle (ask-starts needs places row standing state me s quiet (record { request = request; joins = true }) (rw idle at free) small
           (λ joins. idle-slot (standing me).registration idle))
       | inr refused ↦ rw refused (same-place needs places row standing state me s)
     ]
 
 -- a release that starts
 release-starts : (needs : Needs) (places : ℕ) (row : ℕ → ℕ) (standing : ℕ → Place) (state : AbstractState) (me : ℕ) (s : Refines needs places row standing state)
-    → me < places → (standing me).stage ≡ Quiet → (what : Given)
+    → (standing me).stage ≡ Quiet → (what : Given)
     → Refines needs places row (updated standing me (record (standing me) { stage = ReleaseLoad what; back = Tells })) state
-release-starts needs places row standing state me s here quiet what =
-    begun needs places row standing state me s (record (standing me) { stage = ReleaseLoad what; back = Tells }) here quiet refl tt refl refl tt
+release-starts needs places row standing state me s quiet what =
+    begun needs places row standing state me s (record (standing me) { stage = ReleaseLoad what; back = Tells }) (λ out. refl) quiet refl tt refl refl tt
     (λ owed worth nothing. nothing) refl
 
 -- a poll that starts; it doesn't give up what it is registered as
 poll-starts : (needs : Needs) (places : ℕ) (row : ℕ → ℕ) (standing : ℕ → Place) (state : AbstractState) (me : ℕ) (s : Refines needs places row standing state) (taking : Taking)
-    → me < places → (standing me).stage ≡ Quiet → (registration : Registration) → (standing me).registration ≡ registration
+    → (standing me).stage ≡ Quiet → (registration : Registration) → (standing me).registration ≡ registration
     → (is_slot registration ≡ true → IsAlone needs (standing me).registration (standing me).back (Take taking)) → gives_up (standing me).back (Take taking) ≡ false
     → Refines needs places row (updated standing me (place_after (standing me) (polled_as (standing me) taking registration))) state
-poll-starts needs places row standing state me s taking here quiet Idle is alone keeps = same-place needs places row standing state me s
-poll-starts needs places row standing state me s taking here quiet (Once value request) is alone keeps =
-    moved needs places row standing state me s (record (standing me) { registration = Idle }) here (ap is_slot (sym is)) (s.stages.ranged me)
+poll-starts needs places row standing state me s taking quiet Idle is alone keeps = same-place needs places row standing state me s
+poll-starts needs places row standing state me s taking quiet (Once value request) is alone keeps =
+    moved needs places row standing state me s (record (standing me) { registration = Idle }) (λ out. ap joins_line quiet) (ap is_slot (sym is)) (s.stages.ranged me)
     (subst (λ stage. IsAlone needs Idle (standing me).back stage) (sym quiet) tt) (s.stages.apart me) (s.stages.own me) (s.stages.showing me) refl
     (s.stages.holding me)
-poll-starts needs places row standing state me s taking here quiet (Slot request) is alone keeps =
-    begun needs places row standing state me s (record (standing me) { stage = Take taking }) here quiet refl tt (alone refl) keeps tt
+poll-starts needs places row standing state me s taking quiet (Slot request) is alone keeps =
+    begun needs places row standing state me s (record (standing me) { stage = Take taking }) (λ out. refl) quiet refl tt (alone refl) keeps tt
     (λ owed worth nothing. nothing) refl
 
 -- a cancel that starts: it gives back what it was granted, or looks for itself in the line
 cancel-starts : (needs : Needs) (places : ℕ) (row : ℕ → ℕ) (standing : ℕ → Place) (state : AbstractState) (me : ℕ) (s : Refines needs places row standing state)
-    → me < places → (standing me).stage ≡ Quiet → (registration : Registration) → (standing me).registration ≡ registration
+    → (standing me).stage ≡ Quiet → (registration : Registration) → (standing me).registration ≡ registration
     → Refines needs places row (updated standing me (place_after (standing me) (cancelled_as needs (standing me) registration))) state
-cancel-starts needs places row standing state me s here quiet Idle is = same-place needs places row standing state me s
-cancel-starts needs places row standing state me s here quiet (Once value request) is =
+cancel-starts needs places row standing state me s quiet Idle is = same-place needs places row standing state me s
+cancel-starts needs places row standing state me s quiet (Once value request) is =
     elim (cases_Bool (is_taken_up needs request value)) [
-      | inl up ↦ rw up (begun needs places row standing state me s (record (standing me) { registration = Idle; stage = ReleaseLoad (Asked request); back = Ends }) here quiet
+      | inl up ↦ rw up (begun needs places row standing state me s (record (standing me) { registration = Idle; stage = ReleaseLoad (Asked request); back = Ends }) (λ out. refl) quiet
           (ap is_slot (sym is)) tt refl refl tt (λ owed worth nothing. nothing) refl)
-      | inr free ↦ rw free (begun needs places row standing state me s (record (standing me) { registration = Idle; stage = Quiet }) here quiet
+      | inr free ↦ rw free (begun needs places row standing state me s (record (standing me) { registration = Idle; stage = Quiet }) (λ out. refl) quiet
           (ap is_slot (sym is)) tt tt refl tt (λ owed worth nothing. nothing) refl)
     ]
-cancel-starts needs places row standing state me s here quiet (Slot request) is =
-    begun needs places row standing state me s (record (standing me) { stage = FlagLoad; back = Takes request }) here quiet refl tt is refl tt
+cancel-starts needs places row standing state me s quiet (Slot request) is =
+    begun needs places row standing state me s (record (standing me) { stage = FlagLoad; back = Takes request }) (λ out. refl) quiet refl tt is refl tt
     (λ owed worth nothing. nothing) refl
 
--- A call that starts leaves all standing together
-pub starts : (needs : Needs) → needs.top < 2 ^ count_bits → (places : ℕ) (row : ℕ → ℕ) (standing : ℕ → Place) (state : AbstractState) (me : ℕ) (call : WordCall)
-    → me < places → Refines needs places row standing state → (standing me).stage ≡ Quiet → is_taken needs.is_lock call ≡ true
+-- A call that starts leaves all standing together; a visitor's doesn't go on to join the line
+pub starts-anyone : (needs : Needs) → needs.top < 2 ^ count_bits → (places : ℕ) (row : ℕ → ℕ) (standing : ℕ → Place) (state : AbstractState) (me : ℕ) (call : WordCall)
+    → (places ≤ me → joins_line (place_after (standing me) (started needs (standing me) call)).stage ≡ false)
+    → Refines needs places row standing state → (standing me).stage ≡ Quiet → is_taken needs.is_lock call ≡ true
     → Refines needs places row (updated standing me (place_after (standing me) (started needs (standing me) call))) state
-starts needs wide places row standing state me (Try count) here s quiet taken =
+starts-anyone needs wide places row standing state me (Try count) free s quiet taken =
     elim (cases_Bool (nat_lt needs.top count)) [
       | inl more ↦ rw more (same-place needs places row standing state me s)
       | inr fits ↦
           let small : count ≤ needs.top = grind (arith, nat_tests, fits) in
-          rw fits (try-starts needs places row standing state me s here quiet count (omega (arith, small, wide)))
+          rw fits (try-starts needs places row standing state me s quiet count (omega (arith, small, wide)))
     ]
-starts needs wide places row standing state me (Register count) here s quiet taken =
+starts-anyone needs wide places row standing state me (Register count) free s quiet taken =
     elim (cases_Bool (nat_lt needs.top count)) [
       | inl more ↦ rw more (same-place needs places row standing state me s)
       | inr fits ↦
           let small : count ≤ needs.top = grind (arith, nat_tests, fits) in
-          rw fits (register-starts needs places row standing state me s here quiet count (omega (arith, small, wide)))
+          rw fits (register-starts needs places row standing state me s quiet count (rw fits at free) (omega (arith, small, wide)))
     ]
-starts needs wide places row standing state me (Release count) here s quiet taken =
+starts-anyone needs wide places row standing state me (Release count) free s quiet taken =
     elim (cases_Bool (nat_lt needs.top count)) [
       | inl more ↦ rw more (same-place needs places row standing state me s)
       | inr fits ↦
           elim (cases_Bool (count == 0)) [
             | inl nothing ↦ rw (fits, nothing) (same-place needs places row standing state me s)
-            | inr some ↦ rw (fits, some) (release-starts needs places row standing state me s here quiet (Asked count))
+            | inr some ↦ rw (fits, some) (release-starts needs places row standing state me s quiet (Asked count))
           ]
     ]
-starts needs wide places row standing state me Available here s quiet taken = reading-starts needs places row standing state me s here quiet ReadsAvailable
-starts needs wide places row standing state me TryLock here s quiet taken = try-starts needs places row standing state me s here quiet 0 (omega arith)
-starts needs wide places row standing state me TryShare here s quiet taken = try-starts needs places row standing state me s here quiet 1 (omega arith)
-starts needs wide places row standing state me (RegisterMode mode) here s quiet taken =
-    register-starts needs places row standing state me s here quiet (mode_number mode) (mode-small mode)
-starts needs wide places row standing state me ReleaseLock here s quiet taken = release-starts needs places row standing state me s here quiet (Asked 0)
-starts needs wide places row standing state me ReleaseShare here s quiet taken = release-starts needs places row standing state me s here quiet (Asked 1)
-starts needs wide places row standing state me Downgrade here s quiet taken = release-starts needs places row standing state me s here quiet AllButAShare
-starts needs wide places row standing state me PoisonLock here s quiet taken =
-    begun needs places row standing state me s (record (standing me) { stage = PoisonLoad; back = Tells }) here quiet refl tt (taken, refl) refl tt
+starts-anyone needs wide places row standing state me Available free s quiet taken = reading-starts needs places row standing state me s quiet ReadsAvailable
+starts-anyone needs wide places row standing state me TryLock free s quiet taken = try-starts needs places row standing state me s quiet 0 (omega arith)
+starts-anyone needs wide places row standing state me TryShare free s quiet taken = try-starts needs places row standing state me s quiet 1 (omega arith)
+starts-anyone needs wide places row standing state me (RegisterMode mode) free s quiet taken =
+    register-starts needs places row standing state me s quiet (mode_number mode) free (mode-small mode)
+starts-anyone needs wide places row standing state me ReleaseLock free s quiet taken = release-starts needs places row standing state me s quiet (Asked 0)
+starts-anyone needs wide places row standing state me ReleaseShare free s quiet taken = release-starts needs places row standing state me s quiet (Asked 1)
+starts-anyone needs wide places row standing state me Downgrade free s quiet taken = release-starts needs places row standing state me s quiet AllButAShare
+starts-anyone needs wide places row standing state me PoisonLock free s quiet taken =
+    begun needs places row standing state me s (record (standing me) { stage = PoisonLoad; back = Tells }) (λ out. refl) quiet refl tt (taken, refl) refl tt
     (λ owed worth nothing. nothing) refl
-starts needs wide places row standing state me ClearPoison here s quiet taken =
-    begun needs places row standing state me s (record (standing me) { stage = Clear }) here quiet refl tt tt refl tt (λ owed worth nothing. nothing) refl
-starts needs wide places row standing state me IsFree here s quiet taken = reading-starts needs places row standing state me s here quiet ReadsFree
-starts needs wide places row standing state me IsLocked here s quiet taken = reading-starts needs places row standing state me s here quiet ReadsLocked
-starts needs wide places row standing state me IsShared here s quiet taken = reading-starts needs places row standing state me s here quiet ReadsShared
-starts needs wide places row standing state me IsPoisoned here s quiet taken = reading-starts needs places row standing state me s here quiet ReadsPoisoned
-starts needs wide places row standing state me TryPoll here s quiet taken =
-    poll-starts needs places row standing state me s Tries here quiet (standing me).registration refl (λ slot. slot) refl
-starts needs wide places row standing state me Poll here s quiet taken =
-    poll-starts needs places row standing state me s Awaits here quiet (standing me).registration refl (λ slot. slot) refl
-starts needs wide places row standing state me Cancel here s quiet taken =
-    cancel-starts needs places row standing state me s here quiet (standing me).registration refl
+starts-anyone needs wide places row standing state me ClearPoison free s quiet taken =
+    begun needs places row standing state me s (record (standing me) { stage = Clear }) (λ out. refl) quiet refl tt tt refl tt (λ owed worth nothing. nothing) refl
+starts-anyone needs wide places row standing state me IsFree free s quiet taken = reading-starts needs places row standing state me s quiet ReadsFree
+starts-anyone needs wide places row standing state me IsLocked free s quiet taken = reading-starts needs places row standing state me s quiet ReadsLocked
+starts-anyone needs wide places row standing state me IsShared free s quiet taken = reading-starts needs places row standing state me s quiet ReadsShared
+starts-anyone needs wide places row standing state me IsPoisoned free s quiet taken = reading-starts needs places row standing state me s quiet ReadsPoisoned
+starts-anyone needs wide places row standing state me TryPoll free s quiet taken =
+    poll-starts needs places row standing state me s Tries quiet (standing me).registration refl (λ slot. slot) refl
+starts-anyone needs wide places row standing state me Poll free s quiet taken =
+    poll-starts needs places row standing state me s Awaits quiet (standing me).registration refl (λ slot. slot) refl
+starts-anyone needs wide places row standing state me Cancel free s quiet taken =
+    cancel-starts needs places row standing state me s quiet (standing me).registration refl
+
+-- the same at a place
+pub starts : (needs : Needs) → needs.top < 2 ^ count_bits → (places : ℕ) (row : ℕ → ℕ) (standing : ℕ → Place) (state : AbstractState) (me : ℕ) (call : WordCall)
+    → me < places → Refines needs places row standing state → (standing me).stage ≡ Quiet → is_taken needs.is_lock call ≡ true
+    → Refines needs places row (updated standing me (place_after (standing me) (started needs (standing me) call))) state
+starts needs wide places row standing state me call here s quiet taken =
+    starts-anyone needs wide places row standing state me call (λ out. absurd (omega (arith, out, here))) s quiet taken
 
 -- What has been named
 

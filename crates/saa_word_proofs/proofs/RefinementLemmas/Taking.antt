@@ -27,7 +27,7 @@ use Rattle.saa_word_steps.specs.Needs.{Needs, AreNeeds}
 use Rattle.saa_word_steps.specs.declared.event.Event.TheVariants.{Showed, Took, NotReady}
 use Rattle.saa_word_steps.specs.AbstractState.{AbstractState, is_empty, is_in, held_by, with_answer}
 use Rattle.saa_word_steps.specs.Steps.{IsRanged, shown_all, going, taken_answer}
-use Rattle.saa_word_proofs.specs.Refinement.{newest, is_holder, takes_back, gives_up, IsReturning, IsAlone, IsOwn, IsShowing, IsHolding, AreAnswers, Refines}
+use Rattle.saa_word_proofs.specs.Refinement.{joins_line, newest, is_holder, takes_back, gives_up, IsReturning, IsAlone, IsOwn, IsShowing, IsHolding, AreAnswers, Refines}
 use Rattle.saa_word_proofs.specs.Rows.{line_of, updated}
 use Rattle.saa_word_proofs.specs.Registering.{is_slot}
 use Rattle.saa_word_proofs.specs.StepRefinement.{StepRefines, place_after, taken_events}
@@ -35,7 +35,7 @@ use Rattle.saa_word_proofs.proofs.RefinementLemmas.Lists.{each-updated, updated-
 use Rattle.saa_word_proofs.proofs.RefinementLemmas.Frames.{stages-next}
 use Rattle.saa_word_proofs.proofs.RefinementLemmas.Rows.{moved, row-other, apart-at}
 use Rattle.saa_word_proofs.proofs.RefinementLemmas.Outcomes.{Outcome, not-holder}
-use Rattle.saa_word_proofs.proofs.RefinementLemmas.Ending.{end_stage, ended, ended-ranged, ended-alone, ended-apart, ended-own, ended-showing, ended-holder}
+use Rattle.saa_word_proofs.proofs.RefinementLemmas.Ending.{end_stage, ended, ended-ranged, ended-alone, ended-apart, ended-joins, ended-own, ended-showing, ended-holder}
 use Rattle.saa_word_proofs.proofs.RefinementLemmas.Showing.{shown, due-inside, line-answer, line-shown, own-shown, holding-shown, main-shown, after-store, holder-store, ranged-store}
 
 -- what the place of the last answer does that goes on with the line
@@ -57,10 +57,10 @@ walk-holding needs words me held line cut current next value seen h =
 
 -- The newest answer that is owed is shown
 pub step-ShowStore : (needs : Needs) → AreNeeds needs → needs.top < 2 ^ count_bits → (places : ℕ) (row : ℕ → ℕ) (standing : ℕ → Place) (state : AbstractState) (me : ℕ)
-    → places < 65536 → me < places → (s : Refines needs places row standing state)
+    → places < 65536 → (s : Refines needs places row standing state)
     → (current next value : ℕ) (afterwards : Afterwards) → (standing me).stage ≡ ShowStore current next value afterwards
     → StepRefines needs places row standing state me (ShowStore current next value afterwards)
-step-ShowStore needs lawful wide places row standing state me room here s current next value afterwards at =
+step-ShowStore needs lawful wide places row standing state me room s current next value afterwards at =
     let stage : Stage = ShowStore current next value afterwards in
     let alone : IsReturning (standing me).registration (standing me).back =
     subst (λ stage. IsAlone needs (standing me).registration (standing me).back stage) at (s.stages.alone me) in
@@ -81,15 +81,15 @@ step-ShowStore needs lawful wide places row standing state me room here s curren
     let empty : next == 0 ≡ is_empty before = ap (λ (n : ℕ). n == 0) showing.4 ∙ newest-empty before in
     let nothing : next == 0 ≡ true → before ≡ [] = λ done. empty-nil before (sym empty ∙ done) in
     let place : Place = place_after (standing me) (if next == 0 then shown_all (standing me) afterwards else going (standing me) (ShowLoad next value afterwards)) in
-    let then_stands : (goes : Stage) → place ≡ record (standing me) { stage = goes } → IsRanged needs goes
+    let then_stands : (goes : Stage) → place ≡ record (standing me) { stage = goes } → joins_line goes ≡ false → IsRanged needs goes
     → IsAlone needs (standing me).registration (standing me).back goes → (gives_up (standing me).back goes ≡ true → is_in me state.line ≡ false)
     → ((word : LineWord) → IsOwn word goes) → IsShowing before (s.worth me) goes → is_holder goes ≡ is_holder stage
     → (s.holder ≡ me + 1 → IsHolding needs (line_of row) me state.count state.line s.cut goes)
     → Refines needs places (updated row (places + current) (answer_number (Some value))) (updated standing me place) last =
-    λ goes is goes_ranged goes_alone goes_apart goes_own goes_showing goes_holder goes_holding.
+    λ goes is goes_never goes_ranged goes_alone goes_apart goes_own goes_showing goes_holder goes_holding.
     subst (λ (r : ℕ → ℕ). Refines needs places r (updated standing me place) last) (sym row_is)
     (subst (λ (p : Place). Refines needs places (updated row (places + (asker.0 + 1)) (answer_number (Some (s.worth me)))) (updated standing me p) last) (sym is)
-    (shown needs places row standing state me here s before asker showing.2 goes goes_ranged goes_alone goes_apart goes_own goes_showing
+    (shown needs places row standing state me s before asker showing.2 goes goes_never goes_ranged goes_alone goes_apart goes_own goes_showing
     (goes_holder ∙ ap is_holder (sym at)) goes_holding)) in
     record {
       events = Showed asker.0 ∷ [];
@@ -101,7 +101,7 @@ step-ShowStore needs lawful wide places row standing state me room here s curren
       stands =
           elim (cases_Bool (next == 0)) [
             | inl done ↦ at-end needs places row standing state me s current next value afterwards before last done (nothing done) ranged alone apart holding then_stands
-            | inr more ↦ then_stands (ShowLoad next value afterwards) (rw more refl)
+            | inr more ↦ then_stands (ShowLoad next value afterwards) (rw more refl) refl
                 (ranged-store needs current next next value afterwards ranged) alone apart (λ word. tt)
                 (sym showing.4, sym empty ∙ more, showing.5) (holder-store current next next value afterwards)
                 (λ it. after-store needs (line_of row) me state.count state.line s.cut current next next value afterwards (holding it))
@@ -114,7 +114,7 @@ step-ShowStore needs lawful wide places row standing state me room here s curren
         → (takes_back (standing me).back ≡ true → is_in me state.line ≡ false)
         → (s.holder ≡ me + 1 → IsHolding needs (line_of row) me state.count state.line s.cut (ShowStore current next value afterwards))
         → ((goes : Stage) → place_after (standing me) (if next == 0 then shown_all (standing me) afterwards else going (standing me) (ShowLoad next value afterwards))
-        ≡ record (standing me) { stage = goes } → IsRanged needs goes
+        ≡ record (standing me) { stage = goes } → joins_line goes ≡ false → IsRanged needs goes
         → IsAlone needs (standing me).registration (standing me).back goes → (gives_up (standing me).back goes ≡ true → is_in me state.line ≡ false)
         → ((word : LineWord) → IsOwn word goes) → IsShowing before (s.worth me) goes → is_holder goes ≡ is_holder (ShowStore current next value afterwards)
         → (s.holder ≡ me + 1 → IsHolding needs (line_of row) me state.count state.line s.cut goes)
@@ -124,11 +124,11 @@ step-ShowStore needs lawful wide places row standing state me room here s curren
         (updated standing me (place_after (standing me) (if next == 0 then shown_all (standing me) afterwards else going (standing me) (ShowLoad next value afterwards)))) last
     at-end needs places row standing state me s current next value Ends before last done nothing ranged alone apart holding goes =
         let back : Back = (standing me).back in
-        goes (end_stage back) (rw done (ended (standing me) back)) (ended-ranged needs back) (ended-alone needs (standing me).registration back alone)
+        goes (end_stage back) (rw done (ended (standing me) back)) (ended-joins back) (ended-ranged needs back) (ended-alone needs (standing me).registration back alone)
         (λ gives. apart (sym (ended-apart back) ∙ gives)) (λ word. ended-own word back) (ended-showing before (s.worth me) back nothing) (ended-holder back)
         (λ it. absurd (holding it))
     at-end needs places row standing state me s current next value (Again seen) before last done nothing ranged alone apart holding goes =
-        goes (BackLoad seen seen.tail 0) (rw done refl) ranged alone apart (λ word. tt) nothing refl
+        goes (BackLoad seen seen.tail 0) (rw done refl) refl ranged alone apart (λ word. tt) nothing refl
         (λ it. walk-holding needs (line_of row) me state.count state.line s.cut current next value seen (holding it))
 
 -- an answer word is read as the answer that it shows
@@ -199,7 +199,7 @@ taken needs places row standing state me value here s slot none is place idle ra
         held = held-taken needs places row standing state s me value place slot is idle;
         within = each-updated (λ (n : ℕ) (p : Place). is_slot p.registration ≡ true → n < places) standing me place (λ slot. here)
             (λ other differs. s.seats.within other);
-        beyond = each-updated (λ (n : ℕ) (p : Place). places ≤ n → p.stage ≡ Quiet) standing me place (λ out. absurd (omega (arith, out, here)))
+        beyond = each-updated (λ (n : ℕ) (p : Place). places ≤ n → joins_line p.stage ≡ false) standing me place (λ out. absurd (omega (arith, out, here)))
             (λ other differs. s.seats.beyond other);
       };
       answers = answers-taken needs places row standing state s me;
@@ -297,7 +297,7 @@ takes needs places row standing state me here s slot none nothing Tries None is 
   stands =
       let quiet : Place = record (standing me) { stage = Quiet } in
       subst (λ (r : ℕ → ℕ). Refines needs places r (updated standing me quiet) state) (sym (updated-same row (places + me + 1) 0 (sym number)))
-      (moved needs places row standing state me s quiet here refl tt tt (λ gives. absurd (cc)) tt nothing (sym none)
+      (moved needs places row standing state me s quiet (λ out. refl) refl tt tt (λ gives. absurd (cc)) tt nothing (sym none)
       (λ it. absurd (not-holder needs places row standing state me s none it)));
 }
 takes needs places row standing state me here s slot none nothing Awaits None is number = record {

@@ -289,7 +289,7 @@ looks-again needs places row standing state me here s seen older at differs leav
       calm = λ semaphore. refl;
       inside = omega arith;
       stands = rw differs (loaded needs places row (updated standing me next) state 0
-          (moved needs places row standing state me s next here refl (count-small (row 0)) leaves (λ gives. absurd (cc)) tt nothing (ap is_holder (sym at))
+          (moved needs places row standing state me s next (λ out. absurd (omega (arith, out, here))) refl (count-small (row 0)) leaves (λ gives. absurd (cc)) tt nothing (ap is_holder (sym at))
           (λ is. (
             record {
               front = state.line;

@@ -23,10 +23,10 @@ use Rattle.saa_word_proofs.proofs.RefinementLemmas.Linking.{flag-held, flag-know
 
 -- The line word of the last of the front is loaded, before it is linked to those behind it
 pub step-BackLoad : (needs : Needs) → AreNeeds needs → needs.top < 2 ^ count_bits → (places : ℕ) (row : ℕ → ℕ) (standing : ℕ → Place) (state : AbstractState) (me : ℕ)
-    → places < 65536 → me < places → (s : Refines needs places row standing state)
+    → places < 65536 → (s : Refines needs places row standing state)
     → (seen : Word) (current newer : ℕ) → (standing me).stage ≡ BackLoad seen current newer
     → StepRefines needs places row standing state me (BackLoad seen current newer)
-step-BackLoad needs lawful wide places row standing state me room here s seen current newer at =
+step-BackLoad needs lawful wide places row standing state me room s seen current newer at =
     let knows = flag-knows needs places row standing state me s (BackLoad seen current newer) at refl in
     let there = newest-stands knows.0.front current knows.2.1 knows.2.0 in
     let seat = in-line places standing state (pred current) s.seats (work-front state.count state.line seen knows.0 (pred current) there.0) in
@@ -39,7 +39,7 @@ step-BackLoad needs lawful wide places row standing state me room here s seen cu
       calm = λ semaphore. refl;
       inside = omega (arith, there.1, seat.0);
       stands = loaded needs places row (updated standing me next) state current
-          (moved needs places row standing state me s next here refl
+          (moved needs places row standing state me s next (λ out. refl) refl
           (subst (λ stage. IsRanged needs stage) at (s.stages.ranged me))
           (subst (λ stage. IsAlone needs (standing me).registration (standing me).back stage) at (s.stages.alone me))
           (apart-at needs places row standing state me s (BackLoad seen current newer) at) tt
@@ -49,10 +49,10 @@ step-BackLoad needs lawful wide places row standing state me room here s seen cu
 
 -- It is written with the link to the one behind it; the walk goes on to the one before, or turns at the oldest
 pub step-BackStore : (needs : Needs) → AreNeeds needs → needs.top < 2 ^ count_bits → (places : ℕ) (row : ℕ → ℕ) (standing : ℕ → Place) (state : AbstractState) (me : ℕ)
-    → places < 65536 → me < places → (s : Refines needs places row standing state)
+    → places < 65536 → (s : Refines needs places row standing state)
     → (seen : Word) (current newer : ℕ) (line : LineWord) → (standing me).stage ≡ BackStore seen current newer line
     → StepRefines needs places row standing state me (BackStore seen current newer line)
-step-BackStore needs lawful wide places row standing state me room here s seen current newer line at =
+step-BackStore needs lawful wide places row standing state me room s seen current newer line at =
     let knows = flag-knows needs places row standing state me s (BackStore seen current newer line) at refl in
     let flag = flag-held needs places row standing state me s (ap is_holder at) in
     let store : IsStored places row state s.cut s.uncut seen current newer line knows.0 =
@@ -79,7 +79,7 @@ step-BackStore needs lawful wide places row standing state me room here s seen c
                 (subst (λ (link : ℕ).
                 Refines needs places (updated row link number) (updated standing me (record (standing me) { stage = Forward seen current seen.count })) state)
                 (sym store.link)
-                (relinked needs places row standing state me s (Forward seen current seen.count) (pred current) number s.cut s.uncut here flag store.waits
+                (relinked needs places row standing state me s (Forward seen current seen.count) (pred current) number s.cut s.uncut (λ out. refl) flag store.waits
                 store.linked
                 (ranged, ranged) alone apart tt showing refl
                 (work, knows.1, subst (λ l. IsAdded needs seen l seen.count) (sym nobody) (tt, omega arith), store.walk.behind)))
@@ -90,7 +90,7 @@ step-BackStore needs lawful wide places row standing state me room here s seen c
                 (subst (λ (link : ℕ).
                 Refines needs places (updated row link number) (updated standing me (record (standing me) { stage = BackLoad seen line.older current })) state)
                 (sym store.link)
-                (relinked needs places row standing state me s (BackLoad seen line.older current) (pred current) number s.cut s.uncut here flag store.waits
+                (relinked needs places row standing state me s (BackLoad seen line.older current) (pred current) number s.cut s.uncut (λ out. refl) flag store.waits
                 store.linked
                 ranged alone apart tt showing refl
                 (work, knows.1, (store.walk.before, somebody, store.walk.behind.0, store.walk.behind.2))))
@@ -133,10 +133,10 @@ passed needs words held line seen current count work added look fits differs =
 
 -- A waiter that fits is passed; the line is emptied where all fit, and cut and closed at the first that does not
 pub step-Forward : (needs : Needs) → AreNeeds needs → needs.top < 2 ^ count_bits → (places : ℕ) (row : ℕ → ℕ) (standing : ℕ → Place) (state : AbstractState) (me : ℕ)
-    → places < 65536 → me < places → (s : Refines needs places row standing state)
+    → places < 65536 → (s : Refines needs places row standing state)
     → (seen : Word) (current count : ℕ) → (standing me).stage ≡ Forward seen current count
     → StepRefines needs places row standing state me (Forward seen current count)
-step-Forward needs lawful wide places row standing state me room here s seen current count at =
+step-Forward needs lawful wide places row standing state me room s seen current count at =
     let knows = flag-knows needs places row standing state me s (Forward seen current count) at refl in
     let work : Work state.count state.line seen = knows.0 in
     let there = oldest-stands work.behind current knows.3.1 knows.3.0 in
@@ -173,7 +173,7 @@ step-Forward needs lawful wide places row standing state me room here s seen cur
                       let range : IsRanged needs (Empty seen current (count + needs.takes found.request) found) = rw (fits, last) at ranged in
                       rw (fits, last)
                       (moved needs places row standing state me s (record (standing me) { stage = Empty seen current (count + needs.takes found.request) found })
-                      here refl range (tail, alone) apart tt showing (ap is_holder (sym at))
+                      (λ out. refl) refl range (tail, alone) apart tt showing (ap is_holder (sym at))
                       (λ holder. (
                         work,
                         knows.1,
@@ -189,7 +189,7 @@ step-Forward needs lawful wide places row standing state me room here s seen cur
                       let after = passed needs (line_of row) state.count state.line seen current count work knows.2 look fits_there differs in
                       rw (fits, differs)
                       (moved needs places row standing state me s (record (standing me) { stage = Forward seen found.newer (count + needs.takes found.request) })
-                      here refl range alone apart tt showing (ap is_holder (sym at))
+                      (λ out. refl) refl range alone apart tt showing (ap is_holder (sym at))
                       (λ holder. (
                         after.0,
                         knows.1,
@@ -205,7 +205,7 @@ step-Forward needs lawful wide places row standing state me room here s seen cur
                       empty-nil work.front (sym (newest-empty work.front) ∙ ap (λ (n : ℕ). n == 0) (sym older) ∙ none) in
                       rw (unfit, none)
                       (moved needs places row standing state me s (record (standing me) { stage = Close seen count 0 })
-                      here refl range (tail, alone) apart tt showing (ap is_holder (sym at))
+                      (λ out. refl) refl range (tail, alone) apart tt showing (ap is_holder (sym at))
                       (λ holder. (
                         work,
                         knows.1 ∙ sym nobody,
@@ -218,7 +218,7 @@ step-Forward needs lawful wide places row standing state me room here s seen cur
                       let range : IsRanged needs (CutToClose seen current count found) = rw (unfit, some) at ranged in
                       rw (unfit, some)
                       (moved needs places row standing state me s (record (standing me) { stage = CutToClose seen current count found })
-                      here refl range alone apart tt showing (ap is_holder (sym at))
+                      (λ out. refl) refl range alone apart tt showing (ap is_holder (sym at))
                       (λ holder. (work, knows.1, knows.2, knows.3, is, unfit)))
                 ]
           ]);

@@ -1,5 +1,5 @@
 -- The first step of a call works on a word of the row, and what its place remembers is within the bits of a count.
-use Rattle.std.proofs.Common.{ℕ, ◌<◌, true, false, ◌==◌, nat_lt, if◌then◌else◌, arith, inl, inr}
+use Rattle.std.proofs.Common.{◌≡◌, ℕ, ◌<◌, true, refl, false, ◌==◌, nat_lt, if◌then◌else◌, arith, inl, inr}
 use Rattle.std.proofs.lemmas.Bool.{cases_Bool}
 use Rattle.saa_word_steps.specs.declared.call.Answer.TheVariants.{Bool as Says}
 use Rattle.saa_word_steps.specs.declared.call.WordCall.{WordCall}
@@ -16,6 +16,7 @@ use Rattle.saa_word_steps.specs.Steps.{cancelled_as, going, polled_as, started}
 use Rattle.saa_word_steps.specs.Readings.{is_idle, mode_number}
 use Rattle.saa_word_proofs.specs.Calls.{is_taken_up}
 use Rattle.saa_word_proofs.specs.CallStages.{IsReadyNext}
+use Rattle.saa_word_proofs.specs.Registering.{is_slot}
 
 registering-ready : (needs : Needs) (places me : ℕ) (place : Place) (request : ℕ) (registration : Registration)
     → IsReadyNext needs places me
@@ -24,11 +25,11 @@ registering-ready needs places me place request Idle = (tt, omega arith)
 registering-ready needs places me place request (Once value asked) = tt
 registering-ready needs places me place request (Slot asked) = tt
 
-polling-ready : (needs : Needs) (places me : ℕ) (place : Place) (taking : Taking) (registration : Registration) → me < places
+polling-ready : (needs : Needs) (places me : ℕ) (place : Place) (taking : Taking) (registration : Registration) → (is_slot registration ≡ true → me < places)
     → IsReadyNext needs places me (polled_as place taking registration)
 polling-ready needs places me place taking Idle here = tt
 polling-ready needs places me place taking (Once value asked) here = tt
-polling-ready needs places me place taking (Slot asked) here = (tt, omega (arith, here))
+polling-ready needs places me place taking (Slot asked) here = (tt, omega (arith, here refl))
 
 cancelling-ready : (needs : Needs) (places me : ℕ) (place : Place) (registration : Registration)
     → IsReadyNext needs places me (cancelled_as needs place registration)
@@ -41,18 +42,19 @@ cancelling-ready needs places me place (Once value request) =
 cancelling-ready needs places me place (Slot request) = (tt, omega arith)
 
 -- A call that starts
-pub started-ready : (needs : Needs) (places me : ℕ) (place : Place) (call : WordCall) → me < places → IsReadyNext needs places me (started needs place call)
-started-ready needs places me place (Try count) here =
+pub started-ready-anyone : (needs : Needs) (places me : ℕ) (place : Place) (call : WordCall) → (is_slot place.registration ≡ true → me < places)
+    → IsReadyNext needs places me (started needs place call)
+started-ready-anyone needs places me place (Try count) here =
     elim (cases_Bool (nat_lt needs.top count)) [
       | inl more ↦ rw more tt
       | inr fits ↦ rw fits (tt, omega arith)
     ]
-started-ready needs places me place (Register count) here =
+started-ready-anyone needs places me place (Register count) here =
     elim (cases_Bool (nat_lt needs.top count)) [
       | inl more ↦ rw more tt
       | inr fits ↦ rw fits (registering-ready needs places me place count place.registration)
     ]
-started-ready needs places me place (Release count) here =
+started-ready-anyone needs places me place (Release count) here =
     elim (cases_Bool (nat_lt needs.top count)) [
       | inl more ↦ rw more tt
       | inr fits ↦
@@ -61,19 +63,22 @@ started-ready needs places me place (Release count) here =
             | inr some ↦ rw (fits, some) (tt, omega arith)
           ]
     ]
-started-ready needs places me place Available here = (tt, omega arith)
-started-ready needs places me place TryLock here = (tt, omega arith)
-started-ready needs places me place TryShare here = (tt, omega arith)
-started-ready needs places me place (RegisterMode mode) here = registering-ready needs places me place (mode_number mode) place.registration
-started-ready needs places me place ReleaseLock here = (tt, omega arith)
-started-ready needs places me place ReleaseShare here = (tt, omega arith)
-started-ready needs places me place Downgrade here = (tt, omega arith)
-started-ready needs places me place PoisonLock here = (tt, omega arith)
-started-ready needs places me place ClearPoison here = (tt, omega arith)
-started-ready needs places me place IsFree here = (tt, omega arith)
-started-ready needs places me place IsLocked here = (tt, omega arith)
-started-ready needs places me place IsShared here = (tt, omega arith)
-started-ready needs places me place IsPoisoned here = (tt, omega arith)
-started-ready needs places me place TryPoll here = polling-ready needs places me place Tries place.registration here
-started-ready needs places me place Poll here = polling-ready needs places me place Awaits place.registration here
-started-ready needs places me place Cancel here = cancelling-ready needs places me place place.registration
+started-ready-anyone needs places me place Available here = (tt, omega arith)
+started-ready-anyone needs places me place TryLock here = (tt, omega arith)
+started-ready-anyone needs places me place TryShare here = (tt, omega arith)
+started-ready-anyone needs places me place (RegisterMode mode) here = registering-ready needs places me place (mode_number mode) place.registration
+started-ready-anyone needs places me place ReleaseLock here = (tt, omega arith)
+started-ready-anyone needs places me place ReleaseShare here = (tt, omega arith)
+started-ready-anyone needs places me place Downgrade here = (tt, omega arith)
+started-ready-anyone needs places me place PoisonLock here = (tt, omega arith)
+started-ready-anyone needs places me place ClearPoison here = (tt, omega arith)
+started-ready-anyone needs places me place IsFree here = (tt, omega arith)
+started-ready-anyone needs places me place IsLocked here = (tt, omega arith)
+started-ready-anyone needs places me place IsShared here = (tt, omega arith)
+started-ready-anyone needs places me place IsPoisoned here = (tt, omega arith)
+started-ready-anyone needs places me place TryPoll here = polling-ready needs places me place Tries place.registration here
+started-ready-anyone needs places me place Poll here = polling-ready needs places me place Awaits place.registration here
+started-ready-anyone needs places me place Cancel here = cancelling-ready needs places me place place.registration
+
+pub started-ready : (needs : Needs) (places me : ℕ) (place : Place) (call : WordCall) → me < places → IsReadyNext needs places me (started needs place call)
+started-ready needs places me place call here = started-ready-anyone needs places me place call (λ slot. here)
