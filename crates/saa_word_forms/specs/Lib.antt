@@ -20,3 +20,4 @@ pub use Rattle.saa_word_threads.specs.Called as WordEvents
 pub use Rattle.saa_word_threads.specs.Told as WordViews
 pub use Rattle.saa_word_threads.specs.Dealt as WordPlaces
 pub use Rattle.saa_word_threads.specs.Kept as WordHistory
+pub use Rattle.saa_word_threads.specs.Visits as WordVisits

@@ -1,7 +1,7 @@
 -- Histories: lists of events, each with its place, and what they say of words and of each place. A reader of the clauses has to believe this.
-use Rattle.std.specs.Prelude.{◌≡◌, ℕ, Bool, true, false, ◌||◌, ◌==◌, if◌then◌else◌, List, [], ◌∷◌, ◌++◌}
+use Rattle.std.specs.Prelude.{◌≡◌, ℕ, Bool, true, false, not, ◌&&◌, ◌||◌, ◌==◌, if◌then◌else◌, List, [], ◌∷◌, ◌++◌}
 use Rattle.saa_word_steps.specs.declared.event.Event.{Event}
-use Rattle.saa_word_steps.specs.declared.event.Event.TheVariants.{Granted, Closed, Showed}
+use Rattle.saa_word_steps.specs.declared.event.Event.TheVariants.{Granted, Closed, Showed, Joined, Left, NotReady, Took}
 use Rattle.saa_word_steps.specs.Needs.{Needs}
 use Rattle.saa_word_steps.specs.AbstractState.{AbstractState, IsRun, opening}
 use Rattle.saa_word_proofs.specs.Promises.{Observes}
@@ -21,6 +21,18 @@ is_named _ = true
 abbrev pub named : List Event → List Event
 named [] = []
 named (event ∷ rest) = if is_named event then (event ∷ named rest) else named rest
+
+-- whether an event is of who waits: it joins the queue, takes its answer or finds that it isn't there yet, or leaves
+abbrev pub is_waiters : Event → Bool
+is_waiters (Joined request) = true
+is_waiters (Took value) = true
+is_waiters NotReady = true
+is_waiters Left = true
+is_waiters _ = false
+
+abbrev pub never_waits : List Event → Bool
+never_waits [] = true
+never_waits (event ∷ rest) = not (is_waiters event) && never_waits rest
 
 -- A place's part of a history: its events, in their order
 abbrev pub part_of : ℕ → List (ℕ × Event) → List Event

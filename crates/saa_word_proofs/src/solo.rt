@@ -24,7 +24,7 @@ ghost use Rattle.saa_word_proofs.specs.StepRefinement.{named_at};
 ghost use Rattle.saa_word_proofs.specs.History.{named, of_place};
 ghost use Rattle.saa_word_proofs.specs.Calls.{asked_by};
 ghost use Rattle.saa_word_proofs.specs.CallStages.{IsLeft, IsReadyNext, IsStartedAs, IsUnder};
-ghost use Rattle.saa_word_proofs.specs.Registering.{AreRegistered, begun_as, left_behind, starting_answer};
+ghost use Rattle.saa_word_proofs.specs.Registering.{AreRegistered, begun_as, is_slot, left_behind, starting_answer};
 ghost use Rattle.saa_word_proofs.specs.Refinement.{Refines};
 ghost use Rattle.saa_word_proofs.specs.Rows.{updated};
 ghost use Rattle.saa_word_proofs.specs.Alone.{IsCalledAlone, IsKeptWaiting, IsLeftWaiting, IsQuiet, Mirrors, Moment};
@@ -34,10 +34,12 @@ ghost use Rattle.saa_word_proofs.specs.Represents.{called};
 ghost use Rattle.saa_word_proofs.specs.Agrees.{Begins, Agrees};
 
 /// While no place is in a call the flag is clear, no answer is due, the object isn't open, its line is settled, and the line words
-/// link all waiters.
+/// link all waiters. So it is while no place is registered in the line, whatever calls are underway: there is nobody to grant anything then.
 pub fn quiet()
-    ensures { (needs : Needs) (places : ℕ) (row : ℕ → ℕ) (standing : ℕ → Place) (state : AbstractState)
+    ensures between_calls { (needs : Needs) (places : ℕ) (row : ℕ → ℕ) (standing : ℕ → Place) (state : AbstractState)
         → Refines needs places row standing state → IsQuiet standing → IsAtRest needs row state }
+    ensures unregistered { (needs : Needs) (places : ℕ) (row : ℕ → ℕ) (standing : ℕ → Place) (state : AbstractState)
+        → Refines needs places row standing state → ((place : ℕ) → is_slot (standing place).registration ≡ false) → IsAtRest needs row state }
 {}
 
 /// A call that moves alone, from a moment when no place is in a call, is the call of the sequential semaphore or lock.

@@ -24,13 +24,13 @@ use Rattle.saa_word_steps.specs.Steps.{cancelled_as, going, next_of, polled_as, 
 use Rattle.saa_word_steps.specs.Readings.{is_idle, is_taken, mode_number}
 use Rattle.saa_word_proofs.specs.Calls.{asked_by, is_taken_up}
 use Rattle.saa_word_proofs.specs.CallStages.{IsBegun, IsLeft, IsReadyNext, IsStartedAs, IsUnderNext}
-use Rattle.saa_word_proofs.specs.Registering.{begun_as, left_behind, starting_answer}
+use Rattle.saa_word_proofs.specs.Registering.{begun_as, is_slot, left_behind, starting_answer}
 use Rattle.saa_word_proofs.specs.StepRefinement.{named_at, place_after}
 use Rattle.saa_word_proofs.specs.History.{named}
 use Rattle.saa_word_proofs.proofs.RefinementLemmas.Calls.{under-next}
 use Rattle.saa_word_proofs.proofs.RefinementLemmas.Starting.{call-begun}
 use Rattle.saa_word_proofs.proofs.SoloLemmas.Paths.{left-append, left-next}
-use Rattle.saa_word_proofs.proofs.SoloLemmas.Ready.{started-ready}
+use Rattle.saa_word_proofs.proofs.SoloLemmas.Ready.{started-ready-anyone}
 use Rattle.saa_word_proofs.proofs.SoloLemmas.Registered.{started-as}
 use Rattle.saa_word_threads.specs.declared.table.View.{View}
 use Rattle.saa_word_threads.specs.Called.{HasEvents, IsCalled, IsCalledFrom, Midway, MidwayNext, is_single}
@@ -210,16 +210,22 @@ since-started needs was rest call place answer since is =
 -- The steps of a call
 
 -- it has named nothing where it starts
-pub midway-first : (needs : Needs) (places me : ℕ) (call : WordCall) (rest first : Place) (v : View) → me < places → IsSince v.position rest
+pub midway-begins : (needs : Needs) (places me : ℕ) (call : WordCall) (rest first : Place) (v : View)
+    → (is_slot rest.registration ≡ true → me < places) → IsSince v.position rest
     → is_taken needs.is_lock call ≡ true → started needs rest call ≡ Going first → Midway needs places me call rest.registration v first v
-midway-first needs places me call rest first v here since takes is = record {
+midway-begins needs places me call rest first v here since takes is = record {
   events = [];
   under = subst (IsBegun needs call rest.registration) is (call-begun needs rest call since.0);
   extends = extends-none v;
   registered = (started-going (starting_answer needs call rest.registration) (begun_as call rest.registration) first (so needs call rest since.0 (Going first) is)).1;
   begins = inr (rest, call, since, takes, ap (place_after rest) (sym is));
-  ready = subst (IsReadyNext needs places me) is (started-ready needs places me rest call here);
+  ready = subst (IsReadyNext needs places me) is (started-ready-anyone needs places me rest call here);
 }
+
+-- the same at a place
+pub midway-first : (needs : Needs) (places me : ℕ) (call : WordCall) (rest first : Place) (v : View) → me < places → IsSince v.position rest
+    → is_taken needs.is_lock call ≡ true → started needs rest call ≡ Going first → Midway needs places me call rest.registration v first v
+midway-first needs places me call rest first v here since takes is = midway-begins needs places me call rest first v (λ slot. here) since takes is
 
 module _ (needs : Needs) (withheld places me : ℕ) (call : WordCall) (was : Registration) (began : View) (place : Place) (v w : View) (found : ℕ)
     (m : Midway needs places me call was began place v) (number : v.number ≡ me) where

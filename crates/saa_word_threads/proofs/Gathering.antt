@@ -3,6 +3,7 @@ use Rattle.std.proofs.Common.{◌≡◌, ◌≢◌, ℕ, zero, suc, ◌<◌, Lis
 use mathlib.Core.Option.{some, some-injective, some-ne-none}
 use lib.ListN.{get_elem?}
 use Rattle.saa_word_steps.specs.declared.event.Event.{Event}
+use Rattle.saa_word_steps.specs.declared.place.Place.{Place}
 use Rattle.saa_word_threads.specs.declared.table.Departed.{Departed}
 use Rattle.saa_word_threads.specs.declared.table.Role.{Role}
 use Rattle.saa_word_threads.specs.declared.table.Role.TheVariants.{Acting, Spent}
@@ -15,8 +16,9 @@ found-within [] seat v found = absurd (some-ne-none v (sym found))
 found-within (u ∷ views) zero v found = omega arith
 found-within (u ∷ views) (suc seat) v found = let within = found-within views seat v found in omega arith
 
-pub place-fits : (history : List (ℕ × Event)) (seats seat : ℕ) (v : View) → v.role ≡ Acting → Fits history seats seat v → FitsAs history seats seat v Acting
-place-fits history seats seat v acts fits = subst (λ (r : Role). FitsAs history seats seat v r) acts fits
+pub place-fits : (history : List (ℕ × Event)) (standing : ℕ → Place) (places dealt seat : ℕ) (v : View) → v.role ≡ Acting
+    → Fits history standing places dealt seat v → FitsAs history standing places dealt seat v Acting
+place-fits history standing places dealt seat v acts fits = subst (λ (r : Role). FitsAs history standing places dealt seat v r) acts fits
 
 -- a seat whose view another one has gathered isn't one that may make steps
 pub spent-apart : (views : List View) (here other : ℕ) (v w : View) → get_elem? views here ≡ some v → (v.role ≡ Spent → ⊥)
@@ -29,4 +31,4 @@ pub gathered-stay : (views after : List View) → ((seat : ℕ) (v : View) → g
     → (gathered : List Departed) → AreGathered views gathered → AreGathered after gathered
 gathered-stay views after stays [] all = tt
 gathered-stay views after stays (gone ∷ rest) all =
-    ((all.0.0, stays (suc gone.number) all.0.0 all.0.1 all.0.2, all.0.2, all.0.3, all.0.4), gathered-stay views after stays rest all.1)
+    ((all.0.0, all.0.1, stays all.0.0 all.0.1 all.0.2 all.0.3, all.0.3, all.0.4, all.0.5), gathered-stay views after stays rest all.1)

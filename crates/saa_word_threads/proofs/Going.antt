@@ -34,7 +34,7 @@ not-true : (test : Bool) → not test ≡ true → test ≡ false
 not-true true is = absurd (cc)
 not-true false is = refl
 
-same-number : (one two : ℕ) → one ≡ two → one == two ≡ true
+pub same-number : (one two : ℕ) → one ≡ two → one == two ≡ true
 same-number one two is = ap (λ (n : ℕ). one == n) (sym is) ∙ number_same one
 
 -- a word that grants an ask sends it on to its exchange
@@ -87,7 +87,7 @@ module _ (needs : Needs) (withheld places me : ℕ) (call : WordCall) (rest look
         subst (λ (p : Place). IsNext needs places me p operation w) (sym is_two) (record {
           role = told.extends.role ∙ acts;
           number = still;
-          here = here;
+          here = inl here;
           begins = midway-changes.begins;
           makes = makes;
           inside = subst (λ (o : Operation). word_at o < places + places + 1) (sym makes) midway-changes.ready.1;
@@ -196,7 +196,7 @@ module _ (needs : Needs) (withheld places me : ℕ) (call : WordCall) (rest : Pl
 -- Releases
 
 -- a word of which something is left
-left-some : (needs : Needs) (seen : Word) (request left : ℕ) → lowers_to needs seen request ≡ Some left
+pub left-some : (needs : Needs) (seen : Word) (request left : ℕ) → lowers_to needs seen request ≡ Some left
     → (seen.is_poisoned ≡ false) × (seen.tail == 0 ≡ true) × (left_count needs seen.count request ≡ Some left)
 left-some needs seen request left lowers =
     elim (cases_Bool seen.is_poisoned) [

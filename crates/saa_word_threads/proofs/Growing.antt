@@ -1,11 +1,22 @@
 -- Histories that grow by the events of one place, and what each place has seen of them.
-use Rattle.std.proofs.Common.{◌≡◌, ℕ, Bool, true, false, ◌||◌, ◌==◌, List, [], ◌∷◌, ◌++◌, refl, sym, ap, subst, ◌∙◌, inl, inr, append-nil, append_assoc}
+use Rattle.std.proofs.Common.{◌≡◌, ℕ, Bool, true, false, not, ◌&&◌, ◌||◌, ◌==◌, if◌then◌else◌, List, [], ◌∷◌, ◌++◌, Option, Some, None, refl, sym, ap, subst, ◌∙◌, inl, inr, append-nil, append_assoc}
 use Rattle.std.proofs.lemmas.Bool.{cases_Bool}
 use Rattle.saa_core_spec.proofs.Counts.{number_same}
 use Rattle.saa_word_steps.specs.declared.event.Event.{Event}
+use Rattle.saa_word_steps.specs.declared.event.Event.TheVariants.{AskedPoisoned, Cleared, Closed, Got, Granted, NotCleared, NotPoisoned, Poisoned, Refused, Showed}
+use Rattle.saa_word_steps.specs.declared.place.Given.{Given}
+use Rattle.saa_word_steps.specs.declared.place.Given.TheVariants.{AllButAShare, Asked}
+use Rattle.saa_word_steps.specs.declared.place.Stage.{Stage}
+use Rattle.saa_word_steps.specs.declared.place.Stage.TheVariants.{AskExchange, AskLoad, Clear, DropTail, Join, PoisonExchange, PoisonLoad, ReadLoad, ReleaseExchange, ReleaseLoad, Take, Unlink}
 use Rattle.saa_word_steps.specs.Needs.{Needs}
 use Rattle.saa_word_steps.specs.AbstractState.{AbstractState, IsRun, after_event, opening}
-use Rattle.saa_word_proofs.specs.History.{has_part, is_named, named, of_place, part_of, seen_by}
+use Rattle.saa_word_proofs.specs.History.{has_part, is_named, is_waiters, named, never_waits, of_place, part_of, seen_by}
+use Rattle.saa_core_words.specs.declared.word.Word.{Word}
+use Rattle.saa_core_spec.specs.Held.{Exclusive}
+use Rattle.saa_core_words.specs.Words.{count_bits, lock_count, word_number, word_of}
+use Rattle.saa_word_steps.specs.Readings.{poisoned_word}
+use Rattle.saa_word_proofs.specs.Refinement.{IsVisiting, waits_behind}
+use Rattle.saa_word_proofs.specs.StepRefinement.{decided_events, gave, gave_not, given_events, left_events, named_at, poisoning_events}
 use Rattle.saa_word_threads.specs.declared.table.View.{View}
 use Rattle.saa_word_threads.specs.Told.{Extends, IsLegal}
 
@@ -202,3 +213,85 @@ extends-append u v w front rest one other = record {
       ∙ ap (λ (l : List Event). front ++ l) (subst (λ n. part_of n other.more ≡ rest) one.number other.own);
   latest = latest-append u.number one.more other.more one.latest (subst (λ n. seen_by n other.more ≡ other.more) one.number other.latest);
 }
+
+-- Events of who waits
+
+and-assoc : (one other more : Bool) → one && (other && more) ≡ (one && other) && more
+and-assoc true other more = refl
+and-assoc false other more = refl
+
+pub never-append : (front rest : List Event) → never_waits (front ++ rest) ≡ never_waits front && never_waits rest
+never-append [] rest = refl
+never-append (event ∷ front) rest =
+    ap (λ (b : Bool). not (is_waiters event) && b) (never-append front rest)
+    ∙ and-assoc (not (is_waiters event)) (never_waits front) (never_waits rest)
+
+-- an event that no answer names is none of who waits
+unnamed-never : (event : Event) → is_named event ≡ false → is_waiters event ≡ false
+unnamed-never (Granted askers) none = refl
+unnamed-never Closed none = refl
+unnamed-never (Showed place) none = refl
+unnamed-never event none = absurd (cc)
+
+never-named : (events : List Event) → never_waits (named events) ≡ never_waits events
+never-named [] = refl
+never-named (event ∷ rest) =
+    elim (cases_Bool (is_named event)) [
+      | inl is ↦ rw is (ap (λ (b : Bool). not (is_waiters event) && b) (never-named rest))
+      | inr none ↦ rw (none, unnamed-never event none) (never-named rest)
+    ]
+
+pub never-same : (events names : List Event) → named events ≡ names → never_waits names ≡ true → never_waits events ≡ true
+never-same events names is never = sym (never-named events) ∙ ap never_waits is ∙ never
+
+-- what holds of both holds of a choice
+either-never : (test : Bool) (one other : List Event) → never_waits one ≡ true → never_waits other ≡ true → never_waits (if test then one else other) ≡ true
+either-never true one other o t = o
+either-never false one other o t = t
+
+decided-never : (needs : Needs) (request : ℕ) (joins : Bool) (seen : Word) → never_waits (decided_events needs request joins seen) ≡ true
+decided-never needs request joins seen =
+    either-never seen.is_poisoned (AskedPoisoned ∷ [])
+    (if waits_behind needs seen request then (if joins then [] else Refused request ∷ []) else (if needs.takes request == 0 then Got request ∷ [] else [])) refl
+    (either-never (waits_behind needs seen request) (if joins then [] else Refused request ∷ []) (if needs.takes request == 0 then Got request ∷ [] else [])
+    (either-never joins [] (Refused request ∷ []) refl refl) (either-never (needs.takes request == 0) (Got request ∷ []) [] refl refl))
+
+gave-never : (what : Given) → never_waits (gave what ∷ []) ≡ true
+gave-never (Asked request) = refl
+gave-never AllButAShare = refl
+
+gave-not-never : (what : Given) → never_waits (gave_not what ∷ []) ≡ true
+gave-not-never (Asked request) = refl
+gave-not-never AllButAShare = refl
+
+left-never : (what : Given) (left : Option ℕ) → never_waits (left_events what left) ≡ true
+left-never what None = gave-not-never what
+left-never what (Some left) = refl
+
+given-never : (needs : Needs) (what : Given) (seen : Word) → never_waits (given_events needs what seen) ≡ true
+given-never needs what seen = either-never seen.is_poisoned _ _ (gave-not-never what) (left-never what _)
+
+poisoning-never : (seen : Word) → never_waits (poisoning_events seen) ≡ true
+poisoning-never seen = either-never (seen.is_poisoned || not (seen.count == lock_count Exclusive)) (NotPoisoned ∷ []) [] refl refl
+
+-- what answers name of a step of a visitor is of nobody who waits
+pub visitor-names : (needs : Needs) (stage : Stage) (found : ℕ) → IsVisiting stage → never_waits (named_at needs stage found) ≡ true
+visitor-names needs (ReadLoad reading) found visits = refl
+visitor-names needs (AskLoad ask) found visits = decided-never needs ask.request ask.joins (word_of count_bits found)
+visitor-names needs (AskExchange ask seen) found visits =
+    either-never (found == word_number count_bits seen) (Got ask.request ∷ []) (decided_events needs ask.request ask.joins (word_of count_bits found)) refl
+    (decided-never needs ask.request ask.joins (word_of count_bits found))
+visitor-names needs (Join request seen) found visits = let joins = visits.0 in absurd (cc)
+visitor-names needs (ReleaseLoad what) found visits = given-never needs what (word_of count_bits found)
+visitor-names needs (ReleaseExchange what seen) found visits =
+    either-never (found == word_number count_bits seen) (gave what ∷ []) (given_events needs what (word_of count_bits found)) (gave-never what)
+    (given-never needs what (word_of count_bits found))
+visitor-names needs (Take taking) found visits = let uses = visits.1 in absurd (cc)
+visitor-names needs (Unlink seen newer line older) found visits = let uses = visits.1 in absurd (cc)
+visitor-names needs (DropTail seen older) found visits = let uses = visits.1 in absurd (cc)
+visitor-names needs PoisonLoad found visits = poisoning-never (word_of count_bits found)
+visitor-names needs (PoisonExchange seen) found visits =
+    either-never (found == word_number count_bits seen) (Poisoned ∷ []) (poisoning_events (word_of count_bits found)) refl
+    (poisoning-never (word_of count_bits found))
+visitor-names needs Clear found visits = either-never (found == word_number count_bits poisoned_word) (Cleared ∷ []) (NotCleared ∷ []) refl refl
+visitor-names needs stage found visits = refl

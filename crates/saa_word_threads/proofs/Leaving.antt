@@ -1,23 +1,21 @@
 -- A place that has left gathers what another one had seen, and what the words are that it is a witness of.
-use Rattle.std.proofs.Common.{◌≡◌, ◌≢◌, ℕ, zero, suc, ◌≤◌, ◌<◌, ◌==◌, ◌||◌, Bool, true, false, List, [], ◌∷◌, ◌++◌, length, get_or, refl, sym, ap, subst, ◌∙◌, arith, inl, inr, append-nil, append_assoc}
+use Rattle.std.proofs.Common.{◌≡◌, ◌≢◌, ℕ, zero, suc, ◌<◌, ◌==◌, ◌||◌, Bool, true, false, List, [], ◌∷◌, ◌++◌, length, get_or, refl, sym, ap, subst, ◌∙◌, arith, inl, inr, append-nil, append_assoc}
 use Rattle.std.specs.Prelude.{All, map}
-use Rattle.std.proofs.Math.ListN.{set, length-set}
-use mathlib.Core.Option.{Option, none as no_view, some}
+use Rattle.std.proofs.Math.ListN.{set}
+use mathlib.Core.Option.{some, some-injective}
 use lib.ListN.{get_elem?}
 use Rattle.atomic_table.specs.Table.{Joins, State}
 use Rattle.atomic_table.proofs.Lists.{at_set, set_else, set_here}
 use Rattle.saa_word_steps.specs.declared.event.Event.{Event}
 use Rattle.saa_word_steps.specs.declared.place.Place.{Place as Position}
-use Rattle.saa_word_steps.specs.declared.place.Stage.TheVariants.{Quiet}
 use Rattle.saa_word_steps.specs.Needs.{needs_of}
 use Rattle.saa_word_proofs.specs.History.{BeginsWith, part_of, seen_by}
 use Rattle.saa_word_proofs.specs.Promises.{IsAtRest}
-use Rattle.saa_word_proofs.specs.Refinement.{Refines}
-use Rattle.saa_word_proofs.proofs.RefinementLemmas.Lists.{updated-same}
+use Rattle.saa_word_proofs.specs.Registering.{is_slot}
 use Rattle.saa_word_proofs.proofs.RefinementLemmas.Seen.{begins-seen}
-use Rattle.saa_word_proofs.proofs.SoloLemmas.Quiet.{at-rest}
-use Rattle.std.proofs.lemmas.Bool.{cases_Bool, cases_lt}
-use Rattle.saa_core_spec.proofs.Counts.{same_number}
+use Rattle.saa_word_proofs.proofs.SoloLemmas.Quiet.{rest-unregistered}
+use Rattle.std.proofs.lemmas.Bool.{cases_Bool}
+use Rattle.saa_core_spec.proofs.Counts.{number_same, same_number}
 use Rattle.saa_word_threads.specs.declared.table.About.{About}
 use Rattle.saa_word_threads.specs.declared.table.Departed.{Departed}
 use Rattle.saa_word_threads.specs.declared.table.Role.{Role}
@@ -25,17 +23,9 @@ use Rattle.saa_word_threads.specs.declared.table.Role.TheVariants.{Acting, Spent
 use Rattle.saa_word_threads.specs.declared.table.View.{View}
 use Rattle.saa_word_threads.specs.Dealt.{AreLedTo, IsOf, has_number}
 use Rattle.saa_word_threads.specs.Gathered.{IsAmong, Knows}
-use Rattle.saa_word_threads.specs.Kept.{AreGathered, Fits, FitsAs, IsGathered, Kept, departed, gathering, position_in, positions, row_of, spent}
+use Rattle.saa_word_threads.specs.Kept.{AreGathered, Fits, FitsAs, IsGathered, Kept, departed, gathering, is_dealer, row_of, spent}
 use Rattle.saa_word_threads.proofs.Gathering.{found-within, gathered-stay, place-fits, spent-apart}
-use Rattle.saa_word_threads.proofs.Moving.{positions-set}
 use Rattle.saa_word_threads.proofs.Opening.{shows}
-
--- a view that stands where another one stood changes no position
-positions-same : (views : List View) (seat number : ℕ) (v w : View) → seat ≡ suc number → get_elem? views seat ≡ some v → w.position ≡ v.position
-    → positions (set views seat w) ≡ positions views
-positions-same views seat number v w is at same =
-    let stands : positions views number ≡ v.position = ap (λ (n : ℕ). position_in (get_elem? views n)) (sym is) ∙ ap position_in at in
-    positions-set views seat number w is (found-within views seat v at) ∙ updated-same (positions views) number w.position (same ∙ sym stands)
 
 acting : (v : View) → v.role ≡ Acting → v.role ≡ Spent → ⊥
 acting v acts gone = let wrong : Acting ≡ Spent = sym acts ∙ gone in absurd (cc)
@@ -43,24 +33,21 @@ acting v acts gone = let wrong : Acting ≡ Spent = sym acts ∙ gone in absurd 
 -- One place gathers the view of another one
 
 module _ (about : About) (s : State (Unit {0}) View) (kept : Kept about s) (id other : ℕ) (v w : View) (acts : v.role ≡ Acting) (left : w.role ≡ Acting)
-    (rests : w.position.stage ≡ Quiet) (at : get_elem? s.views id ≡ some v) (apart : other ≢ id) (found : get_elem? (set s.views id (gathering v w)) other ≡ some w) where
+    (left_line : is_slot w.position.registration ≡ false) (at : get_elem? s.views id ≡ some v) (apart : other ≢ id) (found : get_elem? (set s.views id (gathering v w)) other ≡ some w) where
   there : get_elem? s.views other ≡ some w
   there = sym (set_else s.views id other (gathering v w) apart) ∙ found
 
-  own : FitsAs kept.history (length s.views) id v Acting
-  own = place-fits kept.history (length s.views) id v acts (kept.each id v at)
+  own : FitsAs kept.history kept.standing about.places kept.dealt id v Acting
+  own = place-fits kept.history kept.standing about.places kept.dealt id v acts (kept.each id v at)
 
-  theirs : FitsAs kept.history (length s.views) other w Acting
-  theirs = place-fits kept.history (length s.views) other w left (kept.each other w there)
+  theirs : FitsAs kept.history kept.standing about.places kept.dealt other w Acting
+  theirs = place-fits kept.history kept.standing about.places kept.dealt other w left (kept.each other w there)
 
   abbrev between : List View
   between = set s.views id (gathering v w)
 
   abbrev behind : List View
   behind = set between other (spent w)
-
-  long : length behind ≡ length s.views
-  long = length-set between other (spent w) ∙ length-set s.views id (gathering v w)
 
   -- what holds of the two views and of all others holds of all
   at-all : (P : ℕ → View → Type 0) → P other (spent w) → P id (gathering v w) → ((seat : ℕ) (u : View) → get_elem? s.views seat ≡ some u → P seat u)
@@ -84,40 +71,77 @@ module _ (about : About) (s : State (Unit {0}) View) (kept : Kept about s) (id o
   stay seat u is = gathered-stay s.views behind stays u.gathered (kept.gathers seat u is)
 
   is-gathered : IsGathered behind (departed w)
-  is-gathered = (
-    spent w,
-    ap (get_elem? behind) (sym theirs.0) ∙ set_here between other (spent w) (found-within between other w found),
-    refl,
-    rests,
-    refl,
-  )
+  is-gathered = (other, spent w, set_here between other (spent w) (found-within between other w found), refl, left_line, refl)
 
-  each-fits : (seat : ℕ) (u : View) → get_elem? behind seat ≡ some u → Fits kept.history (length s.views) seat u
+  each-fits : (seat : ℕ) (u : View) → get_elem? behind seat ≡ some u → Fits kept.history kept.standing about.places kept.dealt seat u
   each-fits =
-      at-all (λ seat u. Fits kept.history (length s.views) seat u) theirs
-      (subst (λ (r : Role). FitsAs kept.history (length s.views) id (gathering v w) r) (sym acts) own) kept.each
+      at-all (λ seat u. Fits kept.history kept.standing about.places kept.dealt seat u) theirs
+      (subst (λ (r : Role). FitsAs kept.history kept.standing about.places kept.dealt id (gathering v w) r) (sym acts) own) kept.each
+
+  -- each seat has the number that it had
+  abbrev WasOf : ℕ → View → Type 0
+  WasOf seat u = (was : View) × (get_elem? s.views seat ≡ some was) × (is_dealer u.role ≡ is_dealer was.role) × (u.number ≡ was.number)
+
+  was : (seat : ℕ) (u : View) → get_elem? behind seat ≡ some u → WasOf seat u
+  was = at-all WasOf (w, there, ap is_dealer (sym left), refl) (v, at, refl, refl) (λ seat u is. (u, is, refl, refl))
+
+  -- and each seat that was there is there with that number
+  is-there : (seat : ℕ) (u : View) → get_elem? s.views seat ≡ some u
+      → (now : View) × (get_elem? behind seat ≡ some now) × (is_dealer now.role ≡ is_dealer u.role) × (now.number ≡ u.number)
+  is-there seat u is =
+      elim (cases_Bool (seat == other)) [
+        | inl one ↦
+            let place_is : seat ≡ other = same_number seat other one in
+            let view_is : w ≡ u = some-injective w u (sym there ∙ ap (get_elem? s.views) (sym place_is) ∙ is) in (
+              spent w,
+              ap (get_elem? behind) place_is ∙ set_here between other (spent w) (found-within between other w found),
+              ap is_dealer (sym left) ∙ ap (λ (x : View). is_dealer x.role) view_is,
+              ap (λ (x : View). x.number) view_is,
+            )
+        | inr not_other ↦
+            let differs : seat ≢ other = λ e. (let wrong : seat == other ≡ true = ap (λ (n : ℕ). seat == n) (sym e) ∙ number_same seat in absurd (cc)) in
+            elim (cases_Bool (seat == id)) [
+              | inl two ↦
+                  let place_is : seat ≡ id = same_number seat id two in
+                  let view_is : v ≡ u = some-injective v u (sym at ∙ ap (get_elem? s.views) (sym place_is) ∙ is) in (
+                    gathering v w,
+                    set_else between other seat (spent w) differs ∙ ap (get_elem? between) place_is
+                        ∙ set_here s.views id (gathering v w) (found-within s.views id v at),
+                    ap (λ (x : View). is_dealer x.role) view_is,
+                    ap (λ (x : View). x.number) view_is,
+                  )
+              | inr not_id ↦
+                  let also : seat ≢ id = λ e. (let wrong : seat == id ≡ true = ap (λ (n : ℕ). seat == n) (sym e) ∙ number_same seat in absurd (cc)) in
+                  (u, set_else between other seat (spent w) differs ∙ set_else s.views id seat (gathering v w) also ∙ is, refl, refl)
+            ]
+      ]
 
   kept-joined : Kept about (record { words = s.words; homes = s.homes; views = behind })
   kept-joined = record {
     history = kept.history;
     last = kept.last;
+    standing = kept.standing;
+    dealt = kept.dealt;
     run = kept.run;
     wide = kept.wide;
-    refines =
-        subst (λ (f : ℕ → Position). Refines (needs_of about.rules) about.places (row_of s.words) f kept.last)
-        (sym (positions-same between other w.number w (spent w) theirs.0 found refl ∙ positions-same s.views id v.number v (gathering v w) own.0 at refl))
-        kept.refines;
-    each = λ seat u is. subst (λ (n : ℕ). Fits kept.history n seat u) (sym long) (each-fits seat u is);
+    few = kept.few;
+    refines = kept.refines;
+    each = each-fits;
     gathers = at-all (λ seat u. AreGathered behind u.gathered) (stay other w there) (is-gathered, stay id v at) stay;
-    few = subst (λ (n : ℕ). n ≤ suc about.places) (sym long) kept.few;
-    fresh = λ place beyond. kept.fresh place (subst (λ (n : ℕ). n ≤ suc place) long beyond);
+    apart = λ one another u x is also acts_one acts_another same.
+        (let first = was one u is in let second = was another x also in
+        kept.apart one another first.0 second.0 first.1 second.1 (sym first.2 ∙ acts_one) (sym second.2 ∙ acts_another) (sym first.3 ∙ same ∙ second.3));
+    fresh = λ number free.
+        kept.fresh number (λ seat u is plays equal.
+        (let now = is-there seat u is in free seat now.0 now.1 (now.2 ∙ plays) (now.3 ∙ equal)));
+    visits = kept.visits;
   }
 
-pub joins : (about : About) (id other : ℕ) (v w gone : View) → v.role ≡ Acting → w.role ≡ Acting → w.position.stage ≡ Quiet → gone ≡ w
+pub joins : (about : About) (id other : ℕ) (v w gone : View) → v.role ≡ Acting → w.role ≡ Acting → is_slot w.position.registration ≡ false → gone ≡ w
     → Joins (Kept about) id v other w (gathering v w) (spent gone)
-joins about id other v w gone acts left rests is =
+joins about id other v w gone acts left left_line is =
     subst (λ (u : View). Joins (Kept about) id v other w (gathering v w) (spent u)) (sym is)
-    (λ s kept at apart found. kept-joined about s kept id other v w acts left rests at apart found)
+    (λ s kept at apart found. kept-joined about s kept id other v w acts left left_line at apart found)
 
 -- What is known then
 
@@ -145,11 +169,13 @@ is-of history v fits = (subst (BeginsWith history) (sym fits.0) (begins-seen v.n
 
 module _ (about : About) (s : State (Unit {0}) View) (kept : Kept about s) (seat : ℕ) (v : View) (at : get_elem? s.views seat ≡ some v)
     (acts : v.role ≡ Acting) where
+  gone-fits : (gone : Departed) (is : IsGathered s.views gone) → FitsAs kept.history kept.standing about.places kept.dealt is.0 is.1 Spent
+  gone-fits gone is = subst (λ (r : Role). FitsAs kept.history kept.standing about.places kept.dealt is.0 is.1 r) is.3 (kept.each is.0 is.1 is.2)
+
   gathered-fits : (gone : Departed) → IsGathered s.views gone → IsKept kept.history gone
   gathered-fits gone is =
-      let fits : FitsAs kept.history (length s.views) (suc gone.number) is.0 Spent =
-      subst (λ (r : Role). FitsAs kept.history (length s.views) (suc gone.number) is.0 r) is.2 (kept.each (suc gone.number) is.0 is.1) in
-      subst (IsKept kept.history) (sym is.4) (fits.1, fits.2)
+      let fits = gone-fits gone is in
+      subst (IsKept kept.history) (sym is.5) (fits.2, fits.3)
 
   among-fits : (gone : Departed) (gathered : List Departed) → AreGathered s.views gathered → IsAmong gone gathered → IsKept kept.history gone
   among-fits gone [] all among = absurd among
@@ -158,8 +184,8 @@ module _ (about : About) (s : State (Unit {0}) View) (kept : Kept about s) (seat
 
   known-fits : (gone : Departed) → IsAmong gone (departed v ∷ v.gathered) → IsKept kept.history gone
   known-fits gone (inl is) =
-      let fits = place-fits kept.history (length s.views) seat v acts (kept.each seat v at) in
-      subst (IsKept kept.history) is (fits.1, fits.2)
+      let fits = place-fits kept.history kept.standing about.places kept.dealt seat v acts (kept.each seat v at) in
+      subst (IsKept kept.history) is (fits.2, fits.3)
   known-fits gone (inr among) = among-fits gone v.gathered (kept.gathers seat v at) among
 
   pub all-of : (views : List View) → Knows v views → (index : ℕ) (unknown : View) → index < length views → IsOf kept.history (get_or views index unknown)
@@ -167,60 +193,53 @@ module _ (about : About) (s : State (Unit {0}) View) (kept : Kept about s) (seat
   all-of (w ∷ rest) known zero unknown within = is-of kept.history w (known-fits (departed w) known.0)
   all-of (w ∷ rest) known (suc index) unknown within = all-of rest known.1 index unknown (omega arith)
 
-  -- a place that is known rests
-  among-rests : (gone : Departed) (gathered : List Departed) → AreGathered s.views gathered → IsAmong gone gathered
-      → (positions s.views gone.number).stage ≡ Quiet
-  among-rests gone [] all among = absurd among
-  among-rests gone (other ∷ rest) all (inl is) =
-      subst (λ (d : Departed). (positions s.views d.number).stage ≡ Quiet) is
-      (ap (λ (o : Option View). (position_in o).stage) all.0.1 ∙ all.0.3)
-  among-rests gone (other ∷ rest) all (inr among) = among-rests gone rest all.1 among
+  -- a place that is known isn't registered in the queue
+  abbrev IsOut : ℕ → Type 0
+  IsOut number = is_slot (kept.standing number).registration ≡ false
 
-  known-rests : v.position.stage ≡ Quiet → (gone : Departed) → IsAmong gone (departed v ∷ v.gathered) → (positions s.views gone.number).stage ≡ Quiet
-  known-rests rests gone (inl is) =
-      let fits = place-fits kept.history (length s.views) seat v acts (kept.each seat v at) in
-      subst (λ (d : Departed). (positions s.views d.number).stage ≡ Quiet) is
-      (ap (λ (n : ℕ). (position_in (get_elem? s.views n)).stage) (sym fits.0) ∙ ap (λ (o : Option View). (position_in o).stage) at ∙ rests)
-  known-rests rests gone (inr among) = among-rests gone v.gathered (kept.gathers seat v at) among
+  among-out : (gone : Departed) (gathered : List Departed) → AreGathered s.views gathered → IsAmong gone gathered → IsOut gone.number
+  among-out gone [] all among = absurd among
+  among-out gone (other ∷ rest) all (inl is) =
+      subst (λ (d : Departed). IsOut d.number) is
+      (subst (λ (d : Departed). IsOut d.number) (sym all.0.5)
+      (ap (λ (p : Position). is_slot p.registration) (gone-fits other all.0).1 ∙ all.0.4))
+  among-out gone (other ∷ rest) all (inr among) = among-out gone rest all.1 among
 
-  pub has-rests : v.position.stage ≡ Quiet → (number : ℕ) (views : List View) → Knows v views → has_number number views ≡ true
-      → (positions s.views number).stage ≡ Quiet
-  has-rests rests number [] known has = absurd (cc)
-  has-rests rests number (w ∷ rest) known has =
+  known-out : is_slot v.position.registration ≡ false → (gone : Departed) → IsAmong gone (departed v ∷ v.gathered) → IsOut gone.number
+  known-out out gone (inl is) =
+      let fits = place-fits kept.history kept.standing about.places kept.dealt seat v acts (kept.each seat v at) in
+      subst (λ (d : Departed). IsOut d.number) is (ap (λ (p : Position). is_slot p.registration) fits.1 ∙ out)
+  known-out out gone (inr among) = among-out gone v.gathered (kept.gathers seat v at) among
+
+  pub has-out : is_slot v.position.registration ≡ false → (number : ℕ) (views : List View) → Knows v views → has_number number views ≡ true → IsOut number
+  has-out out number [] known has = absurd (cc)
+  has-out out number (w ∷ rest) known has =
       elim (cases_Bool (w.number == number)) [
-        | inl same ↦
-            subst (λ (n : ℕ). (positions s.views n).stage ≡ Quiet) (same_number w.number number same) (known-rests rests (departed w) known.0)
-        | inr another ↦ has-rests rests number rest known.1 (ap (λ (b : Bool). b || has_number number rest) (sym another) ∙ has)
+        | inl same ↦ subst IsOut (same_number w.number number same) (known-out out (departed w) known.0)
+        | inr another ↦ has-out out number rest known.1 (ap (λ (b : Bool). b || has_number number rest) (sym another) ∙ has)
       ]
 
--- one that isn't dealt is idle
-stands-idle : (view : Option View) → ((v : View) → view ≡ some v → ⊥) → (position_in view).stage ≡ Quiet
-stands-idle no_view not = refl
-stands-idle (some v) not = absurd (not v refl)
-
--- nothing is owed where all places rest
+-- nothing is owed where no place is registered in the queue
 settled-all : (about : About) (s : State (Unit {0}) View) (words : List ℕ) (views : List View) (kept : Kept about s) → s.words ≡ words
-    → ((number : ℕ) → has_number number views ≡ true → (positions s.views number).stage ≡ Quiet)
+    → ((number : ℕ) → has_number number views ≡ true → is_slot (kept.standing number).registration ≡ false)
     → ((number : ℕ) → number < about.places → has_number number views ≡ true) → IsAtRest (needs_of about.rules) (row_of words) kept.last
-settled-all about s words views kept is rests all =
+settled-all about s words views kept is out all =
     subst (λ (l : List ℕ). IsAtRest (needs_of about.rules) (row_of l) kept.last) is
-    (at-rest (needs_of about.rules) about.places (row_of s.words) (positions s.views) kept.last kept.refines (λ number.
-    elim (cases_lt number about.places) [
-      | inl within ↦ rests number (all number within)
-      | inr beyond ↦
-          stands-idle (get_elem? s.views (suc number))
-          (λ v at. let within = found-within s.views (suc number) v at in let few = kept.few in omega arith)
+    (rest-unregistered (needs_of about.rules) about.places (row_of s.words) kept.standing kept.last kept.refines (λ number.
+    elim (cases_Bool (is_slot (kept.standing number).registration)) [
+      | inl slot ↦ out number (all number (kept.refines.seats.within number slot))
+      | inr none ↦ none
     ]))
 
 pub led-all : (about : About) (s : State (Unit {0}) View) (seat : ℕ) (v : View) (words : List ℕ) (views : List View) → Kept about s
-    → get_elem? s.views seat ≡ some v → v.role ≡ Acting → v.position.stage ≡ Quiet → s.words ≡ words → Knows v views → AreLedTo about words views
-led-all about s seat v words views kept at acts rests is known = record {
+    → get_elem? s.views seat ≡ some v → v.role ≡ Acting → is_slot v.position.registration ≡ false → s.words ≡ words → Knows v views → AreLedTo about words views
+led-all about s seat v words views kept at acts out is known = record {
   history = kept.history;
   leads = record { last = kept.last; run = kept.run; shown = shows about s words kept is };
   each = all-of about s kept seat v at acts views known;
-  others = λ number beyond. kept.fresh number (let f = kept.few in omega arith);
+  others = kept.visits;
   settled =
-      settled-all about s words views kept is (λ number has. has-rests about s kept seat v at acts rests number views known has);
+      settled-all about s words views kept is (λ number has. has-out about s kept seat v at acts out number views known has);
 }
 
 pub led-none : (about : About) (s : State (Unit {0}) View) (words : List ℕ) (views : List View) → Kept about s → s.words ≡ words → views ≡ []
@@ -230,7 +249,7 @@ led-none about s words views kept is none =
       history = kept.history;
       leads = record { last = kept.last; run = kept.run; shown = shows about s words kept is };
       each = λ index unknown within. absurd (omega arith);
-      others = λ number beyond. kept.fresh number (let f = kept.few in omega arith);
+      others = kept.visits;
       settled = settled-all about s words [] kept is (λ number has. absurd (cc));
     })
 

@@ -8,3 +8,4 @@ pub mod Going
 pub mod Leaving
 pub mod Comparing
 pub mod Inner
+pub mod Visiting

@@ -1,9 +1,9 @@
 -- Each step of a place keeps the table's rule, and tells the place what it does.
-use Rattle.std.proofs.Common.{◌≡◌, ◌≢◌, ℕ, suc, ◌+◌, ◌^◌, ◌<◌, ◌≤◌, ◌⊎◌, ◌==◌, ◌||◌, Bool, true, false, List, [], ◌∷◌, ◌++◌, length, get_or, refl, sym, ap, subst, ◌∙◌, arith, inl, inr}
+use Rattle.std.proofs.Common.{◌≡◌, ◌≢◌, ℕ, ◌+◌, ◌^◌, ◌<◌, ◌≤◌, ◌⊎◌, ◌==◌, ◌&&◌, ◌||◌, Bool, true, false, List, ◌++◌, length, get_or, refl, sym, ap, subst, ◌∙◌, arith, inl, inr, append-nil}
 use Rattle.std.proofs.Math.ListN.{set, length-set}
 use Rattle.std.proofs.lemmas.List.{get_or-set_same, get_or-set_other, set-get_or}
 use Rattle.std.proofs.lemmas.Bool.{cases_Bool}
-use mathlib.Core.Option.{some}
+use mathlib.Core.Option.{some, some-injective}
 use lib.ListN.{get_elem?}
 use Rattle.atomic_table.specs.Table.{Allows, Me, State, keeps}
 use Rattle.atomic_table.proofs.Lists.{at_set, set_again, set_here, set_else}
@@ -13,27 +13,29 @@ use Rattle.saa_word_steps.specs.declared.event.Event.{Event}
 use Rattle.saa_word_steps.specs.declared.operation.Operation.{Operation}
 use Rattle.saa_word_steps.specs.declared.place.Next.TheVariants.{Going}
 use Rattle.saa_word_steps.specs.declared.place.Place.{Place}
+use Rattle.saa_word_steps.specs.declared.place.Stage.{Stage}
 use Rattle.saa_word_steps.specs.Needs.{AreNeeds, Needs, needs_of}
 use Rattle.saa_word_steps.specs.AbstractState.{AbstractState, IsRun, opening}
 use Rattle.saa_word_steps.specs.Steps.{next_of, operation_of, word_at, written_by}
-use Rattle.saa_word_proofs.specs.History.{has_part, named, of_place, part_of, seen_by}
-use Rattle.saa_word_proofs.specs.Refinement.{Refines}
+use Rattle.saa_word_proofs.specs.History.{has_part, named, never_waits, of_place, part_of, seen_by}
+use Rattle.saa_word_proofs.specs.Refinement.{IsVisiting, Refines, joins_line}
+use Rattle.saa_word_proofs.specs.Promises.{idle_place}
 use Rattle.saa_word_proofs.specs.Rows.{updated}
 use Rattle.saa_word_proofs.specs.CallStages.{IsReadyNext}
 use Rattle.saa_word_proofs.specs.StepRefinement.{StepRefines, named_at, place_after, row_after}
 use Rattle.saa_word_proofs.proofs.RefinementLemmas.Lists.{all-same, updated-at}
-use Rattle.saa_word_proofs.proofs.RefinementLemmas.Steps.{step}
+use Rattle.saa_word_proofs.proofs.RefinementLemmas.Steps.{step-anyone, visiting}
 use Rattle.saa_word_proofs.proofs.SoloLemmas.Alone.{rules-lawful}
 use Rattle.saa_word_threads.specs.declared.table.About.{About}
 use Rattle.saa_word_threads.specs.declared.table.Role.{Role}
 use Rattle.saa_word_threads.specs.declared.table.Role.TheVariants.{Dealer, Acting, Spent}
 use Rattle.saa_word_threads.specs.declared.table.View.{View}
-use Rattle.saa_word_threads.specs.Kept.{AreGathered, Fits, FitsAs, Kept, position_in, positions, row_of}
+use Rattle.saa_word_threads.specs.Kept.{AreGathered, Fits, FitsAs, IsFree, Kept, is_dealer, row_of}
 use Rattle.saa_word_steps.specs.declared.rules.Rules.{Rules}
 use Rattle.saa_word_threads.specs.Told.{Begins, Extends, IsNext, IsSought, Moves, prepares}
 use Rattle.saa_word_threads.proofs.Beginning.{begins-refines, updated-twice}
 use Rattle.saa_word_threads.proofs.Gathering.{found-within, gathered-stay, place-fits, spent-apart}
-use Rattle.saa_word_threads.proofs.Growing.{has-append, has-other, part-append, part-none, part-own, run-append, seen-apart, seen-legal, seen-on, seen-part}
+use Rattle.saa_word_threads.proofs.Growing.{has-append, has-other, never-append, never-same, part-append, part-none, part-own, run-append, seen-apart, seen-legal, seen-on, seen-part, visitor-names}
 
 -- Lists
 
@@ -58,22 +60,6 @@ differs one other apart =
       | inr not ↦ not
     ]
 
--- where places stand, with the view of one changed
-pub positions-set : (views : List View) (seat number : ℕ) (w : View) → seat ≡ suc number → seat < length views
-    → positions (set views seat w) ≡ updated (positions views) number w.position
-positions-set views seat number w is within =
-    all-same (positions (set views seat w)) (updated (positions views) number w.position) (λ place.
-    elim (cases_Bool (place == number)) [
-      | inl same ↦
-          let here : suc place ≡ seat = ap suc (same_number place number same) ∙ sym is in
-          rw same (ap (λ (n : ℕ). position_in (get_elem? (set views seat w) n)) here ∙ ap position_in (set_here views seat w within))
-      | inr apart ↦
-          let other : suc place ≢ seat = λ e.
-          let wrong : place ≡ number = (let f : suc place ≡ suc number = e ∙ is in omega arith) in
-          let yes : place == number ≡ true = ap (λ (n : ℕ). place == n) (sym wrong) ∙ number_same place in absurd (cc) in
-          rw apart (ap position_in (set_else views seat (suc place) w other))
-    ])
-
 -- a step, where the mover stands so
 
 pub record Stepped (needs : Needs) (places : ℕ) (row : ℕ → ℕ) (standing : ℕ → Place) (state : AbstractState) (me : ℕ) (place : Place) : Type 0 where
@@ -86,12 +72,12 @@ pub record Stepped (needs : Needs) (places : ℕ) (row : ℕ → ℕ) (standing 
       (updated standing me (place_after place (next_of needs me place place.stage (row (word_at (operation_of needs places me place.stage))))))
       last
 
-module _ (needs : Needs) (lawful : AreNeeds needs) (wide : needs.top < 2 ^ count_bits) (places : ℕ) (few : places < 65536) (me : ℕ) (here : me < places) where
+module _ (needs : Needs) (lawful : AreNeeds needs) (wide : needs.top < 2 ^ count_bits) (places : ℕ) (few : places < 65536) (me : ℕ) where
   stepped : (row : ℕ → ℕ) (standing : ℕ → Place) (state : AbstractState) → Refines needs places row standing state
       → Stepped needs places row standing state me (standing me)
   stepped row standing state s =
       let made : StepRefines needs places row standing state me (standing me).stage =
-      step needs lawful wide places row standing state me few here s (standing me).stage refl in
+      step-anyone needs lawful wide places row standing state me few s (standing me).stage refl in
       record { events = made.events; last = made.last; run = made.run; names = made.names; inside = made.inside; refines = made.stands }
 
   pub stepped-at : (row : ℕ → ℕ) (standing : ℕ → Place) (state : AbstractState) (place : Place) → standing me ≡ place
@@ -104,30 +90,39 @@ module _ (needs : Needs) (lawful : AreNeeds needs) (wide : needs.top < 2 ^ count
   ready-at row standing state place at s =
       subst (λ (p : Place). IsReadyNext needs places me (Going p)) at (s.stages.ranged me, (stepped row standing state s).inside)
 
+  -- a visitor is at a stage of a visitor
+  pub visiting-at : (row : ℕ → ℕ) (standing : ℕ → Place) (state : AbstractState) (place : Place) → standing me ≡ place
+      → Refines needs places row standing state → places ≤ me → IsVisiting place.stage
+  visiting-at row standing state place at s beyond =
+      subst (λ (p : Place). IsVisiting p.stage) at (visiting needs places row standing state me s beyond)
+
+-- a place that makes its step next, or a visitor, goes on to no word of its own where it has none
+never-joins : (places me : ℕ) (stage : Stage) → (me < places) ⊎ IsVisiting stage → places ≤ me → joins_line stage ≡ false
+never-joins places me stage (inl here) out = absurd (omega (arith, out, here))
+never-joins places me stage (inr visits) out = visits.0
+
 -- Views and the history
 
--- a view of another seat fits a history with events of the mover behind it
-apart-fits : (history : List (ℕ × Event)) (seats seat me : ℕ) (v : View) (events : List Event) → seat ≢ suc me
-    → FitsAs history seats seat v Acting → FitsAs (history ++ of_place me events) seats seat v Acting
-apart-fits history seats seat me v events apart fits =
-    let other : me ≢ v.number = λ e. apart (fits.0 ∙ ap suc (sym e)) in
-    let none : has_part v.number (of_place me events) ≡ false = has-other v.number me events (differs me v.number other) in (
-      fits.0,
-      fits.1 ∙ sym (seen-apart v.number history (of_place me events) none),
-      fits.2 ∙ sym (part-append v.number history (of_place me events)
-          ∙ ap (λ (l : List Event). part_of v.number history ++ l) (part-none v.number (of_place me events) none)
-          ∙ append-none (part_of v.number history)),
-    )
-  where
-    append-none : (l : List Event) → l ++ [] ≡ l
-    append-none [] = refl
-    append-none (event ∷ l) = ap (λ (m : List Event). event ∷ m) (append-none l)
+module _ (history : List (ℕ × Event)) (standing : ℕ → Place) (places dealt seat : ℕ) (v : View) where
+  -- a view of another number fits a history with events of the mover behind it
+  apart-fits : (me : ℕ) (events : List Event) (place : Place) → me ≢ v.number → FitsAs history standing places dealt seat v Acting
+      → FitsAs (history ++ of_place me events) (updated standing me place) places dealt seat v Acting
+  apart-fits me events place other fits =
+      let none : has_part v.number (of_place me events) ≡ false = has-other v.number me events (differs me v.number other) in
+      let test : v.number == me ≡ false = differs v.number me (λ e. other (sym e)) in (
+        fits.0,
+        rw test fits.1,
+        fits.2 ∙ sym (seen-apart v.number history (of_place me events) none),
+        fits.3 ∙ sym (part-append v.number history (of_place me events)
+            ∙ ap (λ (l : List Event). part_of v.number history ++ l) (part-none v.number (of_place me events) none)
+            ∙ append-nil (part_of v.number history)),
+      )
 
-other-fits : (history : List (ℕ × Event)) (seats seat me : ℕ) (v : View) (role : Role) (events : List Event) → seat ≢ suc me
-    → FitsAs history seats seat v role → FitsAs (history ++ of_place me events) seats seat v role
-other-fits history seats seat me v Dealer events apart fits = fits
-other-fits history seats seat me v Acting events apart fits = apart-fits history seats seat me v events apart fits
-other-fits history seats seat me v Spent events apart fits = apart-fits history seats seat me v events apart fits
+  other-fits : (me : ℕ) (role : Role) (events : List Event) (place : Place) → (is_dealer role ≡ false → me ≢ v.number)
+      → FitsAs history standing places dealt seat v role → FitsAs (history ++ of_place me events) (updated standing me place) places dealt seat v role
+  other-fits me Dealer events place apart fits = fits
+  other-fits me Acting events place apart fits = apart-fits me events place (apart refl) fits
+  other-fits me Spent events place apart fits = apart-fits me events place (apart refl) fits
 
 -- the mover's view behind its step
 abbrev pub moved_view : View → List (ℕ × Event) → List Event → Place → View
@@ -140,32 +135,32 @@ moved_view v history events place = record {
   gathered = v.gathered;
 }
 
-moved-fits : (history : List (ℕ × Event)) (seats seat : ℕ) (v : View) (events : List Event) (place : Place) → v.role ≡ Acting → Fits history seats seat v
-    → Fits (history ++ of_place v.number events) seats seat (moved_view v history events place)
-moved-fits history seats seat v events place acts fits =
-    let own = place-fits history seats seat v acts fits in
-    subst (λ (r : Role). FitsAs (history ++ of_place v.number events) seats seat (moved_view v history events place) r) (sym acts) (
-      own.0,
-      refl,
-      ap (λ (l : List Event). l ++ events) own.2
-          ∙ sym (part-append v.number history (of_place v.number events)
-          ∙ ap (λ (l : List Event). part_of v.number history ++ l) (part-own v.number events)),
-    )
+module _ (history : List (ℕ × Event)) (standing : ℕ → Place) (places dealt seat : ℕ) (v : View) (events : List Event) (place : Place) (acts : v.role ≡ Acting)
+    (fits : FitsAs history standing places dealt seat v Acting) where
+  moved-fits : Fits (history ++ of_place v.number events) (updated standing v.number place) places dealt seat (moved_view v history events place)
+  moved-fits =
+      subst (λ (r : Role). FitsAs (history ++ of_place v.number events) (updated standing v.number place) places dealt seat (moved_view v history events place) r)
+      (sym acts) (
+        fits.0,
+        updated-at standing v.number place,
+        refl,
+        ap (λ (l : List Event). l ++ events) fits.3
+            ∙ sym (part-append v.number history (of_place v.number events)
+            ∙ ap (λ (l : List Event). part_of v.number history ++ l) (part-own v.number events)),
+      )
 
-moved-extends : (history : List (ℕ × Event)) (seats seat : ℕ) (v : View) (events : List Event) (place : Place) → v.role ≡ Acting → Fits history seats seat v
-    → Extends v events (moved_view v history events place)
-moved-extends history seats seat v events place acts fits =
-    let own = place-fits history seats seat v acts fits in
-    let on = seen-on v.number history events in
-    record {
-      role = refl;
-      number = refl;
-      part = refl;
-      more = on.more;
-      seen = on.seen ∙ ap (λ (l : List (ℕ × Event)). l ++ on.more) (sym own.1);
-      own = on.own;
-      latest = on.latest;
-    }
+  moved-extends : Extends v events (moved_view v history events place)
+  moved-extends =
+      let on = seen-on v.number history events in
+      record {
+        role = refl;
+        number = refl;
+        part = refl;
+        more = on.more;
+        seen = on.seen ∙ ap (λ (l : List (ℕ × Event)). l ++ on.more) (sym fits.2);
+        own = on.own;
+        latest = on.latest;
+      }
 
 -- what a word is written as that it was, and a view that stays, change nothing
 unchanged : (about : About) (s : State (Unit {0}) View) (kept : Kept about s) (at number seat : ℕ) (v : View) → number ≡ row_of s.words at
@@ -179,22 +174,20 @@ unchanged about s kept at number seat v same is =
 
 module _ (about : About) (few : about.places < 65536) (wide : (needs_of about.rules).top < 2 ^ count_bits) where
   module _ (s : State (Unit {0}) View) (kept : Kept about s) (seat : ℕ) (v : View) (at : get_elem? s.views seat ≡ some v)
-      (place : Place) (acts : v.role ≡ Acting) (here : v.number < about.places) (begins : Begins (needs_of about.rules) v.position place) where
-    fits : FitsAs kept.history (length s.views) seat v Acting
-    fits = place-fits kept.history (length s.views) seat v acts (kept.each seat v at)
+      (place : Place) (acts : v.role ≡ Acting) (here : (v.number < about.places) ⊎ IsVisiting place.stage)
+      (begins : Begins (needs_of about.rules) v.position place) where
+    fits : FitsAs kept.history kept.standing about.places kept.dealt seat v Acting
+    fits = place-fits kept.history kept.standing about.places kept.dealt seat v acts (kept.each seat v at)
 
-    stands : positions s.views v.number ≡ v.position
-    stands = ap (λ (n : ℕ). position_in (get_elem? s.views n)) (sym fits.0) ∙ ap position_in at
-
-    begun : Refines (needs_of about.rules) about.places (row_of s.words) (updated (positions s.views) v.number place) kept.last
+    begun : Refines (needs_of about.rules) about.places (row_of s.words) (updated kept.standing v.number place) kept.last
     begun =
-        begins-refines (needs_of about.rules) wide about.places (row_of s.words) kept.last v.number here (positions s.views) v.position place stands begins
-        kept.refines
+        begins-refines (needs_of about.rules) wide about.places (row_of s.words) kept.last v.number kept.standing v.position place fits.1
+        (never-joins about.places v.number place.stage here) begins kept.refines
 
-    pub made : Stepped (needs_of about.rules) about.places (row_of s.words) (updated (positions s.views) v.number place) kept.last v.number place
+    pub made : Stepped (needs_of about.rules) about.places (row_of s.words) (updated kept.standing v.number place) kept.last v.number place
     made =
-        stepped-at (needs_of about.rules) (rules-lawful about.rules) wide about.places few v.number here (row_of s.words)
-        (updated (positions s.views) v.number place) kept.last place (updated-at (positions s.views) v.number place) begun
+        stepped-at (needs_of about.rules) (rules-lawful about.rules) wide about.places few v.number (row_of s.words)
+        (updated kept.standing v.number place) kept.last place (updated-at kept.standing v.number place) begun
 
     abbrev operation : Operation
     operation = operation_of (needs_of about.rules) about.places v.number place.stage
@@ -208,27 +201,47 @@ module _ (about : About) (few : about.places < 65536) (wide : (needs_of about.ru
     abbrev view : View
     view = moved_view v kept.history made.events behind
 
+    abbrev standing : ℕ → Place
+    standing = updated kept.standing v.number behind
+
     abbrev after : State (Unit {0}) View
     after = record { words = set s.words (word_at operation) (written_by operation found); homes = s.homes; views = set s.views seat view }
 
-    refined : Refines (needs_of about.rules) about.places (row_of after.words) (positions after.views) made.last
+    refined : Refines (needs_of about.rules) about.places (row_of after.words) standing made.last
     refined =
-        subst (λ (r : ℕ → ℕ). Refines (needs_of about.rules) about.places r (positions after.views) made.last)
+        subst (λ (r : ℕ → ℕ). Refines (needs_of about.rules) about.places r standing made.last)
         (sym (set-updated s.words (word_at operation) (written_by operation found) (let i = made.inside in let w = kept.wide in omega arith)))
         (subst (λ (f : ℕ → Place). Refines (needs_of about.rules) about.places (row_after (row_of s.words) operation) f made.last)
-        (sym (positions-set s.views seat v.number view fits.0 (found-within s.views seat v at)))
-        (subst (λ (f : ℕ → Place). Refines (needs_of about.rules) about.places (row_after (row_of s.words) operation) f made.last)
-        (updated-twice (positions s.views) v.number place behind) made.refines))
+        (updated-twice kept.standing v.number place behind) made.refines)
+
+    plays : is_dealer v.role ≡ false
+    plays = ap is_dealer acts
+
+    -- no other seat has the mover's number
+    other-number : (other : ℕ) (w : View) → other ≢ seat → get_elem? s.views other ≡ some w → is_dealer w.role ≡ false → v.number ≢ w.number
+    other-number other w differ is other_plays same = differ (sym (kept.apart seat other v w at is plays other_plays same))
 
     -- each view fits the longer history
     each-after : (other : ℕ) (w : View) → ((other ≡ seat) × (view ≡ w)) ⊎ ((other ≢ seat) × (get_elem? s.views other ≡ some w))
-        → Fits (kept.history ++ of_place v.number made.events) (length s.views) other w
+        → Fits (kept.history ++ of_place v.number made.events) standing about.places kept.dealt other w
     each-after other w (inl own) =
-        subst (λ (n : ℕ). Fits (kept.history ++ of_place v.number made.events) (length s.views) n w) (sym own.0)
-        (subst (λ (u : View). Fits (kept.history ++ of_place v.number made.events) (length s.views) seat u) own.1
-        (moved-fits kept.history (length s.views) seat v made.events behind acts (kept.each seat v at)))
-    each-after other w (inr apart) =
-        other-fits kept.history (length s.views) other v.number w w.role made.events (λ e. apart.0 (e ∙ sym fits.0)) (kept.each other w apart.1)
+        subst (λ (n : ℕ). Fits (kept.history ++ of_place v.number made.events) standing about.places kept.dealt n w) (sym own.0)
+        (subst (λ (u : View). Fits (kept.history ++ of_place v.number made.events) standing about.places kept.dealt seat u) own.1
+        (moved-fits kept.history kept.standing about.places kept.dealt seat v made.events behind acts fits))
+    each-after other w (inr differ) =
+        other-fits kept.history kept.standing about.places kept.dealt other w v.number w.role made.events behind
+        (other-number other w differ.0 differ.1) (kept.each other w differ.1)
+
+    -- no two have one number still
+    apart-after : (one other : ℕ) (u w : View) → ((one ≡ seat) × (view ≡ u)) ⊎ ((one ≢ seat) × (get_elem? s.views one ≡ some u))
+        → ((other ≡ seat) × (view ≡ w)) ⊎ ((other ≢ seat) × (get_elem? s.views other ≡ some w)) → is_dealer u.role ≡ false → is_dealer w.role ≡ false
+        → u.number ≡ w.number → one ≡ other
+    apart-after one other u w (inl own) (inl also) acting_one acting_other same = own.0 ∙ sym also.0
+    apart-after one other u w (inl own) (inr differ) acting_one acting_other same =
+        absurd (other-number other w differ.0 differ.1 acting_other (ap (λ (x : View). x.number) own.1 ∙ same))
+    apart-after one other u w (inr differ) (inl own) acting_one acting_other same =
+        absurd (other-number one u differ.0 differ.1 acting_one (ap (λ (x : View). x.number) own.1 ∙ sym same))
+    apart-after one other u w (inr differ) (inr also) acting_one acting_other same = kept.apart one other u w differ.1 also.1 acting_one acting_other same
 
     -- what was gathered stays where it is: the mover's view wasn't
     stays : (other : ℕ) (w : View) → get_elem? s.views other ≡ some w → w.role ≡ Spent → get_elem? after.views other ≡ some w
@@ -241,29 +254,72 @@ module _ (about : About) (few : about.places < 65536) (wide : (needs_of about.ru
         subst (λ (u : View). AreGathered after.views u.gathered) own.1 (gathered-stay s.views after.views stays v.gathered (kept.gathers seat v at))
     gathers-after other w (inr apart) = gathered-stay s.views after.views stays w.gathered (kept.gathers other w apart.1)
 
-    -- a place that isn't dealt has no event still
-    fresh-after : (other : ℕ) → length s.views ≤ suc other → has_part other (kept.history ++ of_place v.number made.events) ≡ false
-    fresh-after other beyond =
-        let apart : v.number ≢ other = λ e.
-        (let within = found-within s.views seat v at in let is = fits.0 in omega arith) in
-        has-append other kept.history (of_place v.number made.events)
-        ∙ ap (λ (b : Bool). b || has_part other (of_place v.number made.events)) (kept.fresh other beyond)
-        ∙ has-other other v.number made.events (differs v.number other apart)
+    within : seat < length s.views
+    within = found-within s.views seat v at
+
+    -- who was free before the step
+    free-before : (number : ℕ) → IsFree (set s.views seat view) number → IsFree s.views number
+    free-before number free other w is acting same =
+        elim (cases_Bool (other == seat)) [
+          | inl here_too ↦
+              let place_is : other ≡ seat = same_number other seat here_too in
+              let view_is : v ≡ w = some-injective v w (sym at ∙ ap (get_elem? s.views) (sym place_is) ∙ is) in
+              free seat view (set_here s.views seat view within) plays (ap (λ (x : View). x.number) view_is ∙ same)
+          | inr differ ↦
+              let apart : other ≢ seat = λ e. (let wrong : other == seat ≡ true = ap (λ (n : ℕ). other == n) (sym e) ∙ number_same other in absurd (cc)) in
+              free other w (set_else s.views seat other view apart ∙ is) acting same
+        ]
+
+    -- a number that nobody has is idle still, and has no event
+    fresh-after : (number : ℕ) → IsFree (set s.views seat view) number
+        → (has_part number (kept.history ++ of_place v.number made.events) ≡ false) × (standing number ≡ idle_place)
+    fresh-after number free =
+        let mine : v.number ≢ number = free seat view (set_here s.views seat view within) plays in
+        let none = kept.fresh number (free-before number free) in
+        let test : number == v.number ≡ false = differs number v.number (λ e. mine (sym e)) in (
+          has-append number kept.history (of_place v.number made.events)
+              ∙ ap (λ (b : Bool). b || has_part number (of_place v.number made.events)) none.0
+              ∙ has-other number v.number made.events (differs v.number number mine),
+          rw test none.1,
+        )
+
+    -- a visitor makes no event of who waits
+    visitor-never : about.places ≤ v.number → never_waits made.events ≡ true
+    visitor-never beyond =
+        never-same made.events (named_at (needs_of about.rules) place.stage found) made.names
+        (visitor-names (needs_of about.rules) place.stage found
+        (visiting-at (needs_of about.rules) (rules-lawful about.rules) wide about.places few v.number (row_of s.words)
+        (updated kept.standing v.number place) kept.last place (updated-at kept.standing v.number place) begun beyond))
+
+    visits-after : (number : ℕ) → about.places ≤ number → never_waits (part_of number (kept.history ++ of_place v.number made.events)) ≡ true
+    visits-after number beyond =
+        ap never_waits (part-append number kept.history (of_place v.number made.events))
+        ∙ never-append (part_of number kept.history) (part_of number (of_place v.number made.events))
+        ∙ ap (λ (b : Bool). b && never_waits (part_of number (of_place v.number made.events))) (kept.visits number beyond)
+        ∙ elim (cases_Bool (v.number == number)) [
+          | inl mine ↦
+              let is : v.number ≡ number = same_number v.number number mine in
+              subst (λ (n : ℕ). never_waits (part_of n (of_place v.number made.events)) ≡ true) is
+              (ap never_waits (part-own v.number made.events) ∙ visitor-never (subst (λ (n : ℕ). about.places ≤ n) (sym is) beyond))
+          | inr another ↦ ap never_waits (part-none number (of_place v.number made.events) (has-other number v.number made.events another))
+        ]
 
     kept-after : Kept about after
     kept-after = record {
       history = kept.history ++ of_place v.number made.events;
       last = made.last;
+      standing = standing;
+      dealt = kept.dealt;
       run =
           run-append (needs_of about.rules) (opening about.withheld) kept.last made.last kept.history (of_place v.number made.events) kept.run made.run;
       wide = length-set s.words (word_at operation) (written_by operation found) ∙ kept.wide;
+      few = kept.few;
       refines = refined;
-      each = λ other w is.
-          subst (λ (n : ℕ). Fits (kept.history ++ of_place v.number made.events) n other w) (sym (length-set s.views seat view))
-          (each-after other w (at_set s.views seat other view w is));
+      each = λ other w is. each-after other w (at_set s.views seat other view w is);
       gathers = λ other w is. gathers-after other w (at_set s.views seat other view w is);
-      few = subst (λ (n : ℕ). n ≤ suc about.places) (sym (length-set s.views seat view)) kept.few;
-      fresh = λ other beyond. fresh-after other (subst (λ (n : ℕ). n ≤ suc other) (length-set s.views seat view) beyond);
+      apart = λ one other u w is also. apart-after one other u w (at_set s.views seat one view u is) (at_set s.views seat other view w also);
+      fresh = fresh-after;
+      visits = visits-after;
     }
 
     told-after : Moves (needs_of about.rules) about.withheld about.places place (next_of (needs_of about.rules) v.number place place.stage found) found v view
@@ -271,7 +327,7 @@ module _ (about : About) (few : about.places < 65536) (wide : (needs_of about.ru
       position = refl;
       events = made.events;
       names = made.names;
-      extends = moved-extends kept.history (length s.views) seat v made.events behind acts (kept.each seat v at);
+      extends = moved-extends kept.history kept.standing about.places kept.dealt seat v made.events behind acts fits;
       legal =
           seen-legal (needs_of about.rules) about.withheld v.number (kept.history ++ of_place v.number made.events) made.last
           (run-append (needs_of about.rules) (opening about.withheld) kept.last made.last kept.history (of_place v.number made.events) kept.run made.run);
@@ -279,17 +335,18 @@ module _ (about : About) (few : about.places < 65536) (wide : (needs_of about.ru
           seen-part v.number (kept.history ++ of_place v.number made.events)
           ∙ part-append v.number kept.history (of_place v.number made.events)
           ∙ ap (λ (l : List Event). part_of v.number kept.history ++ l) (part-own v.number made.events)
-          ∙ sym (ap (λ (l : List Event). l ++ made.events) fits.2);
+          ∙ sym (ap (λ (l : List Event). l ++ made.events) fits.3);
       ready =
-          ready-at (needs_of about.rules) (rules-lawful about.rules) wide about.places few v.number here (row_of after.words) (positions after.views) made.last
-          behind
-          (ap (λ (n : ℕ). position_in (get_elem? (set s.views seat view) n)) (sym fits.0)
-          ∙ ap position_in (set_here s.views seat view (found-within s.views seat v at))) refined;
+          ready-at (needs_of about.rules) (rules-lawful about.rules) wide about.places few v.number (row_of after.words) standing made.last
+          behind (updated-at kept.standing v.number behind) refined;
+      visits =
+          visiting-at (needs_of about.rules) (rules-lawful about.rules) wide about.places few v.number (row_of after.words) standing made.last
+          behind (updated-at kept.standing v.number behind) refined;
     }
 
   -- Whatever the table is when a place makes the operation of its stage, that keeps the rule, and tells the place what it does
-  pub moves : (slots id : ℕ) (me : Me (Unit {0}) View) (place : Place) → me.0.role ≡ Acting → me.0.number < about.places
-      → Begins (needs_of about.rules) me.0.position place
+  pub moves : (slots id : ℕ) (me : Me (Unit {0}) View) (place : Place) → me.0.role ≡ Acting
+      → (me.0.number < about.places) ⊎ IsVisiting place.stage → Begins (needs_of about.rules) me.0.position place
       → Allows (Kept about) slots id me (word_at (operation_of (needs_of about.rules) about.places me.0.number place.stage))
       (written_by (operation_of (needs_of about.rules) about.places me.0.number place.stage))
       (λ number next. Moves (needs_of about.rules) about.withheld about.places place (next_of (needs_of about.rules) me.0.number place place.stage number) number me.0 next.0 × (next.1 ≡ me.1))
@@ -302,8 +359,8 @@ module _ (about : About) (few : about.places < 65536) (wide : (needs_of about.ru
   )
 
   -- The same of a look: where the place would go on to join, nothing has happened, if then its operation writes what it found
-  pub seeks : (slots id : ℕ) (me : Me (Unit {0}) View) (place : Place) → me.0.role ≡ Acting → me.0.number < about.places
-      → Begins (needs_of about.rules) me.0.position place
+  pub seeks : (slots id : ℕ) (me : Me (Unit {0}) View) (place : Place) → me.0.role ≡ Acting
+      → (me.0.number < about.places) ⊎ IsVisiting place.stage → Begins (needs_of about.rules) me.0.position place
       → ((found : ℕ) → prepares (next_of (needs_of about.rules) me.0.number place place.stage found) ≡ true
       → written_by (operation_of (needs_of about.rules) about.places me.0.number place.stage) found ≡ found)
       → Allows (Kept about) slots id me (word_at (operation_of (needs_of about.rules) about.places me.0.number place.stage))
@@ -346,8 +403,12 @@ allowed about rules places picked place number slots id me operation rules_are p
     (moves about (subst (λ n. n < 65536) (sym places_are) few) (subst (λ (r : Rules). (needs_of r).top < 2 ^ count_bits) (sym rules_are) wide) slots id me place
     is.role here (subst (λ (r : Rules). Begins (needs_of r) me.0.position place) (sym rules_are) is.begins))))
   where
-    here : me.0.number < about.places
-    here = let h = is.here in let n = is.number in omega (arith, places_are)
+    here : (me.0.number < about.places) ⊎ IsVisiting place.stage
+    here =
+        elim is.here [
+          | inl within ↦ inl (let n = is.number in omega (arith, places_are, within))
+          | inr visits ↦ inr visits
+        ]
 
     made_is : operation_of (needs_of about.rules) about.places number place.stage ≡ operation
     made_is =
@@ -376,8 +437,12 @@ allowed-look about rules places picked picked_place place picked_number number s
     (seeks about (subst (λ n. n < 65536) (sym places_are) few) (subst (λ (r : Rules). (needs_of r).top < 2 ^ count_bits) (sym rules_are) wide) slots id me place
     is.role here (subst (λ (r : Rules). Begins (needs_of r) me.0.position place) (sym rules_are) is.begins) same_here)))))
   where
-    here : me.0.number < about.places
-    here = let h = is.here in let n = is.number in omega (arith, places_are)
+    here : (me.0.number < about.places) ⊎ IsVisiting place.stage
+    here =
+        elim is.here [
+          | inl within ↦ inl (let n = is.number in omega (arith, places_are, within))
+          | inr visits ↦ inr visits
+        ]
 
     made_is : operation_of (needs_of about.rules) about.places number place.stage ≡ made
     made_is =

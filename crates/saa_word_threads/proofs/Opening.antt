@@ -1,21 +1,22 @@
 -- How a table begins, how one place more is dealt, and what it is at the end.
-use Rattle.std.proofs.Common.{◌≡◌, ◌≢◌, ℕ, zero, suc, ◌+◌, ◌^◌, ◌<◌, ◌≤◌, ◌⊎◌, ◌==◌, true, false, List, [], ◌∷◌, ◌++◌, length, replicate, get_or, refl, sym, ap, subst, ◌∙◌, arith, inl, inr, length-append}
+use Rattle.std.proofs.Common.{◌≡◌, ◌≢◌, ℕ, zero, suc, ◌+◌, ◌^◌, ◌<◌, ◌≤◌, ◌⊎◌, ◌==◌, true, false, List, [], ◌∷◌, ◌++◌, length, replicate, get_or, refl, sym, ap, subst, ◌∙◌, arith, inl, inr}
 use Rattle.std.proofs.Common.{Option as Maybe, Some, None, nat_lt, if◌then◌else◌}
 use Rattle.std.proofs.Math.ListN.{set, length-set}
 use Rattle.std.proofs.lemmas.List.{get_or-set_same, get_or-set_other, length-replicate}
+use Rattle.std.proofs.lemmas.Bool.{cases_Bool}
 use Rattle.std.proofs.lemmas.Bool.Decides.{nat_tests}
 use mathlib.Core.Option.{some, some-injective, some-ne-none}
 use lib.ListN.{get_elem?}
-use Rattle.atomic_table.specs.Table.{Splits, State, opening as table_opening}
+use Rattle.atomic_table.specs.Table.{Enters, Splits, State, opening as table_opening}
 use Rattle.atomic_table.specs.Seated.{TableId}
-use Rattle.atomic_table.proofs.Lists.{at_set, set_else}
+use Rattle.atomic_table.proofs.Lists.{at_longer, at_set, set_else}
 use Rattle.saa_core_words.specs.Words.{count_bits}
 use Rattle.saa_word_steps.specs.declared.event.Event.{Event}
 use Rattle.saa_word_steps.specs.declared.place.Place.{Place as Position}
 use Rattle.saa_word_steps.specs.AbstractState.{opening}
 use Rattle.saa_word_steps.specs.Needs.{needs_of}
 use Rattle.saa_word_proofs.specs.History.{BeginsWith, LeadsTo}
-use Rattle.saa_word_proofs.specs.Promises.{Observes, opening_row}
+use Rattle.saa_word_proofs.specs.Promises.{Observes, idle_place, opening_row}
 use Rattle.saa_word_proofs.specs.Refinement.{Refines}
 use Rattle.saa_word_proofs.proofs.RefinementLemmas.Lists.{all-same}
 use Rattle.saa_word_proofs.proofs.RefinementLemmas.Promises.{opens, says-so}
@@ -26,8 +27,9 @@ use Rattle.saa_word_threads.specs.declared.table.Role.{Role}
 use Rattle.saa_word_threads.specs.declared.table.Role.TheVariants.{Dealer, Acting, Spent}
 use Rattle.saa_word_threads.specs.declared.table.View.{View}
 use Rattle.saa_word_threads.specs.Dealt.{AreNew, IsLedTo, IsNew}
-use Rattle.saa_word_threads.specs.Kept.{AreGathered, Fits, FitsAs, Kept, dealer, newcomer, position_in, positions, row_of}
-use Rattle.saa_word_threads.proofs.Gathering.{gathered-stay, place-fits, spent-apart}
+use Rattle.saa_word_threads.specs.Kept.{AreGathered, Fits, FitsAs, IsFree, IsNumber, Kept, dealer, is_dealer, newcomer, row_of}
+use Rattle.saa_word_threads.specs.Visits.{IsEntering}
+use Rattle.saa_word_threads.proofs.Gathering.{found-within, gathered-stay, place-fits}
 use Rattle.saa_word_threads.proofs.Growing.{none-seen, part-none}
 
 -- The beginning
@@ -48,9 +50,13 @@ opening-words count places (suc index) =
     rw test (sym (get_or-set_other (replicate (places + places + 1) 0) 0 (suc index) count 0 apart ∙ replicated (places + places + 1) 0 (suc index) refl))
 
 module _ (about : About) (wide : (needs_of about.rules).top < 2 ^ count_bits) (count : about.withheld ≤ (needs_of about.rules).top) where
-  first-fits : (seat : ℕ) (v : View) → get_elem? (dealer 0 ∷ []) seat ≡ some v → Fits [] 1 seat v
-  first-fits zero v is = subst (Fits [] 1 0) (some-injective (dealer 0) v is) (refl, refl)
+  first-fits : (seat : ℕ) (v : View) → get_elem? (dealer 0 ∷ []) seat ≡ some v → Fits [] (λ place. idle_place) about.places 0 seat v
+  first-fits zero v is = subst (Fits [] (λ place. idle_place) about.places 0 0) (some-injective (dealer 0) v is) (refl, refl)
   first-fits (suc seat) v is = absurd (some-ne-none v (sym is))
+
+  first-alone : (seat : ℕ) (v : View) → get_elem? (dealer 0 ∷ []) seat ≡ some v → seat ≡ 0
+  first-alone zero v is = refl
+  first-alone (suc seat) v is = absurd (some-ne-none v (sym is))
 
   first-gathers : (seat : ℕ) (v : View) → get_elem? (dealer 0 ∷ []) seat ≡ some v → AreGathered (dealer 0 ∷ []) v.gathered
   first-gathers zero v is = subst (λ (u : View). AreGathered (dealer 0 ∷ []) u.gathered) (some-injective (dealer 0) v is) tt
@@ -61,20 +67,24 @@ module _ (about : About) (wide : (needs_of about.rules).top < 2 ^ count_bits) (c
   kept-opening words is = record {
     history = [];
     last = opening about.withheld;
+    standing = λ place. idle_place;
+    dealt = 0;
     run = refl;
+    few = omega arith;
     wide =
         ap (λ (l : List ℕ). length l) is ∙ length-set (replicate (about.places + about.places + 1) 0) 0 about.withheld
         ∙ length-replicate (about.places + about.places + 1) 0;
     refines =
-        subst (λ (l : List ℕ). Refines (needs_of about.rules) about.places (row_of l) (positions (dealer 0 ∷ [])) (opening about.withheld)) (sym is)
-        (subst (λ (r : ℕ → ℕ). Refines (needs_of about.rules) about.places r (positions (dealer 0 ∷ [])) (opening about.withheld))
+        subst (λ (l : List ℕ). Refines (needs_of about.rules) about.places (row_of l) (λ place. idle_place) (opening about.withheld)) (sym is)
+        (subst (λ (r : ℕ → ℕ). Refines (needs_of about.rules) about.places r (λ place. idle_place) (opening about.withheld))
         (all-same (opening_row about.withheld) (row_of (set (replicate (about.places + about.places + 1) 0) 0 about.withheld))
         (opening-words about.withheld about.places))
         (opens (needs_of about.rules) wide about.places about.withheld count));
     each = first-fits;
     gathers = first-gathers;
-    few = omega arith;
-    fresh = λ place beyond. refl;
+    apart = λ one other v w is also acting_one acting_other same. first-alone one v is ∙ sym (first-alone other w also);
+    fresh = λ number free. (refl, refl);
+    visits = λ number beyond. refl;
   }
 
 -- One place more
@@ -90,108 +100,181 @@ found-snoc (u ∷ views) w v (suc seat) is =
       | inr last ↦ inr (ap suc last.0, last.1)
     ]
 
--- a place that is dealt stands where it stood before: it is idle
-idle-behind : (views : List View) (number place : ℕ) → position_in (get_elem? (views ++ newcomer number ∷ []) place) ≡ position_in (get_elem? views place)
-idle-behind [] number zero = refl
-idle-behind [] number (suc place) = refl
-idle-behind (u ∷ views) number zero = refl
-idle-behind (u ∷ views) number (suc place) = idle-behind views number place
-
-dealt-positions : (views : List View) (w : View) (number : ℕ) → 0 < length views → positions views ≡ positions (set views 0 w ++ newcomer number ∷ [])
-dealt-positions [] w number within = absurd (omega arith)
-dealt-positions (u ∷ views) w number within =
-    all-same (positions (u ∷ views)) (positions (w ∷ (views ++ newcomer number ∷ []))) (λ place. sym (idle-behind views number place))
-
-first-within : (views : List View) (v : View) → get_elem? views 0 ≡ some v → 0 < length views
-first-within [] v is = absurd (some-ne-none v (sym is))
-first-within (u ∷ views) v is = omega arith
-
-fits-longer : (history : List (ℕ × Event)) (seats more seat : ℕ) (w : View) (role : Role) → seat ≢ 0 → FitsAs history seats seat w role
-    → FitsAs history more seat w role
-fits-longer history seats more seat w Dealer apart fits = absurd (apart fits.0)
-fits-longer history seats more seat w Acting apart fits = fits
-fits-longer history seats more seat w Spent apart fits = fits
-
 -- a seat that was there stays where it was
 found-front : (views : List View) (w v : View) (seat : ℕ) → get_elem? views seat ≡ some v → get_elem? (views ++ w ∷ []) seat ≡ some v
-found-front [] w v seat is = absurd (some-ne-none v (sym is))
-found-front (u ∷ views) w v zero is = is
-found-front (u ∷ views) w v (suc seat) is = found-front views w v seat is
+found-front views w v seat is = at_longer views (w ∷ []) seat v is
 
-module _ (about : About) (number : ℕ) (s : State (Unit {0}) View) (kept : Kept about s) (id : ℕ) (at : get_elem? s.views id ≡ some (dealer number))
-    (more : number < about.places) where
-  first : (id ≡ 0) × (number + 1 ≡ length s.views)
-  first = kept.each id (dealer number) at
+-- where more places are dealt, a place's number is one still
+number-more : (places dealt more seat number : ℕ) → dealt ≤ more → IsNumber places dealt seat number → IsNumber places more seat number
+number-more places dealt more seat number grows (inl below) = inl (omega (arith, grows, below))
+number-more places dealt more seat number grows (inr is) = inr is
 
-  abbrev views : List View
-  views = set s.views id (dealer (number + 1)) ++ newcomer number ∷ []
+more-fits : (history : List (ℕ × Event)) (standing : ℕ → Position) (places dealt more seat : ℕ) (w : View) (role : Role) → dealt ≤ more
+    → is_dealer role ≡ false → FitsAs history standing places dealt seat w role → FitsAs history standing places more seat w role
+more-fits history standing places dealt more seat w Dealer grows plays fits = absurd (cc)
+more-fits history standing places dealt more seat w Acting grows plays fits =
+    (number-more places dealt more seat w.number grows fits.0, fits.1, fits.2, fits.3)
+more-fits history standing places dealt more seat w Spent grows plays fits =
+    (number-more places dealt more seat w.number grows fits.0, fits.1, fits.2, fits.3)
 
-  views-length : length views ≡ length s.views + 1
-  views-length = length-append (set s.views id (dealer (number + 1))) (newcomer number ∷ []) ∙ ap (λ (n : ℕ). n + 1) (length-set s.views id (dealer (number + 1)))
+numbered : (history : List (ℕ × Event)) (standing : ℕ → Position) (places dealt seat : ℕ) (w : View) (role : Role) → is_dealer role ≡ false
+    → FitsAs history standing places dealt seat w role → IsNumber places dealt seat w.number
+numbered history standing places dealt seat w Dealer plays fits = absurd (cc)
+numbered history standing places dealt seat w Acting plays fits = fits.0
+numbered history standing places dealt seat w Spent plays fits = fits.0
 
-  newcomer-fits : Fits kept.history (length s.views + 1) (suc number) (newcomer number)
+-- a number that is not yet dealt is nobody's, and so is that of the next seat
+number-free : (places dealt seat one : ℕ) → dealt < places → IsNumber places dealt seat one → one ≢ dealt
+number-free places dealt seat one room (inl below) same = omega (arith, below, same)
+number-free places dealt seat one room (inr is) same = omega (arith, is, same, room)
+
+seat-free : (places dealt seats seat one : ℕ) → dealt ≤ places → seat < seats → IsNumber places dealt seat one → one ≢ places + seats
+seat-free places dealt seats seat one few within (inl below) same = omega (arith, below, same, few)
+seat-free places dealt seats seat one few within (inr is) same = omega (arith, is, same, within)
+
+-- The views with one more behind them, of a number that nobody had: those before it are as they were, but for the dealer's
+module _ (about : About) (s : State (Unit {0}) View) (kept : Kept about s) (views : List View) (dealt number : ℕ) (grows : kept.dealt ≤ dealt)
+    (few : dealt ≤ about.places) (free : IsFree s.views number) (is_number : IsNumber about.places dealt (length s.views) number)
+    (long : length views ≡ length s.views)
+    (same : (seat : ℕ) (w : View) → get_elem? views seat ≡ some w → is_dealer w.role ≡ false → get_elem? s.views seat ≡ some w)
+    (back : (seat : ℕ) (w : View) → get_elem? s.views seat ≡ some w → is_dealer w.role ≡ false → get_elem? views seat ≡ some w)
+    (deals : (seat : ℕ) (w : View) → get_elem? views seat ≡ some w → is_dealer w.role ≡ true
+    → Fits kept.history kept.standing about.places dealt seat w × ((w.gathered ≡ []) ⊎ (get_elem? s.views seat ≡ some w))) where
+  abbrev all : List View
+  all = views ++ newcomer number ∷ []
+
+  newcomer-fits : Fits kept.history kept.standing about.places dealt (length s.views) (newcomer number)
   newcomer-fits =
-      let none = kept.fresh number (let f = first.1 in omega arith) in
-      (refl, sym (none-seen number kept.history none), sym (part-none number kept.history none))
+      let none = kept.fresh number free in
+      (is_number, none.1, sym (none-seen number kept.history none.0), sym (part-none number kept.history none.0))
 
-  kept-fits : (seat : ℕ) (w : View) → ((seat ≡ id) × (dealer (number + 1) ≡ w)) ⊎ ((seat ≢ id) × (get_elem? s.views seat ≡ some w))
-      → Fits kept.history (length s.views + 1) seat w
-  kept-fits seat w (inl own) =
-      subst (Fits kept.history (length s.views + 1) seat) own.1 (own.0 ∙ first.0, (let f = first.1 in omega arith))
-  kept-fits seat w (inr other) =
-      fits-longer kept.history (length s.views) (length s.views + 1) seat w w.role (λ e. other.0 (e ∙ sym first.0)) (kept.each seat w other.1)
+  all-fits : (seat : ℕ) (w : View) → (get_elem? views seat ≡ some w) ⊎ ((seat ≡ length views) × (newcomer number ≡ w))
+      → Fits kept.history kept.standing about.places dealt seat w
+  all-fits seat w (inl there) =
+      elim (cases_Bool (is_dealer w.role)) [
+        | inl dealing ↦ (deals seat w there dealing).0
+        | inr plays ↦
+            more-fits kept.history kept.standing about.places kept.dealt dealt seat w w.role grows plays (kept.each seat w (same seat w there plays))
+      ]
+  all-fits seat w (inr last) =
+      subst (Fits kept.history kept.standing about.places dealt seat) last.1
+      (subst (λ (n : ℕ). Fits kept.history kept.standing about.places dealt n (newcomer number)) (sym (last.0 ∙ long)) newcomer-fits)
 
-  dealt-fits : (seat : ℕ) (w : View) → (get_elem? (set s.views id (dealer (number + 1))) seat ≡ some w)
-      ⊎ ((seat ≡ length (set s.views id (dealer (number + 1)))) × (newcomer number ≡ w)) → Fits kept.history (length s.views + 1) seat w
-  dealt-fits seat w (inl there) = kept-fits seat w (at_set s.views id seat (dealer (number + 1)) w there)
-  dealt-fits seat w (inr last) =
-      let is : suc number ≡ seat = (let f = first.1 in let l = last.0 in let m = length-set s.views id (dealer (number + 1)) in omega arith) in
-      subst (Fits kept.history (length s.views + 1) seat) last.1
-      (subst (λ (n : ℕ). Fits kept.history (length s.views + 1) n (newcomer number)) is newcomer-fits)
+  stays : (seat : ℕ) (w : View) → get_elem? s.views seat ≡ some w → w.role ≡ Spent → get_elem? all seat ≡ some w
+  stays seat w is gone = found-front views (newcomer number) w seat (back seat w is (ap is_dealer gone))
 
-  -- what was gathered is where it was
-  stays : (seat : ℕ) (v : View) → get_elem? s.views seat ≡ some v → v.role ≡ Spent → get_elem? views seat ≡ some v
-  stays seat v is gone =
-      found-front (set s.views id (dealer (number + 1))) (newcomer number) v seat
-      (set_else s.views id seat (dealer (number + 1)) (spent-apart s.views id seat (dealer number) v at (λ r. let wrong : Dealer ≡ Spent = r in absurd (cc)) is gone) ∙ is)
+  all-gathers : (seat : ℕ) (w : View) → (get_elem? views seat ≡ some w) ⊎ ((seat ≡ length views) × (newcomer number ≡ w)) → AreGathered all w.gathered
+  all-gathers seat w (inl there) =
+      elim (cases_Bool (is_dealer w.role)) [
+        | inl dealing ↦
+            elim (deals seat w there dealing).1 [
+              | inl none ↦ subst (AreGathered all) (sym none) tt
+              | inr was ↦ gathered-stay s.views all stays w.gathered (kept.gathers seat w was)
+            ]
+        | inr plays ↦ gathered-stay s.views all stays w.gathered (kept.gathers seat w (same seat w there plays))
+      ]
+  all-gathers seat w (inr last) = subst (λ (u : View). AreGathered all u.gathered) last.1 tt
 
-  kept-gathers : (seat : ℕ) (w : View) → ((seat ≡ id) × (dealer (number + 1) ≡ w)) ⊎ ((seat ≢ id) × (get_elem? s.views seat ≡ some w))
-      → AreGathered views w.gathered
-  kept-gathers seat w (inl own) = subst (λ (u : View). AreGathered views u.gathered) own.1 tt
-  kept-gathers seat w (inr other) = gathered-stay s.views views stays w.gathered (kept.gathers seat w other.1)
+  all-apart : (one other : ℕ) (v w : View) → (get_elem? views one ≡ some v) ⊎ ((one ≡ length views) × (newcomer number ≡ v))
+      → (get_elem? views other ≡ some w) ⊎ ((other ≡ length views) × (newcomer number ≡ w)) → is_dealer v.role ≡ false → is_dealer w.role ≡ false
+      → v.number ≡ w.number → one ≡ other
+  all-apart one other v w (inl there) (inl also) plays also_plays is =
+      kept.apart one other v w (same one v there plays) (same other w also also_plays) plays also_plays is
+  all-apart one other v w (inl there) (inr last) plays also_plays is =
+      absurd (free one v (same one v there plays) plays (is ∙ ap (λ (u : View). u.number) (sym last.1)))
+  all-apart one other v w (inr last) (inl there) plays also_plays is =
+      absurd (free other w (same other w there also_plays) also_plays (sym is ∙ ap (λ (u : View). u.number) (sym last.1)))
+  all-apart one other v w (inr last) (inr also) plays also_plays is = last.0 ∙ sym also.0
 
-  dealt-gathers : (seat : ℕ) (w : View) → (get_elem? (set s.views id (dealer (number + 1))) seat ≡ some w)
-      ⊎ ((seat ≡ length (set s.views id (dealer (number + 1)))) × (newcomer number ≡ w)) → AreGathered views w.gathered
-  dealt-gathers seat w (inl there) = kept-gathers seat w (at_set s.views id seat (dealer (number + 1)) w there)
-  dealt-gathers seat w (inr last) = subst (λ (u : View). AreGathered views u.gathered) last.1 tt
-
-  pub kept-dealt : Kept about (record { words = s.words; homes = s.homes; views = views })
-  kept-dealt = record {
+  pub one-more : Kept about (record { words = s.words; homes = s.homes; views = all })
+  one-more = record {
     history = kept.history;
     last = kept.last;
+    standing = kept.standing;
+    dealt = dealt;
     run = kept.run;
     wide = kept.wide;
-    refines =
-        subst (λ (f : ℕ → Position). Refines (needs_of about.rules) about.places (row_of s.words) f kept.last)
-        (subst (λ (n : ℕ). positions s.views ≡ positions (set s.views n (dealer (number + 1)) ++ newcomer number ∷ [])) (sym first.0)
-        (dealt-positions s.views (dealer (number + 1)) number
-        (first-within s.views (dealer number) (subst (λ (n : ℕ). get_elem? s.views n ≡ some (dealer number)) first.0 at)))) kept.refines;
-    each = λ seat w is.
-        subst (λ (n : ℕ). Fits kept.history n seat w) (sym views-length)
-        (dealt-fits seat w (found-snoc (set s.views id (dealer (number + 1))) (newcomer number) w seat is));
-    gathers = λ seat w is.
-        dealt-gathers seat w (found-snoc (set s.views id (dealer (number + 1))) (newcomer number) w seat is);
-    few = (let l = views-length in let f = first.1 in omega arith);
-    fresh = λ place beyond.
-        kept.fresh place (let l = views-length in omega arith);
+    few = few;
+    refines = kept.refines;
+    each = λ seat w is. all-fits seat w (found-snoc views (newcomer number) w seat is);
+    gathers = λ seat w is. all-gathers seat w (found-snoc views (newcomer number) w seat is);
+    apart = λ one other v w is also. all-apart one other v w (found-snoc views (newcomer number) v one is) (found-snoc views (newcomer number) w other also);
+    fresh = λ other none. kept.fresh other (λ seat w is plays. none seat w (found-front views (newcomer number) w seat (back seat w is plays)) plays);
+    visits = kept.visits;
   }
+
+-- One place more
+
+module _ (about : About) (number : ℕ) (room : number < about.places) (s : State (Unit {0}) View) (kept : Kept about s) (id : ℕ)
+    (at : get_elem? s.views id ≡ some (dealer number)) where
+  first : (id ≡ 0) × (number ≡ kept.dealt)
+  first = kept.each id (dealer number) at
+
+  undealt : IsFree s.views number
+  undealt seat w is plays equal =
+      number-free about.places kept.dealt seat w.number (let f = first.1 in omega arith)
+      (numbered kept.history kept.standing about.places kept.dealt seat w w.role plays (kept.each seat w is)) (equal ∙ first.1)
+
+  dealer-is : (seat : ℕ) (w : View) → ((seat ≡ id) × (dealer (number + 1) ≡ w)) ⊎ ((seat ≢ id) × (get_elem? s.views seat ≡ some w))
+      → is_dealer w.role ≡ false → get_elem? s.views seat ≡ some w
+  dealer-is seat w (inl own) plays = let wrong : true ≡ false = ap (λ (u : View). is_dealer u.role) own.1 ∙ plays in absurd (cc)
+  dealer-is seat w (inr other) plays = other.1
+
+  -- no other seat is a dealer's
+  dealer-alone : (seat : ℕ) (w : View) (role : Role) → is_dealer role ≡ true → FitsAs kept.history kept.standing about.places kept.dealt seat w role → seat ≡ 0
+  dealer-alone seat w Dealer dealing fits = fits.0
+  dealer-alone seat w Acting dealing fits = absurd (cc)
+  dealer-alone seat w Spent dealing fits = absurd (cc)
+
+  dealer-first : (seat : ℕ) (w : View) → ((seat ≡ id) × (dealer (number + 1) ≡ w)) ⊎ ((seat ≢ id) × (get_elem? s.views seat ≡ some w))
+      → is_dealer w.role ≡ true → Fits kept.history kept.standing about.places (number + 1) seat w × ((w.gathered ≡ []) ⊎ (get_elem? s.views seat ≡ some w))
+  dealer-first seat w (inl own) dealing =
+      subst (λ (u : View). Fits kept.history kept.standing about.places (number + 1) seat u × ((u.gathered ≡ []) ⊎ (get_elem? s.views seat ≡ some u))) own.1
+      ((own.0 ∙ first.0, refl), inl refl)
+  dealer-first seat w (inr other) dealing =
+      absurd (other.0 (dealer-alone seat w w.role dealing (kept.each seat w other.1) ∙ sym first.0))
+
+  dealer-back : (seat : ℕ) (w : View) → get_elem? s.views seat ≡ some w → is_dealer w.role ≡ false
+      → get_elem? (set s.views id (dealer (number + 1))) seat ≡ some w
+  dealer-back seat w is plays =
+      let apart : seat ≢ id = λ e.
+      (let one : dealer number ≡ w = some-injective (dealer number) w (sym at ∙ ap (get_elem? s.views) (sym e) ∙ is) in
+      let wrong : true ≡ false = ap (λ (u : View). is_dealer u.role) one ∙ plays in absurd (cc)) in
+      set_else s.views id seat (dealer (number + 1)) apart ∙ is
+
+  pub kept-dealt : Kept about (record { words = s.words; homes = s.homes; views = set s.views id (dealer (number + 1)) ++ newcomer number ∷ [] })
+  kept-dealt =
+      one-more about s kept (set s.views id (dealer (number + 1))) (number + 1) number (let f = first.1 in omega arith) (omega (arith, room)) undealt
+      (inl (omega arith)) (length-set s.views id (dealer (number + 1)))
+      (λ seat w is. dealer-is seat w (at_set s.views id seat (dealer (number + 1)) w is)) dealer-back
+      (λ seat w is. dealer-first seat w (at_set s.views id seat (dealer (number + 1)) w is))
 
 -- the dealer deals a place
 pub deals : (about : About) (number id : ℕ) (v : View) → v ≡ dealer number → number < about.places
     → Splits (Kept about) id v (dealer (v.number + 1)) (newcomer v.number)
 deals about number id v is more =
     subst (λ (u : View). Splits (Kept about) id u (dealer (u.number + 1)) (newcomer u.number)) (sym is)
-    (λ s kept at. kept-dealt about number s kept id at more)
+    (λ s kept at. kept-dealt about number more s kept id at)
+
+-- One visitor more
+
+module _ (about : About) (s : State (Unit {0}) View) (kept : Kept about s) where
+  pub kept-entered : Kept about (record { words = s.words; homes = s.homes; views = s.views ++ newcomer (about.places + length s.views) ∷ [] })
+  kept-entered =
+      one-more about s kept s.views kept.dealt (about.places + length s.views) (omega arith) kept.few
+      (λ seat w is plays.
+      seat-free about.places kept.dealt (length s.views) seat w.number kept.few (found-within s.views seat w is)
+      (numbered kept.history kept.standing about.places kept.dealt seat w w.role plays (kept.each seat w is)))
+      (inr refl) refl (λ seat w is plays. is) (λ seat w is plays. is)
+      (λ seat w is dealing. (kept.each seat w is, inr is))
+
+pub enters : (about : About) (picked_places slots index : ℕ) → picked_places ≡ about.places
+    → Enters (Kept about) slots index (λ number v. IsEntering picked_places v)
+enters about picked_places slots index same = λ s kept sized small. (
+  newcomer (about.places + length s.views),
+  kept-entered about s kept,
+  (about.places + length s.views, omega (arith, same), refl),
+)
 
 -- a list of new places with one more
 pub new-more : (table : TableId) (from : ℕ) (places : List Place) (place : Place) → AreNew table from places → IsNew table (from + length places) place
@@ -206,7 +289,7 @@ pub shows : (about : About) (s : State (Unit {0}) View) (words : List ℕ) (kept
     → Observes (needs_of about.rules) about.places (row_of words) kept.last
 shows about s words kept is =
     subst (λ (l : List ℕ). Observes (needs_of about.rules) about.places (row_of l) kept.last) is
-    (says-so (needs_of about.rules) about.places (row_of s.words) (positions s.views) kept.last kept.refines)
+    (says-so (needs_of about.rules) about.places (row_of s.words) kept.standing kept.last kept.refines)
 
 pub leads-to : (about : About) (s : State (Unit {0}) View) (words : List ℕ) (kept : Kept about s) → s.words ≡ words
     → LeadsTo (needs_of about.rules) about.places about.withheld kept.history (row_of words)
@@ -215,13 +298,14 @@ leads-to about s words kept is = record { last = kept.last; run = kept.run; show
 pub led-to : (about : About) (s : State (Unit {0}) View) (seat : ℕ) (v : View) (words : List ℕ) → Kept about s → get_elem? s.views seat ≡ some v
     → v.role ≡ Acting → s.words ≡ words → IsLedTo about words v
 led-to about s seat v words kept at role is =
-    let fits : FitsAs kept.history (length s.views) seat v Acting = place-fits kept.history (length s.views) seat v role (kept.each seat v at) in
+    let fits : FitsAs kept.history kept.standing about.places kept.dealt seat v Acting =
+    place-fits kept.history kept.standing about.places kept.dealt seat v role (kept.each seat v at) in
     record {
       history = kept.history;
       leads = leads-to about s words kept is;
-      begins = subst (BeginsWith kept.history) (sym fits.1) (begins-seen v.number kept.history);
-      latest = fits.1;
-      part = fits.2;
+      begins = subst (BeginsWith kept.history) (sym fits.2) (begins-seen v.number kept.history);
+      latest = fits.2;
+      part = fits.3;
     }
 
 -- a number that was found in a list of words

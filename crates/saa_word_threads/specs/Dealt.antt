@@ -4,7 +4,7 @@ use Rattle.std.specs.Slots.{slots_items}
 use Rattle.atomic_table.specs.Seated.{TableId}
 use Rattle.saa_word_steps.specs.declared.event.Event.{Event}
 use Rattle.saa_word_steps.specs.Needs.{needs_of}
-use Rattle.saa_word_proofs.specs.History.{BeginsWith, LeadsTo, has_part, part_of, seen_by}
+use Rattle.saa_word_proofs.specs.History.{BeginsWith, LeadsTo, never_waits, part_of, seen_by}
 use Rattle.saa_word_proofs.specs.Promises.{IsAtRest, idle_place}
 use Rattle.saa_word_threads.specs.declared.table.About.{About}
 use Rattle.saa_word_threads.specs.declared.table.View.{View}
@@ -41,13 +41,13 @@ abbrev pub has_number : ℕ → List View → Bool
 has_number number [] = false
 has_number number (v ∷ rest) = (v.number == number) || has_number number rest
 
--- There is one legal history that leads to these words, and each of these views is of it. No number but those of the places has an event in it.
+-- There is one legal history that leads to these words, and each of these views is of it. Only places wait: the other numbers are those of visitors.
 -- Where views of all places are here, nothing is owed at the end: the flag is clear, each answer that was granted is shown, and the queue is settled
 pub record AreLedTo (about : About) (words : List ℕ) (views : List View) : Type 0 where
   pub history : List (ℕ × Event)
   pub leads : LeadsTo (needs_of about.rules) about.places about.withheld history (row_of words)
   pub each : All (IsOf history) views
-  pub others : (number : ℕ) → about.places ≤ number → has_part number history ≡ false
+  pub others : (number : ℕ) → about.places ≤ number → never_waits (part_of number history) ≡ true
   pub settled : ((number : ℕ) → number < about.places → has_number number views ≡ true) → IsAtRest (needs_of about.rules) (row_of words) leads.last
 
 -- the numbers of the words at the end

@@ -1,16 +1,16 @@
--- What is always so of a table: one legal history leads to its words, and each place knows what it has seen of that history.
-use Rattle.std.specs.Prelude.{◌≡◌, ℕ, suc, ◌+◌, ◌≤◌, false, List, [], ◌∷◌, length, slice_index}
-use mathlib.Core.Option.{Option, none, some}
+-- What is always so of a table: one legal history leads to its words, and each place and each visitor knows what it has seen of that history.
+use Rattle.std.specs.Prelude.{◌≡◌, ◌≢◌, ℕ, ◌+◌, ◌<◌, ◌≤◌, ◌⊎◌, Bool, true, false, List, [], ◌∷◌, length, slice_index}
+use mathlib.Core.Option.{some}
 use lib.ListN.{get_elem?}
 use Rattle.atomic_table.specs.Table.{State}
 use Rattle.saa_word_steps.specs.declared.event.Event.{Event}
 use Rattle.saa_word_steps.specs.declared.place.Place.{Place}
-use Rattle.saa_word_steps.specs.declared.place.Stage.TheVariants.{Quiet}
 use Rattle.saa_word_steps.specs.AbstractState.{AbstractState, IsRun, opening}
 use Rattle.saa_word_steps.specs.Needs.{needs_of}
-use Rattle.saa_word_proofs.specs.History.{has_part, part_of, seen_by}
+use Rattle.saa_word_proofs.specs.History.{has_part, never_waits, part_of, seen_by}
 use Rattle.saa_word_proofs.specs.Promises.{idle_place}
 use Rattle.saa_word_proofs.specs.Refinement.{Refines}
+use Rattle.saa_word_proofs.specs.Registering.{is_slot}
 use Rattle.saa_word_threads.specs.declared.table.Departed.{Departed}
 use Rattle.saa_word_threads.specs.declared.table.Role.{Role}
 use Rattle.saa_word_threads.specs.declared.table.Role.TheVariants.{Dealer, Acting, Spent}
@@ -21,7 +21,7 @@ use Rattle.saa_word_threads.specs.declared.table.About.{About}
 abbrev pub dealer : ℕ → View
 dealer dealt = record { role = Dealer; number = dealt; position = idle_place; seen = []; part = []; gathered = [] }
 
--- the view of a place of this number that has done nothing yet
+-- the view of a place or of a visitor of this number that has done nothing yet
 abbrev pub newcomer : ℕ → View
 newcomer number = record { role = Acting; number = number; position = idle_place; seen = []; part = []; gathered = [] }
 
@@ -36,45 +36,57 @@ gathering v w = record v { gathered = departed w ∷ v.gathered }
 abbrev pub spent : View → View
 spent v = record v { role = Spent }
 
--- a view fits a history: the dealer has the first seat and has dealt the others, and a place has the seat behind its number. It has seen the
--- history as it was at its last event, and knows its own part of it
-abbrev pub FitsAs : List (ℕ × Event) → ℕ → ℕ → View → Role → Type 0
-FitsAs history seats seat v Dealer = (seat ≡ 0) × (v.number + 1 ≡ seats)
-FitsAs history seats seat v role = (seat ≡ suc v.number) × (v.seen ≡ seen_by v.number history) × (v.part ≡ part_of v.number history)
+-- whether a seat is the dealer's, and no place's and no visitor's
+abbrev pub is_dealer : Role → Bool
+is_dealer Dealer = true
+is_dealer role = false
 
-abbrev pub Fits : List (ℕ × Event) → ℕ → ℕ → View → Type 0
-Fits history seats seat v = FitsAs history seats seat v v.role
+-- the numbers of seats: those of the places that are dealt, and that of a visitor, which goes by its seat
+abbrev pub IsNumber : ℕ → ℕ → ℕ → ℕ → Type 0
+IsNumber places dealt seat number = (number < dealt) ⊎ (number ≡ places + seat)
 
--- what a view has gathered is of places that rest, and make no step any more
+-- A view fits a history: the dealer has the first seat and has dealt so many places. A place and a visitor stand where their number stands, have seen
+-- the history as it was at their last event, and know their own part of it
+abbrev pub FitsAs : List (ℕ × Event) → (ℕ → Place) → ℕ → ℕ → ℕ → View → Role → Type 0
+FitsAs history standing places dealt seat v Dealer = (seat ≡ 0) × (v.number ≡ dealt)
+FitsAs history standing places dealt seat v role =
+    IsNumber places dealt seat v.number × (standing v.number ≡ v.position) × (v.seen ≡ seen_by v.number history) × (v.part ≡ part_of v.number history)
+
+abbrev pub Fits : List (ℕ × Event) → (ℕ → Place) → ℕ → ℕ → ℕ → View → Type 0
+Fits history standing places dealt seat v = FitsAs history standing places dealt seat v v.role
+
+-- what a view has gathered is of places that have left: none is registered in the queue, and they make no step any more
 abbrev pub IsGathered : List View → Departed → Type 0
 IsGathered views gone =
-    (v : View) × (get_elem? views (suc gone.number) ≡ some v) × (v.role ≡ Spent) × (v.position.stage ≡ Quiet) × (gone ≡ departed v)
+    (seat : ℕ) × (v : View) × (get_elem? views seat ≡ some v) × (v.role ≡ Spent) × (is_slot v.position.registration ≡ false) × (gone ≡ departed v)
 
 abbrev pub AreGathered : List View → List Departed → Type 0
 AreGathered views [] = Unit {0}
 AreGathered views (gone ∷ rest) = IsGathered views gone × AreGathered views rest
 
--- where each place stands: one that isn't dealt is idle
-abbrev pub position_in : Option View → Place
-position_in none = idle_place
-position_in (some v) = v.position
-
-abbrev pub positions : List View → ℕ → Place
-positions views place = position_in (get_elem? views (suc place))
-
 -- the words as a row
 abbrev pub row_of : List ℕ → ℕ → ℕ
 row_of words index = slice_index words index
 
+-- no seat of these has this number
+abbrev pub IsFree : List View → ℕ → Type 0
+IsFree views number = (seat : ℕ) (v : View) → get_elem? views seat ≡ some v → is_dealer v.role ≡ false → v.number ≢ number
+
 -- A table is kept: from the opening on each event of a history is enabled where it comes, and words and places refine the state behind
--- them; each view fits the history, and has gathered what fits it; and nobody else has an event in it. No more places are dealt than there are
+-- them; each view fits the history, and has gathered what fits it; no two seats have one number, and a number that nobody has is idle and has no event.
+-- No more places are dealt than there are, and no number beyond them waits
 pub record Kept (about : About) (s : State (Unit {0}) View) : Type 0 where
   pub history : List (ℕ × Event)
   pub last : AbstractState
+  pub standing : ℕ → Place
+  pub dealt : ℕ
   pub run : IsRun (needs_of about.rules) (opening about.withheld) history last
   pub wide : length s.words ≡ about.places + about.places + 1
-  pub refines : Refines (needs_of about.rules) about.places (row_of s.words) (positions s.views) last
-  pub each : (seat : ℕ) (v : View) → get_elem? s.views seat ≡ some v → Fits history (length s.views) seat v
+  pub few : dealt ≤ about.places
+  pub refines : Refines (needs_of about.rules) about.places (row_of s.words) standing last
+  pub each : (seat : ℕ) (v : View) → get_elem? s.views seat ≡ some v → Fits history standing about.places dealt seat v
   pub gathers : (seat : ℕ) (v : View) → get_elem? s.views seat ≡ some v → AreGathered s.views v.gathered
-  pub few : length s.views ≤ suc about.places
-  pub fresh : (place : ℕ) → length s.views ≤ suc place → has_part place history ≡ false
+  pub apart : (one other : ℕ) (v w : View) → get_elem? s.views one ≡ some v → get_elem? s.views other ≡ some w → is_dealer v.role ≡ false
+      → is_dealer w.role ≡ false → v.number ≡ w.number → one ≡ other
+  pub fresh : (number : ℕ) → IsFree s.views number → (has_part number history ≡ false) × (standing number ≡ idle_place)
+  pub visits : (number : ℕ) → about.places ≤ number → never_waits (part_of number history) ≡ true

@@ -8,3 +8,4 @@ pub mod Semaphores
 pub mod Locks
 pub mod Straight
 pub mod Patience
+pub mod Visits

@@ -13,6 +13,7 @@ use Rattle.saa_word_threads.specs.declared.looking.Patience.{Patience}
 use Rattle.saa_word_threads.specs.declared.place.Place.{Place as FormPlace}
 use Rattle.saa_word_threads.specs.declared.table.About.{About}
 use Rattle.saa_word_threads.specs.declared.table.View.{View}
+use Rattle.saa_word_threads.specs.declared.visitor.Visitor.{Visitor}
 use Rattle.saa_word_threads.specs.Dealt.{AreNew as FormAreNew}
 use Rattle.saa_word_threads.specs.Public.{HasLeft as FormHasLeft, IsMade as FormIsMade, IsWaited as FormIsWaited, patience_of as form_patience_of, view_left as form_view_left}
 
@@ -30,6 +31,10 @@ IsDealtBy lock place = place.inner.seat.table_id ≡ table_of lock
 
 abbrev pub IsLeftOf : Lock → Left → Type 0
 IsLeftOf lock left = left.inner.seat.table_id ≡ table_of lock
+
+-- a visitor entered a lock
+abbrev pub IsVisitorOf : Lock → Visitor → Type 0
+IsVisitorOf lock visitor = visitor.seat.table_id ≡ table_of lock
 
 -- the form's places of some places of a lock
 abbrev pub inners : List Place → List FormPlace

@@ -1,5 +1,5 @@
 -- What a step of a place tells it.
-use Rattle.std.specs.Prelude.{◌≡◌, ℕ, ◌⊎◌, ◌+◌, ◌<◌, Bool, true, false, if◌then◌else◌, List, ◌++◌}
+use Rattle.std.specs.Prelude.{◌≡◌, ℕ, ◌⊎◌, ◌+◌, ◌<◌, ◌≤◌, Bool, true, false, if◌then◌else◌, List, ◌++◌}
 use Rattle.atomic_table.specs.Table.{Me, Step}
 use Rattle.saa_word_steps.specs.declared.call.WordCall.{WordCall}
 use Rattle.saa_word_steps.specs.declared.event.Event.{Event}
@@ -17,6 +17,7 @@ use Rattle.saa_word_steps.specs.Steps.{next_of, operation_of, started, word_at}
 use Rattle.saa_word_steps.specs.Readings.{is_idle, is_taken}
 use Rattle.saa_word_proofs.specs.History.{named, part_of, seen_by}
 use Rattle.saa_word_proofs.specs.CallStages.{IsReadyNext}
+use Rattle.saa_word_proofs.specs.Refinement.{IsVisiting}
 use Rattle.saa_word_proofs.specs.StepRefinement.{named_at, place_after}
 use Rattle.saa_word_threads.specs.declared.table.Role.TheVariants.{Acting}
 use Rattle.saa_word_threads.specs.declared.table.View.{View}
@@ -39,7 +40,7 @@ IsLegal needs withheld history = (last : AbstractState) × IsRun needs (opening 
 
 -- A place makes its step and goes on so with the number that it found: it stands where that says, what answers name of its events is said by
 -- its stage and the number, its view grows by these events, what it has seen is a legal history then in which its events are its part, and it
--- can make its next step
+-- can make its next step. A visitor is at a stage of a visitor again
 pub record Moves (needs : Needs) (withheld places : ℕ) (place : Place) (next : Next) (found : ℕ) (v w : View) : Type 0 where
   pub position : w.position ≡ place_after place next
   pub events : List Event
@@ -48,6 +49,7 @@ pub record Moves (needs : Needs) (withheld places : ℕ) (place : Place) (next :
   pub legal : IsLegal needs withheld w.seen
   pub own : part_of w.number w.seen ≡ w.part
   pub ready : IsReadyNext needs places v.number (Going w.position)
+  pub visits : places ≤ v.number → IsVisiting w.position.stage
 
 abbrev pub told : About → Place → ℕ → Step (Unit {0}) → Me (Unit {0}) View → ℕ → Me (Unit {0}) View → Type 0
 told about place me st before found after =
@@ -105,11 +107,11 @@ Begins needs was place =
     (place ≡ was)
     ⊎ ((rest : Place) × (call : WordCall) × IsSince was rest × (is_taken needs.is_lock call ≡ true) × (place ≡ place_after rest (started needs rest call)))
 
--- A place of this number makes this operation next, out of so many places
+-- A place of this number makes this operation next, out of so many places; or a visitor does, at a stage of a visitor
 pub record IsNext (needs : Needs) (places me : ℕ) (place : Place) (operation : Operation) (v : View) : Type 0 where
   pub role : v.role ≡ Acting
   pub number : v.number ≡ me
-  pub here : me < places
+  pub here : (me < places) ⊎ IsVisiting place.stage
   pub begins : Begins needs v.position place
   pub makes : operation ≡ operation_of needs places me place.stage
   pub inside : word_at operation < places + places + 1

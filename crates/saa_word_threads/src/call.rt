@@ -11,6 +11,7 @@ ghost use Rattle.saa_word_threads.specs.Public.{HasLeft, patience_of};
 use crate::form::Form;
 use crate::place::{Left, Place};
 use crate::table::View;
+use crate::visitor::Visitor;
 use crate::watch::{Moment, Unwatched, Watch};
 use atomic_table::Seat;
 use saa_word_steps::call::{Answer, WordCall};
@@ -38,6 +39,18 @@ impl Begun {
             call: Snapshot::of(&call),
             registered: Snapshot::of(&place.position.registration),
             seat: Snapshot::of(&place.seat),
+        }
+    }
+
+    // A call that begins at a visitor.
+    pub(crate) fn of_visitor(call: WordCall, visitor: &Visitor) -> Begun
+        ensures call { result.call.value ≡ call }
+        ensures seat { result.seat.value ≡ visitor.now.seat }
+    {
+        Begun {
+            call: Snapshot::of(&call),
+            registered: Snapshot::of(&Registration::Idle),
+            seat: Snapshot::of(&visitor.seat),
         }
     }
 }
@@ -158,7 +171,7 @@ impl Form {
 }
 
 // Whether a place is about to publish what it has granted.
-fn publishes(stage: Stage) -> bool {
+pub(crate) fn publishes(stage: Stage) -> bool {
     matches!(
         stage,
         Stage::Close { .. } | Stage::Empty { .. } | Stage::GoRound { .. }

@@ -27,7 +27,7 @@ use std::alloc::{AllocError, Global};
 use std::sync::Wait;
 
 // The numbers of what the tries and the releases ask and give back.
-const EXCLUSIVE: u16 = 0;
+pub(crate) const EXCLUSIVE: u16 = 0;
 
 pub(crate) const SHARED: u16 = 1;
 

@@ -1,9 +1,9 @@
 //! A form is made, with its places, and closed.
 
-ghost use Rattle.std.specs.Prelude.{◌^◌, ◌≡◌, ◌+◌, ◌<◌, ◌≤◌, List, [], ◌∷◌, ◌++◌, IfOk, Some, replicate, slice_set, vec_capacity, vec_len};
+ghost use Rattle.std.specs.Prelude.{◌^◌, ◌≡◌, ◌+◌, ◌<◌, ◌≤◌, false, List, [], ◌∷◌, ◌++◌, IfOk, Some, replicate, slice_set, vec_capacity, vec_len};
 ghost use Rattle.saa_core_words.specs.Words.{count_bits};
 ghost use Rattle.saa_word_steps.specs.Needs.{needs_of};
-ghost use Rattle.saa_word_steps.specs.declared.place.Stage.TheVariants.{Quiet};
+ghost use Rattle.saa_word_proofs.specs.Registering.{is_slot};
 ghost use Rattle.saa_word_threads.specs.declared.table.Role.TheVariants.{Acting};
 ghost use Rattle.saa_word_threads.specs.declared.table.View.{View};
 ghost use Rattle.saa_word_threads.specs.Kept.{dealer, gathering};
@@ -15,6 +15,7 @@ use crate::mark::Marks;
 use crate::place::{Left, Place};
 use crate::straight::LastAsk;
 use crate::table::{About, Dealt, Gathered, Leaver, View};
+use crate::visitor::Visitor;
 use crate::words::Words;
 use atomic_table::{Seat, Table};
 use saa_word_steps::place::{Back, Place as Position, Registration, Stage};
@@ -112,6 +113,23 @@ impl Form {
         Words { closed, places }
     }
 
+    // The same with a visitor.
+    pub(crate) fn close_by(self, visitor: Visitor) -> Words
+        requires { visitor.seat.table_id ≡ self.table.shared.table_id }
+        ensures places { result.places ≡ self.places }
+        ensures led { IsLedTo self.table.shared.key (numbers result) visitor.seat.me.0 }
+    {
+        let Form {
+            table,
+            rules: _,
+            places,
+            marks: _,
+        } = self;
+        let Visitor { seat } = visitor;
+        let closed = table.close_with(seat);
+        Words { closed, places }
+    }
+
     // What places that have left had seen, in one of them: what the witness knew, and what this place had seen.
     pub(crate) fn gather(&self, witness: Option<Left>, left: Left) -> Left
         requires table { left.seat.table_id ≡ self.now.table.shared.table_id }
@@ -130,7 +148,7 @@ impl Form {
     fn join<M: Leaver>(&self, seat: &mut Seat<(), View>, other: Seat<(), View>)
         requires table { (seat.old.table_id ≡ self.now.table.shared.table_id) × (other.table_id ≡ self.now.table.shared.table_id) }
         requires acting { (seat.old.me.0.role ≡ Acting) × (other.me.0.role ≡ Acting) }
-        requires rests { other.me.0.position.stage ≡ Quiet }
+        requires out { is_slot other.me.0.position.registration ≡ false }
         requires empty { other.me.1 ≡ [] }
         requires gone { M.view ≡ other.me.0 }
         ensures table { (seat.new.table_id ≡ seat.old.table_id) × (seat.new.id ≡ seat.old.id) × (seat.new.me.1 ≡ seat.old.me.1) }

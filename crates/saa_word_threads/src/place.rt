@@ -3,9 +3,9 @@
 //! Places are dealt by the form that they are used with, and by nothing else; they can't be copied. Between its calls a place is as it was
 //! behind its last step, or has taken an answer that was given at once since.
 
-ghost use Rattle.std.specs.Prelude.{◌≡◌, ◌+◌, ◌<◌, []};
-ghost use Rattle.saa_word_steps.specs.declared.place.Stage.TheVariants.{Quiet};
+ghost use Rattle.std.specs.Prelude.{◌≡◌, ◌+◌, ◌<◌, [], false};
 ghost use Rattle.saa_word_steps.specs.Readings.{is_idle};
+ghost use Rattle.saa_word_proofs.specs.Registering.{is_slot};
 ghost use Rattle.saa_word_threads.specs.declared.table.Role.TheVariants.{Acting};
 ghost use Rattle.saa_word_threads.specs.Told.{IsSince};
 
@@ -47,7 +47,7 @@ pub struct Left {
     pub(crate) number: u16,
     ghost numbered: { (seat.me.0.role ≡ Acting) × (seat.me.0.number ≡ number) },
     ghost empty: { seat.me.1 ≡ [] },
-    ghost rests: { seat.me.0.position.stage ≡ Quiet },
+    ghost out: { is_slot seat.me.0.position.registration ≡ false },
 }
 
 impl Left {

@@ -42,7 +42,7 @@ impl Form {
     }
 
     // Makes an operation, and answers the number that it found.
-    fn perform<M: Mover, W: Watch>(
+    pub(crate) fn perform<M: Mover, W: Watch>(
         &self,
         watch: &W,
         seat: &mut Seat<(), View>,

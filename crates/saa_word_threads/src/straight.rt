@@ -217,7 +217,7 @@ impl Form {
     }
 
     // The count that is left of a word once a request is given back by an exchange: where it isn't poisoned, nobody waits, and it is held.
-    fn lowers(&self, seen: Word, request: u16) -> Option<u16>
+    pub(crate) fn lowers(&self, seen: Word, request: u16) -> Option<u16>
         ensures { result ≡ lowers_to (needs_of self.now.rules) seen request }
     {
         if seen.is_poisoned || seen.tail != 0 {
@@ -227,7 +227,7 @@ impl Form {
     }
 
     // What a try answers that is granted.
-    fn granted_try(&self) -> Answer
+    pub(crate) fn granted_try(&self) -> Answer
         ensures { result ≡ tried_answer (needs_of self.now.rules) true }
     {
         if self.rules.is_lock() {
@@ -491,7 +491,7 @@ impl Form {
 }
 
 // A word that nobody waits at, with this count.
-fn lowered(seen: Word, count: u16) -> Word
+pub(crate) fn lowered(seen: Word, count: u16) -> Word
     ensures { result ≡ record { count = count; is_flagged = seen.is_flagged || not (seen.tail == 0); is_poisoned = false; tail = seen.tail } }
 {
     Word {

@@ -10,8 +10,8 @@ use saa_word_steps::rules::Rules;
 use std::collections::LinkedList;
 use std::marker::{Brand, PhantomData};
 
-/// What a seat is: the dealer's, that of a place that makes calls, or that of one that has left and whose view another one has gathered, which
-/// makes no step any more.
+/// What a seat is: the dealer's, that of a place or of a visitor that makes calls, or that of a place that has left and whose view another one has
+/// gathered, which makes no step any more.
 pub enum Role {
     Dealer,
     Acting,
@@ -25,8 +25,8 @@ pub struct Departed {
     pub part: LinkedList<Event>,
 }
 
-/// What a seat knows. The dealer: how many places it has dealt. A place: its number, where it stood behind its last step, the history as it
-/// was at its last event, its own events in it, and what it has gathered of places that have left. No value of it is made.
+/// What a seat knows. The dealer: how many places it has dealt. A place or a visitor: its number, where it stood behind its last step, the history as
+/// it was at its last event, its own events in it, and what it has gathered of places that have left. No value of it is made.
 pub struct View {
     pub role: Role,
     pub number: u16,
@@ -99,6 +99,17 @@ impl<M: Mover> Play<(), View> for Sought<M> {
     ghost use Rattle.saa_word_threads.specs.Told.{sought};
 
     ghost then = { sought M.about M.place M.me };
+}
+
+/// A visitor enters, with a number that no place has.
+pub struct Entered<M> {
+    of: PhantomData<M>,
+}
+
+impl<M: Mover> Play<(), View> for Entered<M> {
+    ghost use Rattle.saa_word_threads.specs.Visits.{IsEntering};
+
+    ghost then = { λ _ _ _ after. IsEntering M.about.places after.0 };
 }
 
 /// The dealer deals one more place.

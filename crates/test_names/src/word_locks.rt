@@ -3,7 +3,7 @@
 ghost use Rattle.saa.specs.WordLocks.{IsDealtBy};
 
 use saa::word::machine::TryLockError;
-use saa::word::{Error, Lock, LockLeft, LockPlace, Mode, Words};
+use saa::word::{Error, Lock, LockLeft, LockPlace, Mode, Visitor, Words};
 use std::alloc::{AllocError, Global};
 use std::sync::Wait;
 
@@ -58,6 +58,54 @@ fn is_poisoned<R: Wait>(rt: &R, lock: &Lock, place: &mut LockPlace) -> bool
     poisoned == [true; 3] && again == [true; 2]
 }
 
+// Makes each call with no place, at a free lock.
+fn needs_no_place<R: Wait>(rt: &R, lock: &Lock) -> bool {
+    let (taken, _visitor): (Result<(), TryLockError>, Visitor) = lock.try_lock_once(rt);
+    let alone = [lock.is_locked_once().0, lock.is_free_once().0];
+    let lowered = [lock.downgrade_once(rt).0, lock.is_shared_once().0];
+    let (share, _visitor) = lock.try_share_once(rt);
+    let given = [
+        lock.release_share_once(rt).0,
+        lock.release_share_once(rt).0,
+        lock.release_lock_once(rt).0,
+        lock.poison_lock_once(rt).0,
+        lock.is_poisoned_once().0,
+        lock.clear_poison_once(rt).0,
+    ];
+    let is_given = given == [true, true, false, false, false, false];
+    taken == Ok(()) && share == Ok(()) && alone == [true, false] && lowered == [true; 2] && is_given
+}
+
+// Makes each call by one visitor, at a free lock.
+fn needs_no_place_but_a_visitor<R: Wait>(rt: &R, lock: &Lock) -> bool {
+    let mut visitor: Visitor = lock.visit();
+    let taken = [
+        lock.try_lock_by(rt, &mut visitor),
+        lock.try_share_by(rt, &mut visitor),
+    ];
+    let found = [
+        lock.is_free_by(&mut visitor),
+        lock.is_locked_by(&mut visitor),
+        lock.is_shared_by(&mut visitor),
+        lock.downgrade_by(rt, &mut visitor),
+        lock.release_share_by(rt, &mut visitor),
+        lock.release_lock_by(rt, &mut visitor),
+        lock.poison_lock_by(rt, &mut visitor),
+        lock.is_poisoned_by(&mut visitor),
+        lock.clear_poison_by(rt, &mut visitor),
+    ];
+    taken == [Ok(()), Err(TryLockError::WouldBlock)]
+        && found == [false, true, false, true, true, false, false, false, false]
+}
+
+// The main word of a lock that a visitor closes that has it: 63.
+fn is_closed_by_a_visitor<R: Wait>(rt: &R, alloc: Global) -> Result<bool, AllocError> {
+    let (lock, _places) = Lock::new(alloc, 0)?;
+    let (taken, visitor) = lock.try_lock_once(rt);
+    let words: Words = lock.close_by(visitor);
+    Ok(taken == Ok(()) && words.main() == 63)
+}
+
 // Makes each call at a place.
 fn makes_each_call<R: Wait>(rt: &R, lock: &Lock, place: &mut LockPlace) -> bool
     requires { IsDealtBy lock.now place.old }
@@ -94,8 +142,10 @@ pub(crate) fn is_right<R: Wait>(rt: &R, alloc: Global) -> Result<bool, AllocErro
     let Some(mut place) = places.pop() else {
         unreachable!()
     };
-    let is_called = makes_each_call(rt, &lock, &mut place);
+    let is_called = needs_no_place(rt, &lock)
+        && needs_no_place_but_a_visitor(rt, &lock)
+        && makes_each_call(rt, &lock, &mut place);
     let is_closed = is_closed(rt, lock, place);
-    let is_closed = is_closed && is_closed_alone(alloc)?;
+    let is_closed = is_closed && is_closed_alone(alloc)? && is_closed_by_a_visitor(rt, alloc)?;
     Ok(is_called && is_closed && Lock::MAX_SHARED_OWNERS == 62)
 }

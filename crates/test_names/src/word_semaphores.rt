@@ -2,7 +2,7 @@
 
 ghost use Rattle.saa.specs.WordSemaphores.{IsDealtBy};
 
-use saa::word::{Error, Left, Place, Semaphore, SemaphoreOf, Words};
+use saa::word::{Error, Left, Place, Semaphore, SemaphoreOf, Visitor, Words};
 use std::alloc::{AllocError, Global};
 use std::sync::Wait;
 
@@ -41,6 +41,31 @@ fn releases<R: Wait>(rt: &R, semaphore: &SemaphoreOf<2>, place: &mut Place) -> b
     is_released && semaphore.available_permits(place) == 2
 }
 
+// Makes each call with no place, and each by a visitor, while one of two permits is available.
+fn needs_no_place<R: Wait>(rt: &R, semaphore: &SemaphoreOf<2>) -> bool {
+    let (taken, mut visitor): (bool, Visitor) = semaphore.try_acquire_many_once(rt, 1);
+    let available = [
+        semaphore.available_permits_by(&mut visitor),
+        semaphore.available_permits_once().0,
+    ];
+    let (given, _visitor) = semaphore.release_many_once(rt, 1);
+    let mut other: Visitor = semaphore.visit();
+    let again = [
+        semaphore.try_acquire_many_by(rt, &mut other, 1),
+        semaphore.try_acquire_many_by(rt, &mut other, 1),
+        semaphore.release_many_by(rt, &mut other, 1),
+    ];
+    taken && given && available == [0; 2] && again == [true, false, true]
+}
+
+// The main word of a semaphore that is closed by a visitor, where 3 are withheld and it has taken 2.
+fn is_closed_by_a_visitor<R: Wait>(rt: &R, alloc: Global) -> Result<bool, AllocError> {
+    let (semaphore, _places) = Semaphore::new(alloc, 3, 0)?;
+    let (is_taken, visitor) = semaphore.try_acquire_many_once(rt, 2);
+    let words: Words = semaphore.close_by(visitor);
+    Ok(is_taken && words.main() == 5)
+}
+
 // Makes each call at a place.
 fn makes_each_call<R: Wait>(rt: &R, semaphore: &SemaphoreOf<2>, place: &mut Place) -> bool
     requires { IsDealtBy semaphore.now place.old }
@@ -77,8 +102,9 @@ pub(crate) fn is_right<R: Wait>(rt: &R, alloc: Global) -> Result<bool, AllocErro
     let Some(mut place) = places.pop() else {
         unreachable!()
     };
-    let is_called = makes_each_call(rt, &semaphore, &mut place);
+    let is_called = needs_no_place(rt, &semaphore) && makes_each_call(rt, &semaphore, &mut place);
     let is_closed = is_closed(rt, semaphore, place);
+    let is_closed = is_closed && is_closed_by_a_visitor(rt, alloc)?;
     Ok(is_called && is_closed && SemaphoreOf::<2>::MAX_PERMITS == 2)
 }
 

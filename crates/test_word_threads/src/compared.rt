@@ -25,8 +25,10 @@ fn call_of(word: u32, bound: usize) -> Call {
     match (word >> 1) % 16 {
         0 => Call::Try(count),
         1 => Call::Acquire(count),
-        2..=6 => Call::Register(count),
-        7..=9 => Call::Release(count),
+        2..=5 => Call::Register(count),
+        6 => Call::TryOnce(count),
+        7 | 8 => Call::Release(count),
+        9 => Call::ReleaseOnce(count),
         10 | 11 => Call::TryPoll,
         12 => Call::Poll,
         _ => Call::Cancel,

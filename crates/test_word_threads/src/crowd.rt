@@ -31,10 +31,12 @@ enum Kind {
     Forty,
     // It takes up to 56 in each way and gives them back, or cancels.
     EachWay,
+    // It takes up to 56 by its place, and gives them back with no place.
+    GivesWithNoPlace,
 }
 
 // Two threads take most of all permits in turn. The others may take all that aren't withheld.
-static CROWDS: [Crowd; 5] = [
+static CROWDS: [Crowd; 7] = [
     Crowd {
         threads: 2,
         turns: 100,
@@ -75,6 +77,22 @@ static CROWDS: [Crowd; 5] = [
         right: 64_000,
         main: 7,
     },
+    Crowd {
+        threads: 4,
+        turns: 50_000,
+        kind: Kind::GivesWithNoPlace,
+        withheld: 7,
+        right: 200_000,
+        main: 7,
+    },
+    Crowd {
+        threads: 32,
+        turns: 1_000,
+        kind: Kind::GivesWithNoPlace,
+        withheld: 7,
+        right: 32_000,
+        main: 7,
+    },
 ];
 
 // Takes so many permits and gives them back. Whether all that it was told is as it has to be.
@@ -105,6 +123,14 @@ fn takes_turn(rt: &impl Wait, worker: &mut Worker<'_, 63>, turn: u32) -> bool {
     }
 }
 
+// One turn: it takes permits by its place, or by none where they are there, and gives them back by none.
+fn gives_with_no_place(rt: &impl Wait, worker: &mut Worker<'_, 63>, turn: u32) -> bool {
+    let count = turn as usize % 56 + 1;
+    let is_taken = turn % 2 == 0 && worker.is_told(rt, Call::TryOnce(count), Told::Bool(true));
+    (is_taken || worker.is_told(rt, Call::Acquire(count), Told::Bool(true)))
+        && worker.is_told(rt, Call::ReleaseOnce(count), Told::Bool(true))
+}
+
 // Takes its turns, and leaves; how many were as they have to be.
 fn take_turns(rt: &impl Wait, mut worker: Worker<'_, 63>, turns: u32, kind: Kind) -> u32 {
     let mut right = 0u32;
@@ -112,6 +138,7 @@ fn take_turns(rt: &impl Wait, mut worker: Worker<'_, 63>, turns: u32, kind: Kind
         let is_right = match kind {
             Kind::Forty => takes(rt, &mut worker, 40),
             Kind::EachWay => takes_turn(rt, &mut worker, turn),
+            Kind::GivesWithNoPlace => gives_with_no_place(rt, &mut worker, turn),
         };
         right = right.saturating_add(u32::from(is_right));
     }

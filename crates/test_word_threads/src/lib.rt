@@ -45,4 +45,6 @@ mod sleepers;
 #[cfg(test)]
 mod tally;
 #[cfg(test)]
+mod visits;
+#[cfg(test)]
 mod worker;

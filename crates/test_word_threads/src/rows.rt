@@ -74,7 +74,7 @@ const RELEASED: Story = Story {
     ],
 };
 
-static STORIES: [Story; 8] = [
+static STORIES: [Story; 9] = [
     Story {
         name: "a release that fits later",
         withheld: 0,
@@ -141,6 +141,32 @@ static STORIES: [Story; 8] = [
             (Word::Answer(2), Some(0)),
         ],
         ..RELEASED
+    },
+    Story {
+        name: "calls with no place",
+        withheld: 5,
+        places: 1,
+        rows: &[
+            (0, Call::AvailableOnce, Told::Number(58)),
+            (0, Call::ReleaseOnce(6), Told::Bool(false)),
+            (0, Call::TryOnce(50), Told::Bool(true)),
+            (0, Call::TryOnce(9), Told::Bool(false)),
+            (0, Call::TryOnce(64), Told::Bool(false)),
+            (0, Call::ReleaseOnce(64), Told::Bool(false)),
+            (0, Call::ReleaseOnce(0), Told::Bool(true)),
+            (0, Call::Register(20), Told::Bool(true)),
+            (0, Call::AvailableOnce, Told::Number(8)),
+            // One is there, but a waiter is before it.
+            (0, Call::TryOnce(1), Told::Bool(false)),
+            (0, Call::ReleaseOnce(11), Told::Bool(true)),
+            (0, Call::TryPoll, Told::Polled(Err(Error::NotReady))),
+            (0, Call::ReleaseOnce(1), Told::Bool(true)),
+            (0, Call::AvailableOnce, Told::Number(0)),
+            (0, Call::TryPoll, Told::Polled(Ok(()))),
+            (0, Call::ReleaseOnce(3), Told::Bool(true)),
+        ],
+        all_leave: true,
+        words: &[(Word::Main, Some(60))],
     },
 ];
 

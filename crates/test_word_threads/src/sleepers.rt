@@ -18,10 +18,11 @@ use test_asserts::same;
 // How many wait for a permit each.
 const SLEEPERS: u64 = 24;
 
-// How the sleepers are answered: by releases of so many permits, or by one who stands before them all and cancels.
+// How the sleepers are answered: by releases of so many permits, at a place or with none, or by one who stands before them all and cancels.
 #[derive(Clone, Copy)]
 enum Way {
     Releases(u64),
+    ReleasesOnce(u64),
     Cancel,
 }
 
@@ -37,7 +38,7 @@ fn together(way: Way) -> u64
     ensures { 0 < result }
 {
     match way {
-        Way::Releases(count) => count.max(1),
+        Way::Releases(count) | Way::ReleasesOnce(count) => count.max(1),
         Way::Cancel => SLEEPERS,
     }
 }
@@ -88,6 +89,7 @@ fn release_some(
     rt: &impl Wait,
     semaphore: &Semaphore,
     giver: &mut Worker<'_, 63>,
+    call: Call,
     count: u64,
     watched: &Watched,
 ) -> u64 {
@@ -98,7 +100,7 @@ fn release_some(
             return early;
         }
         early = early.max(await_parked(rt, semaphore, watched, answered));
-        giver.make(rt, Call::Release(count as usize));
+        giver.make(rt, call);
         answered = answered.saturating_add(count);
         await_ended(rt, watched, answered);
     }
@@ -150,7 +152,14 @@ fn answer(
     watched: &Watched,
 ) -> u64 {
     match way {
-        Way::Releases(count) => release_some(rt, semaphore, giver, count, watched),
+        Way::Releases(count) => {
+            let call = Call::Release(count as usize);
+            release_some(rt, semaphore, giver, call, count, watched)
+        }
+        Way::ReleasesOnce(count) => {
+            let call = Call::ReleaseOnce(count as usize);
+            release_some(rt, semaphore, giver, call, count, watched)
+        }
         Way::Cancel => cancel_before(rt, semaphore, giver, watched),
     }
 }
@@ -210,10 +219,12 @@ fn run<R: Wait + Threads + Sync + AllocGlobal>(
     Ok((early, in_turn, main_of(rt, semaphore, witness)))
 }
 
-static WAYS: [Way; 4] = [
+static WAYS: [Way; 6] = [
     Way::Releases(1),
     Way::Releases(4),
     Way::Releases(SLEEPERS),
+    Way::ReleasesOnce(1),
+    Way::ReleasesOnce(SLEEPERS),
     Way::Cancel,
 ];
 

@@ -16,7 +16,7 @@ pub struct Worker<'s, const MAX: usize> {
     ghost dealt: { IsDealtBy semaphore.now place },
 }
 
-/// A call of a place.
+/// A call of a place, or of the semaphore alone.
 #[derive(Clone, Copy)]
 pub enum Call {
     Try(usize),
@@ -27,6 +27,10 @@ pub enum Call {
     Poll,
     Cancel,
     Available,
+    // With no place.
+    TryOnce(usize),
+    ReleaseOnce(usize),
+    AvailableOnce,
 }
 
 /// What a call answers.
@@ -60,6 +64,9 @@ fn make<const MAX: usize>(
             Told::Nothing
         }
         Call::Available => Told::Number(semaphore.available_permits(place)),
+        Call::TryOnce(count) => Told::Bool(semaphore.try_acquire_many_once(rt, count).0),
+        Call::ReleaseOnce(count) => Told::Bool(semaphore.release_many_once(rt, count).0),
+        Call::AvailableOnce => Told::Number(semaphore.available_permits_once().0),
     }
 }
 

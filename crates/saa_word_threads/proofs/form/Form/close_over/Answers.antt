@@ -16,4 +16,4 @@ returns-clause-led c = λ views is.
     let final = c.close_with-closed.ensures.values.2 in
     let witness = subst (λ (w : Option Left). IsWitness c.args.self.table.shared.table_id w views) c.in-Some.is is in
     led-all c.args.self.table.shared.key final.0 c.in-Some.field-0.seat.id c.in-Some.field-0.seat.me.0 (slots_items c.close_with-closed.result.words) views
-    final.1.0 final.1.1 c.in-Some.field-0.numbered.0 c.in-Some.field-0.rests final.2 witness.1
+    final.1.0 final.1.1 c.in-Some.field-0.numbered.0 c.in-Some.field-0.out final.2 witness.1

@@ -1,0 +1,18 @@
+use Rattle.std.proofs.Common.{◌≡◌}
+use Rattle.saa_word_threads.specs.declared.table.Role.TheVariants.{Acting}
+use Rattle.saa_word_steps.specs.Needs.{needs_of}
+use Rattle.saa_word_threads.specs.Visits.{MidVisit}
+use Rattle.saa_word_threads.proofs.form.Form.visit_on.Given as goal
+
+-- each step is of the visitor as it stands
+abbrev pub ghosts-visit_act : goal.ghosts-visit_act
+ghosts-visit_act g a = record { about = a.self.now.table.shared.key; place = a.place; me = a.seat.now.me.0.number }
+
+abbrev pub invariant-loop : goal.invariant-loop
+invariant-loop g l = record {
+  table : l.seat.table_id ≡ l.fn.seat.table_id;
+  same : l.seat.id ≡ l.fn.seat.id;
+  role : l.seat.me.0.role ≡ Acting;
+  number : l.seat.me.0.number ≡ l.fn.seat.me.0.number;
+  midway : MidVisit (needs_of l.self.rules) l.self.places l.begun.call.value l.begun.seat.value.me.0 l.place l.seat.me.0;
+}

@@ -1,0 +1,15 @@
+use Rattle.std.proofs.Common.{rules, refl}
+use Rattle.saa_word_steps.specs.declared.place.Stage.TheVariants.{ReadLoad}
+use Rattle.saa_word_steps.specs.Needs.{needs_of}
+use Rattle.saa_word_proofs.specs.Promises.{idle_place}
+use Rattle.saa_word_threads.proofs.Visiting.{number-beyond, visit-first}
+use Rattle.saa_word_threads.proofs.form.Form.visit_read.Goals as goal
+
+pub visit_look-found-requires-clause-midway : goal.visit_look-found-requires-clause-midway
+visit_look-found-requires-clause-midway c =
+    rw (c.of_visitor-begun.ensures.call, c.of_visitor-begun.ensures.seat, c.of-looking.ensures, c.standing-place.ensures)
+    (visit-first (needs_of c.args.self.now.rules) c.args.self.now.places c.args.call (record idle_place { stage = ReadLoad c.args.reading }) c.args.visitor.now.seat.me.0
+    c.args.visitor.now.rests.1
+    (number-beyond c.args.self.now.places c.args.self.now.table.shared.table_id.words c.args.visitor.now.seat.table_id.words c.args.visitor.now.seat.me.0.number
+    c.args.self.now.words (search rules) c.args.visitor.now.beyond)
+    c.requires.taken c.requires.starts refl (refl, refl))
