@@ -263,7 +263,7 @@ impl Form {
                 Next::Going(next) => place = next,
                 Next::Waits => {
                     watch.at(Moment::IsBlocked);
-                    watch.pause(Pause::Defers);
+                    Pause::Defers.make(watch);
                 }
                 Next::Done(_behind, answer) => return answer,
             }
