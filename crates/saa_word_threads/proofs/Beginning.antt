@@ -18,7 +18,7 @@ use Rattle.saa_word_proofs.specs.Rows.{updated}
 use Rattle.saa_word_proofs.specs.StepRefinement.{place_after}
 use Rattle.saa_word_proofs.proofs.RefinementLemmas.Lists.{all-same, updated-at, updated-same}
 use Rattle.saa_word_proofs.proofs.RefinementLemmas.Starting.{starts-anyone}
-use Rattle.saa_word_threads.specs.Told.{Begins, IsSince, resting_as, taken_once}
+use Rattle.saa_word_threads.specs.Told.{Begins, RestsAfter, resting_as, taken_once}
 
 -- the last of two updates at one place is what stands
 pub updated-twice : (standing : ℕ → Place) (me : ℕ) (one other : Place) → updated (updated standing me one) me other ≡ updated standing me other
@@ -44,7 +44,7 @@ rest-polled needs was rest (Once value request) is quiet rests =
           ∙ sym (ap (λ (r : Registration). place_after was (polled_as was Tries r)) is),
     )
 
-rest-since : (needs : Needs) (was rest : Place) (idle : Bool) → is_idle rest.registration ≡ idle → IsSince was rest
+rest-since : (needs : Needs) (was rest : Place) (idle : Bool) → is_idle rest.registration ≡ idle → RestsAfter was rest
     → (rest ≡ was) ⊎ ((was.stage ≡ Quiet) × (rest ≡ place_after was (started needs was TryPoll)))
 rest-since needs was rest true is since =
     rest-polled needs was rest was.registration refl since.0 (since.1 ∙ ap (resting_as was) is)
@@ -62,7 +62,7 @@ module _ (needs : Needs) (wide : needs.top < 2 ^ count_bits) (places : ℕ) (row
       (ap (λ (p : Place). p.stage) at ∙ quiet) taken)
 
   -- a place that rests
-  rest-refines : (standing : ℕ → Place) (was rest : Place) → standing me ≡ was → IsSince was rest → Refines needs places row standing state
+  rest-refines : (standing : ℕ → Place) (was rest : Place) → standing me ≡ was → RestsAfter was rest → Refines needs places row standing state
       → Refines needs places row (updated standing me rest) state
   rest-refines standing was rest at since s =
       elim (rest-since needs was rest (is_idle rest.registration) refl since) [

@@ -33,9 +33,9 @@ use Rattle.saa_word_proofs.proofs.SoloLemmas.Paths.{left-append, left-next}
 use Rattle.saa_word_proofs.proofs.SoloLemmas.Ready.{started-ready-anyone}
 use Rattle.saa_word_proofs.proofs.SoloLemmas.Registered.{started-as}
 use Rattle.saa_word_threads.specs.declared.table.View.{View}
-use Rattle.saa_word_threads.specs.Called.{HasEvents, IsCalled, IsCalledFrom, Midway, MidwayNext, is_single}
+use Rattle.saa_word_threads.specs.Called.{HasEvents, IsCalled, IsCalledFrom, InCall, InCallNext, is_single}
 use Rattle.saa_word_threads.specs.Public.{is_granted}
-use Rattle.saa_word_threads.specs.Told.{Extends, IsSince, IsSought, Moves, MovesOrStays, prepares, resting_as, taken_once, unless_joining}
+use Rattle.saa_word_threads.specs.Told.{Extends, RestsAfter, IsLookOnly, Moves, MovesOrStays, prepares, resting_as, taken_once, unless_joining}
 use Rattle.saa_word_threads.proofs.Growing.{extends-append, extends-none, named-append}
 
 -- a place that is done rests where it stands
@@ -45,7 +45,7 @@ rest-same Idle stage back = refl
 rest-same (Once value request) stage back = refl
 rest-same (Slot request) stage back = refl
 
-pub since-done : (place : Place) → place.stage ≡ Quiet → IsSince place place
+pub since-done : (place : Place) → place.stage ≡ Quiet → RestsAfter place place
 since-done place quiet = (quiet, rest-same place.registration place.stage place.back)
 
 -- The start of a call
@@ -182,38 +182,38 @@ begun-cases Cancel (Slot request) = inl refl
 begun-cases call registration = inl refl
 
 -- a place that rests still does where it takes what was given at once
-since-begun : (was rest : Place) (call : WordCall) → IsSince was rest → IsSince was (record rest { registration = begun_as call rest.registration })
+since-begun : (was rest : Place) (call : WordCall) → RestsAfter was rest → RestsAfter was (record rest { registration = begun_as call rest.registration })
 since-begun was rest call since =
     elim (begun-cases call rest.registration) [
-      | inl same ↦ subst (λ (r : Registration). IsSince was (record rest { registration = r })) (sym same) since
+      | inl same ↦ subst (λ (r : Registration). RestsAfter was (record rest { registration = r })) (sym same) since
       | inr once ↦
           let idles : is_idle rest.registration ≡ false = ap is_idle once.2 in
           let is : rest ≡ was = since.1 ∙ ap (resting_as was) idles in
           let took : taken_once was.registration ≡ Idle = ap taken_once (ap (λ (p : Place). p.registration) (sym is) ∙ once.2) in
-          subst (λ (r : Registration). IsSince was (record rest { registration = r })) (sym once.3)
+          subst (λ (r : Registration). RestsAfter was (record rest { registration = r })) (sym once.3)
           (since.0, ap (λ (p : Place). record p { registration = Idle }) is ∙ ap (λ (r : Registration). record was { registration = r }) (sym took))
     ]
 
 -- a call that is done at once leaves its place at rest
-pub since-started : (needs : Needs) (was rest : Place) (call : WordCall) (place : Place) (answer : Answer) → IsSince was rest
-    → started needs rest call ≡ Done place answer → IsSince was place
+pub since-started : (needs : Needs) (was rest : Place) (call : WordCall) (place : Place) (answer : Answer) → RestsAfter was rest
+    → started needs rest call ≡ Done place answer → RestsAfter was place
 unfolding back_of
 since-started needs was rest call place answer since is =
     let done =
     started-done (starting_answer needs call rest.registration) (begun_as call rest.registration) place answer (so needs call rest since.0 (Done place answer) is) in
     let back : rest.back ≡ place.back = sym (started-back needs rest call) ∙ ap (back_of rest) is in
-    subst (λ (b : Back). IsSince was (record place { back = b })) back
-    (subst (λ (r : Registration). IsSince was (record { registration = r; stage = place.stage; back = rest.back })) (sym done.1)
-    (subst (λ (s : Stage). IsSince was (record { registration = begun_as call rest.registration; stage = s; back = rest.back })) (since.0 ∙ sym done.2)
+    subst (λ (b : Back). RestsAfter was (record place { back = b })) back
+    (subst (λ (r : Registration). RestsAfter was (record { registration = r; stage = place.stage; back = rest.back })) (sym done.1)
+    (subst (λ (s : Stage). RestsAfter was (record { registration = begun_as call rest.registration; stage = s; back = rest.back })) (since.0 ∙ sym done.2)
     (since-begun was rest call since)))
 
 -- The steps of a call
 
 -- it has named nothing where it starts
-pub midway-begins : (needs : Needs) (places me : ℕ) (call : WordCall) (rest first : Place) (v : View)
-    → (is_slot rest.registration ≡ true → me < places) → IsSince v.position rest
-    → is_taken needs.is_lock call ≡ true → started needs rest call ≡ Going first → Midway needs places me call rest.registration v first v
-midway-begins needs places me call rest first v here since takes is = record {
+pub in-call-begins : (needs : Needs) (places me : ℕ) (call : WordCall) (rest first : Place) (v : View)
+    → (is_slot rest.registration ≡ true → me < places) → RestsAfter v.position rest
+    → is_taken needs.is_lock call ≡ true → started needs rest call ≡ Going first → InCall needs places me call rest.registration v first v
+in-call-begins needs places me call rest first v here since takes is = record {
   events = [];
   under = subst (IsBegun needs call rest.registration) is (call-begun needs rest call since.0);
   extends = extends-none v;
@@ -223,12 +223,12 @@ midway-begins needs places me call rest first v here since takes is = record {
 }
 
 -- the same at a place
-pub midway-first : (needs : Needs) (places me : ℕ) (call : WordCall) (rest first : Place) (v : View) → me < places → IsSince v.position rest
-    → is_taken needs.is_lock call ≡ true → started needs rest call ≡ Going first → Midway needs places me call rest.registration v first v
-midway-first needs places me call rest first v here since takes is = midway-begins needs places me call rest first v (λ slot. here) since takes is
+pub in-call-first : (needs : Needs) (places me : ℕ) (call : WordCall) (rest first : Place) (v : View) → me < places → RestsAfter v.position rest
+    → is_taken needs.is_lock call ≡ true → started needs rest call ≡ Going first → InCall needs places me call rest.registration v first v
+in-call-first needs places me call rest first v here since takes is = in-call-begins needs places me call rest first v (λ slot. here) since takes is
 
 module _ (needs : Needs) (withheld places me : ℕ) (call : WordCall) (was : Registration) (began : View) (place : Place) (v w : View) (found : ℕ)
-    (m : Midway needs places me call was began place v) (number : v.number ≡ me) where
+    (m : InCall needs places me call was began place v) (number : v.number ≡ me) where
   module _ (next : Next) (is : next ≡ next_of needs me place place.stage found) (moved : Moves needs withheld places place next found v w) where
     names : named (m.events ++ moved.events) ≡ named m.events ++ named_at needs place.stage found
     names = named-append m.events moved.events ∙ ap (λ (l : List Event). named m.events ++ l) moved.names
@@ -256,9 +256,9 @@ module _ (needs : Needs) (withheld places me : ℕ) (call : WordCall) (was : Reg
         subst (λ (p : Place). IsReadyNext needs places me (Going p)) (moved.position ∙ at)
         (subst (λ (n : ℕ). IsReadyNext needs places n (Going w.position)) number moved.ready)
 
-  pub midway-going : (next : Place) → Going next ≡ next_of needs me place place.stage found → Moves needs withheld places place (Going next) found v w
-      → Midway needs places me call was began next w
-  midway-going next is moved = record {
+  pub in-call-going : (next : Place) → Going next ≡ next_of needs me place place.stage found → Moves needs withheld places place (Going next) found v w
+      → InCall needs places me call was began next w
+  in-call-going next is moved = record {
     events = m.events ++ moved.events;
     under = under (Going next) is moved;
     extends = grown (Going next) is moved;
@@ -267,9 +267,9 @@ module _ (needs : Needs) (withheld places me : ℕ) (call : WordCall) (was : Reg
     ready = ready (Going next) is moved next refl;
   }
 
-  pub midway-waits : Waits ≡ next_of needs me place place.stage found → Moves needs withheld places place Waits found v w
-      → Midway needs places me call was began place w
-  midway-waits is moved = record {
+  pub in-call-waits : Waits ≡ next_of needs me place place.stage found → Moves needs withheld places place Waits found v w
+      → InCall needs places me call was began place w
+  in-call-waits is moved = record {
     events = m.events ++ moved.events;
     under = under Waits is moved;
     extends = grown Waits is moved;
@@ -278,9 +278,9 @@ module _ (needs : Needs) (withheld places me : ℕ) (call : WordCall) (was : Reg
     ready = ready Waits is moved place refl;
   }
 
-  pub midway-done : (behind : Place) (answer : Answer) → Done behind answer ≡ next_of needs me place place.stage found
+  pub in-call-done : (behind : Place) (answer : Answer) → Done behind answer ≡ next_of needs me place place.stage found
       → Moves needs withheld places place (Done behind answer) found v w → HasEvents needs withheld call was answer behind.registration began w
-  midway-done behind answer is moved = record {
+  in-call-done behind answer is moved = record {
     events = m.events ++ moved.events;
     extends = grown (Done behind answer) is moved;
     legal = moved.legal;
@@ -289,31 +289,31 @@ module _ (needs : Needs) (withheld places me : ℕ) (call : WordCall) (was : Reg
     registered = (left (Done behind answer) is moved).0;
   }
 
-  pub midway-since : (behind : Place) (answer : Answer) → Done behind answer ≡ next_of needs me place place.stage found
-      → Moves needs withheld places place (Done behind answer) found v w → IsSince w.position behind
-  midway-since behind answer is moved =
-      subst (λ (p : Place). IsSince p behind) (sym moved.position) (since-done behind (left (Done behind answer) is moved).1)
+  pub in-call-since : (behind : Place) (answer : Answer) → Done behind answer ≡ next_of needs me place place.stage found
+      → Moves needs withheld places place (Done behind answer) found v w → RestsAfter w.position behind
+  in-call-since behind answer is moved =
+      subst (λ (p : Place). RestsAfter p behind) (sym moved.position) (since-done behind (left (Done behind answer) is moved).1)
 
-  pub midway-next : (next : Next) → next ≡ next_of needs me place place.stage found → Moves needs withheld places place next found v w
-      → MidwayNext needs withheld places me call was began place w next
-  midway-next (Going next) is moved = midway-going next is moved
-  midway-next Waits is moved = midway-waits is moved
-  midway-next (Done behind answer) is moved = (midway-done behind answer is moved, midway-since behind answer is moved)
+  pub in-call-next : (next : Next) → next ≡ next_of needs me place place.stage found → Moves needs withheld places place next found v w
+      → InCallNext needs withheld places me call was began place w next
+  in-call-next (Going next) is moved = in-call-going next is moved
+  in-call-next Waits is moved = in-call-waits is moved
+  in-call-next (Done behind answer) is moved = (in-call-done behind answer is moved, in-call-since behind answer is moved)
 
 -- a place that stands where it stood goes on as it went on
-pub midway-stays : (needs : Needs) (withheld places me : ℕ) (call : WordCall) (was : Registration) (began : View) (place : Place) (v w : View) (next : Next)
-    → Midway needs places me call was began place v → v.number ≡ me → MovesOrStays needs withheld places me place next v w
-    → MidwayNext needs withheld places me call was began place w next
-midway-stays needs withheld places me call was began place v w next m number (inl moved) =
-    midway-next needs withheld places me call was began place v w moved.0 m number next moved.1 moved.2
-midway-stays needs withheld places me call was began place v w next m number (inr stays) =
-    subst (λ (n : Next). MidwayNext needs withheld places me call was began place w n) (sym stays.0)
-    (subst (λ (u : View). Midway needs places me call was began place u) (sym stays.1) m)
+pub in-call-stays : (needs : Needs) (withheld places me : ℕ) (call : WordCall) (was : Registration) (began : View) (place : Place) (v w : View) (next : Next)
+    → InCall needs places me call was began place v → v.number ≡ me → MovesOrStays needs withheld places me place next v w
+    → InCallNext needs withheld places me call was began place w next
+in-call-stays needs withheld places me call was began place v w next m number (inl moved) =
+    in-call-next needs withheld places me call was began place v w moved.0 m number next moved.1 moved.2
+in-call-stays needs withheld places me call was began place v w next m number (inr stays) =
+    subst (λ (n : Next). InCallNext needs withheld places me call was began place w n) (sym stays.0)
+    (subst (λ (u : View). InCall needs places me call was began place u) (sym stays.1) m)
 
 -- a look is a step, or nothing
-pub sought-stays : (needs : Needs) (withheld places me : ℕ) (place : Place) (found : ℕ) (v w : View) → IsSought needs withheld places me place found v w
+pub look-stays : (needs : Needs) (withheld places me : ℕ) (place : Place) (found : ℕ) (v w : View) → IsLookOnly needs withheld places me place found v w
     → MovesOrStays needs withheld places me place (unless_joining place (next_of needs me place place.stage found)) v w
-sought-stays needs withheld places me place found v w looked =
+look-stays needs withheld places me place found v w looked =
     elim (cases_Bool (prepares (next_of needs me place place.stage found))) [
       | inl joins ↦ (let same : w ≡ v = rw joins at looked in rw joins (inr (refl, same)))
       | inr goes ↦
@@ -326,11 +326,11 @@ pub stays-same : (needs : Needs) (withheld places me : ℕ) (place : Place) (nex
 stays-same needs withheld places me place next v w (inl moved) = (moved.2.extends.role, moved.2.extends.number)
 stays-same needs withheld places me place next v w (inr stays) = (ap (λ (u : View). u.role) stays.1, ap (λ (u : View). u.number) stays.1)
 
-pub sought-same : (needs : Needs) (withheld places me : ℕ) (place : Place) (found : ℕ) (v w : View) → IsSought needs withheld places me place found v w
+pub look-same : (needs : Needs) (withheld places me : ℕ) (place : Place) (found : ℕ) (v w : View) → IsLookOnly needs withheld places me place found v w
     → (w.role ≡ v.role) × (w.number ≡ v.number)
-sought-same needs withheld places me place found v w looked =
+look-same needs withheld places me place found v w looked =
     stays-same needs withheld places me place (unless_joining place (next_of needs me place place.stage found)) v w
-    (sought-stays needs withheld places me place found v w looked)
+    (look-stays needs withheld places me place found v w looked)
 
 -- The calls of one step at most
 

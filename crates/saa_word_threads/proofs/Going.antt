@@ -21,10 +21,10 @@ use Rattle.saa_word_steps.specs.Steps.{decided, given, going, granted, next_of, 
 use Rattle.saa_word_steps.specs.Readings.{is_taken, tried_answer}
 use Rattle.saa_word_threads.specs.declared.table.Role.TheVariants.{Acting}
 use Rattle.saa_word_threads.specs.declared.table.View.{View}
-use Rattle.saa_word_threads.specs.Called.{HasEvents, Midway, MidwayNext}
+use Rattle.saa_word_threads.specs.Called.{HasEvents, InCall, InCallNext}
 use Rattle.saa_word_threads.specs.Straight.{grants_at, lowers_to}
-use Rattle.saa_word_threads.specs.Told.{IsNext, IsSince, IsSought, Moves, prepares, unless_joining}
-use Rattle.saa_word_threads.proofs.Calling.{midway-first, midway-going, midway-next, midway-stays, sought-stays}
+use Rattle.saa_word_threads.specs.Told.{IsNext, RestsAfter, IsLookOnly, Moves, prepares, unless_joining}
+use Rattle.saa_word_threads.proofs.Calling.{in-call-first, in-call-going, in-call-next, in-call-stays, look-stays}
 
 both : (one other : Bool) → one && other ≡ true → (one ≡ true) × (other ≡ true)
 both true other is = (refl, is)
@@ -58,23 +58,23 @@ named-so needs withheld places me found one other v w is moved =
 
 -- A call of two steps, from the place as it looks to the place as it exchanges the word that it saw
 module _ (needs : Needs) (withheld places me : ℕ) (call : WordCall) (rest looks : Place) (v w : View) (found : ℕ) (here : me < places)
-    (number : v.number ≡ me) (since : IsSince v.position rest) (taken : is_taken needs.is_lock call ≡ true) (starts : started needs rest call ≡ Going looks)
+    (number : v.number ≡ me) (since : RestsAfter v.position rest) (taken : is_taken needs.is_lock call ≡ true) (starts : started needs rest call ≡ Going looks)
     (one : Place) (is_one : one ≡ looks) (looked : Moves needs withheld places one (next_of needs me one one.stage found) found v w) where
-  midway-looks : Midway needs places me call rest.registration v looks v
-  midway-looks = midway-first needs places me call rest looks v here since taken starts
+  in-call-looks : InCall needs places me call rest.registration v looks v
+  in-call-looks = in-call-first needs places me call rest looks v here since taken starts
 
   told : Moves needs withheld places looks (next_of needs me looks looks.stage found) found v w
   told = named-so needs withheld places me found one looks v w is_one looked
 
   -- how it goes on behind the first step
-  pub looked-next : MidwayNext needs withheld places me call rest.registration v looks w (next_of needs me looks looks.stage found)
+  pub looked-next : InCallNext needs withheld places me call rest.registration v looks w (next_of needs me looks looks.stage found)
   looked-next =
-      midway-next needs withheld places me call rest.registration v looks v w found midway-looks number (next_of needs me looks looks.stage found) refl told
+      in-call-next needs withheld places me call rest.registration v looks v w found in-call-looks number (next_of needs me looks looks.stage found) refl told
 
   module _ (changes : Place) (goes : next_of needs me looks looks.stage found ≡ Going changes) where
-    midway-changes : Midway needs places me call rest.registration v changes w
-    midway-changes =
-        midway-going needs withheld places me call rest.registration v looks v w found midway-looks number changes (sym goes)
+    in-call-changes : InCall needs places me call rest.registration v changes w
+    in-call-changes =
+        in-call-going needs withheld places me call rest.registration v looks v w found in-call-looks number changes (sym goes)
         (subst (λ (n : Next). Moves needs withheld places looks n found v w) goes told)
 
     still : w.number ≡ me
@@ -88,39 +88,39 @@ module _ (needs : Needs) (withheld places me : ℕ) (call : WordCall) (rest look
           role = told.extends.role ∙ acts;
           number = still;
           here = inl here;
-          begins = midway-changes.begins;
+          begins = in-call-changes.begins;
           makes = makes;
-          inside = subst (λ (o : Operation). word_at o < places + places + 1) (sym makes) midway-changes.ready.1;
+          inside = subst (λ (o : Operation). word_at o < places + places + 1) (sym makes) in-call-changes.ready.1;
         })
 
     -- how it goes on behind the exchange
     pub changed-next : (x : View) (other : ℕ) (two : Place) → two ≡ changes → Moves needs withheld places two (next_of needs me two two.stage other) other w x
-        → MidwayNext needs withheld places me call rest.registration v changes x (next_of needs me changes changes.stage other)
+        → InCallNext needs withheld places me call rest.registration v changes x (next_of needs me changes changes.stage other)
     changed-next x other two is_two changed =
-        midway-next needs withheld places me call rest.registration v changes w x other midway-changes still (next_of needs me changes changes.stage other) refl
+        in-call-next needs withheld places me call rest.registration v changes w x other in-call-changes still (next_of needs me changes changes.stage other) refl
         (named-so needs withheld places me other two changes w x is_two changed)
 
     -- and behind one that looks
-    pub changed-sought : (x : View) (other : ℕ) (two : Place) → two ≡ changes → IsSought needs withheld places me two other w x
-        → MidwayNext needs withheld places me call rest.registration v changes x (unless_joining changes (next_of needs me changes changes.stage other))
-    changed-sought x other two is_two changed =
-        midway-stays needs withheld places me call rest.registration v changes w x (unless_joining changes (next_of needs me changes changes.stage other)) midway-changes still
-        (sought-stays needs withheld places me changes other w x (subst (λ (p : Place). IsSought needs withheld places me p other w x) is_two changed))
+    pub changed-look : (x : View) (other : ℕ) (two : Place) → two ≡ changes → IsLookOnly needs withheld places me two other w x
+        → InCallNext needs withheld places me call rest.registration v changes x (unless_joining changes (next_of needs me changes changes.stage other))
+    changed-look x other two is_two changed =
+        in-call-stays needs withheld places me call rest.registration v changes w x (unless_joining changes (next_of needs me changes changes.stage other)) in-call-changes still
+        (look-stays needs withheld places me changes other w x (subst (λ (p : Place). IsLookOnly needs withheld places me p other w x) is_two changed))
 
 -- The same of an ask, which looks
-named-look : (needs : Needs) (withheld places me found : ℕ) (one other : Place) (v w : View) → one ≡ other → IsSought needs withheld places me one found v w
-    → IsSought needs withheld places me other found v w
-named-look needs withheld places me found one other v w is looked = subst (λ (p : Place). IsSought needs withheld places me p found v w) is looked
+named-look : (needs : Needs) (withheld places me found : ℕ) (one other : Place) (v w : View) → one ≡ other → IsLookOnly needs withheld places me one found v w
+    → IsLookOnly needs withheld places me other found v w
+named-look needs withheld places me found one other v w is looked = subst (λ (p : Place). IsLookOnly needs withheld places me p found v w) is looked
 
 -- how it goes on behind its first look
-pub sought-next : (needs : Needs) (withheld places me : ℕ) (call : WordCall) (rest looks : Place) (v w : View) (found : ℕ) → me < places → v.number ≡ me
-    → IsSince v.position rest → is_taken needs.is_lock call ≡ true → started needs rest call ≡ Going looks
-    → (one : Place) → one ≡ looks → IsSought needs withheld places me one found v w
-    → MidwayNext needs withheld places me call rest.registration v looks w (unless_joining looks (next_of needs me looks looks.stage found))
-sought-next needs withheld places me call rest looks v w found here number since taken starts one is_one looked =
-    midway-stays needs withheld places me call rest.registration v looks v w (unless_joining looks (next_of needs me looks looks.stage found))
-    (midway-first needs places me call rest looks v here since taken starts) number
-    (sought-stays needs withheld places me looks found v w (named-look needs withheld places me found one looks v w is_one looked))
+pub look-next : (needs : Needs) (withheld places me : ℕ) (call : WordCall) (rest looks : Place) (v w : View) (found : ℕ) → me < places → v.number ≡ me
+    → RestsAfter v.position rest → is_taken needs.is_lock call ≡ true → started needs rest call ≡ Going looks
+    → (one : Place) → one ≡ looks → IsLookOnly needs withheld places me one found v w
+    → InCallNext needs withheld places me call rest.registration v looks w (unless_joining looks (next_of needs me looks looks.stage found))
+look-next needs withheld places me call rest looks v w found here number since taken starts one is_one looked =
+    in-call-stays needs withheld places me call rest.registration v looks v w (unless_joining looks (next_of needs me looks looks.stage found))
+    (in-call-first needs places me call rest looks v here since taken starts) number
+    (look-stays needs withheld places me looks found v w (named-look needs withheld places me found one looks v w is_one looked))
 
 -- Asks
 
@@ -134,7 +134,7 @@ ask-goes needs me rest ask found seen sees grants =
 
 -- a look at such a word is a step
 pub ask-looks : (needs : Needs) (withheld places me : ℕ) (rest : Place) (ask : Ask) (found : ℕ) (seen : Word) (v w : View) (one : Place) → seen ≡ word_of count_bits found
-    → grants_at needs seen ask ≡ true → one ≡ record rest { stage = AskLoad ask } → IsSought needs withheld places me one found v w
+    → grants_at needs seen ask ≡ true → one ≡ record rest { stage = AskLoad ask } → IsLookOnly needs withheld places me one found v w
     → Moves needs withheld places one (next_of needs me one one.stage found) found v w
 ask-looks needs withheld places me rest ask found seen v w one sees grants is looked =
     let goes : prepares (next_of needs me one one.stage found) ≡ false =
@@ -169,7 +169,7 @@ ask-misses needs me rest ask seen one old is writes found joins =
     (sym (ap (λ (p : Place). prepares (next_of needs me p p.stage found)) is) ∙ joins)
 
 pub ask-takes : (needs : Needs) (withheld places me : ℕ) (rest : Place) (ask : Ask) (found : ℕ) (seen : Word) (v w : View) (one : Place)
-    → found ≡ word_number count_bits seen → one ≡ record rest { stage = AskExchange ask seen } → IsSought needs withheld places me one found v w
+    → found ≡ word_number count_bits seen → one ≡ record rest { stage = AskExchange ask seen } → IsLookOnly needs withheld places me one found v w
     → Moves needs withheld places one (next_of needs me one one.stage found) found v w
 ask-takes needs withheld places me rest ask found seen v w one hit is looked =
     let goes : prepares (next_of needs me one one.stage found) ≡ false =
@@ -178,19 +178,19 @@ ask-takes needs withheld places me rest ask found seen v w one hit is looked =
     rw goes at looked
 
 module _ (needs : Needs) (withheld places me : ℕ) (call : WordCall) (rest : Place) (ask : Ask) (seen : Word) (v x : View) (other : ℕ) (hit : other ≡ word_number count_bits seen)
-    (next : MidwayNext needs withheld places me call rest.registration v (record rest { stage = AskExchange ask seen }) x
+    (next : InCallNext needs withheld places me call rest.registration v (record rest { stage = AskExchange ask seen }) x
     (next_of needs me (record rest { stage = AskExchange ask seen }) (AskExchange ask seen) other)) where
-  ask-done : MidwayNext needs withheld places me call rest.registration v (record rest { stage = AskExchange ask seen }) x
+  ask-done : InCallNext needs withheld places me call rest.registration v (record rest { stage = AskExchange ask seen }) x
       (granted needs (record rest { stage = AskExchange ask seen }) ask)
   ask-done = let test : other == word_number count_bits seen ≡ true = same-number other (word_number count_bits seen) hit in rw test at next
 
   -- it is granted as it asked: a registration is kept, and a try leaves the place as it was
   pub registered-events : ask.joins ≡ true → HasEvents needs withheld call rest.registration (Says true) (Once granted_value ask.request) v x
-      × IsSince x.position (record rest { registration = Once granted_value ask.request; stage = Quiet })
+      × RestsAfter x.position (record rest { registration = Once granted_value ask.request; stage = Quiet })
   registered-events joins = rw joins at ask-done
 
   pub tried-events : ask.joins ≡ false
-      → HasEvents needs withheld call rest.registration (tried_answer needs true) rest.registration v x × IsSince x.position (record rest { stage = Quiet })
+      → HasEvents needs withheld call rest.registration (tried_answer needs true) rest.registration v x × RestsAfter x.position (record rest { stage = Quiet })
   tried-events tries = rw tries at ask-done
 
 -- Releases
@@ -235,9 +235,9 @@ lowered needs seen request left lowers =
 -- it is given back
 pub gave-events : (needs : Needs) (withheld places me : ℕ) (call : WordCall) (rest : Place) (request left : ℕ) (seen : Word) (v x : View) (other : ℕ)
     → other ≡ word_number count_bits seen → lowers_to needs seen request ≡ Some left
-    → MidwayNext needs withheld places me call rest.registration v (record rest { stage = ReleaseExchange (Asked request) seen; back = Tells }) x
+    → InCallNext needs withheld places me call rest.registration v (record rest { stage = ReleaseExchange (Asked request) seen; back = Tells }) x
     (next_of needs me (record rest { stage = ReleaseExchange (Asked request) seen; back = Tells }) (ReleaseExchange (Asked request) seen) other)
-    → HasEvents needs withheld call rest.registration (Says true) rest.registration v x × IsSince x.position (record rest { stage = Quiet; back = Tells })
+    → HasEvents needs withheld call rest.registration (Says true) rest.registration v x × RestsAfter x.position (record rest { stage = Quiet; back = Tells })
 gave-events needs withheld places me call rest request left seen v x other hit lowers next =
     let test : other == word_number count_bits seen ≡ true = same-number other (word_number count_bits seen) hit in
     let none : seen.tail == 0 ≡ true = (left-some needs seen request left lowers).1 in

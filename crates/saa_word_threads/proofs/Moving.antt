@@ -32,7 +32,7 @@ use Rattle.saa_word_threads.specs.declared.table.Role.TheVariants.{Dealer, Actin
 use Rattle.saa_word_threads.specs.declared.table.View.{View}
 use Rattle.saa_word_threads.specs.Kept.{AreGathered, Fits, FitsAs, IsFree, Kept, is_dealer, row_of}
 use Rattle.saa_word_steps.specs.declared.rules.Rules.{Rules}
-use Rattle.saa_word_threads.specs.Told.{Begins, Extends, IsNext, IsSought, Moves, prepares}
+use Rattle.saa_word_threads.specs.Told.{Begins, Extends, IsNext, IsLookOnly, Moves, prepares}
 use Rattle.saa_word_threads.proofs.Beginning.{begins-refines, updated-twice}
 use Rattle.saa_word_threads.proofs.Gathering.{found-within, gathered-stay, place-fits, spent-apart}
 use Rattle.saa_word_threads.proofs.Growing.{has-append, has-other, never-append, never-same, part-append, part-none, part-own, run-append, seen-apart, seen-legal, seen-on, seen-part, visitor-names}
@@ -365,7 +365,7 @@ module _ (about : About) (few : about.places < 65536) (wide : (needs_of about.ru
       → written_by (operation_of (needs_of about.rules) about.places me.0.number place.stage) found ≡ found)
       → Allows (Kept about) slots id me (word_at (operation_of (needs_of about.rules) about.places me.0.number place.stage))
       (written_by (operation_of (needs_of about.rules) about.places me.0.number place.stage))
-      (λ number next. IsSought (needs_of about.rules) about.withheld about.places me.0.number place number me.0 next.0 × (next.1 ≡ me.1))
+      (λ number next. IsLookOnly (needs_of about.rules) about.withheld about.places me.0.number place number me.0 next.0 × (next.1 ≡ me.1))
   seeks slots id me place acts here begins same = λ s kept sized at small.
       let op : Operation = operation_of (needs_of about.rules) about.places me.0.number place.stage in
       let number : ℕ = row_of s.words (word_at op) in
@@ -421,19 +421,19 @@ pub allowed-look : (about : About) (rules : Rules) (places : ℕ) (picked : Abou
     → (picked ≡ about) × (picked_place ≡ place) × (picked_number ≡ number) → IsNext (needs_of rules) places number place made me.0
     → ((found : ℕ) → prepares (next_of (needs_of rules) number place place.stage found) ≡ true → written_by made found ≡ found)
     → Allows (Kept about) slots id me (word_at made) (written_by made)
-    (λ found next. IsSought (needs_of picked.rules) picked.withheld picked.places picked_number picked_place found me.0 next.0 × (next.1 ≡ me.1))
+    (λ found next. IsLookOnly (needs_of picked.rules) picked.withheld picked.places picked_number picked_place found me.0 next.0 × (next.1 ≡ me.1))
 allowed-look about rules places picked picked_place place picked_number number slots id me made rules_are places_are few wide picks is same =
     subst (λ (a : About). Allows (Kept about) slots id me (word_at made) (written_by made)
-    (λ found next. IsSought (needs_of a.rules) a.withheld a.places picked_number picked_place found me.0 next.0 × (next.1 ≡ me.1))) (sym picks.0)
+    (λ found next. IsLookOnly (needs_of a.rules) a.withheld a.places picked_number picked_place found me.0 next.0 × (next.1 ≡ me.1))) (sym picks.0)
     (subst (λ (p : Place). Allows (Kept about) slots id me (word_at made) (written_by made)
-    (λ found next. IsSought (needs_of about.rules) about.withheld about.places picked_number p found me.0 next.0 × (next.1 ≡ me.1))) (sym picks.1)
+    (λ found next. IsLookOnly (needs_of about.rules) about.withheld about.places picked_number p found me.0 next.0 × (next.1 ≡ me.1))) (sym picks.1)
     (subst (λ (n : ℕ). Allows (Kept about) slots id me (word_at made) (written_by made)
-    (λ found next. IsSought (needs_of about.rules) about.withheld about.places n place found me.0 next.0 × (next.1 ≡ me.1))) (sym picks.2)
+    (λ found next. IsLookOnly (needs_of about.rules) about.withheld about.places n place found me.0 next.0 × (next.1 ≡ me.1))) (sym picks.2)
     (subst (λ (o : Operation). Allows (Kept about) slots id me (word_at o) (written_by o)
-    (λ found next. IsSought (needs_of about.rules) about.withheld about.places number place found me.0 next.0 × (next.1 ≡ me.1))) made_is
+    (λ found next. IsLookOnly (needs_of about.rules) about.withheld about.places number place found me.0 next.0 × (next.1 ≡ me.1))) made_is
     (subst (λ (n : ℕ). Allows (Kept about) slots id me
     (word_at (operation_of (needs_of about.rules) about.places n place.stage)) (written_by (operation_of (needs_of about.rules) about.places n place.stage))
-    (λ found next. IsSought (needs_of about.rules) about.withheld about.places n place found me.0 next.0 × (next.1 ≡ me.1))) is.number
+    (λ found next. IsLookOnly (needs_of about.rules) about.withheld about.places n place found me.0 next.0 × (next.1 ≡ me.1))) is.number
     (seeks about (subst (λ n. n < 65536) (sym places_are) few) (subst (λ (r : Rules). (needs_of r).top < 2 ^ count_bits) (sym rules_are) wide) slots id me place
     is.role here (subst (λ (r : Rules). Begins (needs_of r) me.0.position place) (sym rules_are) is.begins) same_here)))))
   where

@@ -27,7 +27,7 @@ use Rattle.saa_word_threads.specs.declared.table.Role.{Role}
 use Rattle.saa_word_threads.specs.declared.table.Role.TheVariants.{Dealer, Acting, Spent}
 use Rattle.saa_word_threads.specs.declared.table.View.{View}
 use Rattle.saa_word_threads.specs.Dealt.{AreNew, IsLedTo, IsNew}
-use Rattle.saa_word_threads.specs.Kept.{AreGathered, Fits, FitsAs, IsFree, IsNumber, Kept, dealer, is_dealer, newcomer, row_of}
+use Rattle.saa_word_threads.specs.Kept.{AreGathered, Fits, FitsAs, IsFree, IsNumber, Kept, dealer, is_dealer, fresh_view, row_of}
 use Rattle.saa_word_threads.specs.Visits.{IsEntering}
 use Rattle.saa_word_threads.proofs.Gathering.{found-within, gathered-stay, place-fits}
 use Rattle.saa_word_threads.proofs.Growing.{none-seen, part-none}
@@ -141,14 +141,14 @@ module _ (about : About) (s : State (Unit {0}) View) (kept : Kept about s) (view
     (deals : (seat : ℕ) (w : View) → get_elem? views seat ≡ some w → is_dealer w.role ≡ true
     → Fits kept.history kept.standing about.places dealt seat w × ((w.gathered ≡ []) ⊎ (get_elem? s.views seat ≡ some w))) where
   abbrev all : List View
-  all = views ++ newcomer number ∷ []
+  all = views ++ fresh_view number ∷ []
 
-  newcomer-fits : Fits kept.history kept.standing about.places dealt (length s.views) (newcomer number)
-  newcomer-fits =
+  fresh_view-fits : Fits kept.history kept.standing about.places dealt (length s.views) (fresh_view number)
+  fresh_view-fits =
       let none = kept.fresh number free in
       (is_number, none.1, sym (none-seen number kept.history none.0), sym (part-none number kept.history none.0))
 
-  all-fits : (seat : ℕ) (w : View) → (get_elem? views seat ≡ some w) ⊎ ((seat ≡ length views) × (newcomer number ≡ w))
+  all-fits : (seat : ℕ) (w : View) → (get_elem? views seat ≡ some w) ⊎ ((seat ≡ length views) × (fresh_view number ≡ w))
       → Fits kept.history kept.standing about.places dealt seat w
   all-fits seat w (inl there) =
       elim (cases_Bool (is_dealer w.role)) [
@@ -158,12 +158,12 @@ module _ (about : About) (s : State (Unit {0}) View) (kept : Kept about s) (view
       ]
   all-fits seat w (inr last) =
       subst (Fits kept.history kept.standing about.places dealt seat) last.1
-      (subst (λ (n : ℕ). Fits kept.history kept.standing about.places dealt n (newcomer number)) (sym (last.0 ∙ long)) newcomer-fits)
+      (subst (λ (n : ℕ). Fits kept.history kept.standing about.places dealt n (fresh_view number)) (sym (last.0 ∙ long)) fresh_view-fits)
 
   stays : (seat : ℕ) (w : View) → get_elem? s.views seat ≡ some w → w.role ≡ Spent → get_elem? all seat ≡ some w
-  stays seat w is gone = found-front views (newcomer number) w seat (back seat w is (ap is_dealer gone))
+  stays seat w is gone = found-front views (fresh_view number) w seat (back seat w is (ap is_dealer gone))
 
-  all-gathers : (seat : ℕ) (w : View) → (get_elem? views seat ≡ some w) ⊎ ((seat ≡ length views) × (newcomer number ≡ w)) → AreGathered all w.gathered
+  all-gathers : (seat : ℕ) (w : View) → (get_elem? views seat ≡ some w) ⊎ ((seat ≡ length views) × (fresh_view number ≡ w)) → AreGathered all w.gathered
   all-gathers seat w (inl there) =
       elim (cases_Bool (is_dealer w.role)) [
         | inl dealing ↦
@@ -175,8 +175,8 @@ module _ (about : About) (s : State (Unit {0}) View) (kept : Kept about s) (view
       ]
   all-gathers seat w (inr last) = subst (λ (u : View). AreGathered all u.gathered) last.1 tt
 
-  all-apart : (one other : ℕ) (v w : View) → (get_elem? views one ≡ some v) ⊎ ((one ≡ length views) × (newcomer number ≡ v))
-      → (get_elem? views other ≡ some w) ⊎ ((other ≡ length views) × (newcomer number ≡ w)) → is_dealer v.role ≡ false → is_dealer w.role ≡ false
+  all-apart : (one other : ℕ) (v w : View) → (get_elem? views one ≡ some v) ⊎ ((one ≡ length views) × (fresh_view number ≡ v))
+      → (get_elem? views other ≡ some w) ⊎ ((other ≡ length views) × (fresh_view number ≡ w)) → is_dealer v.role ≡ false → is_dealer w.role ≡ false
       → v.number ≡ w.number → one ≡ other
   all-apart one other v w (inl there) (inl also) plays also_plays is =
       kept.apart one other v w (same one v there plays) (same other w also also_plays) plays also_plays is
@@ -196,10 +196,10 @@ module _ (about : About) (s : State (Unit {0}) View) (kept : Kept about s) (view
     wide = kept.wide;
     few = few;
     refines = kept.refines;
-    each = λ seat w is. all-fits seat w (found-snoc views (newcomer number) w seat is);
-    gathers = λ seat w is. all-gathers seat w (found-snoc views (newcomer number) w seat is);
-    apart = λ one other v w is also. all-apart one other v w (found-snoc views (newcomer number) v one is) (found-snoc views (newcomer number) w other also);
-    fresh = λ other none. kept.fresh other (λ seat w is plays. none seat w (found-front views (newcomer number) w seat (back seat w is plays)) plays);
+    each = λ seat w is. all-fits seat w (found-snoc views (fresh_view number) w seat is);
+    gathers = λ seat w is. all-gathers seat w (found-snoc views (fresh_view number) w seat is);
+    apart = λ one other v w is also. all-apart one other v w (found-snoc views (fresh_view number) v one is) (found-snoc views (fresh_view number) w other also);
+    fresh = λ other none. kept.fresh other (λ seat w is plays. none seat w (found-front views (fresh_view number) w seat (back seat w is plays)) plays);
     visits = kept.visits;
   }
 
@@ -242,7 +242,7 @@ module _ (about : About) (number : ℕ) (room : number < about.places) (s : Stat
       let wrong : true ≡ false = ap (λ (u : View). is_dealer u.role) one ∙ plays in absurd (cc)) in
       set_else s.views id seat (dealer (number + 1)) apart ∙ is
 
-  pub kept-dealt : Kept about (record { words = s.words; homes = s.homes; views = set s.views id (dealer (number + 1)) ++ newcomer number ∷ [] })
+  pub kept-dealt : Kept about (record { words = s.words; homes = s.homes; views = set s.views id (dealer (number + 1)) ++ fresh_view number ∷ [] })
   kept-dealt =
       one-more about s kept (set s.views id (dealer (number + 1))) (number + 1) number (let f = first.1 in omega arith) (omega (arith, room)) undealt
       (inl (omega arith)) (length-set s.views id (dealer (number + 1)))
@@ -251,15 +251,15 @@ module _ (about : About) (number : ℕ) (room : number < about.places) (s : Stat
 
 -- the dealer deals a place
 pub deals : (about : About) (number id : ℕ) (v : View) → v ≡ dealer number → number < about.places
-    → Splits (Kept about) id v (dealer (v.number + 1)) (newcomer v.number)
+    → Splits (Kept about) id v (dealer (v.number + 1)) (fresh_view v.number)
 deals about number id v is more =
-    subst (λ (u : View). Splits (Kept about) id u (dealer (u.number + 1)) (newcomer u.number)) (sym is)
+    subst (λ (u : View). Splits (Kept about) id u (dealer (u.number + 1)) (fresh_view u.number)) (sym is)
     (λ s kept at. kept-dealt about number more s kept id at)
 
 -- One visitor more
 
 module _ (about : About) (s : State (Unit {0}) View) (kept : Kept about s) where
-  pub kept-entered : Kept about (record { words = s.words; homes = s.homes; views = s.views ++ newcomer (about.places + length s.views) ∷ [] })
+  pub kept-entered : Kept about (record { words = s.words; homes = s.homes; views = s.views ++ fresh_view (about.places + length s.views) ∷ [] })
   kept-entered =
       one-more about s kept s.views kept.dealt (about.places + length s.views) (omega arith) kept.few
       (λ seat w is plays.
@@ -271,7 +271,7 @@ module _ (about : About) (s : State (Unit {0}) View) (kept : Kept about s) where
 pub enters : (about : About) (picked_places slots index : ℕ) → picked_places ≡ about.places
     → Enters (Kept about) slots index (λ number v. IsEntering picked_places v)
 enters about picked_places slots index same = λ s kept sized small. (
-  newcomer (about.places + length s.views),
+  fresh_view (about.places + length s.views),
   kept-entered about s kept,
   (about.places + length s.views, omega (arith, same), refl),
 )

@@ -30,11 +30,11 @@ use Rattle.saa_word_proofs.specs.Refinement.{IsVisiting, uses_own}
 use Rattle.saa_word_proofs.specs.StepRefinement.{place_after}
 use Rattle.saa_word_threads.specs.declared.table.Role.TheVariants.{Acting}
 use Rattle.saa_word_threads.specs.declared.table.View.{View}
-use Rattle.saa_word_threads.specs.Called.{HasEvents, IsCalled, Midway}
+use Rattle.saa_word_threads.specs.Called.{HasEvents, IsCalled, InCall}
 use Rattle.saa_word_threads.specs.Straight.{grants_at, lowers_to}
-use Rattle.saa_word_threads.specs.Told.{IsNext, IsSince, Moves}
-use Rattle.saa_word_threads.specs.Visits.{MidVisit, VisitNext}
-use Rattle.saa_word_threads.proofs.Calling.{midway-begins, midway-done, midway-going, midway-since, midway-waits}
+use Rattle.saa_word_threads.specs.Told.{IsNext, RestsAfter, Moves}
+use Rattle.saa_word_threads.specs.Visits.{InVisit, VisitNext}
+use Rattle.saa_word_threads.proofs.Calling.{in-call-begins, in-call-done, in-call-going, in-call-since, in-call-waits}
 use Rattle.saa_word_threads.proofs.Going.{ask-goes, give-goes, left-some, same-number}
 
 -- No number
@@ -152,16 +152,16 @@ keeps-next needs me place stage found visits = let uses = visits.1 in let joins 
 -- it begins
 pub visit-first : (needs : Needs) (places : ℕ) (call : WordCall) (first : Place) (v : View) → v.position ≡ idle_place → places ≤ v.number
     → is_taken needs.is_lock call ≡ true → started needs idle_place call ≡ Going first → first ≡ record idle_place { stage = first.stage }
-    → IsVisiting first.stage → MidVisit needs places call v first v
+    → IsVisiting first.stage → InVisit needs places call v first v
 visit-first needs places call first v rests beyond takes is rested visits = record {
-  midway = midway-begins needs places v.number call idle_place first v (λ slot. absurd (cc))
-      (subst (λ (p : Place). IsSince p idle_place) (sym rests) (refl, refl)) takes is;
+  in_call = in-call-begins needs places v.number call idle_place first v (λ slot. absurd (cc))
+      (subst (λ (p : Place). RestsAfter p idle_place) (sym rests) (refl, refl)) takes is;
   rested = rested;
   beyond = beyond;
   visits = visits;
 }
 
-module _ (needs : Needs) (withheld places : ℕ) (call : WordCall) (began : View) (place : Place) (v : View) (m : MidVisit needs places call began place v) where
+module _ (needs : Needs) (withheld places : ℕ) (call : WordCall) (began : View) (place : Place) (v : View) (m : InVisit needs places call began place v) where
   -- the operation of its stage is what it makes next
   pub visit-makes : v.role ≡ Acting → (operation : Operation) → operation ≡ operation_of needs places 0 place.stage → IsNext needs places v.number place operation v
   visit-makes dealt operation makes =
@@ -170,9 +170,9 @@ module _ (needs : Needs) (withheld places : ℕ) (call : WordCall) (began : View
         role = dealt;
         number = refl;
         here = inr m.visits;
-        begins = m.midway.begins;
+        begins = m.in_call.begins;
         makes = is;
-        inside = subst (λ (o : Operation). word_at o < places + places + 1) (sym is) m.midway.ready.1;
+        inside = subst (λ (o : Operation). word_at o < places + places + 1) (sym is) m.in_call.ready.1;
       }
 
   module _ (w : View) (found : ℕ) where
@@ -182,22 +182,22 @@ module _ (needs : Needs) (withheld places : ℕ) (call : WordCall) (began : View
     visit-by : (next : Next) → next ≡ next_of needs v.number place place.stage found → Keeps place next → Moves needs withheld places place next found v w
         → VisitNext needs withheld places call began place w next
     visit-by (Going next) is keeps moved = record {
-      midway = subst (λ (n : ℕ). Midway needs places n call Idle began next w) (sym moved.extends.number)
-          (midway-going needs withheld places v.number call Idle began place v w found m.midway refl next is moved);
+      in_call = subst (λ (n : ℕ). InCall needs places n call Idle began next w) (sym moved.extends.number)
+          (in-call-going needs withheld places v.number call Idle began place v w found m.in_call refl next is moved);
       rested = rests-next next keeps;
       beyond = subst (λ (n : ℕ). places ≤ n) (sym moved.extends.number) m.beyond;
       visits = subst (λ (p : Place). IsVisiting p.stage) moved.position (moved.visits m.beyond);
     }
     visit-by Waits is keeps moved = record {
-      midway = subst (λ (n : ℕ). Midway needs places n call Idle began place w) (sym moved.extends.number)
-          (midway-waits needs withheld places v.number call Idle began place v w found m.midway refl is moved);
+      in_call = subst (λ (n : ℕ). InCall needs places n call Idle began place w) (sym moved.extends.number)
+          (in-call-waits needs withheld places v.number call Idle began place v w found m.in_call refl is moved);
       rested = m.rested;
       beyond = subst (λ (n : ℕ). places ≤ n) (sym moved.extends.number) m.beyond;
       visits = m.visits;
     }
     visit-by (Done behind answer) is keeps moved =
-        let has = midway-done needs withheld places v.number call Idle began place v w found m.midway refl behind answer is moved in
-        let since = midway-since needs withheld places v.number call Idle began place v w found m.midway refl behind answer is moved in
+        let has = in-call-done needs withheld places v.number call Idle began place v w found m.in_call refl behind answer is moved in
+        let since = in-call-since needs withheld places v.number call Idle began place v w found m.in_call refl behind answer is moved in
         let rested : behind ≡ record idle_place { stage = behind.stage } = rests-next behind keeps in
         let idle : behind.registration ≡ Idle = ap (λ (p : Place). p.registration) rested in
         let place_is : behind ≡ idle_place = rested ∙ ap (λ (s : Stage). record idle_place { stage = s }) since.0 in (
@@ -230,7 +230,7 @@ pub visit-asks : (needs : Needs) (withheld places : ℕ) (call : WordCall) (bega
     → grants_at needs seen (record { request = request; joins = false }) ≡ true
     → VisitNext needs withheld places call began (record idle_place { stage = AskLoad (record { request = request; joins = false }) }) v
     (next_of needs 0 (record idle_place { stage = AskLoad (record { request = request; joins = false }) }) (AskLoad (record { request = request; joins = false })) found)
-    → MidVisit needs places call began (record idle_place { stage = AskExchange (record { request = request; joins = false }) seen }) v
+    → InVisit needs places call began (record idle_place { stage = AskExchange (record { request = request; joins = false }) seen }) v
 visit-asks needs withheld places call began v request found seen sees grants next =
     subst (VisitNext needs withheld places call began (record idle_place { stage = AskLoad (record { request = request; joins = false }) }) v)
     (ask-goes needs 0 idle_place (record { request = request; joins = false }) found seen sees grants) next
@@ -239,7 +239,7 @@ pub visit-gives : (needs : Needs) (withheld places : ℕ) (call : WordCall) (beg
     → lowers_to needs seen request ≡ Some left
     → VisitNext needs withheld places call began (record idle_place { stage = ReleaseLoad (Asked request) }) v
     (next_of needs 0 (record idle_place { stage = ReleaseLoad (Asked request) }) (ReleaseLoad (Asked request)) found)
-    → MidVisit needs places call began (record idle_place { stage = ReleaseExchange (Asked request) seen }) v
+    → InVisit needs places call began (record idle_place { stage = ReleaseExchange (Asked request) seen }) v
 visit-gives needs withheld places call began v request left found seen sees lowers next =
     subst (VisitNext needs withheld places call began (record idle_place { stage = ReleaseLoad (Asked request) }) v)
     (give-goes needs 0 idle_place request left found seen sees lowers) next

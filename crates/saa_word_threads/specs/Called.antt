@@ -14,7 +14,7 @@ use Rattle.saa_word_proofs.specs.CallStages.{IsReadyNext, IsUnder}
 use Rattle.saa_word_proofs.specs.Registering.{begun_as, left_behind, starting_answer}
 use Rattle.saa_word_proofs.specs.History.{named, part_of}
 use Rattle.saa_word_threads.specs.declared.table.View.{View}
-use Rattle.saa_word_threads.specs.Told.{Begins, Extends, IsLegal, IsSince}
+use Rattle.saa_word_threads.specs.Told.{Begins, Extends, IsLegal, RestsAfter}
 
 -- A call of a place that was registered so has these events, which end in this answer: the place's view grows by them, the answer is the one
 -- that they name (others among them are granted, closed and showed, which no answer names), and what the place is registered as is read off them.
@@ -37,7 +37,7 @@ IsCalled needs withheld call was answer now v w = IsCalledFrom (starting_answer 
 
 -- A call of a place that was registered so, which began at a view, stands at this place: what it has named so far goes with where it stands, and
 -- the place's view has grown by its events. Internal: nobody has to believe this; it is the invariant of the loop of a call
-pub record Midway (needs : Needs) (places me : ℕ) (call : WordCall) (was : Registration) (began : View) (place : Place) (v : View) : Type 0 where
+pub record InCall (needs : Needs) (places me : ℕ) (call : WordCall) (was : Registration) (began : View) (place : Place) (v : View) : Type 0 where
   pub events : List Event
   pub under : IsUnder needs call was place.back place.stage (named events)
   pub extends : Extends began events v
@@ -56,8 +56,8 @@ is_single TryPoll = true
 is_single _ = false
 
 -- How a call goes on behind a step: from the next place, from where it was, or it is done and its place rests. Internal, as the invariant
-abbrev pub MidwayNext : Needs → ℕ → ℕ → ℕ → WordCall → Registration → View → Place → View → Next → Type 0
-MidwayNext needs withheld places me call was began place v (Going next) = Midway needs places me call was began next v
-MidwayNext needs withheld places me call was began place v Waits = Midway needs places me call was began place v
-MidwayNext needs withheld places me call was began place v (Done behind answer) =
-    HasEvents needs withheld call was answer behind.registration began v × IsSince v.position behind
+abbrev pub InCallNext : Needs → ℕ → ℕ → ℕ → WordCall → Registration → View → Place → View → Next → Type 0
+InCallNext needs withheld places me call was began place v (Going next) = InCall needs places me call was began next v
+InCallNext needs withheld places me call was began place v Waits = InCall needs places me call was began place v
+InCallNext needs withheld places me call was began place v (Done behind answer) =
+    HasEvents needs withheld call was answer behind.registration began v × RestsAfter v.position behind

@@ -10,12 +10,12 @@ use Rattle.saa_word_threads.specs.declared.table.About.{About}
 use Rattle.saa_word_threads.specs.declared.table.View.{View}
 use Rattle.saa_word_threads.specs.declared.place.Place.{Place}
 use Rattle.saa_word_threads.specs.declared.words.Words.{Words}
-use Rattle.saa_word_threads.specs.Kept.{newcomer, row_of}
+use Rattle.saa_word_threads.specs.Kept.{fresh_view, row_of}
 
 -- a place of a table that has this number, is idle, and has done nothing yet
 abbrev pub IsNew : TableId → ℕ → Place → Type 0
 IsNew table number place =
-    (place.seat.table_id ≡ table) × (place.number ≡ number) × (place.position ≡ idle_place) × (place.seat.me.0 ≡ newcomer number)
+    (place.seat.table_id ≡ table) × (place.number ≡ number) × (place.position ≡ idle_place) × (place.seat.me.0 ≡ fresh_view number)
 
 -- new places of a table, numbered in order from a number on
 abbrev pub AreNew : TableId → ℕ → List Place → Type 0

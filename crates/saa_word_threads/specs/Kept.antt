@@ -22,8 +22,8 @@ abbrev pub dealer : ℕ → View
 dealer dealt = record { role = Dealer; number = dealt; position = idle_place; seen = []; part = []; gathered = [] }
 
 -- the view of a place or of a visitor of this number that has done nothing yet
-abbrev pub newcomer : ℕ → View
-newcomer number = record { role = Acting; number = number; position = idle_place; seen = []; part = []; gathered = [] }
+abbrev pub fresh_view : ℕ → View
+fresh_view number = record { role = Acting; number = number; position = idle_place; seen = []; part = []; gathered = [] }
 
 -- what is kept of a view that is gathered
 abbrev pub departed : View → Departed

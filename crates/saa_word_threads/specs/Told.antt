@@ -70,22 +70,22 @@ abbrev pub unless_joining : Place → Next → Next
 unless_joining place next = if prepares next then Going place else next
 
 -- A place looks, and finds this number: it makes its step, unless it would go on to join; then nothing has happened
-abbrev pub IsSoughtAs : Bool → Needs → ℕ → ℕ → Place → Next → ℕ → View → View → Type 0
-IsSoughtAs true needs withheld places place next found v w = w ≡ v
-IsSoughtAs false needs withheld places place next found v w = Moves needs withheld places place next found v w
+abbrev pub IsLookOnlyAs : Bool → Needs → ℕ → ℕ → Place → Next → ℕ → View → View → Type 0
+IsLookOnlyAs true needs withheld places place next found v w = w ≡ v
+IsLookOnlyAs false needs withheld places place next found v w = Moves needs withheld places place next found v w
 
-abbrev pub IsSought : Needs → ℕ → ℕ → ℕ → Place → ℕ → View → View → Type 0
-IsSought needs withheld places me place found v w =
-    IsSoughtAs (prepares (next_of needs me place place.stage found)) needs withheld places place (next_of needs me place place.stage found) found v w
+abbrev pub IsLookOnly : Needs → ℕ → ℕ → ℕ → Place → ℕ → View → View → Type 0
+IsLookOnly needs withheld places me place found v w =
+    IsLookOnlyAs (prepares (next_of needs me place place.stage found)) needs withheld places place (next_of needs me place place.stage found) found v w
 
 -- a place goes on so: it has made its step, or it stands where it stood and nothing has happened
 abbrev pub MovesOrStays : Needs → ℕ → ℕ → ℕ → Place → Next → View → View → Type 0
 MovesOrStays needs withheld places me place next v w =
     ((found : ℕ) × (next ≡ next_of needs me place place.stage found) × Moves needs withheld places place next found v w) ⊎ ((next ≡ Going place) × (w ≡ v))
 
-abbrev pub sought : About → Place → ℕ → Step (Unit {0}) → Me (Unit {0}) View → ℕ → Me (Unit {0}) View → Type 0
-sought about place me st before found after =
-    IsSought (needs_of about.rules) about.withheld about.places me place found before.0 after.0 × (after.1 ≡ before.1)
+abbrev pub look_only : About → Place → ℕ → Step (Unit {0}) → Me (Unit {0}) View → ℕ → Me (Unit {0}) View → Type 0
+look_only about place me st before found after =
+    IsLookOnly (needs_of about.rules) about.withheld about.places me place found before.0 after.0 × (after.1 ≡ before.1)
 
 -- an answer that was given at once is taken
 abbrev pub taken_once : Registration → Registration
@@ -98,14 +98,14 @@ resting_as was true = record was { registration = taken_once was.registration }
 resting_as was false = was
 
 -- a place rests so in no call, and has made no step since
-abbrev pub IsSince : Place → Place → Type 0
-IsSince was rest = (rest.stage ≡ Quiet) × (rest ≡ resting_as was (is_idle rest.registration))
+abbrev pub RestsAfter : Place → Place → Type 0
+RestsAfter was rest = (rest.stage ≡ Quiet) × (rest ≡ resting_as was (is_idle rest.registration))
 
 -- a place is where it was behind its last step, or has started a call since
 abbrev pub Begins : Needs → Place → Place → Type 0
 Begins needs was place =
     (place ≡ was)
-    ⊎ ((rest : Place) × (call : WordCall) × IsSince was rest × (is_taken needs.is_lock call ≡ true) × (place ≡ place_after rest (started needs rest call)))
+    ⊎ ((rest : Place) × (call : WordCall) × RestsAfter was rest × (is_taken needs.is_lock call ≡ true) × (place ≡ place_after rest (started needs rest call)))
 
 -- A place of this number makes this operation next, out of so many places; or a visitor does, at a stage of a visitor
 pub record IsNext (needs : Needs) (places me : ℕ) (place : Place) (operation : Operation) (v : View) : Type 0 where

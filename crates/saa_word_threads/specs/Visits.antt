@@ -12,12 +12,12 @@ use Rattle.saa_word_proofs.specs.Promises.{idle_place}
 use Rattle.saa_word_proofs.specs.Refinement.{IsVisiting}
 use Rattle.saa_word_threads.specs.declared.table.View.{View}
 use Rattle.saa_word_threads.specs.declared.visitor.Visitor.{Visitor}
-use Rattle.saa_word_threads.specs.Called.{HasEvents, IsCalled, Midway}
-use Rattle.saa_word_threads.specs.Kept.{newcomer}
+use Rattle.saa_word_threads.specs.Called.{HasEvents, IsCalled, InCall}
+use Rattle.saa_word_threads.specs.Kept.{fresh_view}
 
 -- the view of a visitor that has done nothing yet: its number is none of a place
 abbrev pub IsEntering : ℕ → View → Type 0
-IsEntering places v = (number : ℕ) × (places ≤ number) × (v ≡ newcomer number)
+IsEntering places v = (number : ℕ) × (places ≤ number) × (v ≡ fresh_view number)
 
 -- what a visitor has seen and knows as its part
 abbrev pub view_of : Visitor → View
@@ -38,14 +38,14 @@ IsVisitedOnce table places needs withheld call answer new =
     (new.seat.table_id ≡ table) × ((v : View) × IsEntering places v × IsCalled needs withheld call Idle answer Idle v (view_of new))
 
 -- A visitor is in a call that began at a view, and stands so. Internal, as that of a place
-pub record MidVisit (needs : Needs) (places : ℕ) (call : WordCall) (began : View) (place : Place) (v : View) : Type 0 where
-  pub midway : Midway needs places v.number call Idle began place v
+pub record InVisit (needs : Needs) (places : ℕ) (call : WordCall) (began : View) (place : Place) (v : View) : Type 0 where
+  pub in_call : InCall needs places v.number call Idle began place v
   pub rested : place ≡ record idle_place { stage = place.stage }
   pub beyond : places ≤ v.number
   pub visits : IsVisiting place.stage
 
 -- how it goes on behind a step
 abbrev pub VisitNext : Needs → ℕ → ℕ → WordCall → View → Place → View → Next → Type 0
-VisitNext needs withheld places call began place v (Going next) = MidVisit needs places call began next v
-VisitNext needs withheld places call began place v Waits = MidVisit needs places call began place v
+VisitNext needs withheld places call began place v (Going next) = InVisit needs places call began next v
+VisitNext needs withheld places call began place v Waits = InVisit needs places call began place v
 VisitNext needs withheld places call began place v (Done behind answer) = HasEvents needs withheld call Idle answer Idle began v × (v.position ≡ idle_place)

@@ -4,8 +4,8 @@ ghost use Rattle.std.specs.Prelude.{◌≡◌, ◌<◌, true};
 ghost use Rattle.saa_word_steps.specs.Readings.{is_taken};
 ghost use Rattle.saa_word_steps.specs.Needs.{needs_of};
 ghost use Rattle.saa_word_threads.specs.declared.table.Role.TheVariants.{Acting};
-ghost use Rattle.saa_word_threads.specs.Told.{IsSince};
-ghost use Rattle.saa_word_threads.specs.Called.{HasEvents, IsCalled, Midway, is_single};
+ghost use Rattle.saa_word_threads.specs.Told.{RestsAfter};
+ghost use Rattle.saa_word_threads.specs.Called.{HasEvents, IsCalled, InCall, is_single};
 ghost use Rattle.saa_word_threads.specs.Public.{HasLeft, patience_of};
 
 use crate::form::Form;
@@ -146,10 +146,10 @@ impl Form {
     ) -> (Position, Answer)
         requires table { seat.old.table_id ≡ self.now.table.shared.table_id }
         requires number { (seat.old.me.0.role ≡ Acting) × (seat.old.me.0.number ≡ me) × (me < self.now.places) }
-        requires midway { Midway (needs_of self.now.rules) self.now.places me begun.call.value begun.registered.value begun.seat.value.me.0 first seat.old.me.0 }
+        requires in_call { InCall (needs_of self.now.rules) self.now.places me begun.call.value begun.registered.value begun.seat.value.me.0 first seat.old.me.0 }
         ensures table { (seat.new.table_id ≡ seat.old.table_id) × (seat.new.id ≡ seat.old.id) × (seat.new.me.1 ≡ seat.old.me.1) }
         ensures number { (seat.new.me.0.role ≡ Acting) × (seat.new.me.0.number ≡ me) }
-        ensures since { IsSince seat.new.me.0.position result.0 }
+        ensures since { RestsAfter seat.new.me.0.position result.0 }
         ensures events { HasEvents (needs_of self.now.rules) self.now.table.shared.key.withheld begun.call.value begun.registered.value result.1 result.0.registration begun.seat.value.me.0 seat.new.me.0 }
     {
         let mut place = first;

@@ -13,12 +13,12 @@ ghost use Rattle.saa_word_steps.specs.Steps.{next_of};
 ghost use Rattle.saa_word_steps.specs.Needs.{needs_of};
 ghost use Rattle.saa_word_proofs.specs.CallStages.{IsReadyNext};
 ghost use Rattle.saa_word_threads.specs.declared.table.Role.TheVariants.{Acting};
-ghost use Rattle.saa_word_threads.specs.Called.{Midway, MidwayNext};
-ghost use Rattle.saa_word_threads.specs.Told.{Begins, IsNext, IsSought, MovesOrStays, prepares, unless_joining};
+ghost use Rattle.saa_word_threads.specs.Called.{InCall, InCallNext};
+ghost use Rattle.saa_word_threads.specs.Told.{Begins, IsNext, IsLookOnly, MovesOrStays, prepares, unless_joining};
 
 use crate::call::Begun;
 use crate::form::Form;
-use crate::table::{Mover, Sought, View};
+use crate::table::{LookOnly, Mover, View};
 use crate::watch::{Moment, Pause, Watch};
 use atomic_table::Seat;
 use saa_core_words::word::Word;
@@ -85,10 +85,10 @@ impl Form {
     ) -> Next
         requires table { seat.old.table_id ≡ self.now.table.shared.table_id }
         requires number { (seat.old.me.0.role ≡ Acting) × (seat.old.me.0.number ≡ me) × (me < self.now.places) }
-        requires midway { Midway (needs_of self.now.rules) self.now.places me begun.now.call.value begun.now.registered.value begun.now.seat.value.me.0 first seat.old.me.0 }
+        requires in_call { InCall (needs_of self.now.rules) self.now.places me begun.now.call.value begun.now.registered.value begun.now.seat.value.me.0 first seat.old.me.0 }
         ensures table { (seat.new.table_id ≡ seat.old.table_id) × (seat.new.id ≡ seat.old.id) × (seat.new.me.1 ≡ seat.old.me.1) }
         ensures number { (seat.new.me.0.role ≡ Acting) × (seat.new.me.0.number ≡ me) }
-        ensures midway { MidwayNext (needs_of self.now.rules) self.now.table.shared.key.withheld self.now.places me begun.now.call.value begun.now.registered.value begun.now.seat.value.me.0 first seat.new.me.0 result }
+        ensures in_call { InCallNext (needs_of self.now.rules) self.now.table.shared.key.withheld self.now.places me begun.now.call.value begun.now.registered.value begun.now.seat.value.me.0 first seat.new.me.0 result }
     {
         let mut place = first;
         for turn in 0..patience.turns() {
@@ -129,7 +129,7 @@ impl Form {
         requires begins { Begins (needs_of self.now.rules) seat.old.me.0.position place }
         requires ready { IsReadyNext (needs_of self.now.rules) self.now.places me (Going place) }
         ensures table { (seat.new.table_id ≡ seat.old.table_id) × (seat.new.id ≡ seat.old.id) × (seat.new.me.1 ≡ seat.old.me.1) }
-        ensures sought { MovesOrStays (needs_of self.now.rules) self.now.table.shared.key.withheld self.now.places me place result seat.old.me.0 seat.new.me.0 }
+        ensures look_only { MovesOrStays (needs_of self.now.rules) self.now.table.shared.key.withheld self.now.places me place result seat.old.me.0 seat.new.me.0 }
     {
         let at = Snapshot::of(&place);
         match place.stage {
@@ -163,9 +163,9 @@ impl Form {
         requires next { IsNext (needs_of self.now.rules) self.now.places me at.value (Load 0) seat.old.me.0 }
         ensures table { (seat.new.table_id ≡ seat.old.table_id) × (seat.new.id ≡ seat.old.id) × (seat.new.me.1 ≡ seat.old.me.1) }
         ensures number { (seat.new.me.0.role ≡ Acting) × (seat.new.me.0.number ≡ me) }
-        ensures sought { IsSought (needs_of self.now.rules) self.now.table.shared.key.withheld self.now.places me at.value result seat.old.me.0 seat.new.me.0 }
+        ensures look_only { IsLookOnly (needs_of self.now.rules) self.now.table.shared.key.withheld self.now.places me at.value result seat.old.me.0 seat.new.me.0 }
     {
-        self.table.shared.load::<Sought<M>>(seat, 0)
+        self.table.shared.load::<LookOnly<M>>(seat, 0)
     }
 
     // Exchanges the main word, for a place that stands so and asks. Where the exchange is made the place doesn't join.
@@ -184,11 +184,11 @@ impl Form {
         requires made { (found : ℕ) → prepares (next_of (needs_of self.now.rules) me at.value at.value.stage found) ≡ true → (found == old) ≡ false }
         ensures table { (seat.new.table_id ≡ seat.old.table_id) × (seat.new.id ≡ seat.old.id) × (seat.new.me.1 ≡ seat.old.me.1) }
         ensures number { (seat.new.me.0.role ≡ Acting) × (seat.new.me.0.number ≡ me) }
-        ensures sought { IsSought (needs_of self.now.rules) self.now.table.shared.key.withheld self.now.places me at.value result seat.old.me.0 seat.new.me.0 }
+        ensures look_only { IsLookOnly (needs_of self.now.rules) self.now.table.shared.key.withheld self.now.places me at.value result seat.old.me.0 seat.new.me.0 }
     {
         self.table
             .shared
-            .compare_exchange::<Sought<M>>(seat, 0, old, new)
+            .compare_exchange::<LookOnly<M>>(seat, 0, old, new)
     }
 }
 

@@ -7,7 +7,7 @@ ghost use Rattle.std.specs.Prelude.{◌≡◌, ◌+◌, ◌<◌, [], false};
 ghost use Rattle.saa_word_steps.specs.Readings.{is_idle};
 ghost use Rattle.saa_word_proofs.specs.Registering.{is_slot};
 ghost use Rattle.saa_word_threads.specs.declared.table.Role.TheVariants.{Acting};
-ghost use Rattle.saa_word_threads.specs.Told.{IsSince};
+ghost use Rattle.saa_word_threads.specs.Told.{RestsAfter};
 
 use crate::straight::LastAsk;
 use crate::table::View;
@@ -28,7 +28,7 @@ pub struct Place {
     ghost numbered: { (seat.me.0.role ≡ Acting) × (seat.me.0.number ≡ number) },
     ghost empty: { seat.me.1 ≡ [] },
     ghost within: { number + number + 1 < seat.table_id.words },
-    ghost since: { IsSince seat.me.0.position position },
+    ghost since: { RestsAfter seat.me.0.position position },
 }
 
 impl Place {

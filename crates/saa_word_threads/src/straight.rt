@@ -20,8 +20,8 @@ ghost use Rattle.saa_word_threads.specs.declared.table.Role.TheVariants.{Acting}
 ghost use Rattle.saa_word_threads.specs.Patience.{none};
 ghost use Rattle.saa_word_threads.specs.Public.{is_granted, is_yes, patience_of};
 ghost use Rattle.saa_word_threads.specs.Straight.{grants_at, lowers_to};
-ghost use Rattle.saa_word_threads.specs.Told.{IsNext, IsSince, Moves, unless_joining};
-ghost use Rattle.saa_word_threads.specs.Called.{HasEvents, IsCalled, Midway, MidwayNext};
+ghost use Rattle.saa_word_threads.specs.Told.{IsNext, RestsAfter, Moves, unless_joining};
+ghost use Rattle.saa_word_threads.specs.Called.{HasEvents, IsCalled, InCall, InCallNext};
 
 use crate::call::Begun;
 use crate::form::Form;
@@ -284,10 +284,10 @@ impl Form {
         requires table { seat.old.table_id ≡ self.now.table.shared.table_id }
         requires number { (seat.old.me.0.role ≡ Acting) × (seat.old.me.0.number ≡ me) × (me < self.now.places) }
         requires ranged { IsRanged (needs_of self.now.rules) (AskLoad ask) }
-        requires midway { MidwayNext (needs_of self.now.rules) self.now.table.shared.key.withheld self.now.places me begun.call.value begun.registered.value begun.seat.value.me.0 (record position.old { stage = AskLoad ask }) seat.old.me.0 (unless_joining (record position.old { stage = AskLoad ask }) (next_of (needs_of self.now.rules) me (record position.old { stage = AskLoad ask }) (AskLoad ask) found)) }
+        requires in_call { InCallNext (needs_of self.now.rules) self.now.table.shared.key.withheld self.now.places me begun.call.value begun.registered.value begun.seat.value.me.0 (record position.old { stage = AskLoad ask }) seat.old.me.0 (unless_joining (record position.old { stage = AskLoad ask }) (next_of (needs_of self.now.rules) me (record position.old { stage = AskLoad ask }) (AskLoad ask) found)) }
         ensures table { (seat.new.table_id ≡ seat.old.table_id) × (seat.new.id ≡ seat.old.id) × (seat.new.me.1 ≡ seat.old.me.1) }
         ensures number { (seat.new.me.0.role ≡ Acting) × (seat.new.me.0.number ≡ me) }
-        ensures since { IsSince seat.new.me.0.position position.new }
+        ensures since { RestsAfter seat.new.me.0.position position.new }
         ensures events { HasEvents (needs_of self.now.rules) self.now.table.shared.key.withheld begun.call.value begun.registered.value result position.new.registration begun.seat.value.me.0 seat.new.me.0 }
     {
         let place = Position {
@@ -319,10 +319,10 @@ impl Form {
         requires table { seat.old.table_id ≡ self.now.table.shared.table_id }
         requires number { (seat.old.me.0.role ≡ Acting) × (seat.old.me.0.number ≡ me) × (me < self.now.places) }
         requires ranged { IsRanged (needs_of self.now.rules) (AskExchange ask (word_of count_bits first)) }
-        requires midway { MidwayNext (needs_of self.now.rules) self.now.table.shared.key.withheld self.now.places me begun.call.value begun.registered.value begun.seat.value.me.0 (record position.old { stage = AskExchange ask (word_of count_bits first) }) seat.old.me.0 (unless_joining (record position.old { stage = AskExchange ask (word_of count_bits first) }) (next_of (needs_of self.now.rules) me (record position.old { stage = AskExchange ask (word_of count_bits first) }) (AskExchange ask (word_of count_bits first)) found)) }
+        requires in_call { InCallNext (needs_of self.now.rules) self.now.table.shared.key.withheld self.now.places me begun.call.value begun.registered.value begun.seat.value.me.0 (record position.old { stage = AskExchange ask (word_of count_bits first) }) seat.old.me.0 (unless_joining (record position.old { stage = AskExchange ask (word_of count_bits first) }) (next_of (needs_of self.now.rules) me (record position.old { stage = AskExchange ask (word_of count_bits first) }) (AskExchange ask (word_of count_bits first)) found)) }
         ensures table { (seat.new.table_id ≡ seat.old.table_id) × (seat.new.id ≡ seat.old.id) × (seat.new.me.1 ≡ seat.old.me.1) }
         ensures number { (seat.new.me.0.role ≡ Acting) × (seat.new.me.0.number ≡ me) }
-        ensures since { IsSince seat.new.me.0.position position.new }
+        ensures since { RestsAfter seat.new.me.0.position position.new }
         ensures events { HasEvents (needs_of self.now.rules) self.now.table.shared.key.withheld begun.call.value begun.registered.value result position.new.registration begun.seat.value.me.0 seat.new.me.0 }
     {
         let seen = Word::unpack(first);
@@ -353,10 +353,10 @@ impl Form {
         requires table { seat.old.table_id ≡ self.now.table.shared.table_id }
         requires number { (seat.old.me.0.role ≡ Acting) × (seat.old.me.0.number ≡ me) × (me < self.now.places) }
         requires ranged { IsRanged (needs_of self.now.rules) (ReleaseLoad (Asked request)) }
-        requires midway { MidwayNext (needs_of self.now.rules) self.now.table.shared.key.withheld self.now.places me begun.call.value begun.registered.value begun.seat.value.me.0 (record position.old { stage = ReleaseLoad (Asked request); back = Tells }) seat.old.me.0 (next_of (needs_of self.now.rules) me (record position.old { stage = ReleaseLoad (Asked request); back = Tells }) (ReleaseLoad (Asked request)) found) }
+        requires in_call { InCallNext (needs_of self.now.rules) self.now.table.shared.key.withheld self.now.places me begun.call.value begun.registered.value begun.seat.value.me.0 (record position.old { stage = ReleaseLoad (Asked request); back = Tells }) seat.old.me.0 (next_of (needs_of self.now.rules) me (record position.old { stage = ReleaseLoad (Asked request); back = Tells }) (ReleaseLoad (Asked request)) found) }
         ensures table { (seat.new.table_id ≡ seat.old.table_id) × (seat.new.id ≡ seat.old.id) × (seat.new.me.1 ≡ seat.old.me.1) }
         ensures number { (seat.new.me.0.role ≡ Acting) × (seat.new.me.0.number ≡ me) }
-        ensures since { IsSince seat.new.me.0.position position.new }
+        ensures since { RestsAfter seat.new.me.0.position position.new }
         ensures events { HasEvents (needs_of self.now.rules) self.now.table.shared.key.withheld begun.call.value begun.registered.value result position.new.registration begun.seat.value.me.0 seat.new.me.0 }
     {
         let place = Position {
@@ -388,10 +388,10 @@ impl Form {
         requires table { seat.old.table_id ≡ self.now.table.shared.table_id }
         requires number { (seat.old.me.0.role ≡ Acting) × (seat.old.me.0.number ≡ me) × (me < self.now.places) }
         requires ranged { IsRanged (needs_of self.now.rules) (ReleaseExchange (Asked request) (word_of count_bits first)) }
-        requires midway { MidwayNext (needs_of self.now.rules) self.now.table.shared.key.withheld self.now.places me begun.call.value begun.registered.value begun.seat.value.me.0 (record position.old { stage = ReleaseExchange (Asked request) (word_of count_bits first); back = Tells }) seat.old.me.0 (next_of (needs_of self.now.rules) me (record position.old { stage = ReleaseExchange (Asked request) (word_of count_bits first); back = Tells }) (ReleaseExchange (Asked request) (word_of count_bits first)) found) }
+        requires in_call { InCallNext (needs_of self.now.rules) self.now.table.shared.key.withheld self.now.places me begun.call.value begun.registered.value begun.seat.value.me.0 (record position.old { stage = ReleaseExchange (Asked request) (word_of count_bits first); back = Tells }) seat.old.me.0 (next_of (needs_of self.now.rules) me (record position.old { stage = ReleaseExchange (Asked request) (word_of count_bits first); back = Tells }) (ReleaseExchange (Asked request) (word_of count_bits first)) found) }
         ensures table { (seat.new.table_id ≡ seat.old.table_id) × (seat.new.id ≡ seat.old.id) × (seat.new.me.1 ≡ seat.old.me.1) }
         ensures number { (seat.new.me.0.role ≡ Acting) × (seat.new.me.0.number ≡ me) }
-        ensures since { IsSince seat.new.me.0.position position.new }
+        ensures since { RestsAfter seat.new.me.0.position position.new }
         ensures events { HasEvents (needs_of self.now.rules) self.now.table.shared.key.withheld begun.call.value begun.registered.value result position.new.registration begun.seat.value.me.0 seat.new.me.0 }
     {
         let seen = Word::unpack(first);
@@ -423,10 +423,10 @@ impl Form {
         requires table { seat.old.table_id ≡ self.now.table.shared.table_id }
         requires number { (seat.old.me.0.role ≡ Acting) × (seat.old.me.0.number ≡ me) × (me < self.now.places) }
         requires ranged { IsRanged (needs_of self.now.rules) place.stage }
-        requires midway { MidwayNext (needs_of self.now.rules) self.now.table.shared.key.withheld self.now.places me begun.call.value begun.registered.value begun.seat.value.me.0 place seat.old.me.0 (unless_joining place (next_of (needs_of self.now.rules) me place place.stage found)) }
+        requires in_call { InCallNext (needs_of self.now.rules) self.now.table.shared.key.withheld self.now.places me begun.call.value begun.registered.value begun.seat.value.me.0 place seat.old.me.0 (unless_joining place (next_of (needs_of self.now.rules) me place place.stage found)) }
         ensures table { (seat.new.table_id ≡ seat.old.table_id) × (seat.new.id ≡ seat.old.id) × (seat.new.me.1 ≡ seat.old.me.1) }
         ensures number { (seat.new.me.0.role ≡ Acting) × (seat.new.me.0.number ≡ me) }
-        ensures since { IsSince seat.new.me.0.position result.0 }
+        ensures since { RestsAfter seat.new.me.0.position result.0 }
         ensures events { HasEvents (needs_of self.now.rules) self.now.table.shared.key.withheld begun.call.value begun.registered.value result.1 result.0.registration begun.seat.value.me.0 seat.new.me.0 }
     {
         match unless_joining(place, place.resume(self.rules, me, found)) {
@@ -449,10 +449,10 @@ impl Form {
     ) -> (Position, Answer)
         requires table { seat.old.table_id ≡ self.now.table.shared.table_id }
         requires number { (seat.old.me.0.role ≡ Acting) × (seat.old.me.0.number ≡ me) × (me < self.now.places) }
-        requires midway { Midway (needs_of self.now.rules) self.now.places me begun.call.value begun.registered.value begun.seat.value.me.0 place seat.old.me.0 }
+        requires in_call { InCall (needs_of self.now.rules) self.now.places me begun.call.value begun.registered.value begun.seat.value.me.0 place seat.old.me.0 }
         ensures table { (seat.new.table_id ≡ seat.old.table_id) × (seat.new.id ≡ seat.old.id) × (seat.new.me.1 ≡ seat.old.me.1) }
         ensures number { (seat.new.me.0.role ≡ Acting) × (seat.new.me.0.number ≡ me) }
-        ensures since { IsSince seat.new.me.0.position result.0 }
+        ensures since { RestsAfter seat.new.me.0.position result.0 }
         ensures events { HasEvents (needs_of self.now.rules) self.now.table.shared.key.withheld begun.call.value begun.registered.value result.1 result.0.registration begun.seat.value.me.0 seat.new.me.0 }
     {
         match self.look_on(watch, seat, me, place, patience, &begun) {
@@ -476,10 +476,10 @@ impl Form {
         requires table { seat.old.table_id ≡ self.now.table.shared.table_id }
         requires number { (seat.old.me.0.role ≡ Acting) × (seat.old.me.0.number ≡ me) × (me < self.now.places) }
         requires ranged { IsRanged (needs_of self.now.rules) place.stage }
-        requires midway { MidwayNext (needs_of self.now.rules) self.now.table.shared.key.withheld self.now.places me begun.call.value begun.registered.value begun.seat.value.me.0 place seat.old.me.0 (next_of (needs_of self.now.rules) me place place.stage found) }
+        requires in_call { InCallNext (needs_of self.now.rules) self.now.table.shared.key.withheld self.now.places me begun.call.value begun.registered.value begun.seat.value.me.0 place seat.old.me.0 (next_of (needs_of self.now.rules) me place place.stage found) }
         ensures table { (seat.new.table_id ≡ seat.old.table_id) × (seat.new.id ≡ seat.old.id) × (seat.new.me.1 ≡ seat.old.me.1) }
         ensures number { (seat.new.me.0.role ≡ Acting) × (seat.new.me.0.number ≡ me) }
-        ensures since { IsSince seat.new.me.0.position result.0 }
+        ensures since { RestsAfter seat.new.me.0.position result.0 }
         ensures events { HasEvents (needs_of self.now.rules) self.now.table.shared.key.withheld begun.call.value begun.registered.value result.1 result.0.registration begun.seat.value.me.0 seat.new.me.0 }
     {
         match place.resume(self.rules, me, found) {

@@ -91,14 +91,14 @@ impl<M: Mover> Play<(), View> for Moved<M> {
 }
 
 /// A step of a place that asks: no step at all, and the place stands as it stood, where it would have to join for what is found.
-pub struct Sought<M> {
+pub struct LookOnly<M> {
     of: PhantomData<M>,
 }
 
-impl<M: Mover> Play<(), View> for Sought<M> {
-    ghost use Rattle.saa_word_threads.specs.Told.{sought};
+impl<M: Mover> Play<(), View> for LookOnly<M> {
+    ghost use Rattle.saa_word_threads.specs.Told.{look_only};
 
-    ghost then = { sought M.about M.place M.me };
+    ghost then = { look_only M.about M.place M.me };
 }
 
 /// A visitor enters, with a number that no place has.
@@ -117,11 +117,11 @@ pub struct Dealt;
 
 impl Split<View> for Dealt {
     ghost use Rattle.std.specs.Prelude.{◌+◌};
-    ghost use Rattle.saa_word_threads.specs.Kept.{dealer, newcomer};
+    ghost use Rattle.saa_word_threads.specs.Kept.{dealer, fresh_view};
 
     ghost left = { λ v. dealer (v.number + 1) };
 
-    ghost right = { λ v. newcomer v.number };
+    ghost right = { λ v. fresh_view v.number };
 }
 
 /// Which view another one gathers. The call picks it.
@@ -132,9 +132,9 @@ pub trait Leaver {
 }
 
 impl Leaver for Brand {
-    ghost use Rattle.saa_word_threads.specs.Kept.{newcomer};
+    ghost use Rattle.saa_word_threads.specs.Kept.{fresh_view};
 
-    ghost view = { newcomer 0 };
+    ghost view = { fresh_view 0 };
 }
 
 /// A place that has left gathers what another one that has left had seen.

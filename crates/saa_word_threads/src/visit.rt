@@ -15,7 +15,7 @@ ghost use Rattle.saa_word_proofs.specs.Refinement.{IsVisiting};
 ghost use Rattle.saa_word_threads.specs.declared.table.Role.TheVariants.{Acting};
 ghost use Rattle.saa_word_threads.specs.Called.{HasEvents, IsCalled};
 ghost use Rattle.saa_word_threads.specs.Public.{is_yes};
-ghost use Rattle.saa_word_threads.specs.Visits.{IsEntering, IsNewVisitor, MidVisit, VisitNext};
+ghost use Rattle.saa_word_threads.specs.Visits.{IsEntering, IsNewVisitor, InVisit, VisitNext};
 
 use crate::call::{Begun, publishes};
 use crate::form::Form;
@@ -185,10 +185,10 @@ impl Form {
     ) -> u64
         requires table { (seat.old.table_id ≡ self.now.table.shared.table_id) × (seat.old.me.0.role ≡ Acting) }
         requires told { (M.about ≡ self.now.table.shared.key) × (M.place ≡ at.value) × (M.me ≡ seat.old.me.0.number) }
-        requires midway { MidVisit (needs_of self.now.rules) self.now.places begun.now.call.value begun.now.seat.value.me.0 at.value seat.old.me.0 }
+        requires in_call { InVisit (needs_of self.now.rules) self.now.places begun.now.call.value begun.now.seat.value.me.0 at.value seat.old.me.0 }
         requires loads { operation_of (needs_of self.now.rules) self.now.places 0 at.value.stage ≡ Load 0 }
         ensures table { (seat.new.table_id ≡ seat.old.table_id) × (seat.new.id ≡ seat.old.id) × (seat.new.me.0.role ≡ Acting) × (seat.new.me.0.number ≡ seat.old.me.0.number) }
-        ensures midway { VisitNext (needs_of self.now.rules) self.now.table.shared.key.withheld self.now.places begun.now.call.value begun.now.seat.value.me.0 at.value seat.new.me.0 (next_of (needs_of self.now.rules) 0 at.value at.value.stage result) }
+        ensures in_call { VisitNext (needs_of self.now.rules) self.now.table.shared.key.withheld self.now.places begun.now.call.value begun.now.seat.value.me.0 at.value seat.new.me.0 (next_of (needs_of self.now.rules) 0 at.value at.value.stage result) }
     {
         self.load::<M>(seat, 0)
     }
@@ -205,10 +205,10 @@ impl Form {
     ) -> u64
         requires table { (seat.old.table_id ≡ self.now.table.shared.table_id) × (seat.old.me.0.role ≡ Acting) }
         requires told { (M.about ≡ self.now.table.shared.key) × (M.place ≡ at.value) × (M.me ≡ seat.old.me.0.number) }
-        requires midway { MidVisit (needs_of self.now.rules) self.now.places begun.now.call.value begun.now.seat.value.me.0 at.value seat.old.me.0 }
+        requires in_call { InVisit (needs_of self.now.rules) self.now.places begun.now.call.value begun.now.seat.value.me.0 at.value seat.old.me.0 }
         requires exchanges { operation_of (needs_of self.now.rules) self.now.places 0 at.value.stage ≡ Exchange 0 old new }
         ensures table { (seat.new.table_id ≡ seat.old.table_id) × (seat.new.id ≡ seat.old.id) × (seat.new.me.0.role ≡ Acting) × (seat.new.me.0.number ≡ seat.old.me.0.number) }
-        ensures midway { VisitNext (needs_of self.now.rules) self.now.table.shared.key.withheld self.now.places begun.now.call.value begun.now.seat.value.me.0 at.value seat.new.me.0 (next_of (needs_of self.now.rules) 0 at.value at.value.stage result) }
+        ensures in_call { VisitNext (needs_of self.now.rules) self.now.table.shared.key.withheld self.now.places begun.now.call.value begun.now.seat.value.me.0 at.value seat.new.me.0 (next_of (needs_of self.now.rules) 0 at.value at.value.stage result) }
     {
         self.exchange::<M>(seat, 0, old, new)
     }
@@ -226,7 +226,7 @@ impl Form {
     ) -> Answer
         requires table { (seat.old.table_id ≡ self.now.table.shared.table_id) × (seat.old.me.0.role ≡ Acting) }
         requires ranged { IsRanged (needs_of self.now.rules) stage }
-        requires midway { VisitNext (needs_of self.now.rules) self.now.table.shared.key.withheld self.now.places begun.call.value begun.seat.value.me.0 (record idle_place { stage = stage }) seat.old.me.0 (next_of (needs_of self.now.rules) 0 (record idle_place { stage = stage }) stage found) }
+        requires in_call { VisitNext (needs_of self.now.rules) self.now.table.shared.key.withheld self.now.places begun.call.value begun.seat.value.me.0 (record idle_place { stage = stage }) seat.old.me.0 (next_of (needs_of self.now.rules) 0 (record idle_place { stage = stage }) stage found) }
         ensures table { (seat.new.table_id ≡ seat.old.table_id) × (seat.new.id ≡ seat.old.id) × (seat.new.me.0.role ≡ Acting) × (seat.new.me.0.number ≡ seat.old.me.0.number) }
         ensures rests { seat.new.me.0.position ≡ idle_place }
         ensures events { HasEvents (needs_of self.now.rules) self.now.table.shared.key.withheld begun.call.value Idle result Idle begun.seat.value.me.0 seat.new.me.0 }
@@ -249,7 +249,7 @@ impl Form {
         begun: Begun,
     ) -> Answer
         requires table { (seat.old.table_id ≡ self.now.table.shared.table_id) × (seat.old.me.0.role ≡ Acting) }
-        requires midway { MidVisit (needs_of self.now.rules) self.now.places begun.call.value begun.seat.value.me.0 first seat.old.me.0 }
+        requires in_call { InVisit (needs_of self.now.rules) self.now.places begun.call.value begun.seat.value.me.0 first seat.old.me.0 }
         ensures table { (seat.new.table_id ≡ seat.old.table_id) × (seat.new.id ≡ seat.old.id) × (seat.new.me.0.role ≡ Acting) × (seat.new.me.0.number ≡ seat.old.me.0.number) }
         ensures rests { seat.new.me.0.position ≡ idle_place }
         ensures events { HasEvents (needs_of self.now.rules) self.now.table.shared.key.withheld begun.call.value Idle result Idle begun.seat.value.me.0 seat.new.me.0 }
@@ -281,9 +281,9 @@ impl Form {
     ) -> Next
         requires table { (seat.old.table_id ≡ self.now.table.shared.table_id) × (seat.old.me.0.role ≡ Acting) }
         requires told { (M.about ≡ self.now.table.shared.key) × (M.place ≡ place) × (M.me ≡ seat.old.me.0.number) }
-        requires midway { MidVisit (needs_of self.now.rules) self.now.places begun.now.call.value begun.now.seat.value.me.0 place seat.old.me.0 }
+        requires in_call { InVisit (needs_of self.now.rules) self.now.places begun.now.call.value begun.now.seat.value.me.0 place seat.old.me.0 }
         ensures table { (seat.new.table_id ≡ seat.old.table_id) × (seat.new.id ≡ seat.old.id) × (seat.new.me.0.role ≡ Acting) × (seat.new.me.0.number ≡ seat.old.me.0.number) }
-        ensures midway { VisitNext (needs_of self.now.rules) self.now.table.shared.key.withheld self.now.places begun.now.call.value begun.now.seat.value.me.0 place seat.new.me.0 result }
+        ensures in_call { VisitNext (needs_of self.now.rules) self.now.table.shared.key.withheld self.now.places begun.now.call.value begun.now.seat.value.me.0 place seat.new.me.0 result }
     {
         let operation = place.stage.operation(self.rules, self.places, 0);
         let found = self.perform::<M, W>(watch, seat, operation);

@@ -1,6 +1,6 @@
 use Rattle.std.proofs.Common.{rules, ◌∙◌, refl, sym}
 use Rattle.saa_word_steps.specs.Needs.{needs_of}
-use Rattle.saa_word_threads.proofs.Calling.{done-called, going-called, midway-first, since-started}
+use Rattle.saa_word_threads.proofs.Calling.{done-called, going-called, in-call-first, since-started}
 use Rattle.saa_word_threads.proofs.form.Form.call.Goals as goal
 
 pub invariant_of-place-clause-since : goal.invariant_of-place-clause-since
@@ -8,10 +8,10 @@ invariant_of-place-clause-since g c =
     since-started (needs_of c.args.self.now.rules) c.args.place.now.seat.me.0.position c.args.place.now.position c.args.call c.in-Done.position c.in-Done.answer
     c.args.place.now.since (sym c.start.ensures ∙ c.in-Done.is)
 
-pub go_on-answer-requires-clause-midway : goal.go_on-answer-requires-clause-midway
-go_on-answer-requires-clause-midway g c =
+pub go_on-answer-requires-clause-in_call : goal.go_on-answer-requires-clause-in_call
+go_on-answer-requires-clause-in_call g c =
     rw (c.of-begun.ensures.call, c.of-begun.ensures.registered, c.of-begun.ensures.seat)
-    (midway-first (needs_of c.args.self.now.rules) c.args.self.now.places c.args.place.now.number c.args.call c.args.place.now.position c.in-Going.first
+    (in-call-first (needs_of c.args.self.now.rules) c.args.self.now.places c.args.place.now.number c.args.call c.args.place.now.position c.in-Going.first
     c.args.place.now.seat.me.0 (search rules) c.args.place.now.since c.requires.taken (sym c.start.ensures ∙ c.in-Going.is))
 
 pub returns-in-Done-clause-called : goal.returns-in-Done-clause-called

@@ -1,6 +1,6 @@
 use Rattle.std.proofs.Common.{rules, ◌∙◌, refl, sym, ◌<◌}
 use Rattle.saa_word_steps.specs.Needs.{needs_of}
-use Rattle.saa_word_threads.proofs.Calling.{done-called, going-called, midway-done, midway-first, midway-since, since-started, single-done}
+use Rattle.saa_word_threads.proofs.Calling.{done-called, going-called, in-call-done, in-call-first, in-call-since, since-started, single-done}
 use Rattle.saa_word_threads.proofs.form.Form.call_at_once.Goals as goal
 
 pub invariant_of-place-clause-since : goal.invariant_of-place-clause-since
@@ -16,9 +16,9 @@ returns-in-Done-clause-called c =
 pub invariant_of-place-in-Done-act-clause-since : goal.invariant_of-place-in-Done-act-clause-since
 invariant_of-place-in-Done-act-clause-since c =
     let here : c.args.place.now.number < c.args.self.now.places = search rules in
-    midway-since (needs_of c.args.self.now.rules) c.args.self.now.table.shared.key.withheld c.args.self.now.places c.args.place.now.number c.args.call c.args.place.now.position.registration
+    in-call-since (needs_of c.args.self.now.rules) c.args.self.now.table.shared.key.withheld c.args.self.now.places c.args.place.now.number c.args.call c.args.place.now.position.registration
     c.args.place.now.seat.me.0 c.in-Going.first c.args.place.now.seat.me.0 c.act.new.seat.me.0 c.in-Done-act.ensures.moved.0
-    (midway-first (needs_of c.args.self.now.rules) c.args.self.now.places c.args.place.now.number c.args.call c.args.place.now.position c.in-Going.first
+    (in-call-first (needs_of c.args.self.now.rules) c.args.self.now.places c.args.place.now.number c.args.call c.args.place.now.position c.in-Going.first
     c.args.place.now.seat.me.0 here c.args.place.now.since c.requires.taken (sym c.start.ensures ∙ c.in-Going.is))
     c.args.place.now.numbered.1 c.in-Done-act.position c.in-Done-act.answer c.in-Done-act.ensures.moved.1 c.in-Done-act.ensures.moved.2
 
@@ -34,8 +34,8 @@ returns-in-Done-act-clause-called c =
     let here : c.args.place.now.number < c.args.self.now.places = search rules in
     going-called (needs_of c.args.self.now.rules) c.args.self.now.table.shared.key.withheld c.args.call c.args.place.now.position c.args.place.now.since.0 c.in-Going.first c.in-Done-act.answer
     c.in-Done-act.position.registration c.args.place.now.seat.me.0 c.act.new.seat.me.0 (sym c.start.ensures ∙ c.in-Going.is)
-    (midway-done (needs_of c.args.self.now.rules) c.args.self.now.table.shared.key.withheld c.args.self.now.places c.args.place.now.number c.args.call c.args.place.now.position.registration
+    (in-call-done (needs_of c.args.self.now.rules) c.args.self.now.table.shared.key.withheld c.args.self.now.places c.args.place.now.number c.args.call c.args.place.now.position.registration
     c.args.place.now.seat.me.0 c.in-Going.first c.args.place.now.seat.me.0 c.act.new.seat.me.0 c.in-Done-act.ensures.moved.0
-    (midway-first (needs_of c.args.self.now.rules) c.args.self.now.places c.args.place.now.number c.args.call c.args.place.now.position c.in-Going.first
+    (in-call-first (needs_of c.args.self.now.rules) c.args.self.now.places c.args.place.now.number c.args.call c.args.place.now.position c.in-Going.first
     c.args.place.now.seat.me.0 here c.args.place.now.since c.requires.taken (sym c.start.ensures ∙ c.in-Going.is))
     c.args.place.now.numbered.1 c.in-Done-act.position c.in-Done-act.answer c.in-Done-act.ensures.moved.1 c.in-Done-act.ensures.moved.2)

@@ -8,14 +8,14 @@ use Rattle.saa_word_steps.specs.declared.place.Given.TheVariants.{Asked}
 use Rattle.saa_word_steps.specs.declared.place.Stage.TheVariants.{ReleaseLoad, ReleaseExchange}
 use Rattle.saa_word_steps.specs.Steps.{exchanged, next_of}
 use Rattle.saa_word_steps.specs.Needs.{needs_of}
-use Rattle.saa_word_threads.specs.Called.{MidwayNext}
+use Rattle.saa_word_threads.specs.Called.{InCallNext}
 use Rattle.saa_word_threads.specs.Straight.{lowers_to}
 use Rattle.saa_word_threads.proofs.Calling.{going-called}
 use Rattle.saa_word_threads.proofs.Going.{change-next, changed-next, gave-events, give-goes, looked-next, lowered}
 use Rattle.saa_word_threads.proofs.form.Form.give.Goals as goal
 
-pub give_on-answer-requires-clause-midway : goal.give_on-answer-requires-clause-midway
-give_on-answer-requires-clause-midway g c =
+pub give_on-answer-requires-clause-in_call : goal.give_on-answer-requires-clause-in_call
+give_on-answer-requires-clause-in_call g c =
     let here : c.args.place.now.number < c.args.self.now.places = search rules in
     rw (c.of-begun.ensures.call, c.of-begun.ensures.registered, c.of-begun.ensures.seat)
     (looked-next (needs_of c.args.self.now.rules) c.args.self.now.table.shared.key.withheld c.args.self.now.places c.args.place.now.number c.args.call c.args.place.now.position
@@ -32,12 +32,12 @@ returns-in_default-clause-called g c = (
       (rw (c.of-begun.ensures.call, c.of-begun.ensures.registered, c.of-begun.ensures.seat) at c.give_on-answer.ensures.events),
 )
 
-pub give_anew-answer-requires-clause-midway : goal.give_anew-answer-requires-clause-midway
-give_anew-answer-requires-clause-midway g c =
+pub give_anew-answer-requires-clause-in_call : goal.give_anew-answer-requires-clause-in_call
+give_anew-answer-requires-clause-in_call g c =
     let here : c.args.place.now.number < c.args.self.now.places = search rules in
     let lowers : lowers_to (needs_of c.args.self.now.rules) c.unpack-seen.result c.args.request ≡ Some c.in-Some.count = sym c.lowers.ensures ∙ c.in-Some.is in
     rw (c.of-begun.ensures.call, c.of-begun.ensures.registered, c.of-begun.ensures.seat)
-    (subst (λ (s : Word). MidwayNext (needs_of c.args.self.now.rules) c.args.self.now.table.shared.key.withheld c.args.self.now.places c.args.place.now.number c.args.call
+    (subst (λ (s : Word). InCallNext (needs_of c.args.self.now.rules) c.args.self.now.table.shared.key.withheld c.args.self.now.places c.args.place.now.number c.args.call
     c.args.place.now.position.registration c.args.place.now.seat.me.0 (record c.args.place.now.position { stage = ReleaseExchange (Asked c.args.request) s; back = Tells })
     c.change-other.new.seat.me.0 (next_of (needs_of c.args.self.now.rules) c.args.place.now.number
     (record c.args.place.now.position { stage = ReleaseExchange (Asked c.args.request) s; back = Tells }) (ReleaseExchange (Asked c.args.request) s) c.change-other.result)) c.unpack-seen.ensures

@@ -1,7 +1,7 @@
 use Rattle.std.proofs.Common.{◌≡◌}
 use Rattle.saa_word_steps.specs.Needs.{needs_of}
 use Rattle.saa_word_threads.specs.declared.table.Role.TheVariants.{Acting}
-use Rattle.saa_word_threads.specs.Called.{Midway}
+use Rattle.saa_word_threads.specs.Called.{InCall}
 use Rattle.saa_word_threads.proofs.form.Form.go_on.Given as goal
 
 -- each step is of the place as it stands
@@ -15,5 +15,5 @@ invariant-loop g l = record {
   empty : l.seat.me.1 ≡ l.fn.seat.me.1;
   role : l.seat.me.0.role ≡ Acting;
   number : l.seat.me.0.number ≡ l.me;
-  midway : Midway (needs_of l.self.rules) l.self.places l.me l.begun.call.value l.begun.registered.value l.begun.seat.value.me.0 l.place l.seat.me.0;
+  in_call : InCall (needs_of l.self.rules) l.self.places l.me l.begun.call.value l.begun.registered.value l.begun.seat.value.me.0 l.place l.seat.me.0;
 }

@@ -2,7 +2,7 @@ use Rattle.std.proofs.Common.{◌<◌, refl, subst, sym, ◌∙◌}
 use Rattle.saa_word_steps.specs.Needs.{needs_of}
 use Rattle.saa_word_steps.specs.declared.operation.Operation.TheVariants.{Exchange}
 use Rattle.saa_word_threads.proofs.Moving.{allowed-look}
-use Rattle.saa_word_threads.proofs.Calling.{sought-same}
+use Rattle.saa_word_threads.proofs.Calling.{look-same}
 use Rattle.saa_word_threads.proofs.form.Form.seek_by_exchange.Goals as goal
 
 pub compare_exchange-requires : goal.compare_exchange-requires
@@ -18,5 +18,5 @@ compare_exchange-requires g c = (
 pub returns-clause-number : goal.returns-clause-number
 returns-clause-number g c =
     let same =
-    sought-same (needs_of g.M.Mover.about.rules) g.M.Mover.about.withheld g.M.Mover.about.places g.M.Mover.me g.M.Mover.place c.compare_exchange.result c.args.seat.now.me.0
+    look-same (needs_of g.M.Mover.about.rules) g.M.Mover.about.withheld g.M.Mover.about.places g.M.Mover.me g.M.Mover.place c.compare_exchange.result c.args.seat.now.me.0
     c.compare_exchange.new.seat.me.0 c.compare_exchange.ensures.2.0 in (same.0 ∙ c.requires.next.role, same.1 ∙ c.requires.next.number)

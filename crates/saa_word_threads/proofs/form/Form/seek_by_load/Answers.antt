@@ -2,7 +2,7 @@ use Rattle.std.proofs.Common.{◌<◌, refl, subst, sym, ◌∙◌}
 use Rattle.saa_word_steps.specs.Needs.{needs_of}
 use Rattle.saa_word_steps.specs.declared.operation.Operation.TheVariants.{Load}
 use Rattle.saa_word_threads.proofs.Moving.{allowed-look}
-use Rattle.saa_word_threads.proofs.Calling.{sought-same}
+use Rattle.saa_word_threads.proofs.Calling.{look-same}
 use Rattle.saa_word_threads.proofs.form.Form.seek_by_load.Goals as goal
 
 pub load-requires : goal.load-requires
@@ -18,5 +18,5 @@ load-requires g c = (
 pub returns-clause-number : goal.returns-clause-number
 returns-clause-number g c =
     let same =
-    sought-same (needs_of g.M.Mover.about.rules) g.M.Mover.about.withheld g.M.Mover.about.places g.M.Mover.me g.M.Mover.place c.load.result c.args.seat.now.me.0
+    look-same (needs_of g.M.Mover.about.rules) g.M.Mover.about.withheld g.M.Mover.about.places g.M.Mover.me g.M.Mover.place c.load.result c.args.seat.now.me.0
     c.load.new.seat.me.0 c.load.ensures.2.0 in (same.0 ∙ c.requires.next.role, same.1 ∙ c.requires.next.number)

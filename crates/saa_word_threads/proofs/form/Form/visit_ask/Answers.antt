@@ -5,8 +5,8 @@ use Rattle.saa_word_proofs.specs.Promises.{idle_place}
 use Rattle.saa_word_threads.proofs.Visiting.{number-beyond, visit-first}
 use Rattle.saa_word_threads.proofs.form.Form.visit_ask.Goals as goal
 
-pub visit_look-found-requires-clause-midway : goal.visit_look-found-requires-clause-midway
-visit_look-found-requires-clause-midway g c =
+pub visit_look-found-requires-clause-in_call : goal.visit_look-found-requires-clause-in_call
+visit_look-found-requires-clause-in_call g c =
     rw (c.of_visitor-begun.ensures.call, c.of_visitor-begun.ensures.seat, c.of-looking.ensures, c.standing.ensures)
     (visit-first (needs_of c.args.self.now.rules) c.args.self.now.places c.args.call (record idle_place { stage = AskLoad (record { request = c.args.request; joins = false }) }) c.args.visitor.now.seat.me.0
     c.args.visitor.now.rests.1

@@ -13,8 +13,8 @@ use Rattle.saa_word_threads.proofs.Calling.{going-called}
 use Rattle.saa_word_threads.proofs.Visiting.{number-beyond, visit-first, visit-gave-so}
 use Rattle.saa_word_threads.proofs.form.Form.visit_give.Goals as goal
 
-pub visit_look-found-requires-clause-midway : goal.visit_look-found-requires-clause-midway
-visit_look-found-requires-clause-midway g c =
+pub visit_look-found-requires-clause-in_call : goal.visit_look-found-requires-clause-in_call
+visit_look-found-requires-clause-in_call g c =
     rw (c.of_visitor-begun.ensures.call, c.of_visitor-begun.ensures.seat, c.of-looking.ensures, c.standing.ensures)
     (visit-first (needs_of c.args.self.now.rules) c.args.self.now.places c.args.call (record idle_place { stage = ReleaseLoad (Asked c.args.request) }) c.args.visitor.now.seat.me.0
     c.args.visitor.now.rests.1
@@ -34,5 +34,5 @@ returns-clause-called g c =
           c.of_visitor-begun.result.seat.value.me.0 c.visit_change-other.new.seat.me.0 c.of-changing.result.value c.args.request
           c.in-Some.count c.visit_change-other.result c.unpack-seen.result c.of_visitor-begun.ensures.call
           (ap (λ (s : Seat (Unit {0}) View). s.me.0) c.of_visitor-begun.ensures.seat) (c.of-changing.ensures ∙ c.standing-2.ensures) hit lowers
-          c.visit_change-other.ensures.midway).0,
+          c.visit_change-other.ensures.in_call).0,
     )

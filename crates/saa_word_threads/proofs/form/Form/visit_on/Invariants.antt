@@ -1,7 +1,7 @@
 use Rattle.std.proofs.Common.{◌≡◌}
 use Rattle.saa_word_threads.specs.declared.table.Role.TheVariants.{Acting}
 use Rattle.saa_word_steps.specs.Needs.{needs_of}
-use Rattle.saa_word_threads.specs.Visits.{MidVisit}
+use Rattle.saa_word_threads.specs.Visits.{InVisit}
 use Rattle.saa_word_threads.proofs.form.Form.visit_on.Given as goal
 
 -- each step is of the visitor as it stands
@@ -14,5 +14,5 @@ invariant-loop g l = record {
   same : l.seat.id ≡ l.fn.seat.id;
   role : l.seat.me.0.role ≡ Acting;
   number : l.seat.me.0.number ≡ l.fn.seat.me.0.number;
-  midway : MidVisit (needs_of l.self.rules) l.self.places l.begun.call.value l.begun.seat.value.me.0 l.place l.seat.me.0;
+  in_call : InVisit (needs_of l.self.rules) l.self.places l.begun.call.value l.begun.seat.value.me.0 l.place l.seat.me.0;
 }
