@@ -5,6 +5,6 @@
 pub use saa_word::machine;
 pub use saa_word_forms::{
     Error, Left, Lock, LockLeft, LockPlace, Mode, Mutex, MutexGuard, MutexWorker, Place, RwLock,
-    RwLockReadGuard, RwLockWorker, RwLockWriteGuard, Semaphore, SemaphoreOf, TryLockError,
-    Visitor, Words, guard,
+    RwLockReadGuard, RwLockWorker, RwLockWriteGuard, Semaphore, SemaphoreOf, TryLockError, Visitor,
+    Words, guard,
 };

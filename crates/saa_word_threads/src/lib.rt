@@ -2,8 +2,8 @@
 //!
 //! What a place does next, and how it goes on with what it finds, is `saa_word_steps`', and that each step keeps the refinement is
 //! `saa_word_proofs`'. Here stand the table with its rule (`table`), the form that makes steps and calls on it (`form`, `step`, `call`), how
-//! a place looks before it joins the waiters (`looking`), waits (`waiting`) and is woken (`written`, `mark`), and the public semaphore and lock. `laws` says
-//! what follows for several places. `docs/PROTOCOL.md` tells the protocol.
+//! a place looks before it joins the waiters (`looking`), waits (`waiting`) and is woken (`written`, `mark`), a caller with no place (`visitor`, `visit`),
+//! and the public semaphore and lock. `laws` says what follows for several places. `docs/PROTOCOL.md` tells the protocol.
 #![tactic(auto)]
 
 mod call;

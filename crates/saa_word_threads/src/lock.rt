@@ -1,4 +1,4 @@
-//! A lock-free lock: its owners, and poison, in one atomic word, for a fixed set of places.
+//! A lock-free lock: its owners, and poison, in one atomic word, for a fixed set of places that may wait, and callers with no place (`lock_visits`).
 //!
 //! Every call is one call of a place of the form (`call`), and is held to `specs/Locks.antt`, which says the same of a lock's places as
 //! `specs/Public.antt` of a semaphore's. Which owners may be there together is said by the steps (`saa_word_steps`), and nowhere here.
@@ -34,7 +34,8 @@ pub(crate) const SHARED: u16 = 1;
 /// A lock in one atomic word: one owner alone, or up to 62 that share it; and poison.
 ///
 /// Waiters are granted in FIFO order of joining: no later request passes a waiter. [`Self::lock`] and [`Self::share`] look and yield a bounded
-/// number of times before their place joins the waiters, and until then nothing orders them; [`Self::register`] joins at once. Each task has a [`Place`] of its own, which `new` deals; a place makes one call at a time. A
+/// number of times before their place joins the waiters, and until then nothing orders them; [`Self::register`] joins at once. Each task that may
+/// wait has a [`Place`] of its own, which `new` deals; a place makes one call at a time. All other calls need none ([`Self::try_lock_once`]). A
 /// waiter spins, yields and then parks. No call takes another lock, or memory but `new`. The lock doesn't know its owners: any caller may release.
 #[derive(Drop)]
 pub struct Lock {
@@ -91,7 +92,7 @@ impl Lock {
 
     /// A free lock, and its places, in the order of their numbers.
     ///
-    /// Costs O(`places`). The error comes only where memory was refused. With 0 places no call can be made at it.
+    /// Costs O(`places`). The error comes only where memory was refused. With 0 places only calls with no place can be made at it.
     pub fn new(alloc: Global, places: u16) -> Result<(Self, Vec<Place>), AllocError>
         ensures made { IfOk result (λ made. about_of made.0 ≡ record { rules = Modes; withheld = 0; places = places }) }
         ensures dealt { IfOk result (λ made. (vec_len made.1 ≡ places) × AreNew (table_of made.0) 0 made.1.items) }

@@ -1,4 +1,4 @@
-//! A lock-free semaphore: permits in one atomic word, for a fixed set of places.
+//! A lock-free semaphore: permits in one atomic word, for a fixed set of places that may wait, and callers with no place (`semaphore_visits`).
 //!
 //! Every call is one call of a place of the form (`call`), and is held to `specs/Public.antt`. The history of all calls is one: it leads to
 //! the words, begins with what each place has seen, and has of each place just its own events.
@@ -30,8 +30,9 @@ use std::sync::Wait;
 /// Up to `MAX` permits, 1 to 65,535, in one atomic word.
 ///
 /// Waiters are granted in FIFO order of joining: no later request passes a waiter. [`Self::acquire_many`] looks and yields a bounded number of
-/// times before its place joins the waiters, and until then nothing orders it; [`Self::register`] joins at once. Each task has a [`Place`] of
-/// its own, which `new` deals; a place makes one call at a time. A waiter spins, yields and then parks. No call takes a lock or memory but
+/// times before its place joins the waiters, and until then nothing orders it; [`Self::register`] joins at once. Each task that may wait has
+/// a [`Place`] of its own, which `new` deals; a place makes one call at a time. Tries, releases and readings need none
+/// ([`Self::try_acquire_many_once`]). A waiter spins, yields and then parks. No call takes a lock or memory but
 /// `new`: while one thread is stopped in the middle of a call, the others still give back permits, and take them where there is no waiter.
 #[derive(Drop)]
 pub struct SemaphoreOf<const MAX: usize> {
@@ -52,7 +53,7 @@ impl<const MAX: usize> SemaphoreOf<MAX> {
     /// A semaphore of which so many permits are withheld (all, where it is more), and its places, in the order of their numbers.
     ///
     /// Withheld permits count as taken, and may be released. Costs O(`places`). The error comes only where memory was refused. With 0 places
-    /// no call can be made at it.
+    /// only calls with no place can be made at it.
     pub fn new(
         alloc: Global,
         withheld: usize,
