@@ -141,8 +141,8 @@ fn take(rt: &impl Wait, lock: &Lock) {
     unreachable!()
 }
 
-// How many threads take the lock with no place, and how many turns each of all takes.
-const THREADS: usize = 3;
+// How many threads take the lock with no place, and how many turns each takes.
+const THREADS: usize = 4;
 
 const TURNS: u32 = 5_000;
 
@@ -157,47 +157,22 @@ fn visit_turns(rt: &impl Wait, lock: &Lock, count: &AtomicU64) -> u32 {
     given
 }
 
-// Takes turns at a place, which waits.
-fn wait_turns(rt: &impl Wait, lock: &Lock, place: &mut LockPlace, count: &AtomicU64) -> u32
-    requires { IsDealtByLock lock.now place.old }
-    ensures { IsDealtByLock lock.now place.new }
-{
-    let mut given = 0u32;
-    for _turn in 0..TURNS {
-        lock.lock(rt, place);
-        add_one(count);
-        given = given.saturating_add(u32::from(lock.release_lock(rt, place)));
-    }
-    given
-}
-
-// Threads with no place beside one that waits at its place: how many times the lock was given back, what was counted, and the main word.
+// Threads with no place: how many times the lock was given back, what was counted, and the main word.
 fn meeting<R: Wait + Threads + Sync + AllocGlobal>(rt: &R) -> Result<(u32, u64, u64), AllocError> {
-    let (lock, mut places) = Lock::new(rt.alloc(), 1)?;
-    let Some(mut place) = places.pop() else {
-        unreachable!()
-    };
+    let (lock, _places) = Lock::new(rt.alloc(), 0)?;
     let count = AtomicU64::new(0);
-    let mut given = 0u32;
     let mut visits = Vec::new(rt.alloc());
     for number in 0..THREADS {
         visits.push(number)?;
     }
-    let (waited, visited) = thread::join(
-        rt,
-        || wait_turns(rt, &lock, &mut place, &count),
-        || thread::map_vec(rt, visits, &|_number| visit_turns(rt, &lock, &count)),
-    );
-    for one in visited? {
+    let visited = thread::map_vec(rt, visits, &|_number| visit_turns(rt, &lock, &count))?;
+    let mut given = 0u32;
+    for one in visited {
         given = given.saturating_add(one);
     }
-    let left = lock.leave(rt, place);
-    let main = lock.close(left).main();
-    Ok((
-        given.saturating_add(waited),
-        count.load(Ordering::SeqCst),
-        main,
-    ))
+    let visitor = lock.visit();
+    let main = lock.close_by(visitor).main();
+    Ok((given, count.load(Ordering::SeqCst), main))
 }
 
 #[test]
