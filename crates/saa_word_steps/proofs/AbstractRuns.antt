@@ -136,7 +136,7 @@ waits-without place other (asker ∷ rest) =
       | inr apart ↦ rw apart (omega (arith, waits-without place other rest))
     ]
 
-waits-parts : (place askers : ℕ) (line : List (ℕ × ℕ)) → times place (take askers line) + times place (drop askers line) ≡ times place line
+pub waits-parts : (place askers : ℕ) (line : List (ℕ × ℕ)) → times place (take askers line) + times place (drop askers line) ≡ times place line
 waits-parts place zero line = omega arith
 waits-parts place (suc askers) [] = omega arith
 waits-parts place (suc askers) (asker ∷ rest) = omega (arith, waits-parts place askers rest)
@@ -194,7 +194,7 @@ once-step needs state place (Showed shown_place) allowed was other =
     elim (cases_Bool (other == shown_place)) [
       | inl same ↦
           let is : shown_place ≡ other = sym (same_number other shown_place same) in
-          let due : one_if (is_some (state.due other)) ≡ 1 = ap (λ (n : ℕ). one_if (is_some (state.due n))) (sym is) ∙ ap one_if allowed in
+          let due : one_if (is_some (state.due other)) ≡ 1 = ap (λ (n : ℕ). one_if (is_some (state.due n))) (sym is) ∙ ap one_if allowed.0 in
           rw same (omega (arith, was other, due, one_if-le (is_some (state.due shown_place))))
       | inr apart ↦ rw apart (was other)
     ]

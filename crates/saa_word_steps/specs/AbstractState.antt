@@ -1,6 +1,6 @@
 -- The abstract state: what a form that is kept in words is at each moment. Between an ask that waits and its answer several steps
 -- of several places lie, so answers are granted, shown and taken at steps of their own. A reader of the clauses has to believe this.
-use Rattle.std.specs.Prelude.{◌≡◌, ℕ, ◌+◌, ◌<◌, ◌≤◌, Bool, true, false, not, ◌||◌, if◌then◌else◌, ◌==◌, List, [], ◌∷◌, ◌++◌, length, take, drop, Option, Some, None, is_some}
+use Rattle.std.specs.Prelude.{◌≡◌, ◌≢◌, ℕ, ◌+◌, ◌<◌, ◌≤◌, Bool, true, false, not, ◌||◌, if◌then◌else◌, ◌==◌, List, [], ◌∷◌, ◌++◌, length, take, drop, Option, Some, None, is_some}
 use Rattle.saa_core_spec.specs.Held.{Exclusive, Shared}
 use Rattle.saa_core_spec.specs.Object.{one_if, times, without}
 use Rattle.saa_core_words.specs.Words.{lock_count}
@@ -9,19 +9,29 @@ use Rattle.saa_word_steps.specs.declared.event.Event.TheVariants.{Got, Refused, 
 use Rattle.saa_word_steps.specs.Needs.{Needs, fits_count, left_count}
 
 -- What is held, as a count, and whether it is poisoned; the waiters, oldest first, each with the number of what it asks; whether
--- something was given back or left since the line was last settled; and the answers of places that are granted and not shown
--- yet, and that are shown and not taken yet
+-- something was given back or left since the line was last settled; the answers of places that are granted and not shown yet, and
+-- the place that granted each of them, which has to show it (for a place with no answer due it says nothing); and the answers that
+-- are shown and not taken yet
 pub record AbstractState : Type 0 where
   pub count : ℕ
   pub poisoned : Bool
   pub line : List (ℕ × ℕ)
   pub unclosed : Bool
   pub due : ℕ → Option ℕ
+  pub granter : ℕ → ℕ
   pub shown : ℕ → Option ℕ
 
 -- so much is held, and nobody waits or has an answer
 abbrev pub opening : ℕ → AbstractState
-opening count = record { count = count; poisoned = false; line = []; unclosed = false; due = λ place. None; shown = λ place. None }
+opening count = record {
+  count = count;
+  poisoned = false;
+  line = [];
+  unclosed = false;
+  due = λ place. None;
+  granter = λ place. 0;
+  shown = λ place. None;
+}
 
 -- whether there are no waiters
 abbrev pub is_empty : List (ℕ × ℕ) → Bool
@@ -51,6 +61,14 @@ IsSettledAt needs count (asker ∷ rest) = fits_count needs count asker.1 ≡ fa
 -- an answer for each of these places
 abbrev pub answered_with : ℕ → List (ℕ × ℕ) → (ℕ → Option ℕ) → ℕ → Option ℕ
 answered_with value askers answers place = if is_in place askers then Some value else answers place
+
+-- the answers of these places are granted by this one
+abbrev pub granted_by : ℕ → List (ℕ × ℕ) → (ℕ → ℕ) → ℕ → ℕ
+granted_by place askers granter other = if is_in other askers then place else granter other
+
+-- a place owes nothing: it has shown each answer that it granted
+abbrev pub OwesNothing : ℕ → AbstractState → Type 0
+OwesNothing place state = (other : ℕ) → is_some (state.due other) ≡ true → state.granter other ≢ place
 
 -- a map with another answer at one place
 abbrev pub with_answer : ℕ → Option ℕ → (ℕ → Option ℕ) → ℕ → Option ℕ
@@ -84,7 +102,7 @@ IsEnabled needs state place Poisoned = (state.unclosed ≡ false) × IsOwned nee
 IsEnabled needs state place NotPoisoned = IsOwned needs state → ⊥
 IsEnabled needs state place Cleared = state.poisoned ≡ true
 IsEnabled needs state place NotCleared = state.poisoned ≡ false
-IsEnabled needs state place (Showed shown_place) = is_some (state.due shown_place) ≡ true
+IsEnabled needs state place (Showed shown_place) = (is_some (state.due shown_place) ≡ true) × (state.granter shown_place ≡ place)
 IsEnabled needs state place (Took value) = state.shown place ≡ Some value
 IsEnabled needs state place NotReady = (is_in place state.line || is_some (state.due place)) ≡ true
 IsEnabled needs state place (Read count poisoned) = (state.count ≡ count) × (state.poisoned ≡ poisoned)
@@ -109,10 +127,17 @@ after_event needs state place (Granted askers) =
       count = state.count + takes_of needs (take askers state.line);
       line = drop askers state.line;
       due = answered_with 0 (take askers state.line) state.due;
+      granter = granted_by place (take askers state.line) state.granter;
     }
 after_event needs state place Closed = record state { unclosed = false }
 after_event needs state place Poisoned =
-    record state { count = 0; poisoned = true; line = []; due = answered_with 2 state.line state.due }
+    record state {
+      count = 0;
+      poisoned = true;
+      line = [];
+      due = answered_with 2 state.line state.due;
+      granter = granted_by place state.line state.granter;
+    }
 after_event needs state place Cleared = record state { poisoned = false }
 after_event needs state place (Showed shown_place) =
     record state { due = with_answer shown_place None state.due; shown = with_answer shown_place (state.due shown_place) state.shown }
