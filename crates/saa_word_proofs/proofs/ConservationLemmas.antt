@@ -128,8 +128,8 @@ pending-step needs state tally place (Showed shown_place) none allowed was other
     elim (cases_Bool (other == shown_place)) [
       | inl same ↦
           let is : shown_place ≡ other = sym (same_number other shown_place same) in
-          let due : one_if (is_some (state.due other)) ≡ 1 = ap (λ (n : ℕ). one_if (is_some (state.due n))) (sym is) ∙ ap one_if allowed in
-          let now : one_if (is_some (state.due shown_place)) ≡ 1 = ap one_if allowed in
+          let due : one_if (is_some (state.due other)) ≡ 1 = ap (λ (n : ℕ). one_if (is_some (state.due n))) (sym is) ∙ ap one_if allowed.0 in
+          let now : one_if (is_some (state.due shown_place)) ≡ 1 = ap one_if allowed.0 in
           rw same (omega (arith, was.pending other, was.once other, due, now))
       | inr apart ↦ rw apart (was.pending other)
     ]

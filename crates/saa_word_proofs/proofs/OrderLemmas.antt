@@ -416,7 +416,7 @@ has-step needs state other place (Showed shown_place) allowed once =
     elim (cases_Bool (other == shown_place)) [
       | inl same ↦
           let is : shown_place ≡ other = sym (same_number other shown_place same) in
-          let due : one_if (is_some (state.due other)) ≡ 1 = ap (λ (n : ℕ). one_if (is_some (state.due n))) (sym is) ∙ ap one_if allowed in
+          let due : one_if (is_some (state.due other)) ≡ 1 = ap (λ (n : ℕ). one_if (is_some (state.due n))) (sym is) ∙ ap one_if allowed.0 in
           let shown : state.shown other ≡ None = none-kept (state.shown other) (omega (arith, once other, due)) in
           let moved : state.due shown_place ≡ state.due other = ap state.due is in
           rw (same, shown, moved, none-if (place == other)) refl
@@ -466,8 +466,8 @@ shown-step needs state other place (Showed shown_place) allowed once =
     elim (cases_Bool (other == shown_place)) [
       | inl same ↦
           let is : shown_place ≡ other = sym (same_number other shown_place same) in
-          let due : one_if (is_some (state.due other)) ≡ 1 = ap (λ (n : ℕ). one_if (is_some (state.due n))) (sym is) ∙ ap one_if allowed in
-          let moved : one_if (is_some (state.due shown_place)) ≡ 1 = ap one_if allowed in
+          let due : one_if (is_some (state.due other)) ≡ 1 = ap (λ (n : ℕ). one_if (is_some (state.due n))) (sym is) ∙ ap one_if allowed.0 in
+          let moved : one_if (is_some (state.due shown_place)) ≡ 1 = ap one_if allowed.0 in
           rw (same, swapped_true other shown_place same) (omega (arith, once other, due, moved, length-none (place == other)))
       | inr apart ↦ rw (apart, swapped_false other shown_place apart) (omega (arith, length-none (place == other)))
     ]

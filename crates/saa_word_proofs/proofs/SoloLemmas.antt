@@ -20,4 +20,3 @@ pub mod Books
 pub mod Ready
 pub mod Slots
 pub mod SameWords
-pub mod Debtors

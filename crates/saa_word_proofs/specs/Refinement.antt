@@ -270,10 +270,10 @@ pub record AreAnswers (places : ℕ) (row : ℕ → ℕ) (shown : ℕ → Option
   pub words : (place : ℕ) → place < places → row (places + place + 1) ≡ answer_number (shown place)
   pub small : (place value : ℕ) → shown place ≡ Some value → value < 256
 
--- each answer that is due is to be shown by one place, which follows the links of the places that it has to show and shows one value
-pub record AreDebts (words : ℕ → LineWord) (due : ℕ → Option ℕ) (owed : ℕ → List (ℕ × ℕ)) (shower worth : ℕ → ℕ) : Type 0 where
-  pub due_to : (place other : ℕ) → is_in other (owed place) ≡ true → (shower other ≡ place) × (due other ≡ Some (worth place))
-  pub paid_by : (other : ℕ) → is_some (due other) ≡ true → is_in other (owed (shower other)) ≡ true
+-- each answer that is due is to be shown by the place that granted it, which follows the links of the places that it has to show and shows one value
+pub record AreDebts (words : ℕ → LineWord) (due : ℕ → Option ℕ) (granter : ℕ → ℕ) (owed : ℕ → List (ℕ × ℕ)) (worth : ℕ → ℕ) : Type 0 where
+  pub due_to : (place other : ℕ) → is_in other (owed place) ≡ true → (granter other ≡ place) × (due other ≡ Some (worth place))
+  pub paid_by : (other : ℕ) → is_some (due other) ≡ true → is_in other (owed (granter other)) ≡ true
   pub once : (place other : ℕ) → times other (owed place) ≤ 1
   pub links : (place : ℕ) → IsBehind words 0 (owed place)
   pub small : (place : ℕ) → worth place < 256
@@ -295,12 +295,11 @@ pub record Refines (needs : Needs) (places : ℕ) (row : ℕ → ℕ) (standing 
   pub cut : List (ℕ × ℕ)
   pub uncut : List (ℕ × ℕ)
   pub owed : ℕ → List (ℕ × ℕ)
-  pub shower : ℕ → ℕ
   pub worth : ℕ → ℕ
   pub free : (holder == 0) ≡ true → cut ≡ []
   pub main : IsMain needs (row 0) state holder
   pub line : IsLine (line_of row) state.line cut uncut
   pub seats : AreSeats places standing state
   pub answers : AreAnswers places row state.shown
-  pub debts : AreDebts (line_of row) state.due owed shower worth
+  pub debts : AreDebts (line_of row) state.due state.granter owed worth
   pub stages : AreStages needs (line_of row) standing state.count state.line cut holder owed worth

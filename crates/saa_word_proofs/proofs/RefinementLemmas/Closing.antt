@@ -45,12 +45,12 @@ closed-step needs lawful places row standing state me s seen count top same mine
     let settled : IsSettledAt needs count rest = settled-append needs count work.behind work.joined holding.4 holding.5 in
     let number : ℕ = word_number count_bits (settled_word count seen.tail) in
     let calm : state.poisoned ≡ false = calm-held needs places row standing state me s mine in
-    let main = settled-main needs state work.front rest count seen.tail calm ranged.1 alone.0 adds bounded tail settled in
+    let main = settled-main needs state me work.front rest count seen.tail calm ranged.1 alone.0 adds bounded tail settled in
     let linked = parts-linked (line_of row) state.line s.cut s.uncut work.front rest s.line holding.1 work.parts in
     let grant = close-run needs state me work.front rest work.parts fits (rw (← adds) settled) s.main.settled in
     record {
       events = grant.events;
-      last = granted needs state work.front rest false;
+      last = granted needs state me work.front rest false;
       run = grant.run;
       names = grant.names;
       calm = λ semaphore. grant.calm;

@@ -96,11 +96,11 @@ emptied-step needs lawful places row standing state me s seen current count word
     let adds : count ≡ state.count + takes_of needs all =
     omega (arith, counted, holding.7, ap needs.takes asks, takes-append needs work.front (asker ∷ [])) in
     let bounded : count ≤ needs.top = omega (arith, adds, front-bounded needs lawful state.count all fits s.main.bounded) in
-    let main = settled-main needs state all [] count 0 (calm-held needs places row standing state me s mine) ranged.1 (omega arith) adds bounded refl tt in
+    let main = settled-main needs state me all [] count 0 (calm-held needs places row standing state me s mine) ranged.1 (omega arith) adds bounded refl tt in
     let grant = close-run needs state me all [] parts fits tt s.main.settled in
     record {
       events = grant.events;
-      last = granted needs state all [] false;
+      last = granted needs state me all [] false;
       run = grant.run;
       names = grant.names;
       calm = λ semaphore. grant.calm;

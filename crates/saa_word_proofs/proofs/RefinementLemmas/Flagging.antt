@@ -128,7 +128,6 @@ flag-set needs places row standing state me here s nothing leaving seen small ta
       cut = s.cut;
       uncut = s.uncut;
       owed = s.owed;
-      shower = s.shower;
       worth = s.worth;
       free = λ free. let wrong : true ≡ false = sym free ∙ link-some me in absurd (cc);
       main = main-now needs state (me + 1) word small tail_small count tail (sym (ap not (link-some me))) poison s.main.barren s.main.bounded
@@ -136,7 +135,7 @@ flag-set needs places row standing state me here s nothing leaving seen small ta
       line = subst (λ (w : ℕ → LineWord). IsLine w state.line s.cut s.uncut) (sym (line-main row number)) s.line;
       seats = seats-next places standing state me place s.seats (λ out. absurd (omega (arith, out, here))) refl;
       answers = answers-main places row number state.shown s.answers;
-      debts = subst (λ (w : ℕ → LineWord). AreDebts w state.due s.owed s.shower s.worth) (sym (line-main row number)) s.debts;
+      debts = subst (λ (w : ℕ → LineWord). AreDebts w state.due state.granter s.owed s.worth) (sym (line-main row number)) s.debts;
       stages = subst (λ (w : ℕ → LineWord). AreStages needs w (updated standing me place) state.count state.line s.cut (me + 1) s.owed s.worth)
           (sym (line-main row number))
           (stages-next needs (line_of row) (line_of row) standing state.count state.count state.line state.line s.cut s.cut s.holder (me + 1)

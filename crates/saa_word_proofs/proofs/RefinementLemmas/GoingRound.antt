@@ -42,10 +42,10 @@ round-settled needs count line (asker ∷ more) rest parts fits settled =
     absurd (cc)
 
 -- The main word once what a front takes is added to it says what the object is
-raised-main : (needs : Needs) → AreNeeds needs → needs.top < 2 ^ count_bits → (state : AbstractState) (number holder more : ℕ) (front rest : List (ℕ × ℕ))
+raised-main : (needs : Needs) → AreNeeds needs → needs.top < 2 ^ count_bits → (state : AbstractState) (me number holder more : ℕ) (front rest : List (ℕ × ℕ))
     → state.poisoned ≡ false → IsMain needs number state holder → IsFront needs state.count front → state.line ≡ front ++ rest → is_empty rest ≡ false
-    → more ≡ takes_of needs front → IsMain needs ((number + more) % 2 ^ 64) (granted needs state front rest state.unclosed) holder
-raised-main needs lawful wide state number holder more front rest calm was fits parts some adds =
+    → more ≡ takes_of needs front → IsMain needs ((number + more) % 2 ^ 64) (granted needs state me front rest state.unclosed) holder
+raised-main needs lawful wide state me number holder more front rest calm was fits parts some adds =
     let bounded : state.count + takes_of needs front ≤ needs.top = front-bounded needs lawful state.count front fits was.bounded in
     let small : number % 2 ^ count_bits + more < 2 ^ count_bits = omega (arith, was.count, bounded, wide, adds) in
     let is : (number + more) % 2 ^ 64 ≡ number + more = raised-number number more was.whole small in
@@ -57,7 +57,7 @@ raised-main needs lawful wide state number holder more front rest calm was fits 
       tail = ap (λ (w : Word). w.tail) word ∙ was.tail ∙ ap (λ (l : List (ℕ × ℕ)). newest 0 l) parts ∙ newest-rest 0 front rest some;
       flag = ap (λ (w : Word). w.is_flagged) word ∙ was.flag;
       poison = ap (λ (w : Word). w.is_poisoned) word ∙ was.poison;
-      barren = never-barren needs (granted needs state front rest state.unclosed) calm;
+      barren = never-barren needs (granted needs state me front rest state.unclosed) calm;
       bounded = bounded;
       closed = was.closed;
       settled = λ closed. round-settled needs state.count state.line front rest parts fits (was.settled closed);
@@ -78,8 +78,8 @@ step-GoRound needs lawful wide places row standing state me room s seen count to
     let adds : count - seen.count ≡ takes_of needs work.front = omega (arith, holding.2.1) in
     let number : ℕ = (row 0 + (count - seen.count)) % 2 ^ 64 in
     let now : Word = word_of count_bits number in
-    let main : IsMain needs number (granted needs state work.front rest state.unclosed) s.holder =
-    raised-main needs lawful wide state (row 0) s.holder (count - seen.count) work.front rest
+    let main : IsMain needs number (granted needs state me work.front rest state.unclosed) s.holder =
+    raised-main needs lawful wide state me (row 0) s.holder (count - seen.count) work.front rest
     (calm-held needs places row standing state me s mine) s.main fits work.parts some adds in
     let linked = parts-linked (line_of row) state.line s.cut s.uncut work.front rest s.line holding.1 work.parts in
     let grant = round-run needs state me work.front rest work.parts fits s.main.settled in
@@ -90,7 +90,7 @@ step-GoRound needs lawful wide places row standing state me room s seen count to
     let holder : true ≡ (s.holder == me + 1) = sym (ap is_holder at) ∙ s.stages.one me in
     record {
       events = grant.events;
-      last = granted needs state work.front rest state.unclosed;
+      last = granted needs state me work.front rest state.unclosed;
       run = grant.run;
       names = grant.names;
       calm = λ semaphore. grant.calm;

@@ -1,5 +1,5 @@
 -- The waiters of a front are granted: they leave the line, and the place that granted them owes their answers.
-use Rattle.std.proofs.Common.{◌≡◌, ℕ, ◌+◌, ◌<◌, ◌≤◌, Bool, true, false, ◌||◌, List, [], ◌∷◌, ◌++◌, length, take, drop, ◌==◌, if◌then◌else◌, Some, is_some, refl, sym, ap, subst, ◌∙◌, arith, inl, inr, ◌^◌}
+use Rattle.std.proofs.Common.{◌≡◌, ℕ, ◌+◌, ◌<◌, ◌≤◌, Bool, true, false, ◌||◌, List, [], ◌∷◌, ◌++◌, length, take, drop, ◌==◌, Some, is_some, refl, sym, ap, subst, ◌∙◌, arith, inl, inr, ◌^◌}
 use Rattle.std.proofs.lemmas.Bool.{cases_Bool}
 use Rattle.std.proofs.Math.ListN.{length-append}
 use Rattle.saa_core_spec.specs.Object.{one_if, times}
@@ -13,7 +13,7 @@ use Rattle.saa_word_steps.specs.declared.place.Stage.{Stage}
 use Rattle.saa_word_steps.specs.Needs.{Needs, AreNeeds, fits_count}
 use Rattle.saa_word_steps.specs.declared.event.Event.{Event}
 use Rattle.saa_word_steps.specs.declared.event.Event.TheVariants.{Granted, Closed}
-use Rattle.saa_word_steps.specs.AbstractState.{AbstractState, IsEnabled, after_event, IsRun, IsFront, IsSettledAt, is_empty, is_in, takes_of, answered_with, held_by}
+use Rattle.saa_word_steps.specs.AbstractState.{AbstractState, IsEnabled, after_event, IsRun, IsFront, IsSettledAt, is_empty, is_in, takes_of, answered_with, granted_by, held_by}
 use Rattle.saa_word_steps.specs.Steps.{IsRanged, settled_word}
 use Rattle.saa_word_proofs.specs.Refinement.{joins_line, newest, is_holder, gives_up, IsAlone, IsOwn, IsShowing, IsHolding, IsMain, IsLine, AreSeats, AreDebts, Refines}
 use Rattle.saa_word_proofs.specs.Rows.{IsBehind, line_of, updated}
@@ -25,13 +25,14 @@ use Rattle.saa_word_proofs.proofs.RefinementLemmas.Frames.{stages-next}
 use Rattle.saa_word_proofs.proofs.RefinementLemmas.Holders.{never-barren}
 use Rattle.saa_word_proofs.proofs.RefinementLemmas.Rows.{word-whole, line-main, row-other, seats-next}
 
--- The object once those of a front are granted, with the rest of the line
-abbrev pub granted : Needs → AbstractState → List (ℕ × ℕ) → List (ℕ × ℕ) → Bool → AbstractState
-granted needs state front rest unclosed = record state {
+-- The object once a place granted those of a front, with the rest of the line
+abbrev pub granted : Needs → AbstractState → ℕ → List (ℕ × ℕ) → List (ℕ × ℕ) → Bool → AbstractState
+granted needs state me front rest unclosed = record state {
   count = state.count + takes_of needs front;
   line = rest;
   unclosed = unclosed;
   due = answered_with 0 front state.due;
+  granter = granted_by me front state.granter;
 }
 
 -- The events of a grant: an answer names none of them
@@ -127,11 +128,11 @@ same-state state count line unclosed same_count same_line same_unclosed =
 
 -- the event of a grant, before the line is closed
 after-granted : (needs : Needs) (state : AbstractState) (me : ℕ) (front rest : List (ℕ × ℕ)) → state.line ≡ front ++ rest
-    → after_event needs state me (Granted (length front)) ≡ granted needs state front rest state.unclosed
+    → after_event needs state me (Granted (length front)) ≡ granted needs state me front rest state.unclosed
 after-granted needs state me front rest parts =
     let first : take (length front) state.line ≡ front = ap (λ (l : List (ℕ × ℕ)). take (length front) l) parts ∙ take-front front rest in
     let last : drop (length front) state.line ≡ rest = ap (λ (l : List (ℕ × ℕ)). drop (length front) l) parts ∙ drop-front front rest in
-    λ i. record state { count = state.count + takes_of needs (first i); line = last i; due = answered_with 0 (first i) state.due }
+    λ i. record state { count = state.count + takes_of needs (first i); line = last i; due = answered_with 0 (first i) state.due; granter = granted_by me (first i) state.granter }
 
 granted-allowed : (needs : Needs) (state : AbstractState) (me : ℕ) (front rest : List (ℕ × ℕ)) → state.line ≡ front ++ rest → state.unclosed ≡ true
     → is_empty front ≡ false → IsFront needs state.count front → IsEnabled needs state me (Granted (length front))
@@ -140,15 +141,15 @@ granted-allowed needs state me front rest parts opened some fits =
     let within : length state.line ≡ length front + length rest = ap (λ (l : List (ℕ × ℕ)). length l) parts ∙ length-append front rest in
     (opened, some-length front some, omega (arith, within), subst (λ (l : List (ℕ × ℕ)). IsFront needs state.count l) (sym first) fits)
 
-granted-none : (needs : Needs) (state : AbstractState) (rest : List (ℕ × ℕ)) (unclosed : Bool) → state.line ≡ rest → state.unclosed ≡ unclosed
-    → state ≡ granted needs state [] rest unclosed
-granted-none needs state rest unclosed parts same = same-state state (state.count + 0) rest unclosed (omega arith) parts same
+granted-none : (needs : Needs) (state : AbstractState) (me : ℕ) (rest : List (ℕ × ℕ)) (unclosed : Bool) → state.line ≡ rest → state.unclosed ≡ unclosed
+    → state ≡ granted needs state me [] rest unclosed
+granted-none needs state me rest unclosed parts same = same-state state (state.count + 0) rest unclosed (omega arith) parts same
 
 -- Where a front is granted and the line stays open
 pub round-run : (needs : Needs) (state : AbstractState) (me : ℕ) (front rest : List (ℕ × ℕ)) → state.line ≡ front ++ rest → IsFront needs state.count front
-    → (state.unclosed ≡ false → IsSettledAt needs state.count state.line) → IsGrant needs state me (granted needs state front rest state.unclosed)
+    → (state.unclosed ≡ false → IsSettledAt needs state.count state.line) → IsGrant needs state me (granted needs state me front rest state.unclosed)
 round-run needs state me [] rest parts fits settled =
-    record { events = []; run = granted-none needs state rest state.unclosed parts refl; names = refl; calm = refl }
+    record { events = []; run = granted-none needs state me rest state.unclosed parts refl; names = refl; calm = refl }
 round-run needs state me (asker ∷ more) rest parts fits settled =
     elim (cases_Bool state.unclosed) [
       | inl opened ↦ record {
@@ -165,7 +166,7 @@ round-run needs state me (asker ∷ more) rest parts fits settled =
 -- Where a front is granted and the line is closed; a line that wasn't open is settled, and nobody is granted
 pub close-run : (needs : Needs) (state : AbstractState) (me : ℕ) (front rest : List (ℕ × ℕ)) → state.line ≡ front ++ rest → IsFront needs state.count front
     → IsSettledAt needs (state.count + takes_of needs front) rest
-    → (state.unclosed ≡ false → IsSettledAt needs state.count state.line) → IsGrant needs state me (granted needs state front rest false)
+    → (state.unclosed ≡ false → IsSettledAt needs state.count state.line) → IsGrant needs state me (granted needs state me front rest false)
 close-run needs state me [] rest parts fits closes settled =
     elim (cases_Bool state.unclosed) [
       | inl opened ↦ record {
@@ -176,12 +177,12 @@ close-run needs state me [] rest parts fits closes settled =
             subst (λ (l : List (ℕ × ℕ)). IsSettledAt needs state.count l) (sym parts)
                 (subst (λ (n : ℕ). IsSettledAt needs n rest) (omega arith) closes),
           ),
-          ap (λ (z : AbstractState). record z { unclosed = false }) (granted-none needs state rest state.unclosed parts refl),
+          ap (λ (z : AbstractState). record z { unclosed = false }) (granted-none needs state me rest state.unclosed parts refl),
         );
         names = refl;
         calm = refl;
       }
-      | inr closed ↦ record { events = []; run = granted-none needs state rest false parts closed; names = refl; calm = refl }
+      | inr closed ↦ record { events = []; run = granted-none needs state me rest false parts closed; names = refl; calm = refl }
     ]
 close-run needs state me (asker ∷ more) rest parts fits closes settled =
     elim (cases_Bool state.unclosed) [
@@ -218,27 +219,23 @@ due-apart state front rest place parts once due =
     in-none place front (omega (arith, once, both, ap one_if due))
 
 -- a grant changes how a place is held, and not whether it is
-pub held-granted : (needs : Needs) (state : AbstractState) (front rest : List (ℕ × ℕ)) (unclosed : Bool) (place : ℕ)
-    → state.line ≡ front ++ rest → held_by place state ≤ 1 → held_by place (granted needs state front rest unclosed) ≡ held_by place state
-held-granted needs state front rest unclosed place parts once =
+pub held-granted : (needs : Needs) (state : AbstractState) (me : ℕ) (front rest : List (ℕ × ℕ)) (unclosed : Bool) (place : ℕ)
+    → state.line ≡ front ++ rest → held_by place state ≤ 1 → held_by place (granted needs state me front rest unclosed) ≡ held_by place state
+held-granted needs state me front rest unclosed place parts once =
     let both = times-parts place state.line front rest parts in
     elim (cases_Bool (is_in place front)) [
       | inl some ↦ rw some (omega (arith, once, both, in-waits place front some))
       | inr none ↦ rw none (omega (arith, both, in-no place front none))
     ]
 
--- who shows the answers of a front that is granted
-abbrev pub shower_after : (ℕ → ℕ) → ℕ → List (ℕ × ℕ) → ℕ → ℕ
-shower_after shower me front other = if is_in other front then me else shower other
-
-pub debts-granted : (words : ℕ → LineWord) (state : AbstractState) (owed : ℕ → List (ℕ × ℕ)) (shower worth : ℕ → ℕ) (me value : ℕ) (front rest : List (ℕ × ℕ))
-    → AreDebts words state.due owed shower worth → value < 256 → state.line ≡ front ++ rest → ((place : ℕ) → held_by place state ≤ 1) → owed me ≡ [] → IsBehind words 0 front
-    → AreDebts words (answered_with value front state.due) (updated owed me front) (shower_after shower me front) (updated worth me value)
-debts-granted words state owed shower worth me value front rest was fits parts once none linked = record {
+pub debts-granted : (words : ℕ → LineWord) (state : AbstractState) (owed : ℕ → List (ℕ × ℕ)) (worth : ℕ → ℕ) (me value : ℕ) (front rest : List (ℕ × ℕ))
+    → AreDebts words state.due state.granter owed worth → value < 256 → state.line ≡ front ++ rest → ((place : ℕ) → held_by place state ≤ 1) → owed me ≡ [] → IsBehind words 0 front
+    → AreDebts words (answered_with value front state.due) (granted_by me front state.granter) (updated owed me front) (updated worth me value)
+debts-granted words state owed worth me value front rest was fits parts once none linked = record {
   due_to = λ place other.
       each-updated
       (λ (n : ℕ) (l : List (ℕ × ℕ)). is_in other l ≡ true
-      → (shower_after shower me front other ≡ n) × (answered_with value front state.due other ≡ Some (updated worth me value n)))
+      → (granted_by me front state.granter other ≡ n) × (answered_with value front state.due other ≡ Some (updated worth me value n)))
       owed me front
       (λ there. (rw there refl, rw (there, number_same me) refl))
       (λ other_place apart there.
@@ -250,10 +247,10 @@ debts-granted words state owed shower worth me value front rest was fits parts o
       elim (cases_Bool (is_in other front)) [
         | inl there ↦ rw (there, number_same me) there
         | inr out ↦
-            let old : is_in other (owed (shower other)) ≡ true = was.paid_by other (rw out at due) in
-            elim (cases_Bool (shower other == me)) [
+            let old : is_in other (owed (state.granter other)) ≡ true = was.paid_by other (rw out at due) in
+            elim (cases_Bool (state.granter other == me)) [
               | inl same ↦
-                  let empty : owed (shower other) ≡ [] = ap owed (same_number (shower other) me same) ∙ none in
+                  let empty : owed (state.granter other) ≡ [] = ap owed (same_number (state.granter other) me same) ∙ none in
                   let wrong : false ≡ true = rw empty at old in
                   absurd (cc)
               | inr apart ↦ rw (out, apart) old
@@ -279,10 +276,10 @@ pub holder-none : (holder me other : ℕ) → holder ≡ me + 1 → (other ≡ m
 holder-none holder me other mine apart = number_other holder (other + 1) (λ is. apart (omega (arith, mine, is))) ∙ sym (nobody other)
 
 -- The main word of a line that is settled says what the object is once the line is closed
-pub settled-main : (needs : Needs) (state : AbstractState) (front rest : List (ℕ × ℕ)) (count tail : ℕ) → state.poisoned ≡ false → count < 2 ^ count_bits → tail < 65536
+pub settled-main : (needs : Needs) (state : AbstractState) (me : ℕ) (front rest : List (ℕ × ℕ)) (count tail : ℕ) → state.poisoned ≡ false → count < 2 ^ count_bits → tail < 65536
     → count ≡ state.count + takes_of needs front → count ≤ needs.top → tail ≡ newest 0 rest → IsSettledAt needs count rest
-    → IsMain needs (word_number count_bits (settled_word count tail)) (granted needs state front rest false) 0
-settled-main needs state front rest count tail calm small room adds bounded is settled =
+    → IsMain needs (word_number count_bits (settled_word count tail)) (granted needs state me front rest false) 0
+settled-main needs state me front rest count tail calm small room adds bounded is settled =
     let read = word-read count_bits (settled_word count tail) small room in
     record {
       whole = word-whole (settled_word count tail) small room;
@@ -290,7 +287,7 @@ settled-main needs state front rest count tail calm small room adds bounded is s
       tail = ap (λ (w : Word). w.tail) read ∙ is;
       flag = ap (λ (w : Word). w.is_flagged) read;
       poison = ap (λ (w : Word). w.is_poisoned) read ∙ sym calm;
-      barren = never-barren needs (granted needs state front rest false) calm;
+      barren = never-barren needs (granted needs state me front rest false) calm;
       bounded = rw (← adds) bounded;
       closed = λ unheld. refl;
       settled = λ closed. rw (← adds) settled;
@@ -309,19 +306,19 @@ out-of-rest place front rest line parts out =
 pub granting : (needs : Needs) (places : ℕ) (row : ℕ → ℕ) (standing : ℕ → Place) (state : AbstractState) (me : ℕ) (s : Refines needs places row standing state)
     (number : ℕ) (stage : Stage) (front rest : List (ℕ × ℕ)) (next : ℕ) (unclosed : Bool)
     → (places ≤ me → joins_line stage ≡ false) → s.holder ≡ me + 1 → s.owed me ≡ [] → state.line ≡ front ++ rest → IsBehind (line_of row) 0 front → IsBehind (line_of row) 0 rest
-    → IsMain needs number (granted needs state front rest unclosed) next
+    → IsMain needs number (granted needs state me front rest unclosed) next
     → IsRanged needs stage → IsAlone needs (standing me).registration (standing me).back stage
     → (gives_up (standing me).back stage ≡ true → is_in me state.line ≡ false) → IsOwn (line_of row me) stage → IsShowing front 0 stage
     → is_holder stage ≡ (next == me + 1)
     → (next ≡ me + 1 → IsHolding needs (line_of row) me (state.count + takes_of needs front) rest [] stage)
     → ((other : ℕ) → (other ≡ me → ⊥) → (s.holder == other + 1) ≡ (next == other + 1))
     → Refines needs places (updated row 0 number) (updated standing me (record (standing me) { stage = stage }))
-    (granted needs state front rest unclosed)
+    (granted needs state me front rest unclosed)
 granting needs places row standing state me s number stage front rest next unclosed free mine none parts linked stays main ranged alone apart own showing
     holder holding others =
     let once = held-once places standing state s.seats in
     let seats = seats-next places standing state me (record (standing me) { stage = stage }) s.seats free refl in
-    let debts = debts-granted (line_of row) state s.owed s.shower s.worth me 0 front rest s.debts (omega arith) parts once none linked in
+    let debts = debts-granted (line_of row) state s.owed s.worth me 0 front rest s.debts (omega arith) parts once none linked in
     let stages = stages-next needs (line_of row) (line_of row) standing state.count (state.count + takes_of needs front) state.line rest s.cut []
     s.holder next s.owed (updated s.owed me front) s.worth (updated s.worth me 0) me (record (standing me) { stage = stage }) s.stages
     ranged alone (λ gives. out-of-rest me front rest state.line parts (apart gives)) own (rw (number_same me) showing) holder holding
@@ -336,13 +333,12 @@ granting needs places row standing state me s number stage front rest next unclo
       cut = [];
       uncut = rest;
       owed = updated s.owed me front;
-      shower = shower_after s.shower me front;
       worth = updated s.worth me 0;
       free = λ unheld. refl;
       main = main;
       line = record { parts = refl; granted = tt; stays = rw (line-main row number) stays; some = λ gone. refl };
       seats = record {
-        held = λ place. held-granted needs state front rest unclosed place parts (once place) ∙ seats.held place;
+        held = λ place. held-granted needs state me front rest unclosed place parts (once place) ∙ seats.held place;
         within = seats.within;
         beyond = seats.beyond;
       };

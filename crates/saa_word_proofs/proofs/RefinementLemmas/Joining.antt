@@ -48,7 +48,6 @@ raised needs lawful wide places row standing state me s none nothing calm reques
       cut = s.cut;
       uncut = s.uncut;
       owed = s.owed;
-      shower = s.shower;
       worth = s.worth;
       free = s.free;
       main = main-now needs (record state { count = state.count + needs.takes request }) s.holder word (omega (arith, within, wide))
@@ -61,7 +60,7 @@ raised needs lawful wide places row standing state me s none nothing calm reques
           let seats = seats-next places standing state me place s.seats (λ out. ap joins_line quiet) same in
           record { held = seats.held; within = seats.within; beyond = seats.beyond };
       answers = answers-main places row number state.shown s.answers;
-      debts = subst (λ (w : ℕ → LineWord). AreDebts w state.due s.owed s.shower s.worth) (sym (line-main row number)) s.debts;
+      debts = subst (λ (w : ℕ → LineWord). AreDebts w state.due state.granter s.owed s.worth) (sym (line-main row number)) s.debts;
       stages = subst
           (λ (w : ℕ → LineWord). AreStages needs w (updated standing me place) (state.count + needs.takes request) state.line s.cut s.holder s.owed s.worth)
           (sym (line-main row number))
@@ -168,7 +167,6 @@ step-Prepare needs lawful wide places row standing state me room here s request 
         cut = s.cut;
         uncut = s.uncut;
         owed = s.owed;
-        shower = s.shower;
         worth = s.worth;
         free = s.free;
         main = subst (λ (n : ℕ). IsMain needs n state s.holder) (sym (row-other row (me + 1) number 0 (λ is. absurd (omega (arith, is))))) s.main;
@@ -244,7 +242,6 @@ joined needs lawful wide places row standing state me room here s none nothing c
       cut = s.cut;
       uncut = s.uncut ++ (me, request) ∷ [];
       owed = s.owed;
-      shower = s.shower;
       worth = s.worth;
       free = s.free;
       main = main-now needs (record state { line = after }) s.holder word small (omega (arith, room, here)) count
@@ -264,7 +261,7 @@ joined needs lawful wide places row standing state me room here s none nothing c
         beyond = each-updated (λ (n : ℕ) (p : Place). places ≤ n → joins_line p.stage ≡ false) standing me place (λ out. refl) (λ other apart. s.seats.beyond other);
       };
       answers = answers-main places row number state.shown s.answers;
-      debts = subst (λ (w : ℕ → LineWord). AreDebts w state.due s.owed s.shower s.worth) (sym (line-main row number)) s.debts;
+      debts = subst (λ (w : ℕ → LineWord). AreDebts w state.due state.granter s.owed s.worth) (sym (line-main row number)) s.debts;
       stages = subst (λ (w : ℕ → LineWord). AreStages needs w (updated standing me place) state.count after s.cut s.holder s.owed s.worth)
           (sym (line-main row number))
           (stages-next needs (line_of row) (line_of row) standing state.count state.count state.line after s.cut s.cut s.holder s.holder s.owed s.owed

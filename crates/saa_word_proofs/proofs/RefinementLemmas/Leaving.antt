@@ -176,10 +176,10 @@ seats-left places standing state me request before after stage was here parts =
     }
 
 -- no answer is due to a waiter, so nobody owes it one
-pub owed-out : (places : ℕ) (words : ℕ → LineWord) (standing : ℕ → Place) (state : AbstractState) (owed : ℕ → List (ℕ × ℕ)) (shower worth : ℕ → ℕ)
-    → AreSeats places standing state → AreDebts words state.due owed shower worth
+pub owed-out : (places : ℕ) (words : ℕ → LineWord) (standing : ℕ → Place) (state : AbstractState) (owed : ℕ → List (ℕ × ℕ)) (worth : ℕ → ℕ)
+    → AreSeats places standing state → AreDebts words state.due state.granter owed worth
     → (place other : ℕ) → 0 < times other (owed place) → is_in other state.line ≡ false
-owed-out places words standing state owed shower worth seats debts place other owes =
+owed-out places words standing state owed worth seats debts place other owes =
     elim (cases_Bool (is_in other state.line)) [
       | inl waits ↦
           let due : is_some (state.due other) ≡ true = ap is_some (debts.due_to place other (in-some other (owed place) owes)).1 in
@@ -210,7 +210,6 @@ leaving needs places row standing state me s at number request stage before afte
       cut = [];
       uncut = before ++ after;
       owed = s.owed;
-      shower = s.shower;
       worth = s.worth;
       free = λ nobody. refl;
       main = main;
@@ -228,7 +227,7 @@ leaving needs places row standing state me s at number request stage before afte
         links = λ place.
             behind-frame (line_of row) (line_of (updated row at number)) 0 (s.owed place)
             (λ other owes.
-            let same = words other (owed-out places (line_of row) standing state s.owed s.shower s.worth s.seats s.debts place other owes) in
+            let same = words other (owed-out places (line_of row) standing state s.owed s.worth s.seats s.debts place other owes) in
             (ap (λ (w : LineWord). w.request) same, ap (λ (w : LineWord). w.older) same))
             (s.debts.links place);
       };

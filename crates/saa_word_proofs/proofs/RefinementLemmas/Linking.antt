@@ -106,7 +106,6 @@ relinked needs places row standing state me s next at number off rest free flag 
       cut = off;
       uncut = rest;
       owed = s.owed;
-      shower = s.shower;
       worth = s.worth;
       free = λ nobody. absurd (omega (arith, flag, same_number s.holder 0 nobody));
       main = subst (λ (n : ℕ). IsMain needs n state s.holder) (sym (row-other row (at + 1) number 0 (λ is. omega (arith, is)))) s.main;

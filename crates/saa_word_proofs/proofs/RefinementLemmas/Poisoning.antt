@@ -16,7 +16,7 @@ use Rattle.saa_word_steps.specs.declared.place.Stage.{Stage}
 use Rattle.saa_word_steps.specs.declared.place.Stage.TheVariants.{Quiet, ShowLoad, PoisonLoad, PoisonExchange, Clear}
 use Rattle.saa_word_steps.specs.Needs.{Needs, AreNeeds}
 use Rattle.saa_word_steps.specs.declared.event.Event.TheVariants.{Poisoned, NotPoisoned, Cleared, NotCleared}
-use Rattle.saa_word_steps.specs.AbstractState.{AbstractState, IsOwned, is_empty, is_in, answered_with, held_by}
+use Rattle.saa_word_steps.specs.AbstractState.{AbstractState, IsOwned, is_empty, is_in, answered_with, granted_by, held_by}
 use Rattle.saa_word_steps.specs.Steps.{IsRanged, going, poisoning, settled_word}
 use Rattle.saa_word_steps.specs.Readings.{poisoned_word}
 use Rattle.saa_word_proofs.specs.Refinement.{joins_line, newest, is_holder, takes_back, IsAlone, IsOwn, IsShowing, IsLine, AreDebts, AreStages, Refines}
@@ -29,7 +29,7 @@ use Rattle.saa_word_proofs.proofs.RefinementLemmas.Holders.{main-now, nobody-hol
 use Rattle.saa_word_proofs.proofs.RefinementLemmas.Outcomes.{Outcome, not-holder, answers-main, only-looked}
 use Rattle.saa_word_proofs.proofs.RefinementLemmas.Linking.{linked-all}
 use Rattle.saa_word_proofs.proofs.RefinementLemmas.Ending.{end_stage, ended, ended-ranged, ended-alone, ended-joins, ended-own, ended-showing, ended-holder, returning-any}
-use Rattle.saa_word_proofs.proofs.RefinementLemmas.Granting.{in-waits, in-no, front-none, front-some, held-once, shower_after, debts-granted, nobody}
+use Rattle.saa_word_proofs.proofs.RefinementLemmas.Granting.{in-waits, in-no, front-none, front-some, held-once, debts-granted, nobody}
 
 -- a mark whose negation is false is set
 not-clear : (mark : Bool) → not mark ≡ false → mark ≡ true
@@ -109,12 +109,18 @@ step-PoisonLoad needs lawful wide places row standing state me room s at =
     only-looked needs places row standing state me PoisonLoad out refl refl refl refl
 
 -- the object once a lock is poisoned
-abbrev poisoned_after : AbstractState → AbstractState
-poisoned_after state = record state { count = 0; poisoned = true; line = []; due = answered_with 2 state.line state.due }
+abbrev poisoned_after : AbstractState → ℕ → AbstractState
+poisoned_after state me = record state {
+  count = 0;
+  poisoned = true;
+  line = [];
+  due = answered_with 2 state.line state.due;
+  granter = granted_by me state.line state.granter;
+}
 
 -- poison changes how a place is held, and not whether it is
-held-poisoned : (state : AbstractState) (place : ℕ) → held_by place state ≤ 1 → held_by place (poisoned_after state) ≡ held_by place state
-held-poisoned state place once =
+held-poisoned : (state : AbstractState) (me place : ℕ) → held_by place state ≤ 1 → held_by place (poisoned_after state me) ≡ held_by place state
+held-poisoned state me place once =
     elim (cases_Bool (is_in place state.line)) [
       | inl some ↦ rw some (omega (arith, once, in-waits place state.line some))
       | inr none ↦ rw none (omega (arith, in-no place state.line none))
@@ -126,7 +132,7 @@ poisoned-stands : (needs : Needs) (places : ℕ) (row : ℕ → ℕ) (standing :
     → IsRanged needs stage → IsAlone needs (standing me).registration (standing me).back stage
     → IsOwn (line_of row me) stage → IsShowing state.line 2 stage → is_holder stage ≡ false
     → Refines needs places (updated row 0 (word_number count_bits poisoned_word)) (updated standing me (record (standing me) { stage = stage }))
-    (poisoned_after state)
+    (poisoned_after state me)
 poisoned-stands needs places row standing state me s stage never unheld none lock ranged alone own showing holder =
     let number : ℕ = word_number count_bits poisoned_word in
     let place : Place = record (standing me) { stage = stage } in
@@ -134,7 +140,7 @@ poisoned-stands needs places row standing state me s stage never unheld none loc
     let once = held-once places standing state s.seats in
     let seats = seats-next places standing state me place s.seats (λ out. never) refl in
     let linked = linked-all (line_of row) state.line s.cut s.uncut s.line (s.free unheld) in
-    let debts = debts-granted (line_of row) state s.owed s.shower s.worth me 2 state.line [] s.debts (omega arith) (sym (append-nil state.line))
+    let debts = debts-granted (line_of row) state s.owed s.worth me 2 state.line [] s.debts (omega arith) (sym (append-nil state.line))
     once none linked in
     let stages = stages-next needs (line_of row) (line_of row) standing state.count 0 state.line [] s.cut []
     s.holder 0 s.owed (updated s.owed me state.line) s.worth (updated s.worth me 2) me place s.stages
@@ -150,14 +156,13 @@ poisoned-stands needs places row standing state me s stage never unheld none loc
       cut = [];
       uncut = [];
       owed = updated s.owed me state.line;
-      shower = shower_after s.shower me state.line;
       worth = updated s.worth me 2;
       free = λ free. refl;
-      main = main-now needs (poisoned_after state) 0 poisoned_word (omega arith) (omega arith) refl refl refl refl
+      main = main-now needs (poisoned_after state me) 0 poisoned_word (omega arith) (omega arith) refl refl refl refl
           (λ poisoned. (refl, refl, lock)) (omega arith) (λ free. s.main.closed unheld) (λ closed. tt);
       line = record { parts = refl; granted = tt; stays = tt; some = λ gone. refl };
       seats = record {
-        held = λ other. held-poisoned state other (once other) ∙ seats.held other;
+        held = λ other. held-poisoned state me other (once other) ∙ seats.held other;
         within = seats.within;
         beyond = seats.beyond;
       };
@@ -187,7 +192,7 @@ step-PoisonExchange needs lawful wide places row standing state me room s seen a
           let returning = returning-any (standing me).registration (standing me).back alone.1 in
           record {
             events = Poisoned ∷ [];
-            last = poisoned_after state;
+            last = poisoned_after state me;
             run = ((s.main.closed unheld, (calm, owned, alone.0)), refl);
             names = rw same refl;
             calm = λ semaphore. let wrong : true ≡ false = sym alone.0 ∙ semaphore in absurd (cc);
@@ -197,7 +202,7 @@ step-PoisonExchange needs lawful wide places row standing state me room s seen a
                   | inl alone_there ↦
                       rw (same, alone_there)
                       (subst (λ (p : Place). Refines needs places (updated row 0 (word_number count_bits poisoned_word)) (updated standing me p)
-                      (poisoned_after state))
+                      (poisoned_after state me))
                       (sym (ended (standing me) (standing me).back))
                       (poisoned-stands needs places row standing state me s (end_stage (standing me).back) (ended-joins (standing me).back) unheld nothing alone.0
                       (ended-ranged needs (standing me).back) (ended-alone needs (standing me).registration (standing me).back returning)
@@ -276,7 +281,6 @@ cleared-stands needs places row standing state me s none nothing poisoned =
       cut = s.cut;
       uncut = s.uncut;
       owed = s.owed;
-      shower = s.shower;
       worth = s.worth;
       free = s.free;
       main = main-now needs (record state { poisoned = false }) s.holder (settled_word 0 0) (omega arith) (omega arith)
@@ -284,7 +288,7 @@ cleared-stands needs places row standing state me s none nothing poisoned =
       line = subst (λ (w : ℕ → LineWord). IsLine w state.line s.cut s.uncut) (sym (line-main row number)) s.line;
       seats = record { held = seats.held; within = seats.within; beyond = seats.beyond };
       answers = answers-main places row number state.shown s.answers;
-      debts = subst (λ (w : ℕ → LineWord). AreDebts w state.due s.owed s.shower s.worth) (sym (line-main row number)) s.debts;
+      debts = subst (λ (w : ℕ → LineWord). AreDebts w state.due state.granter s.owed s.worth) (sym (line-main row number)) s.debts;
       stages = subst (λ (w : ℕ → LineWord). AreStages needs w (updated standing me place) state.count state.line s.cut s.holder s.owed s.worth)
           (sym (line-main row number)) stages;
     }

@@ -69,7 +69,6 @@ opens needs wide places count small = record {
   cut = [];
   uncut = [];
   owed = λ place. [];
-  shower = λ place. 0;
   worth = λ place. 0;
   free = λ nobody. refl;
   main = record {

@@ -168,7 +168,6 @@ given-back needs lawful wide places row standing state me s what left seen tail_
       cut = s.cut;
       uncut = s.uncut;
       owed = s.owed;
-      shower = s.shower;
       worth = s.worth;
       free = λ free. s.free (nobody free).1;
       main = main-now needs after holder word
@@ -181,7 +180,7 @@ given-back needs lawful wide places row standing state me s what left seen tail_
           let seats = seats-next places standing state me place s.seats (λ out. never) refl in
           record { held = seats.held; within = seats.within; beyond = seats.beyond };
       answers = answers-main places row number state.shown s.answers;
-      debts = subst (λ (w : ℕ → LineWord). AreDebts w state.due s.owed s.shower s.worth) (sym (line-main row number)) s.debts;
+      debts = subst (λ (w : ℕ → LineWord). AreDebts w state.due state.granter s.owed s.worth) (sym (line-main row number)) s.debts;
       stages = subst (λ (w : ℕ → LineWord). AreStages needs w (updated standing me place) left state.line s.cut holder s.owed s.worth)
           (sym (line-main row number))
           (stages-next needs (line_of row) (line_of row) standing state.count left state.line state.line s.cut s.cut s.holder holder s.owed s.owed

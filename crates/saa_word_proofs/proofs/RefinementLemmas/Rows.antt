@@ -132,7 +132,6 @@ moved needs places row standing state me s place free same ranged alone apart ow
   cut = s.cut;
   uncut = s.uncut;
   owed = s.owed;
-  shower = s.shower;
   worth = s.worth;
   free = s.free;
   main = s.main;

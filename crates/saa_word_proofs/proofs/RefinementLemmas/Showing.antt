@@ -227,7 +227,7 @@ answers-shown needs places row standing state s asker value due fits = record {
 -- what is owed once the newest of what a place owed is shown
 debts-shown : (needs : Needs) (places : ℕ) (row : ℕ → ℕ) (standing : ℕ → Place) (state : AbstractState) (s : Refines needs places row standing state) (me : ℕ)
     (before : List (ℕ × ℕ)) (asker : ℕ × ℕ) (number : ℕ) → s.owed me ≡ before ++ asker ∷ []
-    → AreDebts (line_of (updated row (places + (asker.0 + 1)) number)) (with_answer asker.0 None state.due) (updated s.owed me before) s.shower s.worth
+    → AreDebts (line_of (updated row (places + (asker.0 + 1)) number)) (with_answer asker.0 None state.due) state.granter (updated s.owed me before) s.worth
 debts-shown needs places row standing state s me before asker number is =
     let new : ℕ → LineWord = line_of (updated row (places + (asker.0 + 1)) number) in
     let whole : (other : ℕ) → times other (s.owed me) ≡ times other before + times other (asker ∷ []) =
@@ -247,22 +247,22 @@ debts-shown needs places row standing state s me before asker number is =
     record {
       due_to = each-updated
           (λ (place : ℕ) (l : List (ℕ × ℕ)). (other : ℕ) → is_in other l ≡ true
-          → (s.shower other ≡ place) × (with_answer asker.0 None state.due other ≡ Some (s.worth place)))
+          → (state.granter other ≡ place) × (with_answer asker.0 None state.due other ≡ Some (s.worth place)))
           s.owed me before
           (λ other there. let was = s.debts.due_to me other (still other there) in (was.0, rw (gone other there) was.1))
           (λ place apart other there.
           let was = s.debts.due_to place other there in
           let differs : other == asker.0 ≡ false = number_other other asker.0 (λ same.
-          apart (sym was.0 ∙ ap s.shower same ∙ (s.debts.due_to me asker.0 mine).0)) in
+          apart (sym was.0 ∙ ap state.granter same ∙ (s.debts.due_to me asker.0 mine).0)) in
           (was.0, rw differs was.1));
       paid_by = λ other.
           elim (cases_Bool (other == asker.0)) [
             | inl same ↦ rw same (λ some. absurd (cc))
             | inr apart ↦ rw apart (λ some.
                 let there = s.debts.paid_by other some in
-                elim (cases_Bool (s.shower other == me)) [
+                elim (cases_Bool (state.granter other == me)) [
                   | inl to_me ↦
-                      let of_me : is_in other (s.owed me) ≡ true = ap (λ (n : ℕ). is_in other (s.owed n)) (sym (same_number (s.shower other) me to_me)) ∙ there in
+                      let of_me : is_in other (s.owed me) ≡ true = ap (λ (n : ℕ). is_in other (s.owed n)) (sym (same_number (state.granter other) me to_me)) ∙ there in
                       let sides : is_in other (before ++ asker ∷ []) ≡ true = ap (λ (l : List (ℕ × ℕ)). is_in other l) (sym is) ∙ of_me in
                       let last : asker.0 == other ≡ false = number_other asker.0 other (λ it.
                       let wrong : other == asker.0 ≡ true = ap (λ (n : ℕ). other == n) it ∙ number_same other in absurd (cc)) in
@@ -318,7 +318,6 @@ shown needs places row standing state me s before asker is stage never ranged al
       cut = s.cut;
       uncut = s.uncut;
       owed = updated s.owed me before;
-      shower = s.shower;
       worth = s.worth;
       free = s.free;
       main = main-shown needs places row standing state s (asker.0 + 1) number (with_answer asker.0 None state.due) (with_answer asker.0 (state.due asker.0) state.shown) some;

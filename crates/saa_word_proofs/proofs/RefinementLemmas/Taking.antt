@@ -94,7 +94,7 @@ step-ShowStore needs lawful wide places row standing state me room s current nex
     record {
       events = Showed asker.0 ∷ [];
       last = last;
-      run = (ap is_some due, refl);
+      run = ((ap is_some due, (s.debts.due_to me asker.0 mine).0), refl);
       names = refl;
       calm = λ semaphore. refl;
       inside = omega (arith, showing.3, due-inside needs places row standing state s me asker.0 mine);
@@ -190,7 +190,6 @@ taken needs places row standing state me value here s slot none is place idle ra
       cut = s.cut;
       uncut = s.uncut;
       owed = s.owed;
-      shower = s.shower;
       worth = s.worth;
       free = s.free;
       main = main-shown needs places row standing state s (me + 1) 0 state.due (with_answer me None state.shown) some;

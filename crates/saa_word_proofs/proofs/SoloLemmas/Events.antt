@@ -34,7 +34,7 @@ nothing-else : (needs : Needs) (state : AbstractState) (me : ℕ) (event : Event
 nothing-else needs state me (Granted askers) closed paid unnamed allowed = let wrong : true ≡ false = sym allowed.0 ∙ closed in absurd (cc)
 nothing-else needs state me Closed closed paid unnamed allowed = let wrong : true ≡ false = sym allowed.0 ∙ closed in absurd (cc)
 nothing-else needs state me (Showed shown_place) closed paid unnamed allowed =
-    let wrong : true ≡ false = sym allowed ∙ ap (λ (a : Option ℕ). is_some a) (paid shown_place) in absurd (cc)
+    let wrong : true ≡ false = sym allowed.0 ∙ ap (λ (a : Option ℕ). is_some a) (paid shown_place) in absurd (cc)
 nothing-else needs state me _ closed paid unnamed allowed = let wrong : true ≡ false = unnamed in absurd (cc)
 
 -- an answer names an event, or not
@@ -179,7 +179,7 @@ grants-event needs start state me (Showed shown_place) unnamed allowed was = rec
   fits = was.fits;
   count = was.count;
   poison = was.poison;
-  paid = paid-shown needs 0 start state was.front me shown_place allowed was.paid;
+  paid = paid-shown needs 0 start state was.front me shown_place allowed.0 was.paid;
 }
 grants-event needs start state me _ unnamed allowed was = let wrong : true ≡ false = unnamed in absurd (cc)
 
@@ -229,7 +229,7 @@ tells-event needs start state me (Showed shown_place) unnamed allowed was = reco
   poison = was.poison;
   closed = was.closed;
   line = was.line;
-  paid = paid-shown needs 2 start state start.line me shown_place allowed was.paid;
+  paid = paid-shown needs 2 start state start.line me shown_place allowed.0 was.paid;
 }
 tells-event needs start state me _ unnamed allowed was = let wrong : true ≡ false = unnamed in absurd (cc)
 

@@ -109,9 +109,9 @@ alone-clear needs places row standing state me s quiet mine =
 alone-paid : (needs : Needs) (places : ℕ) (row : ℕ → ℕ) (standing : ℕ → Place) (state : AbstractState) (me : ℕ) (s : Refines needs places row standing state)
     → AreQuietBut me standing → s.owed me ≡ [] → (place : ℕ) → is_some (state.due place) ≡ true → ⊥
 alone-paid needs places row standing state me s quiet mine place due =
-    let none : s.owed (s.shower place) ≡ [] =
+    let none : s.owed (state.granter place) ≡ [] =
     each-but (λ (other : ℕ). s.owed other ≡ []) me mine
-    (λ other apart. subst (λ (stage : Stage). IsShowing (s.owed other) (s.worth other) stage) (quiet other apart) (s.stages.showing other)) (s.shower place) in
+    (λ other apart. subst (λ (stage : Stage). IsShowing (s.owed other) (s.worth other) stage) (quiet other apart) (s.stages.showing other)) (state.granter place) in
     let wrong : false ≡ true = ap (is_in place) (sym none) ∙ s.debts.paid_by place due in
     absurd (cc)
 
