@@ -45,7 +45,6 @@ loaded-machine state row operations last_word same is =
         held = t.held;
         asks = t.asks;
         holder = t.holder;
-        debts = t.debts;
         calls = t.calls;
         fresh = t.fresh;
         within = t.within;

@@ -1,5 +1,5 @@
 -- Each move of a machine simulates events, and the trace behind them tracks the machine.
-use Rattle.std.proofs.Common.{◌≡◌, ℕ, ◌+◌, ◌*◌, ◌<◌, ◌≤◌, ◌^◌, ◌∷◌, ◌++◌, Bool, true, false, List, [], length, Option, Some, None, is_some, refl, sym, subst, ◌∙◌, ap, arith, inl, inr, append-nil, ◌/◌, ◌%◌}
+use Rattle.std.proofs.Common.{◌≡◌, ℕ, ◌+◌, ◌*◌, ◌<◌, ◌≤◌, ◌^◌, ◌∷◌, ◌++◌, Bool, true, false, List, [], length, Option, Some, None, refl, sym, subst, ◌∙◌, ap, arith, inl, inr, append-nil, ◌/◌, ◌%◌}
 use Rattle.std.proofs.Math.ListN.{set, length-set}
 use Rattle.std.proofs.lemmas.Bool.{cases_Bool}
 use Rattle.std.specs.Prelude.{◌==◌, replicate}
@@ -19,7 +19,6 @@ use Rattle.saa_word_steps.specs.AbstractState.{AbstractState, IsRun, after_event
 use Rattle.saa_word_proofs.proofs.ConservationLemmas.{opening-granted, run-balanced, run-never, run-pending, run-permits}
 use Rattle.saa_word_proofs.specs.Registering.{AreRegistered, begun_as, is_slot, left_behind, starting_answer}
 use Rattle.saa_word_proofs.specs.CallStages.{IsBegun, IsLeft, IsStartedAs, IsUnder, IsUnderNext}
-use Rattle.saa_word_proofs.proofs.SoloLemmas.Debtors.{debtors, untouched}
 use Rattle.saa_word_proofs.proofs.SoloLemmas.Paths.{left-next}
 use Rattle.saa_word_proofs.proofs.SoloLemmas.Registered.{started-as}
 use Rattle.saa_word_proofs.proofs.SoloLemmas.Slots.{begun-registered-line, run-registered}
@@ -27,7 +26,7 @@ use Rattle.saa_core_spec.specs.Object.{one_if}
 use Rattle.saa_word_steps.specs.declared.event.Event.{Event}
 use Rattle.saa_word_steps.specs.Steps.{next_of, started, word_at, written_by}
 use Rattle.saa_word_steps.specs.Readings.{is_taken}
-use Rattle.saa_word_proofs.specs.Rows.{line_of, main_of, updated}
+use Rattle.saa_word_proofs.specs.Rows.{main_of, updated}
 use Rattle.saa_word_proofs.specs.Refinement.{is_holder}
 use Rattle.saa_word_proofs.specs.StepRefinement.{named_at, place_after, row_after}
 use Rattle.saa_word_proofs.specs.History.{named, of_place}
@@ -51,7 +50,7 @@ use Rattle.saa_word.specs.Machine.{IsMove, IsOneStep, State, is_lock, opened, pl
 use Rattle.saa_word.specs.Tracks.{IsFresh, IsIn, RefinesAs, Tracks}
 use Rattle.saa_word.specs.Moves.{found_by, gone, is_quiet, operation_at, followed, step_of, worked_at}
 use Rattle.saa_word.specs.Trace.{beginning, IsQuiescent, Trace, Underway}
-use Rattle.saa_word.specs.Simulation.{Conserves, IsRight, IsSilent, IsWaiting, Simulates, WaitsRightly, asked_in, call_after, debtor_after, holder_after, holds_after, made_after, mine_after, mover, registered_after, started_step, trace_after}
+use Rattle.saa_word.specs.Simulation.{Conserves, IsRight, IsSilent, IsWaiting, Simulates, WaitsRightly, asked_in, call_after, holder_after, holds_after, made_after, mine_after, mover, registered_after, started_step, trace_after}
 use Rattle.saa_word.proofs.Holding.{held-after, held-same, not-false}
 use Rattle.saa_word.proofs.Keeping.{begun-exact, worked-exact, opened-sized, opened-stands, other-place, quiet-stage, replicated, set-updated, work-stands, work-sized, start-stands, start-sized}
 use Rattle.saa_word.proofs.Seeking.{fresh-begun, fresh-next, seeks-on}
@@ -271,11 +270,6 @@ went state trace me here tracks busy =
           shown_before.once (λ poisoned. (tracks.refines.main.barren poisoned).1)
           (subst (λ (f : ℕ → Registration). AreRegistered f trace.state.line) (sym (updated-same trace.registered me (trace.registered me) refl)) tracks.asks);
       holder = holder;
-      debts = debtors needs (length state.places) (length machine.places) (row_of state) (row_of machine) (place_of state) (place_of machine) trace.state stepped.last me
-          tracks.refines refines apart
-          (λ other due. ap (λ (r : ℕ → ℕ). line_of r other) row_is
-          ∙ untouched needs (length state.places) (row_of state) (place_of state) trace.state tracks.refines me place.stage refl other due)
-          trace.debtor tracks.debts;
       calls = calls-next (IsIn needs) state.places trace.calls me (place_after place next)
           (call_after (trace.registered me) holds (trace.calls me) (Go me) (named events) (step_of next)) here tracks.calls goes.0;
       fresh = calls-next (λ underway p. IsFresh underway p.stage) state.places trace.calls me (place_after place next)
@@ -365,8 +359,6 @@ begun state trace me call here taken tracks quiet =
       holder = held-after needs (length state.places) (length after.places) (row_of state) (row_of state) (place_of state) (place_of after) trace.state trace.state me
           tracks.refines refines apart
           ∙ ap (λ (h : ℕ). holder_after h me (main_of (row_of state)) (main_of (row_of state))) tracks.holder;
-      debts = debtors needs (length state.places) (length after.places) (row_of state) (row_of state) (place_of state) (place_of after) trace.state trace.state me
-          tracks.refines refines apart (λ other due. refl) trace.debtor tracks.debts;
       calls = calls-next (IsIn needs) state.places trace.calls me behind (call_after (trace.registered me) holds (trace.calls me) (Start me call) [] (step_of next)) here tracks.calls
           (subst (λ (r : Registration). IsIn needs (call_after r holds (trace.calls me) (Start me call) [] (step_of next)) behind) (tracks.registered me)
           (in-begun needs holds (trace.calls me) me call place next (tracks.calls me) starts none));
@@ -462,13 +454,6 @@ idled state trace move step calls registered made exact silent right waits track
         ap (λ (h : ℕ). holder_after h (mover move) (main_of (row_of state)) (main_of (row_of state))) (sym tracks.holder)
         ∙ held-same (needs_of state.rules) (length state.places) (row_of state) (place_of state) trace.state (mover move) tracks.refines ∙ tracks.holder
 
-    debtor_is : debtor_after trace.debtor (mover move) trace.state.due trace.state.due ≡ trace.debtor
-    debtor_is = all-same (debtor_after trace.debtor (mover move) trace.state.due trace.state.due) trace.debtor (λ place.
-        elim (cases_Bool (is_some (trace.state.due place))) [
-          | inl due ↦ rw due refl
-          | inr none ↦ rw none refl
-        ])
-
     trace_is : trace_after state move (record { step = step; machine = state }) trace [] trace.state ≡ trace
     trace_is = λ i. record {
       withheld = trace.withheld;
@@ -476,7 +461,6 @@ idled state trace move step calls registered made exact silent right waits track
       state = trace.state;
       registered = registered_is i;
       holder = holder_is i;
-      debtor = debtor_is i;
       calls = calls_is i;
       made = made_is i;
     }
@@ -533,7 +517,6 @@ opened-tracks rules count places wide small few =
       held = λ place. refl;
       asks = tt;
       holder = same_number refines.holder 0 (not-false (refines.holder == 0) (sym refines.main.flag ∙ clear));
-      debts = λ place due. absurd (cc);
       calls = λ place. ap (λ (p : Place). p.stage) (replicated places idle_place place);
       fresh = λ place. tt;
       within = λ place. subst (λ (p : Place). 0 + step_bound (length (opened rules count places).places) (row_of (opened rules count places)) p.back p.stage

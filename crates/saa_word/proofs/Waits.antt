@@ -203,7 +203,7 @@ waiting state trace me here tracks busy waits =
           let none : s.owed me ≡ [] =
           pays-nothing trace.state me (main_of (row_of state)) (s.owed me) (s.worth me) (place_of state me).stage only.0 (s.stages.showing me) in
           let there : is_in place (s.owed me) ≡ true =
-          subst (λ (n : ℕ). is_in place (s.owed n) ≡ true) (tracks.debts place due ∙ mine) (s.debts.paid_by place due) in
+          subst (λ (n : ℕ). is_in place (s.owed n) ≡ true) mine (s.debts.paid_by place due) in
           let wrong : false ≡ true = ap (is_in place) (sym none) ∙ there in absurd (cc);
       row = ap (set state.row (word_at operation)) written ∙ set-get_or state.row (word_at operation) 0;
       places = ap (λ (n : Next). set state.places me (place_after (place_of state me) n)) waits ∙ set-get_or state.places me idle_place;

@@ -1,5 +1,5 @@
 -- How each move of a machine goes on with every trace that tracks it. A reader of the clauses has to believe this.
-use Rattle.std.specs.Prelude.{◌≡◌, ◌≢◌, ℕ, ◌⊎◌, ◌+◌, ◌*◌, ◌≤◌, ◌==◌, ◌||◌, ◌&&◌, not, Bool, true, false, List, [], ◌∷◌, ◌++◌, Option, Some, None, is_some, length, if◌then◌else◌}
+use Rattle.std.specs.Prelude.{◌≡◌, ◌≢◌, ℕ, ◌⊎◌, ◌+◌, ◌*◌, ◌≤◌, ◌==◌, ◌||◌, Bool, true, false, List, [], ◌∷◌, ◌++◌, Option, Some, None, is_some, length, if◌then◌else◌}
 use Rattle.saa_core_spec.specs.Object.{one_if, times}
 use Rattle.saa_word_steps.specs.declared.call.Answer.{Answer}
 use Rattle.saa_word_steps.specs.declared.call.WordCall.{WordCall}
@@ -9,7 +9,7 @@ use Rattle.saa_word_steps.specs.declared.place.Ask.{Ask}
 use Rattle.saa_word_steps.specs.declared.place.Registration.{Registration}
 use Rattle.saa_word_steps.specs.declared.rules.Rules.TheVariants.{Permits}
 use Rattle.saa_word_steps.specs.Needs.{Needs, needs_of, permit_needs}
-use Rattle.saa_word_steps.specs.AbstractState.{AbstractState, IsRun, is_in}
+use Rattle.saa_word_steps.specs.AbstractState.{AbstractState, IsRun, OwesNothing, is_in}
 use Rattle.saa_core_words.specs.declared.word.Word.{Word}
 use Rattle.saa_word_proofs.specs.Rows.{IsOwnedAndFlagged, main_of, updated}
 use Rattle.saa_word_proofs.specs.Calls.{IsAnswered, asked_by}
@@ -44,10 +44,6 @@ registered_after underway (Go me) events step was = left_behind events (asked_in
 -- the flag's holder behind a move: nobody while it is clear, the holder so far while it stays set, and the mover where the move set it
 abbrev pub holder_after : ℕ → ℕ → Word → Word → ℕ
 holder_after holder me before after = if after.is_flagged then (if before.is_flagged then holder else me + 1) else 0
-
--- the debtor of each answer behind a move: the mover where its move made the answer due, and else the debtor so far
-abbrev pub debtor_after : (ℕ → ℕ) → ℕ → (before after : ℕ → Option ℕ) → ℕ → ℕ
-debtor_after debtor me before after place = if is_some (after place) && not (is_some (before place)) then me else debtor place
 
 -- whether the mover holds the flag behind a move
 abbrev pub holds_after : State → Move → Moved → Trace → Bool
@@ -84,7 +80,6 @@ trace_after state move moved trace events last = record {
   registered = updated trace.registered (mover move)
       (registered_after (trace.calls (mover move)) move (named events) moved.step (trace.registered (mover move)));
   holder = holder_after trace.holder (mover move) (main_of (row_of state)) (main_of (row_of moved.machine));
-  debtor = debtor_after trace.debtor (mover move) trace.state.due last.due;
   calls = updated trace.calls (mover move)
       (call_after (trace.registered (mover move)) (holds_after state move moved trace) (trace.calls (mover move)) move (named events) moved.step);
   made = made_after trace.made move moved.step (row_of moved.machine 0 == row_of state 0);
@@ -131,12 +126,12 @@ IsBlocked trace places me seen read held PoisonLock = (read ≡ 0) × IsOwnedAnd
 IsBlocked trace places me seen read held _ = ⊥
 
 -- A place that waits is in a call that is blocked and has named no event yet: it waits no more once its call has left the line, taken its answer or
--- poisoned the lock. It doesn't hold the flag, it is the debtor of no answer that is due, and words and places are as they were
+-- poisoned the lock. It doesn't hold the flag, it has shown each answer that it granted, and words and places are as they were
 pub record IsWaiting (state after : State) (trace : Trace) (me : ℕ) : Type 0 where
   pub blocked : (underway : Underway) × (trace.calls me ≡ Some underway) × (underway.events ≡ [])
       × IsBlocked trace (length state.places) me (main_of (row_of state)) after.last_word underway.held underway.call
   pub free : trace.holder ≢ me + 1
-  pub clear : (place : ℕ) → is_some (trace.state.due place) ≡ true → trace.debtor place ≢ me
+  pub clear : OwesNothing me trace.state
   pub row : after.row ≡ state.row
   pub places : after.places ≡ state.places
 

@@ -15,16 +15,14 @@ pub record Underway : Type 0 where
   pub held : Bool
 
 -- How much was held at the opening, and every event since, each with its place; the abstract state behind them; what each place is
--- registered as; the flag's holder, as a link, which is 0 for nobody; the debtor of each answer that is due, which is the place by whose move it became
--- due; the call that each place is in; and how many steps each place has made since its call began, or since another place last changed the main word,
--- whichever is later, those that wait aside
+-- registered as; the flag's holder, as a link, which is 0 for nobody; the call that each place is in; and how many steps each place has made
+-- since its call began, or since another place last changed the main word, whichever is later, those that wait aside
 pub record Trace : Type 0 where
   pub withheld : ℕ
   pub history : List (ℕ × Event)
   pub state : AbstractState
   pub registered : ℕ → Registration
   pub holder : ℕ
-  pub debtor : ℕ → ℕ
   pub calls : ℕ → Option Underway
   pub made : ℕ → ℕ
 
@@ -40,7 +38,6 @@ beginning count = record {
   state = opening count;
   registered = λ place. Idle;
   holder = 0;
-  debtor = λ place. 0;
   calls = λ place. None;
   made = λ place. 0;
 }

@@ -1,6 +1,6 @@
 -- How a trace tracks a machine. Internal: nobody has to believe this; it is an invariant of proofs, which every move goes on with. What a reader
 -- concludes of a trace that tracks a machine is said in `specs/Simulation.antt`, of words, replies and events.
-use Rattle.std.specs.Prelude.{◌≡◌, ℕ, ◌+◌, ◌*◌, ◌<◌, ◌^◌, Bool, true, false, Option, Some, None, is_some, length}
+use Rattle.std.specs.Prelude.{◌≡◌, ℕ, ◌+◌, ◌*◌, ◌<◌, ◌^◌, Bool, true, false, Option, Some, None, length}
 use Rattle.saa_core_spec.specs.Object.{one_if}
 use Rattle.saa_core_words.specs.Words.{count_bits}
 use Rattle.saa_word_steps.specs.declared.place.Place.{Place}
@@ -44,9 +44,9 @@ IsFresh None stage = Unit {0}
 IsFresh (Some underway) stage = seeks_flag stage ≡ true → underway.held ≡ false
 
 -- A trace tracks a machine: its events lead to the abstract state that words and places refine; each place is registered as the trace says,
--- in the line exactly where the abstract state holds it, and with what it asks there; the flag's holder is the one that the trace says, and who is to
--- show an answer that is due is its debtor; each place is in the call that it says, and hasn't held the flag in it where it seeks the flag; and what
--- each place has made and what it has left are at most 16 steps for each place and 48 more
+-- in the line exactly where the abstract state holds it, and with what it asks there; the flag's holder is the one that the trace says; each
+-- place is in the call that it says, and hasn't held the flag in it where it seeks the flag; and what each place has made and what it has left are
+-- at most 16 steps for each place and 48 more
 pub record Tracks (state : State) (trace : Trace) : Type 0 where
   pub sized : IsSized state
   pub run : IsRun (needs_of state.rules) (opening trace.withheld) trace.history trace.state
@@ -55,7 +55,6 @@ pub record Tracks (state : State) (trace : Trace) : Type 0 where
   pub held : (place : ℕ) → held_by place trace.state ≡ one_if (is_slot (trace.registered place))
   pub asks : AreRegistered trace.registered trace.state.line
   pub holder : refines.holder ≡ trace.holder
-  pub debts : (place : ℕ) → is_some (trace.state.due place) ≡ true → refines.shower place ≡ trace.debtor place
   pub calls : (place : ℕ) → IsIn (needs_of state.rules) (trace.calls place) (place_of state place)
   pub fresh : (place : ℕ) → IsFresh (trace.calls place) (place_of state place).stage
   pub within : AreWithin (length state.places) (row_of state) (place_of state) trace.made

@@ -35,7 +35,7 @@ use Rattle.saa_word_proofs.proofs.SoloLemmas.Registered.{started-as}
 use Rattle.saa_word_threads.specs.declared.table.View.{View}
 use Rattle.saa_word_threads.specs.Called.{HasEvents, IsCalled, IsCalledFrom, InCall, InCallNext, is_single}
 use Rattle.saa_word_threads.specs.Public.{is_granted}
-use Rattle.saa_word_threads.specs.Told.{Extends, RestsAfter, IsLookOnly, Moves, MovesOrStays, prepares, resting_as, taken_once, unless_joining}
+use Rattle.saa_word_threads.specs.Told.{Extends, RestsAfter, IsLookOnly, Moves, MovesOrStays, is_showing, prepares, resting_as, taken_once, unless_joining}
 use Rattle.saa_word_threads.proofs.Growing.{extends-append, extends-none, named-append}
 
 -- a place that is done rests where it stands
@@ -284,6 +284,8 @@ module _ (needs : Needs) (withheld places me : ℕ) (call : WordCall) (was : Reg
     events = m.events ++ moved.events;
     extends = grown (Done behind answer) is moved;
     legal = moved.legal;
+    shown = moved.shown
+        (ap (λ (p : Place). is_showing p.stage) moved.position ∙ ap is_showing (left (Done behind answer) is moved).1);
     own = moved.own;
     answers = under (Done behind answer) is moved;
     registered = (left (Done behind answer) is moved).0;

@@ -9,7 +9,7 @@ use Rattle.saa_word_steps.specs.declared.place.Given.TheVariants.{AllButAShare, 
 use Rattle.saa_word_steps.specs.declared.place.Stage.{Stage}
 use Rattle.saa_word_steps.specs.declared.place.Stage.TheVariants.{AskExchange, AskLoad, Clear, DropTail, Join, PoisonExchange, PoisonLoad, ReadLoad, ReleaseExchange, ReleaseLoad, Take, Unlink}
 use Rattle.saa_word_steps.specs.Needs.{Needs}
-use Rattle.saa_word_steps.specs.AbstractState.{AbstractState, IsRun, after_event, opening}
+use Rattle.saa_word_steps.specs.AbstractState.{AbstractState, IsRun, after_event}
 use Rattle.saa_word_proofs.specs.History.{has_part, is_named, is_waiters, named, never_waits, of_place, part_of, seen_by}
 use Rattle.saa_core_words.specs.declared.word.Word.{Word}
 use Rattle.saa_core_spec.specs.Held.{Exclusive}
@@ -18,7 +18,7 @@ use Rattle.saa_word_steps.specs.Readings.{poisoned_word}
 use Rattle.saa_word_proofs.specs.Refinement.{IsVisiting, waits_behind}
 use Rattle.saa_word_proofs.specs.StepRefinement.{decided_events, gave, gave_not, given_events, left_events, named_at, poisoning_events}
 use Rattle.saa_word_threads.specs.declared.table.View.{View}
-use Rattle.saa_word_threads.specs.Told.{Extends, IsLegal}
+use Rattle.saa_word_threads.specs.Told.{Extends}
 
 -- A history behind another one
 
@@ -52,7 +52,7 @@ pub none-seen : (place : ℕ) (history : List (ℕ × Event)) → has_part place
 none-seen place [] none = refl
 none-seen place (entry ∷ rest) none = rw none refl
 
-neither : (one other : Bool) → one || other ≡ false → (one ≡ false) × (other ≡ false)
+pub neither : (one other : Bool) → one || other ≡ false → (one ≡ false) × (other ≡ false)
 neither true other is = absurd (cc)
 neither false other is = (refl, is)
 
@@ -146,21 +146,7 @@ run-append needs state middle last [] rest one other = subst (λ (z : AbstractSt
 run-append needs state middle last (event ∷ front) rest one other =
     (one.0, run-append needs (after_event needs state event.0 event.1) middle last front rest one.1 other)
 
--- what a run begins with is one
-pub run-front : (needs : Needs) (state last : AbstractState) (front rest : List (ℕ × Event)) → IsRun needs state (front ++ rest) last
-    → (middle : AbstractState) × IsRun needs state front middle
-run-front needs state last [] rest run = (state, refl)
-run-front needs state last (event ∷ front) rest run =
-    let more = run-front needs (after_event needs state event.0 event.1) last front rest run.1 in (more.0, (run.0, more.1))
-
--- so what a place has seen of a legal history is legal
-pub seen-legal : (needs : Needs) (withheld place : ℕ) (history : List (ℕ × Event)) (last : AbstractState) → IsRun needs (opening withheld) history last
-    → IsLegal needs withheld (seen_by place history)
-seen-legal needs withheld place history last run =
-    let tail = seen-rest place history in
-    run-front needs (opening withheld) last (seen_by place history) tail.0 (subst (λ (l : List (ℕ × Event)). IsRun needs (opening withheld) l last) tail.1 run)
-
--- and has all events of its part
+-- what a place has seen has all events of its part
 pub seen-part : (place : ℕ) (history : List (ℕ × Event)) → part_of place (seen_by place history) ≡ part_of place history
 seen-part place history =
     let tail = seen-rest place history in

@@ -1,4 +1,5 @@
 pub mod Growing
+pub mod Paying
 pub mod Gathering
 pub mod Beginning
 pub mod Moving

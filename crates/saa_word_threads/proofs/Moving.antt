@@ -15,7 +15,7 @@ use Rattle.saa_word_steps.specs.declared.place.Next.TheVariants.{Going}
 use Rattle.saa_word_steps.specs.declared.place.Place.{Place}
 use Rattle.saa_word_steps.specs.declared.place.Stage.{Stage}
 use Rattle.saa_word_steps.specs.Needs.{AreNeeds, Needs, needs_of}
-use Rattle.saa_word_steps.specs.AbstractState.{AbstractState, IsRun, opening}
+use Rattle.saa_word_steps.specs.AbstractState.{AbstractState, IsRun, OwesNothing, opening}
 use Rattle.saa_word_steps.specs.Steps.{next_of, operation_of, word_at, written_by}
 use Rattle.saa_word_proofs.specs.History.{has_part, named, never_waits, of_place, part_of, seen_by}
 use Rattle.saa_word_proofs.specs.Refinement.{IsVisiting, Refines, joins_line}
@@ -32,10 +32,11 @@ use Rattle.saa_word_threads.specs.declared.table.Role.TheVariants.{Dealer, Actin
 use Rattle.saa_word_threads.specs.declared.table.View.{View}
 use Rattle.saa_word_threads.specs.Kept.{AreGathered, Fits, FitsAs, IsFree, Kept, is_dealer, row_of}
 use Rattle.saa_word_steps.specs.declared.rules.Rules.{Rules}
-use Rattle.saa_word_threads.specs.Told.{Begins, Extends, IsNext, IsLookOnly, Moves, prepares}
+use Rattle.saa_word_threads.specs.Told.{Begins, Extends, IsLegal, IsNext, IsLookOnly, Moves, is_showing, prepares}
 use Rattle.saa_word_threads.proofs.Beginning.{begins-refines, updated-twice}
 use Rattle.saa_word_threads.proofs.Gathering.{found-within, gathered-stay, place-fits, spent-apart}
-use Rattle.saa_word_threads.proofs.Growing.{has-append, has-other, never-append, never-same, part-append, part-none, part-own, run-append, seen-apart, seen-legal, seen-on, seen-part, visitor-names}
+use Rattle.saa_word_threads.proofs.Growing.{has-append, has-other, never-append, never-same, part-append, part-none, part-own, run-append, seen-apart, seen-on, seen-part, visitor-names}
+use Rattle.saa_word_threads.proofs.Paying.{owes-nothing, seen-legal}
 
 -- Lists
 
@@ -322,15 +323,22 @@ module _ (about : About) (few : about.places < 65536) (wide : (needs_of about.ru
       visits = visits-after;
     }
 
+    seen : (legal : IsLegal (needs_of about.rules) about.withheld (seen_by v.number (kept.history ++ of_place v.number made.events)))
+        × (OwesNothing v.number made.last → OwesNothing v.number legal.0)
+    seen =
+        seen-legal (needs_of about.rules) about.withheld v.number (kept.history ++ of_place v.number made.events) made.last
+        (run-append (needs_of about.rules) (opening about.withheld) kept.last made.last kept.history (of_place v.number made.events) kept.run made.run)
+
     told-after : Moves (needs_of about.rules) about.withheld about.places place (next_of (needs_of about.rules) v.number place place.stage found) found v view
     told-after = record {
       position = refl;
       events = made.events;
       names = made.names;
       extends = moved-extends kept.history kept.standing about.places kept.dealt seat v made.events behind acts fits;
-      legal =
-          seen-legal (needs_of about.rules) about.withheld v.number (kept.history ++ of_place v.number made.events) made.last
-          (run-append (needs_of about.rules) (opening about.withheld) kept.last made.last kept.history (of_place v.number made.events) kept.run made.run);
+      legal = seen.0;
+      shown = λ never. seen.1
+          (owes-nothing (needs_of about.rules) about.places (row_of after.words) standing made.last refined v.number
+          (ap (λ (p : Place). is_showing p.stage) (updated-at kept.standing v.number behind) ∙ never));
       own =
           seen-part v.number (kept.history ++ of_place v.number made.events)
           ∙ part-append v.number kept.history (of_place v.number made.events)

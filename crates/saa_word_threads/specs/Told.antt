@@ -9,9 +9,9 @@ use Rattle.saa_word_steps.specs.declared.place.Place.{Place}
 use Rattle.saa_word_steps.specs.declared.place.Registration.{Registration}
 use Rattle.saa_word_steps.specs.declared.place.Registration.TheVariants.{Idle, Once}
 use Rattle.saa_word_steps.specs.declared.place.Stage.{Stage}
-use Rattle.saa_word_steps.specs.declared.place.Stage.TheVariants.{Quiet, Prepare}
+use Rattle.saa_word_steps.specs.declared.place.Stage.TheVariants.{Quiet, Prepare, ShowLoad, ShowStore}
 use Rattle.saa_word_steps.specs.Needs.{Needs, needs_of}
-use Rattle.saa_word_steps.specs.AbstractState.{AbstractState, IsRun, opening}
+use Rattle.saa_word_steps.specs.AbstractState.{AbstractState, IsRun, OwesNothing, opening}
 use Rattle.saa_word_steps.specs.declared.operation.Operation.{Operation}
 use Rattle.saa_word_steps.specs.Steps.{next_of, operation_of, started, word_at}
 use Rattle.saa_word_steps.specs.Readings.{is_idle, is_taken}
@@ -38,15 +38,22 @@ pub record Extends (v : View) (events : List Event) (w : View) : Type 0 where
 abbrev pub IsLegal : Needs → ℕ → List (ℕ × Event) → Type 0
 IsLegal needs withheld history = (last : AbstractState) × IsRun needs (opening withheld) history last
 
+-- whether a place has answers to show at a stage
+abbrev pub is_showing : Stage → Bool
+is_showing (ShowLoad current value afterwards) = true
+is_showing (ShowStore current next value afterwards) = true
+is_showing stage = false
+
 -- A place makes its step and goes on so with the number that it found: it stands where that says, what answers name of its events is said by
 -- its stage and the number, its view grows by these events, what it has seen is a legal history then in which its events are its part, and it
--- can make its next step. A visitor is at a stage of a visitor again
+-- can make its next step. If it has no answer to show there, it has shown all that it granted. A visitor is at a stage of a visitor again
 pub record Moves (needs : Needs) (withheld places : ℕ) (place : Place) (next : Next) (found : ℕ) (v w : View) : Type 0 where
   pub position : w.position ≡ place_after place next
   pub events : List Event
   pub names : named events ≡ named_at needs place.stage found
   pub extends : Extends v events w
   pub legal : IsLegal needs withheld w.seen
+  pub shown : is_showing w.position.stage ≡ false → OwesNothing w.number legal.0
   pub own : part_of w.number w.seen ≡ w.part
   pub ready : IsReadyNext needs places v.number (Going w.position)
   pub visits : places ≤ v.number → IsVisiting w.position.stage
