@@ -9,3 +9,4 @@ pub mod Leaving
 pub mod Comparing
 pub mod Inner
 pub mod Visiting
+pub mod PendingLemmas
