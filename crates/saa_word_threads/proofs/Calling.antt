@@ -328,12 +328,6 @@ pub stays-same : (needs : Needs) (withheld places me : ℕ) (place : Place) (nex
 stays-same needs withheld places me place next v w (inl moved) = (moved.2.extends.role, moved.2.extends.number)
 stays-same needs withheld places me place next v w (inr stays) = (ap (λ (u : View). u.role) stays.1, ap (λ (u : View). u.number) stays.1)
 
-pub look-same : (needs : Needs) (withheld places me : ℕ) (place : Place) (found : ℕ) (v w : View) → IsLookOnly needs withheld places me place found v w
-    → (w.role ≡ v.role) × (w.number ≡ v.number)
-look-same needs withheld places me place found v w looked =
-    stays-same needs withheld places me place (unless_joining place (next_of needs me place place.stage found)) v w
-    (look-stays needs withheld places me place found v w looked)
-
 -- The calls of one step at most
 
 -- whether a place is done

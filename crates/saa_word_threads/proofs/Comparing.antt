@@ -1,12 +1,12 @@
 -- Two beginnings of one history: one begins with the other.
-use Rattle.std.proofs.Common.{◌≡◌, ◌≢◌, ◌⊎◌, ℕ, zero, suc, ◌<◌, List, [], ◌∷◌, ◌++◌, length, get_or, refl, sym, ap, subst, ◌∙◌, arith, inl, inr}
+use Rattle.std.proofs.Common.{◌≡◌, ◌≢◌, ◌⊎◌, ℕ, List, [], ◌∷◌, ◌++◌, get_or, refl, sym, ap, ◌∙◌, arith, inl, inr}
 use Rattle.std.specs.Prelude.{All}
 use Rattle.saa_word_steps.specs.declared.event.Event.{Event}
 use Rattle.saa_word_steps.specs.declared.event.Event.TheVariants.{Got, GaveNothing}
 use Rattle.saa_word_proofs.specs.History.{BeginsWith}
 use Rattle.saa_word_threads.specs.declared.table.About.{About}
 use Rattle.saa_word_threads.specs.declared.table.View.{View}
-use Rattle.saa_word_threads.specs.Dealt.{AreLedTo, IsOf}
+use Rattle.saa_word_threads.specs.Dealt.{AreLedTo}
 
 first_of : List (ℕ × Event) → ℕ × Event
 first_of [] = (0, GaveNothing 0)

@@ -10,3 +10,4 @@ pub mod Leaving
 pub mod Comparing
 pub mod Inner
 pub mod Visiting
+pub mod PendingLemmas

@@ -19,8 +19,8 @@ use Rattle.saa_word_threads.specs.Told.{Begins, Extends, IsLegal, RestsAfter}
 
 -- A call of a place that was registered so has these events, which end in this answer: the place's view grows by them, the answer is the one
 -- that they name (others among them are granted, closed and showed, which no answer names), and what the place is registered as is read off them.
--- What the place has seen then is a legal history from the moment on when so much was held, and its own events in that are its part. The place owes
--- nothing behind it: each answer that it granted, in this call or before, it has shown
+-- What the place has seen then is a legal history from the opening on, at which so much was taken, and its own events in that are its part. The
+-- place owes nothing then: each answer that it granted, in this call or before, it has shown
 pub record HasEvents (needs : Needs) (withheld : ℕ) (call : WordCall) (was : Registration) (answer : Answer) (now : Registration) (v w : View) : Type 0 where
   pub events : List Event
   pub extends : Extends v events w
@@ -38,7 +38,7 @@ IsCalledFrom None needs withheld call was answer now v w = HasEvents needs withh
 abbrev pub IsCalled : Needs → ℕ → WordCall → Registration → Answer → Registration → View → View → Type 0
 IsCalled needs withheld call was answer now v w = IsCalledFrom (starting_answer needs call was) needs withheld call was answer now v w
 
--- A call of a place that was registered so, which began at a view, stands at this place: what it has named so far goes with where it stands, and
+-- A call of a place that was registered so, which began at a view, has brought the place to this stage: what it has named so far goes with it, and
 -- the place's view has grown by its events. Internal: nobody has to believe this; it is the invariant of the loop of a call
 pub record InCall (needs : Needs) (places me : ℕ) (call : WordCall) (was : Registration) (began : View) (place : Place) (v : View) : Type 0 where
   pub events : List Event

@@ -54,6 +54,6 @@ pub record AreLedTo (about : About) (words : List ℕ) (views : List View) : Typ
 abbrev pub numbers : Words → List ℕ
 numbers words = slots_items words.closed.words
 
--- the number of a place's word, which stands at its index
+-- the number of a place's word, at its index
 abbrev pub number_at : Words → ℕ → ℕ → Option ℕ
 number_at words place index = if nat_lt place words.places then Some (slice_index (numbers words) index) else None

@@ -45,7 +45,7 @@ is_dealer role = false
 abbrev pub IsNumber : ℕ → ℕ → ℕ → ℕ → Type 0
 IsNumber places dealt seat number = (number < dealt) ⊎ (number ≡ places + seat)
 
--- A view fits a history: the dealer has the first seat and has dealt so many places. A place and a visitor stand where their number stands, have seen
+-- A view fits a history: the dealer has the first seat and has dealt so many places. A place and a visitor are at the stage of their number, have seen
 -- the history as it was at their last event, and know their own part of it
 abbrev pub FitsAs : List (ℕ × Event) → (ℕ → Place) → ℕ → ℕ → ℕ → View → Role → Type 0
 FitsAs history standing places dealt seat v Dealer = (seat ≡ 0) × (v.number ≡ dealt)
@@ -73,7 +73,7 @@ abbrev pub IsFree : List View → ℕ → Type 0
 IsFree views number = (seat : ℕ) (v : View) → get_elem? views seat ≡ some v → is_dealer v.role ≡ false → v.number ≢ number
 
 -- A table is kept: from the opening on each event of a history is enabled where it comes, and words and places refine the state behind
--- them; each view fits the history, and has gathered what fits it; no two seats have one number, and a number that nobody has is idle and has no event.
+-- them; each view fits the history, and has gathered what fits it; no two seats have one number, and a number of no seat is idle and has no event.
 -- No more places are dealt than there are, and no number beyond them waits
 pub record Kept (about : About) (s : State (Unit {0}) View) : Type 0 where
   pub history : List (ℕ × Event)

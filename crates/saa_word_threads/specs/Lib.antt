@@ -4,8 +4,9 @@ pub mod Told
 pub mod Called
 pub mod Dealt
 pub mod Public
+pub mod Visits
 pub mod Semaphores
 pub mod Locks
+pub mod Pending
 pub mod Straight
 pub mod Patience
-pub mod Visits

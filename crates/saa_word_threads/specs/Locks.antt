@@ -16,6 +16,7 @@ use Rattle.saa_word_threads.specs.declared.table.View.{View}
 use Rattle.saa_word_threads.specs.declared.visitor.Visitor.{Visitor}
 use Rattle.saa_word_threads.specs.Dealt.{AreNew as FormAreNew}
 use Rattle.saa_word_threads.specs.Public.{HasLeft as FormHasLeft, IsMade as FormIsMade, IsWaited as FormIsWaited, patience_of as form_patience_of, view_left as form_view_left}
+use Rattle.saa_word_threads.specs.Visits.{IsVisited as FormIsVisited, IsVisitedOnce as FormIsVisitedOnce}
 
 -- its rules, that nothing is held as it is made, and how many places it has
 abbrev pub about_of : Lock → About
@@ -56,6 +57,13 @@ IsWaited mode old result new = FormIsWaited lock_needs 0 (RegisterMode mode) old
 -- A place has left: it has cancelled first
 abbrev pub HasLeft : Place → Left → Type 0
 HasLeft place left = FormHasLeft lock_needs 0 place.inner left.inner
+
+-- A call was made by a visitor of a lock, and answered so; and one by a visitor that came for it alone
+abbrev pub IsVisited : WordCall → Visitor → Answer → Visitor → Type 0
+IsVisited call old answer new = FormIsVisited lock_needs 0 call old answer new
+
+abbrev pub IsVisitedOnce : Lock → WordCall → Answer → Visitor → Type 0
+IsVisitedOnce lock call answer new = FormIsVisitedOnce (table_of lock) (about_of lock).places lock_needs 0 call answer new
 
 -- what a place that has left has seen, and knows as its part
 abbrev pub view_left : Left → View

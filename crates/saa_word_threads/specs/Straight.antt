@@ -4,11 +4,11 @@ use Rattle.saa_core_words.specs.declared.word.Word.{Word}
 use Rattle.saa_word_steps.specs.declared.place.Ask.{Ask}
 use Rattle.saa_word_steps.specs.Needs.{Needs, fits_count, left_count}
 
--- a word grants an ask by an exchange: it isn't poisoned, nobody waits, what is asked for fits, and it takes something
+-- a word grants an ask by an exchange: it isn't poisoned, there is no waiter, what is asked for fits, and it takes something
 abbrev pub grants_at : Needs → Word → Ask → Bool
 grants_at needs seen ask =
     not seen.is_poisoned && (seen.tail == 0) && fits_count needs seen.count ask.request && not (needs.takes ask.request == 0)
 
--- the count that is left once a request is given back by an exchange: where the word isn't poisoned, nobody waits, and it is held
+-- the count that is left once a request is given back by an exchange: where the word isn't poisoned, there is no waiter, and so much is taken
 abbrev pub lowers_to : Needs → Word → ℕ → Option ℕ
 lowers_to needs seen request = if seen.is_poisoned || not (seen.tail == 0) then None else left_count needs seen.count request

@@ -34,7 +34,7 @@ pub record Extends (v : View) (events : List Event) (w : View) : Type 0 where
   pub own : part_of v.number more ≡ events
   pub latest : seen_by v.number more ≡ more
 
--- A history is legal: from the moment on when so much is held and nobody waits, each of its events is enabled where it comes
+-- A history is legal: from the opening on, at which so much is taken and there is no waiter, each of its events is enabled where it comes
 abbrev pub IsLegal : Needs → ℕ → List (ℕ × Event) → Type 0
 IsLegal needs withheld history = (last : AbstractState) × IsRun needs (opening withheld) history last
 
@@ -44,7 +44,7 @@ is_showing (ShowLoad current value afterwards) = true
 is_showing (ShowStore current next value afterwards) = true
 is_showing stage = false
 
--- A place makes its step and goes on so with the number that it found: it stands where that says, what answers name of its events is said by
+-- A place makes its step and goes on so with the number that it found: it is at the stage that this says, what answers name of its events is said by
 -- its stage and the number, its view grows by these events, what it has seen is a legal history then in which its events are its part, and it
 -- can make its next step. If it has no answer to show there, it has shown all that it granted. A visitor is at a stage of a visitor again
 pub record Moves (needs : Needs) (withheld places : ℕ) (place : Place) (next : Next) (found : ℕ) (v w : View) : Type 0 where
@@ -72,7 +72,7 @@ abbrev pub prepares : Next → Bool
 prepares (Going place) = prepares_at place.stage
 prepares next = false
 
--- how a place goes on that looks again in place of joining: it stands where it stood
+-- how a place goes on that looks again in place of joining: it is at the stage where it was
 abbrev pub unless_joining : Place → Next → Next
 unless_joining place next = if prepares next then Going place else next
 
@@ -85,7 +85,7 @@ abbrev pub IsLookOnly : Needs → ℕ → ℕ → ℕ → Place → ℕ → View
 IsLookOnly needs withheld places me place found v w =
     IsLookOnlyAs (prepares (next_of needs me place place.stage found)) needs withheld places place (next_of needs me place place.stage found) found v w
 
--- a place goes on so: it has made its step, or it stands where it stood and nothing has happened
+-- a place goes on so: it has made its step, or it is at the stage where it was and nothing has happened
 abbrev pub MovesOrStays : Needs → ℕ → ℕ → ℕ → Place → Next → View → View → Type 0
 MovesOrStays needs withheld places me place next v w =
     ((found : ℕ) × (next ≡ next_of needs me place place.stage found) × Moves needs withheld places place next found v w) ⊎ ((next ≡ Going place) × (w ≡ v))

@@ -37,7 +37,7 @@ abbrev pub IsVisitedOnce : TableId → ℕ → Needs → ℕ → WordCall → An
 IsVisitedOnce table places needs withheld call answer new =
     (new.seat.table_id ≡ table) × ((v : View) × IsEntering places v × IsCalled needs withheld call Idle answer Idle v (view_of new))
 
--- A visitor is in a call that began at a view, and stands so. Internal, as that of a place
+-- A visitor is in a call that began at a view, and is at this stage. Internal, as that of a place
 pub record InVisit (needs : Needs) (places : ℕ) (call : WordCall) (began : View) (place : Place) (v : View) : Type 0 where
   pub in_call : InCall needs places v.number call Idle began place v
   pub rested : place ≡ record idle_place { stage = place.stage }

@@ -1,17 +1,15 @@
 //! A whole call of a place: the steps from its start to its answer.
 
-ghost use Rattle.std.specs.Prelude.{◌≡◌, ◌<◌, true};
-ghost use Rattle.saa_word_steps.specs.Readings.{is_taken};
-ghost use Rattle.saa_word_steps.specs.Needs.{needs_of};
-ghost use Rattle.saa_word_threads.specs.declared.table.Role.TheVariants.{Acting};
-ghost use Rattle.saa_word_threads.specs.Told.{RestsAfter};
-ghost use Rattle.saa_word_threads.specs.Called.{HasEvents, IsCalled, InCall, is_single};
-ghost use Rattle.saa_word_threads.specs.Public.{HasLeft, patience_of};
+ghost use Rattle.std.specs.Prelude.{◌≡◌, true};
+ghost use Rattle.saa_word_steps.specs.Steps.{IsRanged};
+ghost use Rattle.saa_word_threads.specs.Called.{is_single};
+ghost use Rattle.saa_word_threads.specs.Pending.{BeganAt, HasEnded, HasFound, IsAt, IsCalledAt, IsPending, IsSameSeat, Takes, needs, withheld};
+ghost use Rattle.saa_word_threads.specs.Public.{HasLeft, IsSamePlace, patience_of};
 
 use crate::form::Form;
+use crate::looking::{Patience, unless_joining};
 use crate::place::{Left, Place};
 use crate::table::View;
-use crate::visitor::Visitor;
 use crate::watch::{Moment, Unwatched, Watch};
 use atomic_table::Seat;
 use saa_word_steps::call::{Answer, WordCall};
@@ -20,37 +18,26 @@ use std::marker::Brand;
 use std::snapshot::Snapshot;
 use std::sync::Wait;
 
-// What a call began with. Contracts alone see it; it takes no bytes.
+// A call of a place that is pending: the place's number, and what it began with, which contracts alone see and which takes no bytes.
 #[derive(Drop)]
-pub(crate) struct Begun {
+pub(crate) struct Pending {
+    pub(crate) me: u16,
     call: Snapshot<WordCall>,
     registered: Snapshot<Registration>,
     seat: Snapshot<Seat<(), View>>,
 }
 
-impl Begun {
+impl Pending {
     // A call that begins at a place.
-    pub(crate) fn of(call: WordCall, place: &Place) -> Begun
-        ensures call { result.call.value ≡ call }
-        ensures registered { result.registered.value ≡ place.now.position.registration }
-        ensures seat { result.seat.value ≡ place.now.seat }
+    #[inline(always)]
+    pub(crate) fn of(call: WordCall, place: &Place) -> Pending
+        ensures { BeganAt result call place.now }
     {
-        Begun {
+        Pending {
+            me: place.number,
             call: Snapshot::of(&call),
             registered: Snapshot::of(&place.position.registration),
             seat: Snapshot::of(&place.seat),
-        }
-    }
-
-    // A call that begins at a visitor.
-    pub(crate) fn of_visitor(call: WordCall, visitor: &Visitor) -> Begun
-        ensures call { result.call.value ≡ call }
-        ensures seat { result.seat.value ≡ visitor.now.seat }
-    {
-        Begun {
-            call: Snapshot::of(&call),
-            registered: Snapshot::of(&Registration::Idle),
-            seat: Snapshot::of(&visitor.seat),
         }
     }
 }
@@ -64,11 +51,11 @@ impl Form {
         place: &mut Place,
         call: WordCall,
     ) -> Answer
-        requires dealt { place.old.seat.table_id ≡ self.now.table.shared.table_id }
-        requires taken { is_taken (needs_of self.now.rules).is_lock call ≡ true }
-        ensures same { (place.new.seat.table_id ≡ place.old.seat.table_id) × (place.new.number ≡ place.old.number) }
+        requires dealt { IsAt self.now place.old.seat }
+        requires taken { Takes self.now call }
+        ensures same { IsSamePlace place.old place.new }
         ensures patience { patience_of place.new ≡ patience_of place.old }
-        ensures called { IsCalled (needs_of self.now.rules) self.now.table.shared.key.withheld call place.old.position.registration result place.new.position.registration place.old.seat.me.0 place.new.seat.me.0 }
+        ensures called { IsCalledAt self.now call place.old result place.new }
     {
         match place.position.start(self.rules, call) {
             Next::Done(position, answer) => {
@@ -76,15 +63,8 @@ impl Form {
                 answer
             }
             Next::Going(first) => {
-                let begun = Begun::of(call, place);
-                let (position, answer) = self.go_on(
-                    rt,
-                    watch,
-                    &mut place.seat,
-                    place.number,
-                    first,
-                    begun,
-                );
+                let pending = Pending::of(call, place);
+                let (position, answer) = self.go_on(rt, watch, &mut place.seat, first, pending);
                 place.position = position;
                 answer
             }
@@ -94,11 +74,11 @@ impl Form {
 
     // Makes a call of one step at most, which never blocks.
     pub(crate) fn call_at_once(&self, place: &mut Place, call: WordCall) -> Answer
-        requires dealt { place.old.seat.table_id ≡ self.now.table.shared.table_id }
-        requires taken { is_taken (needs_of self.now.rules).is_lock call ≡ true }
+        requires dealt { IsAt self.now place.old.seat }
+        requires taken { Takes self.now call }
         requires single { is_single call ≡ true }
-        ensures same { (place.new.seat.table_id ≡ place.old.seat.table_id) × (place.new.number ≡ place.old.number) }
-        ensures called { IsCalled (needs_of self.now.rules) self.now.table.shared.key.withheld call place.old.position.registration result place.new.position.registration place.old.seat.me.0 place.new.seat.me.0 }
+        ensures same { IsSamePlace place.old place.new }
+        ensures called { IsCalledAt self.now call place.old result place.new }
     {
         match place.position.start(self.rules, call) {
             Next::Done(position, answer) => {
@@ -106,8 +86,8 @@ impl Form {
                 answer
             }
             Next::Going(first) => {
-                let number = place.number;
-                match self.act::<Brand, Unwatched>(&Unwatched, &mut place.seat, number, first) {
+                let pending = Pending::of(call, place);
+                match self.act::<Brand, Unwatched>(&Unwatched, &mut place.seat, first, &pending) {
                     Next::Done(position, answer) => {
                         place.position = position;
                         answer
@@ -121,8 +101,8 @@ impl Form {
 
     // A place leaves; it cancels first.
     pub(crate) fn leave<R: Wait, W: Watch>(&self, rt: &R, watch: &W, mut place: Place) -> Left
-        requires dealt { place.seat.table_id ≡ self.now.table.shared.table_id }
-        ensures left { HasLeft (needs_of self.now.rules) self.now.table.shared.key.withheld place result }
+        requires dealt { IsAt self.now place.seat }
+        ensures left { HasLeft (needs self.now) (withheld self.now) place result }
     {
         self.call(rt, watch, &mut place, WordCall::Cancel);
         let Place {
@@ -134,34 +114,66 @@ impl Form {
         Left { seat, number }
     }
 
-    // Goes on with a call to its end.
+    // Goes on with a call whose place has just found this number at this stage: it looks on while its patience lasts, and then goes step by step.
+    #[cold]
+    pub(crate) fn follow<R: Wait, W: Watch>(
+        &self,
+        rt: &R,
+        watch: &W,
+        seat: &mut Seat<(), View>,
+        position: &mut Position,
+        stage: Stage,
+        found: u64,
+        patience: Patience,
+        pending: Pending,
+    ) -> Answer
+        requires ranged { IsRanged (needs self.now) stage }
+        requires found { HasFound self.now pending (record position.old { stage = stage }) found seat.old }
+        ensures same { IsSameSeat seat.old seat.new }
+        ensures ended { HasEnded self.now pending position.new result seat.new }
+    {
+        let place = Position { stage, ..*position };
+        match unless_joining(place, place.resume(self.rules, pending.me, found)) {
+            Next::Going(next) => {
+                let (behind, answer) = self.look_on(rt, watch, seat, next, patience, pending);
+                *position = behind;
+                answer
+            }
+            Next::Waits => {
+                let (behind, answer) = self.go_on(rt, watch, seat, place, pending);
+                *position = behind;
+                answer
+            }
+            Next::Done(behind, answer) => {
+                *position = behind;
+                answer
+            }
+        }
+    }
+
+    // Goes on with a call to its end, from the stage that its place is at.
     pub(crate) fn go_on<R: Wait, W: Watch>(
         &self,
         rt: &R,
         watch: &W,
         seat: &mut Seat<(), View>,
-        me: u16,
         first: Position,
-        begun: Begun,
+        pending: Pending,
     ) -> (Position, Answer)
-        requires table { seat.old.table_id ≡ self.now.table.shared.table_id }
-        requires number { (seat.old.me.0.role ≡ Acting) × (seat.old.me.0.number ≡ me) × (me < self.now.places) }
-        requires in_call { InCall (needs_of self.now.rules) self.now.places me begun.call.value begun.registered.value begun.seat.value.me.0 first seat.old.me.0 }
-        ensures table { (seat.new.table_id ≡ seat.old.table_id) × (seat.new.id ≡ seat.old.id) × (seat.new.me.1 ≡ seat.old.me.1) }
-        ensures number { (seat.new.me.0.role ≡ Acting) × (seat.new.me.0.number ≡ me) }
-        ensures since { RestsAfter seat.new.me.0.position result.0 }
-        ensures events { HasEvents (needs_of self.now.rules) self.now.table.shared.key.withheld begun.call.value begun.registered.value result.1 result.0.registration begun.seat.value.me.0 seat.new.me.0 }
+        requires { IsPending self.now pending first seat.old }
+        ensures same { IsSameSeat seat.old seat.new }
+        ensures ended { HasEnded self.now pending result.0 result.1 seat.new }
     {
         let mut place = first;
         for _ in rt.forever() {
             if publishes(place.stage) {
                 watch.at(Moment::Publishes);
             }
-            match self.act::<Brand, W>(watch, seat, me, place) {
+            match self.act::<Brand, W>(watch, seat, place, &pending) {
                 Next::Going(next) => place = next,
                 Next::Waits => {
                     watch.at(Moment::IsBlocked);
-                    self.wait(rt, watch, me, place.stage);
+                    self.wait(rt, watch, pending.me, place.stage);
                 }
                 Next::Done(behind, answer) => return (behind, answer),
             }

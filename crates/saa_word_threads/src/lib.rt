@@ -1,17 +1,20 @@
 //! The word's semaphore and lock on shared memory: threads that make the word's single steps on a table of atomic words.
 //!
 //! What a place does next, and how it goes on with what it finds, is `saa_word_steps`', and that each step keeps the refinement is
-//! `saa_word_proofs`'. Here stand the table with its rule (`table`), the form that makes steps and calls on it (`form`, `step`, `call`), how
-//! a place looks before it joins the waiters (`looking`), waits (`waiting`) and is woken (`written`, `mark`), a caller with no place (`visitor`, `visit`),
+//! `saa_word_proofs`'. Here stand the table with its rule (`table`), the form that makes steps and calls on it (`form`, `step`, `call`), the two
+//! steps of an uncontended call (`straight`, `main_word`), how a place looks before it joins the waiters (`looking`), waits (`waiting`) and is woken
+//! (`written`, `mark`), a caller with no place (`visitor`, `visit`),
 //! and the public semaphore and lock. `laws` says what follows for several places. `docs/PROTOCOL.md` tells the protocol.
 #![tactic(auto)]
 
+mod answers;
 mod call;
 mod form;
 pub mod laws;
 pub mod lock;
 mod lock_visits;
 mod looking;
+mod main_word;
 mod mark;
 mod open;
 pub mod place;

@@ -13,10 +13,10 @@ ghost use Rattle.saa_word_threads.specs.Dealt.{AreLedTo, IsLedTo, numbers};
 ghost use Rattle.saa_word_threads.specs.Patience.{none, waiting};
 ghost use Rattle.saa_word_threads.specs.Public.{is_yes, polled_lock, tried};
 
+use crate::answers::yes;
 use crate::form::Form;
 use crate::looking::{NONE, Patience, WAITING};
 use crate::place::{Left as FormLeft, Place as FormPlace};
-use crate::straight::yes;
 use crate::watch::{Unwatched, Watch};
 pub use crate::words::Words;
 pub use saa_word_steps::call::{Error, Mode, TryLockError};
@@ -105,7 +105,7 @@ impl Lock {
 
     /// Takes the lock for one owner alone if there is no waiter and it is free; never waits for an owner.
     ///
-    /// `Poisoned`: the lock is poisoned. `WouldBlock`: somebody has it, or there is a waiter. Both change nothing. Costs two steps on the word, and
+    /// `Poisoned`: the lock is poisoned. `WouldBlock`: it is owned, or there is a waiter. Both change nothing. Costs two steps on the word, and
     /// one more for each other task that changed it meanwhile.
     pub fn try_lock<R: Wait>(&self, rt: &R, place: &mut Place) -> Result<(), TryLockError>
         requires { IsDealtBy self.now place.old }
@@ -227,7 +227,7 @@ impl Lock {
 
     /// Makes the one owner a sharer, and grants the oldest waiters while they fit beside it.
     ///
-    /// Nobody has the lock alone in between. `false`, and nothing changes, where the lock isn't one owner's alone. Costs as
+    /// No other owner has the lock alone in between. `false`, and nothing changes, where the lock isn't one owner's alone. Costs as
     /// [`Self::release_lock`].
     pub fn downgrade<R: Wait>(&self, rt: &R, place: &mut Place) -> bool
         requires { IsDealtBy self.now place.old }
@@ -241,7 +241,7 @@ impl Lock {
 
     /// Poisons the lock that one owner has, and answers all waiters that it is poisoned.
     ///
-    /// `false`, and nothing changes, where the lock isn't one owner's alone. It yields while another place works on the line. Costs O(waiters).
+    /// `false`, and nothing changes, where the lock isn't one owner's alone. It yields while another call works on the queue. Costs O(waiters).
     pub fn poison_lock<R: Wait>(&self, rt: &R, place: &mut Place) -> bool
         requires { IsDealtBy self.now place.old }
         ensures called { (answer : Answer) × (result ≡ is_yes answer) × IsMade PoisonLock place.old answer place.new }
@@ -335,7 +335,7 @@ impl Lock {
 
     /// Cancels a registration: the place leaves the waiters, or gives back what it was granted. Nothing, where it is registered as nothing.
     ///
-    /// It yields while another place works on the line. Costs O(waiters).
+    /// It yields while another call works on the queue. Costs O(waiters).
     pub fn cancel<R: Wait>(&self, rt: &R, place: &mut Place)
         requires { IsDealtBy self.now place.old }
         ensures called { (answer : Answer) × IsMade Cancel place.old answer place.new }
@@ -344,7 +344,7 @@ impl Lock {
             .call(rt, &Unwatched, &mut place.inner, WordCall::Cancel);
     }
 
-    /// Whether nobody has the lock and it isn't poisoned; never blocks. Costs one step.
+    /// Whether the lock has no owner and isn't poisoned; never blocks. Costs one step.
     pub fn is_free(&self, place: &mut Place) -> bool
         requires { IsDealtBy self.now place.old }
         ensures { (answer : Answer) × (result ≡ is_yes answer) × IsMade IsFree place.old answer place.new }

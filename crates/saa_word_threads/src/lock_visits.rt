@@ -4,15 +4,14 @@
 //! that contracts can say what the call did. Both are held to `specs/Visits.antt`.
 
 ghost use Rattle.std.specs.Prelude.{◌≡◌};
-ghost use Rattle.saa_word_steps.specs.Needs.{lock_needs};
 ghost use Rattle.saa_word_steps.specs.declared.call.Answer.{Answer};
 ghost use Rattle.saa_word_steps.specs.declared.call.WordCall.TheVariants.{TryLock, TryShare, ReleaseLock, ReleaseShare, Downgrade, PoisonLock, ClearPoison, IsFree, IsLocked, IsShared, IsPoisoned};
 ghost use Rattle.saa_word_threads.specs.Dealt.{IsLedTo, numbers};
 ghost use Rattle.saa_word_threads.specs.Public.{is_yes, tried};
-ghost use Rattle.saa_word_threads.specs.Visits.{IsNewVisitor, IsVisited, IsVisitedOnce, view_of};
+ghost use Rattle.saa_word_threads.specs.Visits.{IsNewVisitor, view_of};
 
+use crate::answers::yes;
 use crate::lock::{EXCLUSIVE, Lock, SHARED, tried};
-use crate::straight::yes;
 use crate::visitor::Visitor;
 use crate::watch::Unwatched;
 use crate::words::Words;
@@ -21,7 +20,7 @@ use saa_word_steps::place::{Given, Reading, Stage};
 use std::sync::Wait;
 
 impl Lock {
-    ghost use Rattle.saa_word_threads.specs.Locks.{IsVisitorOf, about_of, table_of};
+    ghost use Rattle.saa_word_threads.specs.Locks.{IsVisited, IsVisitedOnce, IsVisitorOf, about_of, table_of};
 
     /// A visitor enters: it takes the lock where it is there at once, gives it back, lowers, poisons, clears and reads it, and never waits for it.
     ///
@@ -37,7 +36,7 @@ impl Lock {
     #[inline(always)]
     pub fn try_lock_by<R: Wait>(&self, rt: &R, visitor: &mut Visitor) -> Result<(), TryLockError>
         requires { IsVisitorOf self.now visitor.old }
-        ensures { (answer : Answer) × (result ≡ tried answer) × IsVisited lock_needs 0 TryLock visitor.old answer visitor.new }
+        ensures { (answer : Answer) × (result ≡ tried answer) × IsVisited TryLock visitor.old answer visitor.new }
     {
         let call = WordCall::TryLock;
         tried(
@@ -50,7 +49,7 @@ impl Lock {
     #[inline(always)]
     pub fn try_share_by<R: Wait>(&self, rt: &R, visitor: &mut Visitor) -> Result<(), TryLockError>
         requires { IsVisitorOf self.now visitor.old }
-        ensures { (answer : Answer) × (result ≡ tried answer) × IsVisited lock_needs 0 TryShare visitor.old answer visitor.new }
+        ensures { (answer : Answer) × (result ≡ tried answer) × IsVisited TryShare visitor.old answer visitor.new }
     {
         let call = WordCall::TryShare;
         tried(self.form.visit_ask(rt, &Unwatched, visitor, call, SHARED))
@@ -58,11 +57,11 @@ impl Lock {
 
     /// [`Self::release_lock`] by a visitor.
     ///
-    /// It works on the line as a place does: it grants the oldest waiters while they fit, shows them their answers and wakes them.
+    /// It works on the queue as a place does: it grants the oldest waiters while they fit, shows them their answers and wakes them.
     #[inline(always)]
     pub fn release_lock_by<R: Wait>(&self, rt: &R, visitor: &mut Visitor) -> bool
         requires { IsVisitorOf self.now visitor.old }
-        ensures { (answer : Answer) × (result ≡ is_yes answer) × IsVisited lock_needs 0 ReleaseLock visitor.old answer visitor.new }
+        ensures { (answer : Answer) × (result ≡ is_yes answer) × IsVisited ReleaseLock visitor.old answer visitor.new }
     {
         let call = WordCall::ReleaseLock;
         self.form
@@ -73,7 +72,7 @@ impl Lock {
     #[inline(always)]
     pub fn release_share_by<R: Wait>(&self, rt: &R, visitor: &mut Visitor) -> bool
         requires { IsVisitorOf self.now visitor.old }
-        ensures { (answer : Answer) × (result ≡ is_yes answer) × IsVisited lock_needs 0 ReleaseShare visitor.old answer visitor.new }
+        ensures { (answer : Answer) × (result ≡ is_yes answer) × IsVisited ReleaseShare visitor.old answer visitor.new }
     {
         let call = WordCall::ReleaseShare;
         self.form.visit_give(rt, &Unwatched, visitor, call, SHARED)
@@ -82,7 +81,7 @@ impl Lock {
     /// [`Self::downgrade`] by a visitor.
     pub fn downgrade_by<R: Wait>(&self, rt: &R, visitor: &mut Visitor) -> bool
         requires { IsVisitorOf self.now visitor.old }
-        ensures { (answer : Answer) × (result ≡ is_yes answer) × IsVisited lock_needs 0 Downgrade visitor.old answer visitor.new }
+        ensures { (answer : Answer) × (result ≡ is_yes answer) × IsVisited Downgrade visitor.old answer visitor.new }
     {
         let given = Given::AllButAShare;
         let stage = Stage::ReleaseLoad { given };
@@ -95,7 +94,7 @@ impl Lock {
     /// [`Self::poison_lock`] by a visitor.
     pub fn poison_lock_by<R: Wait>(&self, rt: &R, visitor: &mut Visitor) -> bool
         requires { IsVisitorOf self.now visitor.old }
-        ensures { (answer : Answer) × (result ≡ is_yes answer) × IsVisited lock_needs 0 PoisonLock visitor.old answer visitor.new }
+        ensures { (answer : Answer) × (result ≡ is_yes answer) × IsVisited PoisonLock visitor.old answer visitor.new }
     {
         let call = WordCall::PoisonLock;
         yes(
@@ -107,7 +106,7 @@ impl Lock {
     /// [`Self::clear_poison`] by a visitor.
     pub fn clear_poison_by<R: Wait>(&self, rt: &R, visitor: &mut Visitor) -> bool
         requires { IsVisitorOf self.now visitor.old }
-        ensures { (answer : Answer) × (result ≡ is_yes answer) × IsVisited lock_needs 0 ClearPoison visitor.old answer visitor.new }
+        ensures { (answer : Answer) × (result ≡ is_yes answer) × IsVisited ClearPoison visitor.old answer visitor.new }
     {
         let call = WordCall::ClearPoison;
         yes(
@@ -119,7 +118,7 @@ impl Lock {
     /// [`Self::is_free`] by a visitor.
     pub fn is_free_by(&self, visitor: &mut Visitor) -> bool
         requires { IsVisitorOf self.now visitor.old }
-        ensures { (answer : Answer) × (result ≡ is_yes answer) × IsVisited lock_needs 0 IsFree visitor.old answer visitor.new }
+        ensures { (answer : Answer) × (result ≡ is_yes answer) × IsVisited IsFree visitor.old answer visitor.new }
     {
         yes(
             self.form
@@ -130,7 +129,7 @@ impl Lock {
     /// [`Self::is_locked`] by a visitor.
     pub fn is_locked_by(&self, visitor: &mut Visitor) -> bool
         requires { IsVisitorOf self.now visitor.old }
-        ensures { (answer : Answer) × (result ≡ is_yes answer) × IsVisited lock_needs 0 IsLocked visitor.old answer visitor.new }
+        ensures { (answer : Answer) × (result ≡ is_yes answer) × IsVisited IsLocked visitor.old answer visitor.new }
     {
         yes(
             self.form
@@ -141,7 +140,7 @@ impl Lock {
     /// [`Self::is_shared`] by a visitor.
     pub fn is_shared_by(&self, visitor: &mut Visitor) -> bool
         requires { IsVisitorOf self.now visitor.old }
-        ensures { (answer : Answer) × (result ≡ is_yes answer) × IsVisited lock_needs 0 IsShared visitor.old answer visitor.new }
+        ensures { (answer : Answer) × (result ≡ is_yes answer) × IsVisited IsShared visitor.old answer visitor.new }
     {
         yes(
             self.form
@@ -152,7 +151,7 @@ impl Lock {
     /// [`Self::is_poisoned`] by a visitor.
     pub fn is_poisoned_by(&self, visitor: &mut Visitor) -> bool
         requires { IsVisitorOf self.now visitor.old }
-        ensures { (answer : Answer) × (result ≡ is_yes answer) × IsVisited lock_needs 0 IsPoisoned visitor.old answer visitor.new }
+        ensures { (answer : Answer) × (result ≡ is_yes answer) × IsVisited IsPoisoned visitor.old answer visitor.new }
     {
         yes(
             self.form
@@ -163,7 +162,7 @@ impl Lock {
     /// [`Self::try_lock`] with no place. Costs one load more.
     #[inline(always)]
     pub fn try_lock_once<R: Wait>(&self, rt: &R) -> (Result<(), TryLockError>, Visitor)
-        ensures { (answer : Answer) × (result.0 ≡ tried answer) × IsVisitedOnce (table_of self.now) (about_of self.now).places lock_needs 0 TryLock answer result.1 }
+        ensures { (answer : Answer) × (result.0 ≡ tried answer) × IsVisitedOnce self.now TryLock answer result.1 }
     {
         let mut visitor = self.visit();
         let taken = self.try_lock_by(rt, &mut visitor);
@@ -173,7 +172,7 @@ impl Lock {
     /// [`Self::try_share`] with no place. Costs one load more.
     #[inline(always)]
     pub fn try_share_once<R: Wait>(&self, rt: &R) -> (Result<(), TryLockError>, Visitor)
-        ensures { (answer : Answer) × (result.0 ≡ tried answer) × IsVisitedOnce (table_of self.now) (about_of self.now).places lock_needs 0 TryShare answer result.1 }
+        ensures { (answer : Answer) × (result.0 ≡ tried answer) × IsVisitedOnce self.now TryShare answer result.1 }
     {
         let mut visitor = self.visit();
         let taken = self.try_share_by(rt, &mut visitor);
@@ -183,7 +182,7 @@ impl Lock {
     /// [`Self::release_lock`] with no place. Costs one load more.
     #[inline(always)]
     pub fn release_lock_once<R: Wait>(&self, rt: &R) -> (bool, Visitor)
-        ensures { (answer : Answer) × (result.0 ≡ is_yes answer) × IsVisitedOnce (table_of self.now) (about_of self.now).places lock_needs 0 ReleaseLock answer result.1 }
+        ensures { (answer : Answer) × (result.0 ≡ is_yes answer) × IsVisitedOnce self.now ReleaseLock answer result.1 }
     {
         let mut visitor = self.visit();
         let done = self.release_lock_by(rt, &mut visitor);
@@ -193,7 +192,7 @@ impl Lock {
     /// [`Self::release_share`] with no place. Costs one load more.
     #[inline(always)]
     pub fn release_share_once<R: Wait>(&self, rt: &R) -> (bool, Visitor)
-        ensures { (answer : Answer) × (result.0 ≡ is_yes answer) × IsVisitedOnce (table_of self.now) (about_of self.now).places lock_needs 0 ReleaseShare answer result.1 }
+        ensures { (answer : Answer) × (result.0 ≡ is_yes answer) × IsVisitedOnce self.now ReleaseShare answer result.1 }
     {
         let mut visitor = self.visit();
         let done = self.release_share_by(rt, &mut visitor);
@@ -202,7 +201,7 @@ impl Lock {
 
     /// [`Self::downgrade`] with no place. Costs one load more.
     pub fn downgrade_once<R: Wait>(&self, rt: &R) -> (bool, Visitor)
-        ensures { (answer : Answer) × (result.0 ≡ is_yes answer) × IsVisitedOnce (table_of self.now) (about_of self.now).places lock_needs 0 Downgrade answer result.1 }
+        ensures { (answer : Answer) × (result.0 ≡ is_yes answer) × IsVisitedOnce self.now Downgrade answer result.1 }
     {
         let mut visitor = self.visit();
         let done = self.downgrade_by(rt, &mut visitor);
@@ -211,7 +210,7 @@ impl Lock {
 
     /// [`Self::poison_lock`] with no place. Costs one load more.
     pub fn poison_lock_once<R: Wait>(&self, rt: &R) -> (bool, Visitor)
-        ensures { (answer : Answer) × (result.0 ≡ is_yes answer) × IsVisitedOnce (table_of self.now) (about_of self.now).places lock_needs 0 PoisonLock answer result.1 }
+        ensures { (answer : Answer) × (result.0 ≡ is_yes answer) × IsVisitedOnce self.now PoisonLock answer result.1 }
     {
         let mut visitor = self.visit();
         let done = self.poison_lock_by(rt, &mut visitor);
@@ -220,7 +219,7 @@ impl Lock {
 
     /// [`Self::clear_poison`] with no place. Costs one load more.
     pub fn clear_poison_once<R: Wait>(&self, rt: &R) -> (bool, Visitor)
-        ensures { (answer : Answer) × (result.0 ≡ is_yes answer) × IsVisitedOnce (table_of self.now) (about_of self.now).places lock_needs 0 ClearPoison answer result.1 }
+        ensures { (answer : Answer) × (result.0 ≡ is_yes answer) × IsVisitedOnce self.now ClearPoison answer result.1 }
     {
         let mut visitor = self.visit();
         let done = self.clear_poison_by(rt, &mut visitor);
@@ -229,7 +228,7 @@ impl Lock {
 
     /// [`Self::is_free`] with no place. Costs one load more.
     pub fn is_free_once(&self) -> (bool, Visitor)
-        ensures { (answer : Answer) × (result.0 ≡ is_yes answer) × IsVisitedOnce (table_of self.now) (about_of self.now).places lock_needs 0 IsFree answer result.1 }
+        ensures { (answer : Answer) × (result.0 ≡ is_yes answer) × IsVisitedOnce self.now IsFree answer result.1 }
     {
         let mut visitor = self.visit();
         let found = self.is_free_by(&mut visitor);
@@ -238,7 +237,7 @@ impl Lock {
 
     /// [`Self::is_locked`] with no place. Costs one load more.
     pub fn is_locked_once(&self) -> (bool, Visitor)
-        ensures { (answer : Answer) × (result.0 ≡ is_yes answer) × IsVisitedOnce (table_of self.now) (about_of self.now).places lock_needs 0 IsLocked answer result.1 }
+        ensures { (answer : Answer) × (result.0 ≡ is_yes answer) × IsVisitedOnce self.now IsLocked answer result.1 }
     {
         let mut visitor = self.visit();
         let found = self.is_locked_by(&mut visitor);
@@ -247,7 +246,7 @@ impl Lock {
 
     /// [`Self::is_shared`] with no place. Costs one load more.
     pub fn is_shared_once(&self) -> (bool, Visitor)
-        ensures { (answer : Answer) × (result.0 ≡ is_yes answer) × IsVisitedOnce (table_of self.now) (about_of self.now).places lock_needs 0 IsShared answer result.1 }
+        ensures { (answer : Answer) × (result.0 ≡ is_yes answer) × IsVisitedOnce self.now IsShared answer result.1 }
     {
         let mut visitor = self.visit();
         let found = self.is_shared_by(&mut visitor);
@@ -256,7 +255,7 @@ impl Lock {
 
     /// [`Self::is_poisoned`] with no place. Costs one load more.
     pub fn is_poisoned_once(&self) -> (bool, Visitor)
-        ensures { (answer : Answer) × (result.0 ≡ is_yes answer) × IsVisitedOnce (table_of self.now) (about_of self.now).places lock_needs 0 IsPoisoned answer result.1 }
+        ensures { (answer : Answer) × (result.0 ≡ is_yes answer) × IsVisitedOnce self.now IsPoisoned answer result.1 }
     {
         let mut visitor = self.visit();
         let found = self.is_poisoned_by(&mut visitor);

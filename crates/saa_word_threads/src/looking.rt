@@ -4,27 +4,25 @@
 //! `acquire_many`, `lock` and `share` look at the main word, take what they ask for where the word grants it, and join once their patience is over. Their order
 //! begins as they join.
 //!
-//! A look that finds that the place would have to join is no step of it: nothing has happened, and the place stands where it stood.
+//! A look that finds that the place would have to join is no step of it: nothing has happened, and its place is at the stage where it was.
 
-ghost use Rattle.std.specs.Prelude.{◌≡◌, ◌+◌, ◌<◌, ◌==◌, ℕ, false, true};
+ghost use Rattle.std.specs.Prelude.{◌≡◌, ◌==◌, ℕ, false, true};
 ghost use Rattle.saa_word_steps.specs.declared.operation.Operation.TheVariants.{Load, Exchange};
-ghost use Rattle.saa_word_steps.specs.declared.place.Next.TheVariants.{Going};
-ghost use Rattle.saa_word_steps.specs.Steps.{next_of};
-ghost use Rattle.saa_word_steps.specs.Needs.{needs_of};
-ghost use Rattle.saa_word_proofs.specs.CallStages.{IsReadyNext};
-ghost use Rattle.saa_word_threads.specs.declared.table.Role.TheVariants.{Acting};
-ghost use Rattle.saa_word_threads.specs.Called.{InCall, InCallNext};
-ghost use Rattle.saa_word_threads.specs.Told.{Begins, IsNext, IsLookOnly, MovesOrStays, prepares, unless_joining};
+ghost use Rattle.saa_word_steps.specs.Steps.{next_of, operation_of};
+ghost use Rattle.saa_word_threads.specs.Pending.{GoesOn, HasEnded, HasFound, IsPending, IsSameSeat, about_of, needs};
+ghost use Rattle.saa_word_threads.specs.Told.{prepares, unless_joining};
 
-use crate::call::Begun;
+use crate::call::Pending;
 use crate::form::Form;
 use crate::table::{LookOnly, Mover, View};
 use crate::watch::{Moment, Pause, Watch};
 use atomic_table::Seat;
 use saa_core_words::word::Word;
+use saa_word_steps::call::Answer;
 use saa_word_steps::place::{Next, Place as Position, Stage};
 use std::marker::Brand;
 use std::snapshot::Snapshot;
+use std::sync::Wait;
 
 /// How often a call looks, and then yields, before it joins the waiters.
 #[derive(Clone, Copy)]
@@ -73,22 +71,19 @@ impl Patience {
 }
 
 impl Form {
-    // Goes on with an ask for as long as its patience lasts, unless it would have to join.
-    pub(crate) fn look_on<W: Watch>(
+    // Goes on with an ask to its end: it looks for as long as its patience lasts and never joins meanwhile, and then goes step by step.
+    pub(crate) fn look_on<R: Wait, W: Watch>(
         &self,
+        rt: &R,
         watch: &W,
         seat: &mut Seat<(), View>,
-        me: u16,
         first: Position,
         patience: Patience,
-        begun: &Begun,
-    ) -> Next
-        requires table { seat.old.table_id ≡ self.now.table.shared.table_id }
-        requires number { (seat.old.me.0.role ≡ Acting) × (seat.old.me.0.number ≡ me) × (me < self.now.places) }
-        requires in_call { InCall (needs_of self.now.rules) self.now.places me begun.now.call.value begun.now.registered.value begun.now.seat.value.me.0 first seat.old.me.0 }
-        ensures table { (seat.new.table_id ≡ seat.old.table_id) × (seat.new.id ≡ seat.old.id) × (seat.new.me.1 ≡ seat.old.me.1) }
-        ensures number { (seat.new.me.0.role ≡ Acting) × (seat.new.me.0.number ≡ me) }
-        ensures in_call { InCallNext (needs_of self.now.rules) self.now.table.shared.key.withheld self.now.places me begun.now.call.value begun.now.registered.value begun.now.seat.value.me.0 first seat.new.me.0 result }
+        pending: Pending,
+    ) -> (Position, Answer)
+        requires { IsPending self.now pending first seat.old }
+        ensures same { IsSameSeat seat.old seat.new }
+        ensures ended { HasEnded self.now pending result.0 result.1 seat.new }
     {
         let mut place = first;
         for turn in 0..patience.turns() {
@@ -97,16 +92,16 @@ impl Form {
             if !self.may_get_on(place.stage) {
                 continue;
             }
-            match self.seek::<Brand, W>(watch, seat, me, place) {
+            match self.seek::<Brand, W>(watch, seat, place, &pending) {
                 Next::Going(next) => place = next,
                 Next::Waits => continue,
-                Next::Done(behind, answer) => return Next::Done(behind, answer),
+                Next::Done(behind, answer) => return (behind, answer),
             }
         }
-        Next::Going(place)
+        self.go_on(rt, watch, seat, place, pending)
     }
 
-    // Whether a look may let a place get on that stands at this stage. An exchange that must fail would take the main word's cache line.
+    // Whether a look may let a place at this stage get on. An exchange that must fail would take the main word's cache line.
     pub(crate) fn may_get_on(&self, stage: Stage) -> bool {
         if let Stage::AskExchange { ask, .. } = stage {
             let seen = Word::unpack(self.table.shared.peek(0));
@@ -115,27 +110,24 @@ impl Form {
         true
     }
 
-    // Makes the operation of a place's stage and goes on with the number found, unless the place asks and would go on to join.
+    // Makes the operation of the stage that a pending call's place is at, and goes on with the number found, unless the place would go on to join.
     fn seek<M: Mover, W: Watch>(
         &self,
         watch: &W,
         seat: &mut Seat<(), View>,
-        me: u16,
         place: Position,
+        pending: &Pending,
     ) -> Next
-        requires table { seat.old.table_id ≡ self.now.table.shared.table_id }
-        requires number { (seat.old.me.0.role ≡ Acting) × (seat.old.me.0.number ≡ me) × (me < self.now.places) }
-        requires told { (M.about ≡ self.now.table.shared.key) × (M.place ≡ place) × (M.me ≡ me) }
-        requires begins { Begins (needs_of self.now.rules) seat.old.me.0.position place }
-        requires ready { IsReadyNext (needs_of self.now.rules) self.now.places me (Going place) }
-        ensures table { (seat.new.table_id ≡ seat.old.table_id) × (seat.new.id ≡ seat.old.id) × (seat.new.me.1 ≡ seat.old.me.1) }
-        ensures look_only { MovesOrStays (needs_of self.now.rules) self.now.table.shared.key.withheld self.now.places me place result seat.old.me.0 seat.new.me.0 }
+        requires told { (M.about ≡ about_of self.now) × (M.place ≡ place) × (M.me ≡ pending.now.me) }
+        requires pending { IsPending self.now pending.now place seat.old }
+        ensures same { IsSameSeat seat.old seat.new }
+        ensures next { GoesOn self.now pending.now place result seat.new }
     {
         let at = Snapshot::of(&place);
         match place.stage {
             Stage::AskLoad { .. } => {
-                let found = self.seek_by_load::<M>(seat, me, at);
-                unless_joining(place, place.resume(self.rules, me, found))
+                let found = self.seek_by_load::<M>(seat, at, pending);
+                unless_joining(place, place.resume(self.rules, pending.me, found))
             }
             Stage::AskExchange { ask, seen } => {
                 let count = self.rules.plus(seen.count, ask.request);
@@ -143,48 +135,46 @@ impl Form {
                 let raised = Word { count, ..seen };
                 let new = raised.pack();
                 watch.at(Moment::Takes);
-                let found = self.seek_by_exchange::<M>(seat, me, at, old, new);
-                unless_joining(place, place.resume(self.rules, me, found))
+                let found = self.seek_by_exchange::<M>(seat, at, pending, old, new);
+                unless_joining(place, place.resume(self.rules, pending.me, found))
             }
-            _ => self.act::<M, W>(watch, seat, me, place),
+            _ => self.act::<M, W>(watch, seat, place, pending),
         }
     }
 
-    // Loads the main word, for a place that stands so and asks.
+    // Loads the main word, for a place at this stage of a call.
     #[inline(always)]
     pub(crate) fn seek_by_load<M: Mover>(
         &self,
         seat: &mut Seat<(), View>,
-        me: u16,
         at: Snapshot<Position>,
+        pending: &Pending,
     ) -> u64
-        requires table { seat.old.table_id ≡ self.now.table.shared.table_id }
-        requires told { (M.about ≡ self.now.table.shared.key) × (M.place ≡ at.value) × (M.me ≡ me) }
-        requires next { IsNext (needs_of self.now.rules) self.now.places me at.value (Load 0) seat.old.me.0 }
-        ensures table { (seat.new.table_id ≡ seat.old.table_id) × (seat.new.id ≡ seat.old.id) × (seat.new.me.1 ≡ seat.old.me.1) }
-        ensures number { (seat.new.me.0.role ≡ Acting) × (seat.new.me.0.number ≡ me) }
-        ensures look_only { IsLookOnly (needs_of self.now.rules) self.now.table.shared.key.withheld self.now.places me at.value result seat.old.me.0 seat.new.me.0 }
+        requires told { (M.about ≡ about_of self.now) × (M.place ≡ at.value) × (M.me ≡ pending.now.me) }
+        requires pending { IsPending self.now pending.now at.value seat.old }
+        requires loads { operation_of (needs self.now) self.now.places pending.now.me at.value.stage ≡ Load 0 }
+        ensures same { IsSameSeat seat.old seat.new }
+        ensures found { HasFound self.now pending.now at.value result seat.new }
     {
         self.table.shared.load::<LookOnly<M>>(seat, 0)
     }
 
-    // Exchanges the main word, for a place that stands so and asks. Where the exchange is made the place doesn't join.
+    // Exchanges the main word, for a place at this stage of a call. Where the exchange is made the place doesn't join.
     #[inline(always)]
     pub(crate) fn seek_by_exchange<M: Mover>(
         &self,
         seat: &mut Seat<(), View>,
-        me: u16,
         at: Snapshot<Position>,
+        pending: &Pending,
         old: u64,
         new: u64,
     ) -> u64
-        requires table { seat.old.table_id ≡ self.now.table.shared.table_id }
-        requires told { (M.about ≡ self.now.table.shared.key) × (M.place ≡ at.value) × (M.me ≡ me) }
-        requires next { IsNext (needs_of self.now.rules) self.now.places me at.value (Exchange 0 old new) seat.old.me.0 }
-        requires made { (found : ℕ) → prepares (next_of (needs_of self.now.rules) me at.value at.value.stage found) ≡ true → (found == old) ≡ false }
-        ensures table { (seat.new.table_id ≡ seat.old.table_id) × (seat.new.id ≡ seat.old.id) × (seat.new.me.1 ≡ seat.old.me.1) }
-        ensures number { (seat.new.me.0.role ≡ Acting) × (seat.new.me.0.number ≡ me) }
-        ensures look_only { IsLookOnly (needs_of self.now.rules) self.now.table.shared.key.withheld self.now.places me at.value result seat.old.me.0 seat.new.me.0 }
+        requires told { (M.about ≡ about_of self.now) × (M.place ≡ at.value) × (M.me ≡ pending.now.me) }
+        requires pending { IsPending self.now pending.now at.value seat.old }
+        requires exchanges { operation_of (needs self.now) self.now.places pending.now.me at.value.stage ≡ Exchange 0 old new }
+        requires made { (found : ℕ) → prepares (next_of (needs self.now) pending.now.me at.value at.value.stage found) ≡ true → (found == old) ≡ false }
+        ensures same { IsSameSeat seat.old seat.new }
+        ensures found { HasFound self.now pending.now at.value result seat.new }
     {
         self.table
             .shared

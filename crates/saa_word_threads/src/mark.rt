@@ -1,6 +1,6 @@
 //! The mark of each place, that it may be parked, and the one look at it that decides a wake.
 //!
-//! A waiter sets its mark, and looks at its answer word for the last time as it parks. Who answers it writes that word, and then looks at the mark. So
+//! A waiter sets its mark, and looks at its answer word for the last time as it parks. The call that answers it writes that word, and then looks at the mark. So
 //! one of the two sees the other. The second order is kept by types: only `write` makes a `Written`, in a module (`written`) that can't read a mark, and
 //! nothing but `wake` takes it, or looks at a mark, beside what tests see.
 

@@ -25,7 +25,7 @@ use std::marker::Brand;
 use std::sync::atomic::AtomicBool;
 
 impl Form {
-    // A form of these rules in which so much is held, and its places.
+    // A form of these rules of which so much is taken from the start, and its places.
     pub(crate) fn open(
         alloc: Global,
         rules: Rules,
@@ -178,7 +178,7 @@ impl Form {
     }
 }
 
-// The words of a form in which so much is held: all are 0 but the main word.
+// The words of a form of which so much is taken from the start: all are 0 but the main word.
 fn opening_words(alloc: Global, withheld: u16, places: u16) -> Result<Vec<u64>, AllocError>
     ensures { IfOk result (λ words. words.items ≡ slice_set (replicate (places + places + 1) 0) 0 withheld) }
 {

@@ -5,19 +5,18 @@
 
 ghost use Rattle.std.specs.Prelude.{◌≡◌, ◌<◌, All, IfOk, map, min, vec_len};
 ghost use Rattle.saa_core_spec.specs.declared.polling.Error.{Error};
-ghost use Rattle.saa_word_steps.specs.Needs.{permit_needs};
 ghost use Rattle.saa_word_steps.specs.declared.call.Answer.{Answer};
 ghost use Rattle.saa_word_steps.specs.declared.call.Answer.TheVariants.{Number};
 ghost use Rattle.saa_word_steps.specs.declared.call.WordCall.TheVariants.{Try, Register, Release, Available, TryPoll, Poll, Cancel};
 ghost use Rattle.saa_word_steps.specs.declared.rules.Rules.TheVariants.{Permits};
 ghost use Rattle.saa_word_threads.specs.Dealt.{AreLedTo, AreNew, IsLedTo, numbers};
 ghost use Rattle.saa_word_threads.specs.Patience.{none, waiting};
-ghost use Rattle.saa_word_threads.specs.Public.{HasLeft, IsMade, IsWaited, is_yes, patience_of, polled, view_left};
+ghost use Rattle.saa_word_threads.specs.Public.{is_yes, patience_of, polled, view_left};
 
+use crate::answers::yes;
 use crate::form::Form;
 use crate::looking::{NONE, Patience, WAITING};
 pub use crate::place::{Left, Place};
-use crate::straight::yes;
 use crate::watch::{Unwatched, Watch};
 pub use crate::words::Words;
 pub use saa_word_steps::call::Error;
@@ -45,7 +44,7 @@ pub struct SemaphoreOf<const MAX: usize> {
 pub type Semaphore = SemaphoreOf<63>;
 
 impl<const MAX: usize> SemaphoreOf<MAX> {
-    ghost use Rattle.saa_word_threads.specs.Semaphores.{IsDealtBy, IsLeftOf, about_of, table_of};
+    ghost use Rattle.saa_word_threads.specs.Semaphores.{HasLeft, IsDealtBy, IsLeftOf, IsMade, IsWaited, about_of, table_of};
 
     /// The most permits of a semaphore.
     pub const MAX_PERMITS: usize = MAX;
@@ -76,7 +75,7 @@ impl<const MAX: usize> SemaphoreOf<MAX> {
     /// other task that changed it meanwhile.
     pub fn try_acquire_many<R: Wait>(&self, rt: &R, place: &mut Place, count: usize) -> bool
         requires { IsDealtBy self.now place.old }
-        ensures called { (answer : Answer) × (result ≡ is_yes answer) × IsMade (permit_needs MAX) (about_of self.now).withheld (Try count) place.old answer place.new }
+        ensures called { (answer : Answer) × (result ≡ is_yes answer) × IsMade self.now (Try count) place.old answer place.new }
         ensures patience { patience_of place.new ≡ none }
     {
         let call = WordCall::Try(count);
@@ -97,7 +96,7 @@ impl<const MAX: usize> SemaphoreOf<MAX> {
     /// [`Self::MAX_PERMITS`] and at a place that is registered.
     pub fn acquire_many<R: Wait>(&self, rt: &R, place: &mut Place, count: usize) -> bool
         requires { IsDealtBy self.now place.old }
-        ensures waited { IsWaited (permit_needs MAX) (about_of self.now).withheld (Register count) place.old result place.new }
+        ensures waited { IsWaited self.now count place.old result place.new }
         ensures patience { patience_of place.new ≡ waiting }
     {
         self.wait_patiently(rt, &Unwatched, place, count, WAITING)
@@ -114,7 +113,7 @@ impl<const MAX: usize> SemaphoreOf<MAX> {
         patience: Patience,
     ) -> bool
         requires { IsDealtBy self.now place.old }
-        ensures waited { IsWaited (permit_needs MAX) (about_of self.now).withheld (Register count) place.old result place.new }
+        ensures waited { IsWaited self.now count place.old result place.new }
         ensures patience { patience_of place.new ≡ patience }
     {
         if !self.register_patiently(rt, watch, place, count, patience) {
@@ -128,7 +127,7 @@ impl<const MAX: usize> SemaphoreOf<MAX> {
     /// `false`, and nothing changes, where fewer are taken. Any place may give back what another one took.
     pub fn release_many<R: Wait>(&self, rt: &R, place: &mut Place, count: usize) -> bool
         requires { IsDealtBy self.now place.old }
-        ensures called { (answer : Answer) × (result ≡ is_yes answer) × IsMade (permit_needs MAX) (about_of self.now).withheld (Release count) place.old answer place.new }
+        ensures called { (answer : Answer) × (result ≡ is_yes answer) × IsMade self.now (Release count) place.old answer place.new }
     {
         let call = WordCall::Release(count);
         if count == 0 || count > MAX {
@@ -143,7 +142,7 @@ impl<const MAX: usize> SemaphoreOf<MAX> {
     /// [`Self::poll`] or [`Self::try_poll`].
     pub fn register<R: Wait>(&self, rt: &R, place: &mut Place, count: usize) -> bool
         requires { IsDealtBy self.now place.old }
-        ensures called { (answer : Answer) × (result ≡ is_yes answer) × IsMade (permit_needs MAX) (about_of self.now).withheld (Register count) place.old answer place.new }
+        ensures called { (answer : Answer) × (result ≡ is_yes answer) × IsMade self.now (Register count) place.old answer place.new }
         ensures patience { patience_of place.new ≡ none }
     {
         self.register_patiently(rt, &Unwatched, place, count, NONE)
@@ -160,7 +159,7 @@ impl<const MAX: usize> SemaphoreOf<MAX> {
         patience: Patience,
     ) -> bool
         requires { IsDealtBy self.now place.old }
-        ensures called { (answer : Answer) × (result ≡ is_yes answer) × IsMade (permit_needs MAX) (about_of self.now).withheld (Register count) place.old answer place.new }
+        ensures called { (answer : Answer) × (result ≡ is_yes answer) × IsMade self.now (Register count) place.old answer place.new }
         ensures patience { patience_of place.new ≡ patience }
     {
         let call = WordCall::Register(count);
@@ -179,7 +178,7 @@ impl<const MAX: usize> SemaphoreOf<MAX> {
     /// `NotReady` while the place waits, `NotRegistered` where it is registered as nothing. Costs one step at most.
     pub fn try_poll(&self, place: &mut Place) -> Result<(), Error>
         requires { IsDealtBy self.now place.old }
-        ensures called { (answer : Answer) × (result ≡ polled answer) × IsMade (permit_needs MAX) (about_of self.now).withheld TryPoll place.old answer place.new }
+        ensures called { (answer : Answer) × (result ≡ polled answer) × IsMade self.now TryPoll place.old answer place.new }
     {
         taken(self.form.call_at_once(place, WordCall::TryPoll))
     }
@@ -189,17 +188,17 @@ impl<const MAX: usize> SemaphoreOf<MAX> {
     /// `NotRegistered` where the place is registered as nothing; no other error comes.
     pub fn poll<R: Wait>(&self, rt: &R, place: &mut Place) -> Result<(), Error>
         requires { IsDealtBy self.now place.old }
-        ensures called { (answer : Answer) × (result ≡ polled answer) × IsMade (permit_needs MAX) (about_of self.now).withheld Poll place.old answer place.new }
+        ensures called { (answer : Answer) × (result ≡ polled answer) × IsMade self.now Poll place.old answer place.new }
     {
         taken(self.form.call(rt, &Unwatched, place, WordCall::Poll))
     }
 
     /// Cancels a registration: the place leaves the waiters, or gives back what it was granted. Nothing, where it is registered as nothing.
     ///
-    /// It yields while another place works on the line.
+    /// It yields while another call works on the queue.
     pub fn cancel<R: Wait>(&self, rt: &R, place: &mut Place)
         requires { IsDealtBy self.now place.old }
-        ensures called { (answer : Answer) × IsMade (permit_needs MAX) (about_of self.now).withheld Cancel place.old answer place.new }
+        ensures called { (answer : Answer) × IsMade self.now Cancel place.old answer place.new }
     {
         self.form.call(rt, &Unwatched, place, WordCall::Cancel);
     }
@@ -207,7 +206,7 @@ impl<const MAX: usize> SemaphoreOf<MAX> {
     /// How many permits are available; never blocks. Costs one step.
     pub fn available_permits(&self, place: &mut Place) -> u16
         requires { IsDealtBy self.now place.old }
-        ensures { IsMade (permit_needs MAX) (about_of self.now).withheld Available place.old (Number result) place.new }
+        ensures { IsMade self.now Available place.old (Number result) place.new }
     {
         match self.form.call_at_once(place, WordCall::Available) {
             Answer::Number(number) => number,
@@ -218,7 +217,7 @@ impl<const MAX: usize> SemaphoreOf<MAX> {
     /// The place leaves; it cancels first.
     pub fn leave<R: Wait>(&self, rt: &R, place: Place) -> Left
         requires { IsDealtBy self.now place }
-        ensures { HasLeft (permit_needs MAX) (about_of self.now).withheld place result }
+        ensures { HasLeft self.now place result }
     {
         self.form.leave(rt, &Unwatched, place)
     }

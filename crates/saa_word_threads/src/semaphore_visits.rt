@@ -4,16 +4,15 @@
 //! that contracts can say what the call did. Both are held to `specs/Visits.antt`.
 
 ghost use Rattle.std.specs.Prelude.{◌≡◌};
-ghost use Rattle.saa_word_steps.specs.Needs.{permit_needs};
 ghost use Rattle.saa_word_steps.specs.declared.call.Answer.{Answer};
 ghost use Rattle.saa_word_steps.specs.declared.call.Answer.TheVariants.{Number};
 ghost use Rattle.saa_word_steps.specs.declared.call.WordCall.TheVariants.{Try, Release, Available};
 ghost use Rattle.saa_word_threads.specs.Dealt.{IsLedTo, numbers};
 ghost use Rattle.saa_word_threads.specs.Public.{is_yes};
-ghost use Rattle.saa_word_threads.specs.Visits.{IsNewVisitor, IsVisited, IsVisitedOnce, view_of};
+ghost use Rattle.saa_word_threads.specs.Visits.{IsNewVisitor, view_of};
 
+use crate::answers::yes;
 use crate::semaphore::SemaphoreOf;
-use crate::straight::yes;
 use crate::visitor::Visitor;
 use crate::watch::Unwatched;
 use crate::words::Words;
@@ -22,7 +21,7 @@ use saa_word_steps::place::Reading;
 use std::sync::Wait;
 
 impl<const MAX: usize> SemaphoreOf<MAX> {
-    ghost use Rattle.saa_word_threads.specs.Semaphores.{IsVisitorOf, about_of, table_of};
+    ghost use Rattle.saa_word_threads.specs.Semaphores.{IsVisited, IsVisitedOnce, IsVisitorOf, about_of, table_of};
 
     /// A visitor enters: it takes permits where they are there at once, gives back and reads, and never waits for a permit.
     ///
@@ -38,7 +37,7 @@ impl<const MAX: usize> SemaphoreOf<MAX> {
     #[inline(always)]
     pub fn try_acquire_many_by<R: Wait>(&self, rt: &R, visitor: &mut Visitor, count: usize) -> bool
         requires { IsVisitorOf self.now visitor.old }
-        ensures { (answer : Answer) × (result ≡ is_yes answer) × IsVisited (permit_needs MAX) (about_of self.now).withheld (Try count) visitor.old answer visitor.new }
+        ensures { (answer : Answer) × (result ≡ is_yes answer) × IsVisited self.now (Try count) visitor.old answer visitor.new }
     {
         if count > MAX {
             return false;
@@ -52,11 +51,11 @@ impl<const MAX: usize> SemaphoreOf<MAX> {
 
     /// [`Self::release_many`] by a visitor.
     ///
-    /// It works on the line as a place does: it grants the oldest waiters while they fit, shows them their answers and wakes them.
+    /// It works on the queue as a place does: it grants the oldest waiters while they fit, shows them their answers and wakes them.
     #[inline(always)]
     pub fn release_many_by<R: Wait>(&self, rt: &R, visitor: &mut Visitor, count: usize) -> bool
         requires { IsVisitorOf self.now visitor.old }
-        ensures { (answer : Answer) × (result ≡ is_yes answer) × IsVisited (permit_needs MAX) (about_of self.now).withheld (Release count) visitor.old answer visitor.new }
+        ensures { (answer : Answer) × (result ≡ is_yes answer) × IsVisited self.now (Release count) visitor.old answer visitor.new }
     {
         if count > MAX {
             return false;
@@ -72,7 +71,7 @@ impl<const MAX: usize> SemaphoreOf<MAX> {
     /// [`Self::available_permits`] by a visitor.
     pub fn available_permits_by(&self, visitor: &mut Visitor) -> u16
         requires { IsVisitorOf self.now visitor.old }
-        ensures { IsVisited (permit_needs MAX) (about_of self.now).withheld Available visitor.old (Number result) visitor.new }
+        ensures { IsVisited self.now Available visitor.old (Number result) visitor.new }
     {
         match self
             .form
@@ -86,7 +85,7 @@ impl<const MAX: usize> SemaphoreOf<MAX> {
     /// [`Self::try_acquire_many`] with no place. Costs one load more.
     #[inline(always)]
     pub fn try_acquire_many_once<R: Wait>(&self, rt: &R, count: usize) -> (bool, Visitor)
-        ensures { (answer : Answer) × (result.0 ≡ is_yes answer) × IsVisitedOnce (table_of self.now) (about_of self.now).places (permit_needs MAX) (about_of self.now).withheld (Try count) answer result.1 }
+        ensures { (answer : Answer) × (result.0 ≡ is_yes answer) × IsVisitedOnce self.now (Try count) answer result.1 }
     {
         let mut visitor = self.visit();
         let taken = self.try_acquire_many_by(rt, &mut visitor, count);
@@ -96,7 +95,7 @@ impl<const MAX: usize> SemaphoreOf<MAX> {
     /// [`Self::release_many`] with no place. Costs one load more.
     #[inline(always)]
     pub fn release_many_once<R: Wait>(&self, rt: &R, count: usize) -> (bool, Visitor)
-        ensures { (answer : Answer) × (result.0 ≡ is_yes answer) × IsVisitedOnce (table_of self.now) (about_of self.now).places (permit_needs MAX) (about_of self.now).withheld (Release count) answer result.1 }
+        ensures { (answer : Answer) × (result.0 ≡ is_yes answer) × IsVisitedOnce self.now (Release count) answer result.1 }
     {
         let mut visitor = self.visit();
         let given = self.release_many_by(rt, &mut visitor, count);
@@ -105,7 +104,7 @@ impl<const MAX: usize> SemaphoreOf<MAX> {
 
     /// [`Self::available_permits`] with no place. Costs one load more.
     pub fn available_permits_once(&self) -> (u16, Visitor)
-        ensures { IsVisitedOnce (table_of self.now) (about_of self.now).places (permit_needs MAX) (about_of self.now).withheld Available (Number result.0) result.1 }
+        ensures { IsVisitedOnce self.now Available (Number result.0) result.1 }
     {
         let mut visitor = self.visit();
         let available = self.available_permits_by(&mut visitor);

@@ -5,13 +5,10 @@
 
 ghost use Rattle.std.specs.Prelude.{◌≡◌, ◌+◌, ◌<◌, ℕ};
 ghost use Rattle.saa_word_steps.specs.Steps.{next_of};
-ghost use Rattle.saa_word_steps.specs.Needs.{needs_of};
-ghost use Rattle.saa_word_steps.specs.declared.place.Next.TheVariants.{Going};
 ghost use Rattle.saa_word_steps.specs.declared.operation.Operation.TheVariants.{Load, Exchange, Add, Swap, Store};
-ghost use Rattle.saa_word_proofs.specs.CallStages.{IsReadyNext};
-ghost use Rattle.saa_word_threads.specs.declared.table.Role.TheVariants.{Acting};
-ghost use Rattle.saa_word_threads.specs.Told.{Begins, IsNext, Moves};
+ghost use Rattle.saa_word_threads.specs.Pending.{GoesOn, HasMoved, IsAt, IsPending, IsSameSeat, MakesNext, about_of, needs};
 
+use crate::call::Pending;
 use crate::form::Form;
 use crate::table::{Moved, Mover, View};
 use crate::watch::{Moment, Watch};
@@ -20,25 +17,23 @@ use saa_word_steps::operation::Operation;
 use saa_word_steps::place::{Next, Place as Position};
 
 impl Form {
-    // Makes the operation of a place's stage, and goes on with the number found.
+    // Makes the operation of the stage that a pending call's place is at, and goes on with the number found.
     pub(crate) fn act<M: Mover, W: Watch>(
         &self,
         watch: &W,
         seat: &mut Seat<(), View>,
-        me: u16,
         place: Position,
+        pending: &Pending,
     ) -> Next
-        requires table { seat.old.table_id ≡ self.now.table.shared.table_id }
-        requires number { (seat.old.me.0.role ≡ Acting) × (seat.old.me.0.number ≡ me) × (me < self.now.places) }
-        requires told { (M.about ≡ self.now.table.shared.key) × (M.place ≡ place) × (M.me ≡ me) }
-        requires begins { Begins (needs_of self.now.rules) seat.old.me.0.position place }
-        requires ready { IsReadyNext (needs_of self.now.rules) self.now.places me (Going place) }
-        ensures table { (seat.new.table_id ≡ seat.old.table_id) × (seat.new.id ≡ seat.old.id) × (seat.new.me.1 ≡ seat.old.me.1) }
-        ensures moved { (found : ℕ) × (result ≡ next_of (needs_of self.now.rules) me place place.stage found) × Moves (needs_of self.now.rules) self.now.table.shared.key.withheld self.now.places place result found seat.old.me.0 seat.new.me.0 }
+        requires told { (M.about ≡ about_of self.now) × (M.place ≡ place) × (M.me ≡ pending.now.me) }
+        requires pending { IsPending self.now pending.now place seat.old }
+        ensures same { IsSameSeat seat.old seat.new }
+        ensures next { GoesOn self.now pending.now place result seat.new }
+        ensures found { (found : ℕ) × (result ≡ next_of (needs self.now) pending.now.me place place.stage found) }
     {
-        let operation = place.stage.operation(self.rules, self.places, me);
+        let operation = place.stage.operation(self.rules, self.places, pending.me);
         let found = self.perform::<M, W>(watch, seat, operation);
-        place.resume(self.rules, me, found)
+        place.resume(self.rules, pending.me, found)
     }
 
     // Makes an operation, and answers the number that it found.
@@ -48,10 +43,10 @@ impl Form {
         seat: &mut Seat<(), View>,
         operation: Operation,
     ) -> u64
-        requires table { (seat.old.table_id ≡ self.now.table.shared.table_id) × (M.about ≡ self.now.table.shared.key) }
-        requires next { IsNext (needs_of self.now.rules) self.now.places M.me M.place operation seat.old.me.0 }
-        ensures table { (seat.new.table_id ≡ seat.old.table_id) × (seat.new.id ≡ seat.old.id) × (seat.new.me.1 ≡ seat.old.me.1) }
-        ensures moved { Moves (needs_of self.now.rules) self.now.table.shared.key.withheld self.now.places M.place (next_of (needs_of self.now.rules) M.me M.place M.place.stage result) result seat.old.me.0 seat.new.me.0 }
+        requires table { IsAt self.now seat.old × (M.about ≡ about_of self.now) }
+        requires next { MakesNext self.now M.me M.place operation seat.old }
+        ensures same { IsSameSeat seat.old seat.new }
+        ensures moved { HasMoved self.now M.me M.place result seat.old seat.new }
     {
         match operation {
             Operation::Load { index } => self.load::<M>(seat, index),
@@ -64,10 +59,10 @@ impl Form {
 
     // Loads a word.
     pub(crate) fn load<M: Mover>(&self, seat: &mut Seat<(), View>, index: usize) -> u64
-        requires table { (seat.old.table_id ≡ self.now.table.shared.table_id) × (M.about ≡ self.now.table.shared.key) }
-        requires next { IsNext (needs_of self.now.rules) self.now.places M.me M.place (Load index) seat.old.me.0 }
-        ensures table { (seat.new.table_id ≡ seat.old.table_id) × (seat.new.id ≡ seat.old.id) × (seat.new.me.1 ≡ seat.old.me.1) }
-        ensures moved { Moves (needs_of self.now.rules) self.now.table.shared.key.withheld self.now.places M.place (next_of (needs_of self.now.rules) M.me M.place M.place.stage result) result seat.old.me.0 seat.new.me.0 }
+        requires table { IsAt self.now seat.old × (M.about ≡ about_of self.now) }
+        requires next { MakesNext self.now M.me M.place (Load index) seat.old }
+        ensures same { IsSameSeat seat.old seat.new }
+        ensures moved { HasMoved self.now M.me M.place result seat.old seat.new }
     {
         self.table.shared.load::<Moved<M>>(seat, index)
     }
@@ -80,10 +75,10 @@ impl Form {
         old: u64,
         new: u64,
     ) -> u64
-        requires table { (seat.old.table_id ≡ self.now.table.shared.table_id) × (M.about ≡ self.now.table.shared.key) }
-        requires next { IsNext (needs_of self.now.rules) self.now.places M.me M.place (Exchange index old new) seat.old.me.0 }
-        ensures table { (seat.new.table_id ≡ seat.old.table_id) × (seat.new.id ≡ seat.old.id) × (seat.new.me.1 ≡ seat.old.me.1) }
-        ensures moved { Moves (needs_of self.now.rules) self.now.table.shared.key.withheld self.now.places M.place (next_of (needs_of self.now.rules) M.me M.place M.place.stage result) result seat.old.me.0 seat.new.me.0 }
+        requires table { IsAt self.now seat.old × (M.about ≡ about_of self.now) }
+        requires next { MakesNext self.now M.me M.place (Exchange index old new) seat.old }
+        ensures same { IsSameSeat seat.old seat.new }
+        ensures moved { HasMoved self.now M.me M.place result seat.old seat.new }
     {
         self.table
             .shared
@@ -92,10 +87,10 @@ impl Form {
 
     // Adds a number to a word.
     fn add<M: Mover>(&self, seat: &mut Seat<(), View>, index: usize, number: u64) -> u64
-        requires table { (seat.old.table_id ≡ self.now.table.shared.table_id) × (M.about ≡ self.now.table.shared.key) }
-        requires next { IsNext (needs_of self.now.rules) self.now.places M.me M.place (Add index number) seat.old.me.0 }
-        ensures table { (seat.new.table_id ≡ seat.old.table_id) × (seat.new.id ≡ seat.old.id) × (seat.new.me.1 ≡ seat.old.me.1) }
-        ensures moved { Moves (needs_of self.now.rules) self.now.table.shared.key.withheld self.now.places M.place (next_of (needs_of self.now.rules) M.me M.place M.place.stage result) result seat.old.me.0 seat.new.me.0 }
+        requires table { IsAt self.now seat.old × (M.about ≡ about_of self.now) }
+        requires next { MakesNext self.now M.me M.place (Add index number) seat.old }
+        ensures same { IsSameSeat seat.old seat.new }
+        ensures moved { HasMoved self.now M.me M.place result seat.old seat.new }
     {
         self.table.shared.fetch_add::<Moved<M>>(seat, index, number)
     }
@@ -108,10 +103,10 @@ impl Form {
         index: usize,
         number: u64,
     ) -> u64
-        requires table { (seat.old.table_id ≡ self.now.table.shared.table_id) × (M.about ≡ self.now.table.shared.key) }
-        requires next { IsNext (needs_of self.now.rules) self.now.places M.me M.place (Store index number) seat.old.me.0 }
-        ensures table { (seat.new.table_id ≡ seat.old.table_id) × (seat.new.id ≡ seat.old.id) × (seat.new.me.1 ≡ seat.old.me.1) }
-        ensures moved { Moves (needs_of self.now.rules) self.now.table.shared.key.withheld self.now.places M.place (next_of (needs_of self.now.rules) M.me M.place M.place.stage result) result seat.old.me.0 seat.new.me.0 }
+        requires table { IsAt self.now seat.old × (M.about ≡ about_of self.now) }
+        requires next { MakesNext self.now M.me M.place (Store index number) seat.old }
+        ensures same { IsSameSeat seat.old seat.new }
+        ensures moved { HasMoved self.now M.me M.place result seat.old seat.new }
     {
         self.tell(watch, index);
         let (found, written) = self.write::<M>(seat, index, number);
@@ -121,10 +116,10 @@ impl Form {
 
     // Writes a word.
     pub(crate) fn swap<M: Mover>(&self, seat: &mut Seat<(), View>, index: usize, number: u64) -> u64
-        requires table { (seat.old.table_id ≡ self.now.table.shared.table_id) × (M.about ≡ self.now.table.shared.key) }
-        requires next { IsNext (needs_of self.now.rules) self.now.places M.me M.place (Swap index number) seat.old.me.0 }
-        ensures table { (seat.new.table_id ≡ seat.old.table_id) × (seat.new.id ≡ seat.old.id) × (seat.new.me.1 ≡ seat.old.me.1) }
-        ensures moved { Moves (needs_of self.now.rules) self.now.table.shared.key.withheld self.now.places M.place (next_of (needs_of self.now.rules) M.me M.place M.place.stage result) result seat.old.me.0 seat.new.me.0 }
+        requires table { IsAt self.now seat.old × (M.about ≡ about_of self.now) }
+        requires next { MakesNext self.now M.me M.place (Swap index number) seat.old }
+        ensures same { IsSameSeat seat.old seat.new }
+        ensures moved { HasMoved self.now M.me M.place result seat.old seat.new }
     {
         self.table.shared.swap::<Moved<M>>(seat, index, number)
     }

@@ -36,7 +36,7 @@ pub struct View {
     pub gathered: LinkedList<Departed>,
 }
 
-/// What a table is told when it is made: the rules, how much is held, and how many places there are.
+/// What a table is told when it is made: the rules, how much is taken from the start, and how many places there are.
 #[derive(Drop)]
 pub struct About {
     pub rules: Rules,
@@ -90,7 +90,7 @@ impl<M: Mover> Play<(), View> for Moved<M> {
     ghost then = { told M.about M.place M.me };
 }
 
-/// A step of a place that asks: no step at all, and the place stands as it stood, where it would have to join for what is found.
+/// A step of a place that asks: no step at all, and the place is at the stage where it was, if it would have to join for what is found.
 pub struct LookOnly<M> {
     of: PhantomData<M>,
 }

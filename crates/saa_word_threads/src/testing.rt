@@ -1,28 +1,27 @@
-//! For tests alone: calls beside somebody who looks on, or with another patience, and what can be seen of a form beside its calls.
+//! For tests alone: calls beside a watch, or with another patience, and what can be seen of a form beside its calls.
 //!
 //! A program has no use for this. Each call here is a public one of a semaphore or a lock, and is held to the same contract.
 
 ghost use Rattle.std.specs.Prelude.{◌≡◌};
-ghost use Rattle.saa_word_steps.specs.Needs.{permit_needs};
 ghost use Rattle.saa_word_steps.specs.declared.call.Answer.{Answer};
-ghost use Rattle.saa_word_steps.specs.declared.call.WordCall.TheVariants.{Cancel, Register, RegisterMode, Release, ReleaseShare, TryShare};
+ghost use Rattle.saa_word_steps.specs.declared.call.WordCall.TheVariants.{Cancel, RegisterMode, Release, ReleaseShare, TryShare};
 ghost use Rattle.saa_word_threads.specs.Locks.{IsDealtBy as IsDealtByLock, IsMade as IsMadeAtLock, IsWaited as IsWaitedAtLock};
-ghost use Rattle.saa_word_threads.specs.Public.{IsMade, IsWaited, is_yes, tried};
-ghost use Rattle.saa_word_threads.specs.Semaphores.{IsDealtBy, about_of};
+ghost use Rattle.saa_word_threads.specs.Public.{is_yes, tried};
+ghost use Rattle.saa_word_threads.specs.Semaphores.{IsDealtBy, IsMade, IsWaited};
 
+use crate::answers::yes;
 use crate::lock::{Lock, Mode, Place as LockPlace, SHARED, TryLockError, tried};
 pub use crate::looking::{NONE, Patience, WAITING};
 pub use crate::mark::{is_parked, is_parked_at};
 use crate::place::Place;
 use crate::semaphore::SemaphoreOf;
-use crate::straight::yes;
 pub use crate::watch::{Made, Moment, Pause, Watch};
 use saa_core_words::word::Word;
 use saa_word_steps::call::WordCall;
 use saa_word_steps::place::{Ask, Stage};
 use std::sync::Wait;
 
-/// Gives permits back as [`SemaphoreOf::release_many`] does, step by step, beside somebody who looks on.
+/// Gives permits back as [`SemaphoreOf::release_many`] does, step by step, beside a watch.
 pub fn release_watched<R: Wait, W: Watch, const MAX: usize>(
     semaphore: &SemaphoreOf<MAX>,
     rt: &R,
@@ -31,7 +30,7 @@ pub fn release_watched<R: Wait, W: Watch, const MAX: usize>(
     count: usize,
 ) -> bool
     requires { IsDealtBy semaphore.now place.old }
-    ensures { (answer : Answer) × (result ≡ is_yes answer) × IsMade (permit_needs MAX) (about_of semaphore.now).withheld (Release count) place.old answer place.new }
+    ensures { (answer : Answer) × (result ≡ is_yes answer) × IsMade semaphore.now (Release count) place.old answer place.new }
 {
     yes(
         semaphore
@@ -40,7 +39,7 @@ pub fn release_watched<R: Wait, W: Watch, const MAX: usize>(
     )
 }
 
-/// Cancels as [`SemaphoreOf::cancel`] does, beside somebody who looks on.
+/// Cancels as [`SemaphoreOf::cancel`] does, beside a watch.
 pub fn cancel_watched<R: Wait, W: Watch, const MAX: usize>(
     semaphore: &SemaphoreOf<MAX>,
     rt: &R,
@@ -48,12 +47,12 @@ pub fn cancel_watched<R: Wait, W: Watch, const MAX: usize>(
     place: &mut Place,
 )
     requires { IsDealtBy semaphore.now place.old }
-    ensures { (answer : Answer) × IsMade (permit_needs MAX) (about_of semaphore.now).withheld Cancel place.old answer place.new }
+    ensures { (answer : Answer) × IsMade semaphore.now Cancel place.old answer place.new }
 {
     semaphore.form.call(rt, watch, place, WordCall::Cancel);
 }
 
-/// Waits for permits as [`SemaphoreOf::acquire_many`] does, beside somebody who looks on, and joins the waiters once this patience is over.
+/// Waits for permits as [`SemaphoreOf::acquire_many`] does, beside a watch, and joins the waiters once this patience is over.
 pub fn acquire_patiently<R: Wait, W: Watch, const MAX: usize>(
     semaphore: &SemaphoreOf<MAX>,
     rt: &R,
@@ -63,12 +62,12 @@ pub fn acquire_patiently<R: Wait, W: Watch, const MAX: usize>(
     patience: Patience,
 ) -> bool
     requires { IsDealtBy semaphore.now place.old }
-    ensures { IsWaited (permit_needs MAX) (about_of semaphore.now).withheld (Register count) place.old result place.new }
+    ensures { IsWaited semaphore.now count place.old result place.new }
 {
     semaphore.wait_patiently(rt, watch, place, count, patience)
 }
 
-/// Gives a share back as [`Lock::release_share`] does, step by step, beside somebody who looks on.
+/// Gives a share back as [`Lock::release_share`] does, step by step, beside a watch.
 pub fn release_share_watched<R: Wait, W: Watch>(
     lock: &Lock,
     rt: &R,
@@ -84,7 +83,7 @@ pub fn release_share_watched<R: Wait, W: Watch>(
     )
 }
 
-/// Tries for a share as [`Lock::try_share`] does, beside somebody who looks on.
+/// Tries for a share as [`Lock::try_share`] does, beside a watch.
 pub fn try_share_watched<R: Wait, W: Watch>(
     lock: &Lock,
     rt: &R,
@@ -102,7 +101,7 @@ pub fn try_share_watched<R: Wait, W: Watch>(
     tried(lock.form.ask(rt, watch, &mut place.inner, call, ask, NONE))
 }
 
-/// Registers as [`Lock::register`] does, beside somebody who looks on, and joins the waiters once this patience is over.
+/// Registers as [`Lock::register`] does, beside a watch, and joins the waiters once this patience is over.
 pub fn register_patiently<R: Wait, W: Watch>(
     lock: &Lock,
     rt: &R,
@@ -117,7 +116,7 @@ pub fn register_patiently<R: Wait, W: Watch>(
     lock.register_patiently(rt, watch, place, mode, patience)
 }
 
-/// Waits as [`Lock::lock`] and [`Lock::share`] do, in this mode, beside somebody who looks on, and joins the waiters once this patience is over.
+/// Waits as [`Lock::lock`] and [`Lock::share`] do, in this mode, beside a watch, and joins the waiters once this patience is over.
 pub fn wait_patiently<R: Wait, W: Watch>(
     lock: &Lock,
     rt: &R,

@@ -1,4 +1,4 @@
-//! A visitor of a form: a caller with no words of its own, who never joins the waiters.
+//! A visitor of a form: a caller with no words of its own, which never joins the waiters.
 //!
 //! A form has any number of them; each enters by a load, with a number that no place has. Between its calls a visitor is registered as nothing.
 

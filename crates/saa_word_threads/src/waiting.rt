@@ -13,7 +13,7 @@ const LOOKS: u32 = 500;
 const YIELDS: u32 = 500;
 
 impl Form {
-    // Waits a while at this stage: for the own answer, and else for the flag's holder, who has no word to park on.
+    // Waits a while at this stage: for the own answer, and else for the flag's holder, which has no word to park on.
     pub(crate) fn wait<R: Wait, W: Watch>(&self, rt: &R, watch: &W, me: u16, stage: Stage)
         requires { me < self.now.places }
     {
@@ -43,7 +43,7 @@ impl Form {
             Pause::YieldsForAnswer.make(watch);
         }
         // Why this order: the place that shows the answer looks at this mark once the answer is written, and parking looks at the word once the mark
-        // is set. The other way round an answer between the two would wake nobody.
+        // is set. The other way round no wake would follow an answer between the two.
         let place = usize::from(me);
         self.marks.set(place);
         watch.at(Moment::Parks);

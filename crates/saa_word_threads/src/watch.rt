@@ -1,10 +1,10 @@
-//! What a call tells somebody who looks on, and the pauses that it makes.
+//! What a call tells its watch, and the pauses that it makes.
 //!
 //! Each moment is told by the thread that makes the call. So a test can count moments, and hold a call at one. No step rests on it, and
-//! where nobody looks on it costs nothing.
+//! with no watch it costs nothing.
 //!
 //! A call makes each of its pauses by `Pause::make`, which makes it and then tells it by a `Made`, which nothing else makes. So a call can't tell of a pause
-//! that it leaves out, no watch can leave one out, and what a test counts is what a call rests where nobody looks on. That a pause which is made lasts is
+//! that it leaves out, no watch can leave one out, and what a test counts is what a call rests with no watch. That a pause which is made lasts is
 //! read off the body of `make`.
 
 use std::hint::spin_loop;
@@ -81,7 +81,7 @@ impl Pause {
     }
 }
 
-/// Looks on as a call is made.
+/// Is told what a call does as it is made.
 pub trait Watch {
     /// Called at each moment.
     fn at(&self, moment: Moment);
@@ -91,7 +91,7 @@ pub trait Watch {
     fn paused(&self, _made: &Made) {}
 }
 
-/// Nobody looks on.
+/// No watch.
 pub(crate) struct Unwatched;
 
 impl Watch for Unwatched {

@@ -1,22 +1,23 @@
-use Rattle.std.proofs.Common.{◌<◌, refl, subst, sym, ◌∙◌}
-use Rattle.saa_word_steps.specs.Needs.{needs_of}
+use Rattle.std.proofs.Common.{◌<◌, refl, subst, sym}
 use Rattle.saa_word_steps.specs.declared.operation.Operation.TheVariants.{Load}
 use Rattle.saa_word_threads.proofs.Moving.{allowed-look}
-use Rattle.saa_word_threads.proofs.Calling.{look-same}
+use Rattle.saa_word_threads.proofs.PendingLemmas.{looks-so, pending-looks, pending-makes}
 use Rattle.saa_word_threads.proofs.form.Form.seek_by_load.Goals as goal
 
 pub load-requires : goal.load-requires
-load-requires g c = (
-  c.requires.table,
-  subst (λ n. 0 < n) (sym c.args.self.now.words) c.requires.next.inside,
-  allowed-look c.args.self.now.table.shared.key c.args.self.now.rules c.args.self.now.places g.M.Mover.about g.M.Mover.place c.args.at.value g.M.Mover.me
-      c.args.me c.args.self.now.table.shared.table_id.slots c.args.seat.now.id c.args.seat.now.me (Load 0)
-      c.args.self.now.key.0 c.args.self.now.key.1 c.args.self.now.few c.args.self.now.wide c.requires.told c.requires.next
-      (λ found joins. refl),
-)
+load-requires g c =
+    let next =
+    pending-makes c.args.self.now c.args.pending.now c.args.at.value c.args.seat.now c.requires.pending (Load 0) (sym c.requires.loads) in (
+      c.requires.pending.0.0,
+      subst (λ n. 0 < n) (sym c.args.self.now.words) next.inside,
+      allowed-look c.args.self.now.table.shared.key c.args.self.now.rules c.args.self.now.places g.M.Mover.about g.M.Mover.place c.args.at.value g.M.Mover.me
+          c.args.pending.now.me c.args.self.now.table.shared.table_id.slots c.args.seat.now.id c.args.seat.now.me (Load 0)
+          c.args.self.now.key.0 c.args.self.now.key.1 c.args.self.now.few c.args.self.now.wide c.requires.told next
+          (λ found joins. refl),
+    )
 
-pub returns-clause-number : goal.returns-clause-number
-returns-clause-number g c =
-    let same =
-    look-same (needs_of g.M.Mover.about.rules) g.M.Mover.about.withheld g.M.Mover.about.places g.M.Mover.me g.M.Mover.place c.load.result c.args.seat.now.me.0
-    c.load.new.seat.me.0 c.load.ensures.2.0 in (same.0 ∙ c.requires.next.role, same.1 ∙ c.requires.next.number)
+pub returns-clause-found : goal.returns-clause-found
+returns-clause-found g c =
+    pending-looks c.args.self.now c.args.pending.now c.args.at.value c.args.seat.now c.requires.pending c.load.new.seat (c.load.ensures.0, c.load.ensures.1, c.load.ensures.2.1) c.load.result
+    (looks-so c.args.self.now g.M.Mover.about g.M.Mover.place c.args.at.value g.M.Mover.me c.args.pending.now.me c.load.result c.args.seat.now c.load.new.seat
+    c.requires.told.0 c.requires.told.1 c.requires.told.2 c.load.ensures.2.0)

@@ -15,7 +15,7 @@ use Rattle.saa_word_threads.proofs.form.Form.visit_give.Goals as goal
 
 pub visit_look-found-requires-clause-in_call : goal.visit_look-found-requires-clause-in_call
 visit_look-found-requires-clause-in_call g c =
-    rw (c.of_visitor-begun.ensures.call, c.of_visitor-begun.ensures.seat, c.of-looking.ensures, c.standing.ensures)
+    rw (c.of-visit.ensures.call, c.of-visit.ensures.seat, c.of-looking.ensures, c.standing.ensures)
     (visit-first (needs_of c.args.self.now.rules) c.args.self.now.places c.args.call (record idle_place { stage = ReleaseLoad (Asked c.args.request) }) c.args.visitor.now.seat.me.0
     c.args.visitor.now.rests.1
     (number-beyond c.args.self.now.places c.args.self.now.table.shared.table_id.words c.args.visitor.now.seat.table_id.words c.args.visitor.now.seat.me.0.number
@@ -30,9 +30,9 @@ returns-clause-called g c =
       refl,
       going-called (needs_of c.args.self.now.rules) c.args.self.now.table.shared.key.withheld c.args.call idle_place refl (record idle_place { stage = ReleaseLoad (Asked c.args.request) }) (Says true) Idle
           c.args.visitor.now.seat.me.0 c.visit_change-other.new.seat.me.0 c.requires.starts
-          (visit-gave-so (needs_of c.args.self.now.rules) c.args.self.now.table.shared.key.withheld c.args.self.now.places c.args.call c.of_visitor-begun.result.call.value c.args.visitor.now.seat.me.0
-          c.of_visitor-begun.result.seat.value.me.0 c.visit_change-other.new.seat.me.0 c.of-changing.result.value c.args.request
-          c.in-Some.count c.visit_change-other.result c.unpack-seen.result c.of_visitor-begun.ensures.call
-          (ap (λ (s : Seat (Unit {0}) View). s.me.0) c.of_visitor-begun.ensures.seat) (c.of-changing.ensures ∙ c.standing-2.ensures) hit lowers
+          (visit-gave-so (needs_of c.args.self.now.rules) c.args.self.now.table.shared.key.withheld c.args.self.now.places c.args.call c.of-visit.result.call.value c.args.visitor.now.seat.me.0
+          c.of-visit.result.seat.value.me.0 c.visit_change-other.new.seat.me.0 c.of-changing.result.value c.args.request
+          c.in-Some.count c.visit_change-other.result c.unpack-seen.result c.of-visit.ensures.call
+          (ap (λ (s : Seat (Unit {0}) View). s.me.0) c.of-visit.ensures.seat) (c.of-changing.ensures ∙ c.standing-2.ensures) hit lowers
           c.visit_change-other.ensures.in_call).0,
     )

@@ -14,5 +14,5 @@ invariant-loop g l = record {
   same : l.seat.id ≡ l.fn.seat.id;
   role : l.seat.me.0.role ≡ Acting;
   number : l.seat.me.0.number ≡ l.fn.seat.me.0.number;
-  in_call : InVisit (needs_of l.self.rules) l.self.places l.begun.call.value l.begun.seat.value.me.0 l.place l.seat.me.0;
+  in_call : InVisit (needs_of l.self.rules) l.self.places l.visit.call.value l.visit.seat.value.me.0 l.place l.seat.me.0;
 }

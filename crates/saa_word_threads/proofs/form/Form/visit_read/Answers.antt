@@ -7,7 +7,7 @@ use Rattle.saa_word_threads.proofs.form.Form.visit_read.Goals as goal
 
 pub visit_look-found-requires-clause-in_call : goal.visit_look-found-requires-clause-in_call
 visit_look-found-requires-clause-in_call c =
-    rw (c.of_visitor-begun.ensures.call, c.of_visitor-begun.ensures.seat, c.of-looking.ensures, c.standing-place.ensures)
+    rw (c.of-visit.ensures.call, c.of-visit.ensures.seat, c.of-looking.ensures, c.standing-place.ensures)
     (visit-first (needs_of c.args.self.now.rules) c.args.self.now.places c.args.call (record idle_place { stage = ReadLoad c.args.reading }) c.args.visitor.now.seat.me.0
     c.args.visitor.now.rests.1
     (number-beyond c.args.self.now.places c.args.self.now.table.shared.table_id.words c.args.visitor.now.seat.table_id.words c.args.visitor.now.seat.me.0.number

@@ -17,7 +17,7 @@ returns-clause-waited g c =
     (view_of c.register_patiently.new.place.inner) (view_of c.await_grant.new.place)) c.args.self.now.free
     (subst (λ (r : Rules). IsCalled (needs_of r) c.args.self.now.form.table.shared.key.withheld Poll (registered c.register_patiently.new.place.inner) awaited.0
     (registered c.await_grant.new.place) (view_of c.register_patiently.new.place.inner) (view_of c.await_grant.new.place)) c.args.self.now.modes awaited.2) in (
-      (c.await_grant.ensures.same.1 ∙ made.2.0.0, c.await_grant.ensures.same.0 ∙ made.2.0.1),
+      (c.await_grant.ensures.same.0 ∙ made.2.0.0, c.await_grant.ensures.same.1 ∙ made.2.0.1),
       (
         made.0,
         registered c.register_patiently.new.place.inner,

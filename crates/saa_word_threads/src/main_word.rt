@@ -1,0 +1,45 @@
+//! What a call that goes straight reads off the main word, and what it writes there.
+//!
+//! Held to `specs/Straight.antt`: which words grant an ask by one exchange, and which let something be given back by one.
+
+ghost use Rattle.std.specs.Prelude.{◌≡◌, ◌==◌, ◌||◌, false, not};
+ghost use Rattle.saa_word_threads.specs.Pending.{needs};
+ghost use Rattle.saa_word_threads.specs.Straight.{grants_at, lowers_to};
+
+use crate::form::Form;
+use saa_core_words::word::Word;
+use saa_word_steps::place::Ask;
+
+impl Form {
+    // Whether a word grants an ask by an exchange: there is no waiter, it isn't poisoned, and what is asked for takes something and fits.
+    pub(crate) fn grants(&self, seen: Word, ask: Ask) -> bool
+        ensures { result ≡ grants_at (needs self.now) seen ask }
+    {
+        !seen.is_poisoned
+            && seen.tail == 0
+            && self.rules.fits(seen.count, ask.request)
+            && self.rules.takes(ask.request) != 0
+    }
+
+    // The count of a word once a request is given back by an exchange: where it isn't poisoned, there is no waiter, and so much is taken.
+    pub(crate) fn lowers(&self, seen: Word, request: u16) -> Option<u16>
+        ensures { result ≡ lowers_to (needs self.now) seen request }
+    {
+        if seen.is_poisoned || seen.tail != 0 {
+            return None;
+        }
+        self.rules.less(seen.count, request)
+    }
+}
+
+// A word with no waiters, with this count.
+pub(crate) fn lowered(seen: Word, count: u16) -> Word
+    ensures { result ≡ record { count = count; is_flagged = seen.is_flagged || not (seen.tail == 0); is_poisoned = false; tail = seen.tail } }
+{
+    Word {
+        count,
+        is_flagged: seen.is_flagged || seen.tail != 0,
+        is_poisoned: false,
+        tail: seen.tail,
+    }
+}
