@@ -13,6 +13,6 @@ pub use saa_core_laws::laws;
 pub use saa_sync::{
     Barrier, Full, Gate, Guard, Lends, Lock, Mutex, MutexGuard, Pager, PassesOn, Permit, PermitOf,
     RwLock, RwLockReadGuard, RwLockWriteGuard, Semaphore, SemaphoreOf, Shows, TryLockError,
-    Writing, barrier, future, gate, line, lock, lock_api, lock_async, pager, patience, read_async,
-    semaphore, ticket, timed, words, write_async,
+    Writing, barrier, form, future, gate, line, lock, lock_api, lock_async, pager, patience,
+    read_async, semaphore, ticket, timed, words, write_async,
 };

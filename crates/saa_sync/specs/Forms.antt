@@ -1,11 +1,5 @@
 -- What contracts see of the forms that threads share, of the locks round a value, and of their guards and futures.
-use Rattle.std.specs.Prelude.{ℕ, Bool, Result}
-use Rattle.saa_core_spec.specs.declared.barrier.BarrierAnswer.{BarrierAnswer}
-use Rattle.saa_core_spec.specs.declared.barrier.BarrierCall.{BarrierCall}
-use Rattle.saa_core_spec.specs.declared.gate.Error.{Error as GateError}
-use Rattle.saa_core_spec.specs.declared.gate.GateAnswer.{GateAnswer}
-use Rattle.saa_core_spec.specs.declared.gate.GateCall.{GateCall}
-use Rattle.saa_core_spec.specs.declared.gate.State.{State}
+use Rattle.std.specs.Prelude.{ℕ, Bool, Option, Some, None, Result, Ok, Err}
 use Rattle.saa_core_spec.specs.declared.lock.LockAnswer.{LockAnswer}
 use Rattle.saa_core_spec.specs.declared.lock.LockCall.{LockCall}
 use Rattle.saa_core_spec.specs.declared.lock.Mode.{Mode}
@@ -15,16 +9,10 @@ use Rattle.saa_sync.specs.declared.patience.Patience.{Patience}
 use Rattle.saa_sync.specs.declared.shell.Shell.{Shell}
 use Rattle.saa_sync.specs.NamedFutures.{FutureState}
 
--- A form is the shell that it stands on, whose core is told by the types of its calls, of what is asked, of its answers, and of
--- what these are read as
-abbrev pub LockShell : Type 0 → Type 0
-LockShell R = Shell R Core LockCall Mode LockAnswer (Result Bool Error)
-
-abbrev pub GateShell : Type 0 → Type 0
-GateShell R = Shell R Core GateCall (Unit {0}) GateAnswer (Result State GateError)
-
-abbrev pub BarrierShell : Type 0 → Type 0
-BarrierShell R = Shell R Core BarrierCall (Unit {0}) BarrierAnswer (Result Bool Error)
+-- what a value reads as, by what answers mean, and else the error
+abbrev pub answer_of : {V : Type 0} → (Result ℕ Error → V) → ℕ → Option Error → V
+answer_of reading value None = reading (Ok value)
+answer_of reading value (Some error) = reading (Err error)
 
 -- what tasks that poll at a shell wait for
 abbrev pub source_of : {R P Call Ask Answer Value : Type 0} → Shell R P Call Ask Answer Value → ℕ
@@ -38,9 +26,10 @@ patience_of shell = shell.unregistered
 abbrev pub waiter_patience_of : {R P Call Ask Answer Value : Type 0} → Shell R P Call Ask Answer Value → Patience
 waiter_patience_of shell = shell.patience
 
--- a lock round a value is the lock whose turns the value is used in
+-- a lock round a value is the lock whose turns the value is used in: its shell, whose core is told by the types of its calls, of what is
+-- asked, of its answers, and of what these are read as
 abbrev pub TurnLock : Type 0 → Type 0
-TurnLock R = LockShell R
+TurnLock R = Shell R Core LockCall Mode LockAnswer (Result Bool Error)
 
 -- a guard is its hold on the value, and its turn
 pub record GuardState (V U : Type 0) : Type 0 where

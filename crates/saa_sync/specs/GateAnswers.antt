@@ -8,11 +8,6 @@ use Rattle.saa_core_spec.specs.declared.polling.Error.{Error}
 use Rattle.saa_core_spec.specs.declared.polling.Error.TheVariants.{NotRegistered, WrongMode, NotReady}
 use Rattle.saa_core_spec.specs.Values.{gate_value}
 
--- a gate's answer: what its numbers mean, and an error of the poll is the gate's error of the same name
-abbrev pub gate_answer : ℕ → Option Error → Result State GateError
-gate_answer value None = gate_value (Ok value)
-gate_answer value (Some error) = gate_value (Err error)
-
 -- the error of a poll that a gate's answer is, if it is one; who was rejected, refused or woken has an answer
 abbrev pub gate_fault : Result State GateError → Option Error
 gate_fault (Ok state) = None

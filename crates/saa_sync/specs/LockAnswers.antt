@@ -3,11 +3,6 @@
 use Rattle.std.specs.Prelude.{ℕ, Bool, false, Option, Some, None, Result, Ok, Err, ◌==◌}
 use Rattle.saa_core_spec.specs.declared.polling.Error.{Error}
 
--- a lock's answer: 0 is a grant, every other value says that the lock was poisoned, and an error stays itself
-abbrev pub lock_answer : ℕ → Option Error → Result Bool Error
-lock_answer value None = Ok (value == 0)
-lock_answer value (Some error) = Err error
-
 -- a lock is granted by 0; every other answer says that it was poisoned
 abbrev pub turn : Option ℕ → Bool
 turn None = false

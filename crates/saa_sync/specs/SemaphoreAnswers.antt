@@ -3,11 +3,6 @@
 use Rattle.std.specs.Prelude.{ℕ, Bool, true, false, Option, Some, None, Result, Ok, Err}
 use Rattle.saa_core_spec.specs.declared.polling.Error.{Error}
 
--- a semaphore's answer: every value is a grant, and an error stays itself
-abbrev pub semaphore_answer : ℕ → Option Error → Result (Unit {0}) Error
-semaphore_answer value None = Ok tt
-semaphore_answer value (Some error) = Err error
-
 -- one permit is granted
 abbrev pub one_permit : Option ℕ → Unit {0}
 one_permit answer = tt

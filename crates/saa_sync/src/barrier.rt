@@ -13,17 +13,15 @@ ghost use Rattle.saa_core.specs.Tickets.{is_busy, is_yes};
 ghost use Rattle.saa_core.specs.Beginning.{mode_of};
 ghost use Rattle.saa_sync.specs.Forms.{patience_of, waiter_patience_of};
 
+use crate::form::{Form, PagerCore};
 use crate::future::barrier::{ArriveFuture, ArriveFutureWith, Asked, AskedWith};
-use crate::pager::{Pager, SyncResult};
+use crate::pager::Pager;
 use crate::patience::NONE;
 use crate::seat::PATIENCE;
-use crate::shell::Shell;
-use futures::task::{Context, Poll};
 pub use saa_core::barrier::{BarrierAnswer, BarrierCall, BarrierCore};
 use saa_core::primitive::Primitive;
-use saa_core::ticket::{Error, Full, How, Ticket};
+use saa_core::ticket::{Error, Full};
 use std::alloc::{AllocError, Global};
-use std::marker::Model;
 use std::sync::Wait;
 use std::sync::atomic::Ordering;
 
@@ -37,23 +35,24 @@ const LEADER: u8 = 1;
 /// for the mutex around the core, which is held for one short step at a time. No call but making takes memory.
 ///
 /// Each ticket and pager is used with the barrier that it was registered in.
-#[derive(Drop)]
-pub struct Barrier<R: Wait + Drop> {
-    pub(crate) shell: Shell<R, BarrierCore>,
-}
+pub type Barrier<R> = Form<R, BarrierCore>;
 
-impl<R: Wait + Drop> Model for Barrier<R> {
-    ghost use Rattle.saa_sync.specs.Forms.{BarrierShell};
-
-    ghost Value = { BarrierShell R };
-
-    ghost view = { λ form. form.shell };
-}
-
-impl<R: Wait + Drop> Barrier<R> {
+/// A core of a barrier, whose type says how many tasks it is for at most.
+pub trait TaskCore: Primitive {
     /// The most tasks that a barrier is for.
-    pub const MAX_TASKS: usize = BarrierCore::MAX_TASKS;
+    const MAX_TASKS: usize;
+}
 
+impl TaskCore for BarrierCore {
+    const MAX_TASKS: usize = BarrierCore::MAX_TASKS;
+}
+
+impl<R: Wait + Drop, C: TaskCore> Form<R, C> {
+    /// The most tasks that a barrier is for.
+    pub const MAX_TASKS: usize = C::MAX_TASKS;
+}
+
+impl<R: Wait + Drop> Form<R, BarrierCore> {
     /// A barrier for so many tasks, and room for so many waiters. A number above [`Self::MAX_TASKS`] is
     /// cut to it. Costs O(`room`).
     ///
@@ -66,8 +65,7 @@ impl<R: Wait + Drop> Barrier<R> {
         ensures waiter { IfOk result (λ barrier. waiter_patience_of barrier ≡ PATIENCE) }
     {
         let core = BarrierCore::with_count(alloc, count, room)?;
-        let shell = Shell::new(rt, alloc, core, room, PATIENCE)?;
-        Ok(Barrier { shell })
+        Self::of_core(rt, alloc, core, room, NONE)
     }
 
     /// How many arrivals the round still waits for: the size less the waiters, and 0 at a barrier of size 0. Every
@@ -140,30 +138,21 @@ impl<R: Wait + Drop> Barrier<R> {
         ensures mode { is_yes result ≡ true → mode_of pager.new ≡ Some is_sync }
         ensures idle { is_busy pager.old ≡ false → IfOk result (λ is_registered. is_registered ≡ true) }
     {
-        if pager.is_registered() {
-            return Ok(false);
-        }
-        let mut ticket = Ticket::new();
-        let is_registered = self.shell.register(&mut ticket, (), is_sync)?;
-        pager.hold(ticket, self);
-        Ok(is_registered)
+        self.register(pager, (), is_sync)
     }
 }
 
-impl<R: Wait + Drop> SyncResult for Barrier<R> {
+impl PagerCore for BarrierCore {
     ghost use Rattle.saa_core.specs.Tickets.{fault_of};
     ghost use Rattle.std.proofs.Common.{refl};
     ghost use Rattle.saa_core_spec.specs.Values.{barrier_value};
-    ghost use Rattle.saa_sync.specs.BarrierAnswers.{barrier_answer};
-    ghost use Rattle.saa_sync.specs.Forms.{source_of};
-
-    type Result = Result<bool, Error>;
+    ghost use Rattle.saa_sync.specs.Forms.{answer_of};
 
     ghost is_value = { λ value. Unit {0} };
 
     ghost is_answer = { λ value. Unit {0} };
 
-    ghost answer = { barrier_answer };
+    ghost answer = { answer_of barrier_value };
 
     ghost fault = { λ result. fault_of result };
 
@@ -171,35 +160,14 @@ impl<R: Wait + Drop> SyncResult for Barrier<R> {
 
     ghost errors = { λ value error. refl };
 
-    ghost source = { source_of };
+    ghost answers = { λ value is. refl };
 
-    /// Without an error `Ok(true)` for 1, the leader, and `Ok(false)` for every other value; and else the error.
-    fn to_result(value: u8, pager_error: Option<Error>) -> Result<bool, Error> {
-        match pager_error {
-            Some(error) => Err(error),
-            None => Ok(is_leader(value)),
-        }
+    /// 1, the last arrival of its round, is `Ok(true)`, and every other value `Ok(false)`; an error is itself.
+    fn read(polled: Result<u8, Error>) -> Result<bool, Error> {
+        BarrierCore::value_of(polled)
     }
 
-    /// `Ok(true)`: it was the last arrival of its round; `Ok(false)`: another one was. The ticket is idle then; its slot,
-    /// if it had one, is free again.
-    fn take(&self, ticket: &mut Ticket, how: How) -> Result<bool, Error> {
-        BarrierCore::value_of(self.shell.take(ticket, how))
-    }
-
-    /// As [`Self::take`] as async, for a task: it is woken once the answer is there.
-    fn poll_task(&self, ticket: &mut Ticket, cx: &mut Context<'_>) -> Poll<Result<bool, Error>> {
-        match self.shell.poll_task(ticket, cx) {
-            Poll::Ready(answer) => Poll::Ready(BarrierCore::value_of(answer)),
-            Poll::Pending => Poll::Pending,
-        }
-    }
-
-    /// A waiter's arrival is taken back, so the round waits for one more, and no waiter is answered. An answer that wasn't
-    /// consumed is only consumed. Costs O(how many wait) for a waiter.
-    fn cancel(&self, ticket: &mut Ticket) {
-        self.shell.cancel(ticket);
-    }
+    ghost means = { λ value. refl };
 }
 
 // Whether a value is that of the leader.

@@ -18,18 +18,16 @@ ghost use Rattle.saa_core.specs.Beginning.{mode_of};
 ghost use Rattle.saa_sync.specs.Forms.{patience_of, waiter_patience_of};
 ghost use Rattle.saa_sync.specs.GateAnswers.{gate_fault, gate_reading};
 
+use crate::form::{Form, PagerCore};
 use crate::future::gate::{Asked, AskedWith, Enter, EnterWith};
-use crate::pager::{Pager, SyncResult};
+use crate::pager::Pager;
 use crate::patience::NONE;
 use crate::seat::PATIENCE;
-use crate::shell::Shell;
-use futures::task::{Context, Poll};
 pub use saa_core::gate::{Error, GateAnswer, GateCall, GateCore, State};
 use saa_core::primitive::Primitive;
-use saa_core::ticket::{Full, How, Ticket};
+use saa_core::ticket::Full;
 use saa_core_spec::polling;
 use std::alloc::{AllocError, Global};
-use std::marker::Model;
 use std::sync::Wait;
 use std::sync::atomic::Ordering;
 
@@ -40,20 +38,9 @@ use std::sync::atomic::Ordering;
 /// may wait for the mutex around the core, which is held for one short step at a time. No call but making takes memory.
 ///
 /// Each ticket and pager is used with the gate that it was registered in.
-#[derive(Drop)]
-pub struct Gate<R: Wait + Drop> {
-    pub(crate) shell: Shell<R, GateCore>,
-}
+pub type Gate<R> = Form<R, GateCore>;
 
-impl<R: Wait + Drop> Model for Gate<R> {
-    ghost use Rattle.saa_sync.specs.Forms.{GateShell};
-
-    ghost Value = { GateShell R };
-
-    ghost view = { λ form. form.shell };
-}
-
-impl<R: Wait + Drop> Gate<R> {
+impl<R: Wait + Drop> Form<R, GateCore> {
     /// A controlled gate, and room for so many waiters. Costs O(`room`).
     ///
     /// Reserves all the memory that it will ever need; the error comes only where that was refused, and so never for
@@ -64,8 +51,7 @@ impl<R: Wait + Drop> Gate<R> {
         ensures waiter { IfOk result (λ gate. waiter_patience_of gate ≡ PATIENCE) }
     {
         let core = GateCore::new(alloc, room)?;
-        let shell = Shell::new(rt, alloc, core, room, PATIENCE)?;
-        Ok(Gate { shell })
+        Self::of_core(rt, alloc, core, room, NONE)
     }
 
     /// How the gate treats a call that enters. Every ordering acts as the sequentially consistent one; none panics.
@@ -183,30 +169,22 @@ impl<R: Wait + Drop> Gate<R> {
         ensures mode { is_yes result ≡ true → mode_of pager.new ≡ Some is_sync }
         ensures idle { is_busy pager.old ≡ false → IfOk result (λ is_registered. is_registered ≡ true) }
     {
-        if pager.is_registered() {
-            return Ok(false);
-        }
-        let mut ticket = Ticket::new();
-        let is_registered = self.shell.register(&mut ticket, (), is_sync)?;
-        pager.hold(ticket, self);
-        Ok(is_registered)
+        self.register(pager, (), is_sync)
     }
 }
 
-impl<R: Wait + Drop> SyncResult for Gate<R> {
+impl PagerCore for GateCore {
     ghost use Rattle.std.specs.Prelude.{◌≡◌, None, Ok};
     ghost use Rattle.saa_core_spec.specs.Values.{gate_value};
     ghost use Rattle.std.proofs.Common.{refl};
-    ghost use Rattle.saa_sync.specs.GateAnswers.{gate_answer, gate_fault, gate_reading};
-    ghost use Rattle.saa_sync.specs.Forms.{source_of};
-
-    type Result = Result<State, Error>;
+    ghost use Rattle.saa_sync.specs.Forms.{answer_of};
+    ghost use Rattle.saa_sync.specs.GateAnswers.{gate_fault, gate_reading};
 
     ghost is_value = { λ value. Unit {0} };
 
     ghost is_answer = { λ value. gate_fault (gate_value (Ok value)) ≡ None };
 
-    ghost answer = { gate_answer };
+    ghost answer = { answer_of gate_value };
 
     ghost fault = { gate_fault };
 
@@ -214,48 +192,18 @@ impl<R: Wait + Drop> SyncResult for Gate<R> {
 
     ghost errors = { λ value error. refl };
 
-    ghost source = { source_of };
+    ghost answers = { λ value is. is };
 
-    /// Without an error the value's two low bits are the state that let it pass, and the rest is the gate's error, if it
-    /// isn't 0: a gate answers 0, 2, 4, 9 and 12. Else it is the gate's error of the same name.
-    fn to_result(value: u8, pager_error: Option<polling::Error>) -> Result<State, Error> {
-        match pager_error {
-            Some(error) => GateCore::value_of(Err(error)),
-            None => GateCore::value_of(Ok(value)),
+    /// The value's two low bits are the state that let it pass, and the rest is the gate's error, if it isn't 0: a gate answers 0, 2, 4,
+    /// 9 and 12. An error of a poll is the gate's error of the same name. `Rejected`, `Sealed` and `SpuriousFailure` are answers.
+    fn read(polled: Result<u8, polling::Error>) -> Result<State, Error> {
+        match polled {
+            Ok(value) => read_value(value),
+            Err(error) => GateCore::value_of(Err(error)),
         }
     }
 
-    /// `Ok(state)`, `Rejected`, `Sealed` and `SpuriousFailure` are answers: the ticket is idle then, and its slot, if it
-    /// had one, is free again.
-    fn take(&self, ticket: &mut Ticket, how: How) -> Result<State, Error> {
-        read_answer(self.shell.take(ticket, how))
-    }
-
-    /// As [`Self::take`] as async, for a task: it is woken once the answer is there.
-    fn poll_task(&self, ticket: &mut Ticket, cx: &mut Context<'_>) -> Poll<Result<State, Error>> {
-        match self.shell.poll_task(ticket, cx) {
-            Poll::Ready(answer) => Poll::Ready(read_answer(answer)),
-            Poll::Pending => Poll::Pending,
-        }
-    }
-
-    /// A waiter leaves the line, and all other waiters are answered that one cancelled (`SpuriousFailure`), and
-    /// woken. An answer that wasn't consumed is only consumed. Costs O(waiters) for a waiter, and a wake for each
-    /// that is answered.
-    fn cancel(&self, ticket: &mut Ticket) {
-        self.shell.cancel(ticket);
-    }
-}
-
-// What a poll is told, by the number that the core answered, or by why there is none.
-pub(crate) fn read_answer(answer: Result<u8, polling::Error>) -> Result<State, Error>
-    ensures reads { result ≡ gate_reading answer }
-    ensures fault { gate_fault result ≡ fault_of answer }
-{
-    match answer {
-        Ok(value) => read_value(value),
-        Err(error) => GateCore::value_of(Err(error)),
-    }
+    ghost means = { λ value. refl };
 }
 
 // What a number means that the core answered.

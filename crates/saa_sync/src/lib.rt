@@ -9,6 +9,7 @@
 #![tactic(auto)]
 
 pub mod barrier;
+pub mod form;
 pub mod future;
 pub mod gate;
 mod guarded;

@@ -15,19 +15,17 @@ ghost use Rattle.saa_core.specs.LockCalls.{lock_tried};
 ghost use Rattle.saa_core.specs.Beginning.{mode_of};
 ghost use Rattle.saa_sync.specs.Forms.{patience_of, waiter_patience_of};
 
+use crate::form::{Form, PagerCore};
 use crate::future::lock::{
     Asked, AskedWith, LockFuture, LockFutureWith, ShareFuture, ShareFutureWith,
 };
-use crate::pager::{Pager, SyncResult};
+use crate::pager::Pager;
 use crate::patience::{Patience, UNREGISTERED};
 use crate::seat::PATIENCE;
-use crate::shell::Shell;
-use futures::task::{Context, Poll};
 pub use saa_core::lock::{LockAnswer, LockCall, LockCore, Mode, TryLockError};
 use saa_core::primitive::Primitive;
-use saa_core::ticket::{Error, Full, How, Ticket};
+use saa_core::ticket::{Error, Full};
 use std::alloc::{AllocError, Global};
-use std::marker::Model;
 use std::sync::Wait;
 use std::sync::atomic::Ordering;
 
@@ -40,23 +38,24 @@ use std::sync::atomic::Ordering;
 /// short step at a time. No call but making takes memory.
 ///
 /// Each ticket and pager is used with the lock that it was registered in.
-#[derive(Drop)]
-pub struct Lock<R: Wait + Drop> {
-    pub(crate) shell: Shell<R, LockCore>,
-}
+pub type Lock<R> = Form<R, LockCore>;
 
-impl<R: Wait + Drop> Model for Lock<R> {
-    ghost use Rattle.saa_sync.specs.Forms.{LockShell};
-
-    ghost Value = { LockShell R };
-
-    ghost view = { λ form. form.shell };
-}
-
-impl<R: Wait + Drop> Lock<R> {
+/// A core of a lock, whose type says how many owners share it at most.
+pub trait SharedCore: Primitive {
     /// The most owners that share a lock.
-    pub const MAX_SHARED_OWNERS: usize = LockCore::MAX_SHARED_OWNERS;
+    const MAX_SHARED_OWNERS: usize;
+}
 
+impl SharedCore for LockCore {
+    const MAX_SHARED_OWNERS: usize = LockCore::MAX_SHARED_OWNERS;
+}
+
+impl<R: Wait + Drop, C: SharedCore> Form<R, C> {
+    /// The most owners that share a lock.
+    pub const MAX_SHARED_OWNERS: usize = C::MAX_SHARED_OWNERS;
+}
+
+impl<R: Wait + Drop> Form<R, LockCore> {
     /// A free lock, and room for so many waiters. Costs O(`room`).
     ///
     /// Reserves all the memory that it will ever need; the error comes only where that was refused, and so never for
@@ -82,13 +81,7 @@ impl<R: Wait + Drop> Lock<R> {
         ensures waiter { IfOk result (λ lock. waiter_patience_of lock ≡ PATIENCE) }
     {
         let core = LockCore::new(alloc, room)?;
-        let shell = Shell::new(rt, alloc, core, room, PATIENCE)?.with_patience(patience);
-        Ok(Lock { shell })
-    }
-
-    // The permission to block, for waits in a turn.
-    pub(crate) fn rt(&self) -> &R {
-        self.shell.rt()
+        Self::of_core(rt, alloc, core, room, patience)
     }
 
     /// Whether nobody has the lock and it isn't poisoned. Every ordering acts as the sequentially consistent one; none
@@ -271,31 +264,22 @@ impl<R: Wait + Drop> Lock<R> {
         ensures mode { is_yes result ≡ true → mode_of pager.new ≡ Some is_sync }
         ensures idle { is_busy pager.old ≡ false → IfOk result (λ is_registered. is_registered ≡ true) }
     {
-        if pager.is_registered() {
-            return Ok(false);
-        }
-        let mut ticket = Ticket::new();
-        let is_registered = self.shell.register(&mut ticket, mode, is_sync)?;
-        pager.hold(ticket, self);
-        Ok(is_registered)
+        self.register(pager, mode, is_sync)
     }
 }
 
-impl<R: Wait + Drop> SyncResult for Lock<R> {
+impl PagerCore for LockCore {
     ghost use Rattle.std.specs.Prelude.{◌≡◌, ◌⊎◌};
     ghost use Rattle.saa_core.specs.Tickets.{fault_of};
     ghost use Rattle.std.proofs.Common.{refl};
     ghost use Rattle.saa_core_spec.specs.Values.{lock_value};
-    ghost use Rattle.saa_sync.specs.LockAnswers.{lock_answer};
-    ghost use Rattle.saa_sync.specs.Forms.{source_of};
-
-    type Result = Result<bool, Error>;
+    ghost use Rattle.saa_sync.specs.Forms.{answer_of};
 
     ghost is_value = { λ value. (value ≡ 0) ⊎ (value ≡ 2) };
 
     ghost is_answer = { λ value. Unit {0} };
 
-    ghost answer = { lock_answer };
+    ghost answer = { answer_of lock_value };
 
     ghost fault = { λ result. fault_of result };
 
@@ -303,36 +287,14 @@ impl<R: Wait + Drop> SyncResult for Lock<R> {
 
     ghost errors = { λ value error. refl };
 
-    ghost source = { source_of };
+    ghost answers = { λ value is. refl };
 
-    /// Without an error the value is 0, granted, or 2, poisoned: `Ok(true)` or `Ok(false)`; and else the error.
-    fn to_result(value: u8, pager_error: Option<Error>) -> Result<bool, Error> {
-        match pager_error {
-            Some(error) => Err(error),
-            None => Ok(is_granted(value)),
-        }
+    /// 0, granted, is `Ok(true)`, and 2, poisoned, `Ok(false)`; an error is itself.
+    fn read(polled: Result<u8, Error>) -> Result<bool, Error> {
+        LockCore::value_of(polled)
     }
 
-    /// `Ok(true)`: granted; `Ok(false)`: the lock was poisoned. The ticket is idle then; its slot, if it had one, is free
-    /// again.
-    fn take(&self, ticket: &mut Ticket, how: How) -> Result<bool, Error> {
-        LockCore::value_of(self.shell.take(ticket, how))
-    }
-
-    /// As [`Self::take`] as async, for a task: it is woken once the answer is there.
-    fn poll_task(&self, ticket: &mut Ticket, cx: &mut Context<'_>) -> Poll<Result<bool, Error>> {
-        match self.shell.poll_task(ticket, cx) {
-            Poll::Ready(answer) => Poll::Ready(LockCore::value_of(answer)),
-            Poll::Pending => Poll::Pending,
-        }
-    }
-
-    /// A waiter leaves the line, and those behind it are granted while they fit; what was granted and not consumed is
-    /// given back as by the release of its mode, and nothing where the lock is poisoned by then. A granted wait mode and
-    /// a Poisoned answer give nothing back. Costs O(1) at any position, and a wake for each who is granted.
-    fn cancel(&self, ticket: &mut Ticket) {
-        self.shell.cancel(ticket);
-    }
+    ghost means = { λ value. refl };
 }
 
 // Whether a value is that of a grant.

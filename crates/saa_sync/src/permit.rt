@@ -2,7 +2,8 @@
 
 ghost use Rattle.std.specs.Prelude.{◌≡◌, IfOk, IfSome};
 
-use crate::semaphore::{SemaphoreOf, SemaphoreOn};
+use crate::form::Form;
+use crate::semaphore::SemaphoreOf;
 use saa_core::semaphore::SemaphoreCoreOf;
 use saa_core::ticket::Full;
 use std::marker::Model;
@@ -54,14 +55,14 @@ impl<S: TakesBack> Drop for PermitFrom<'_, S> {
     }
 }
 
-impl<R: Wait + Drop, const MAX: usize> TakesBack for SemaphoreOn<R, SemaphoreCoreOf<MAX>> {
+impl<R: Wait + Drop, const MAX: usize> TakesBack for Form<R, SemaphoreCoreOf<MAX>> {
     /// As its `release`. The answer isn't looked at: it is `false` only where releases by other tasks have given back all that was out.
     fn take_back(&self) {
         self.release();
     }
 }
 
-impl<R: Wait + Drop, const MAX: usize> SemaphoreOn<R, SemaphoreCoreOf<MAX>> {
+impl<R: Wait + Drop, const MAX: usize> Form<R, SemaphoreCoreOf<MAX>> {
     /// Takes one permit as [`Self::acquire_sync`] does, and gives it back when what is returned goes.
     ///
     /// `Full`: its patience is over, it would have to wait, and as many slots are held as there is room; nothing is changed.

@@ -15,28 +15,20 @@ ghost use Rattle.saa_core.specs.Tickets.{Calls, is_busy, is_yes};
 ghost use Rattle.saa_core.specs.Beginning.{mode_of};
 ghost use Rattle.saa_sync.specs.Forms.{patience_of, waiter_patience_of};
 
+use crate::form::{Form, PagerCore};
 use crate::future::semaphore::{
     AcquireManyOf, AcquireManyWithOf, AcquireOf, AcquireWithOf, Asked, AskedWith,
 };
-use crate::pager::{Pager, SyncResult};
+use crate::pager::Pager;
 use crate::patience::{Patience, UNREGISTERED};
 pub use crate::permit::{Permit, PermitFrom, PermitOf, TakesBack};
 use crate::seat::PATIENCE;
-use crate::shell::Shell;
-use futures::task::{Context, Poll};
 use saa_core::primitive::Primitive;
 pub use saa_core::semaphore::{SemaphoreAnswer, SemaphoreCall, SemaphoreCore, SemaphoreCoreOf};
-use saa_core::ticket::{Error, Full, How, Ticket};
+use saa_core::ticket::{Error, Full};
 use std::alloc::{AllocError, Global};
-use std::marker::Model;
 use std::sync::Wait;
 use std::sync::atomic::Ordering;
-
-/// Permits that threads share, on a core that says how many there are at most; named [`SemaphoreOf`] and [`Semaphore`].
-#[derive(Drop)]
-pub struct SemaphoreOn<R: Wait + Drop, C: Primitive> {
-    pub(crate) shell: Shell<R, C>,
-}
 
 /// Up to `MAX` permits that threads share, 1 to 65,535.
 ///
@@ -46,18 +38,10 @@ pub struct SemaphoreOn<R: Wait + Drop, C: Primitive> {
 /// which is held for one short step of the core at a time. No call but making takes memory.
 ///
 /// Each ticket and pager is used with the semaphore that it was registered in.
-pub type SemaphoreOf<R, const MAX: usize> = SemaphoreOn<R, SemaphoreCoreOf<MAX>>;
+pub type SemaphoreOf<R, const MAX: usize> = Form<R, SemaphoreCoreOf<MAX>>;
 
 /// Up to 63 permits that threads share; see [`SemaphoreOf`].
 pub type Semaphore<R> = SemaphoreOf<R, 63>;
-
-impl<R: Wait + Drop, C: Primitive> Model for SemaphoreOn<R, C> {
-    ghost use Rattle.saa_sync.specs.declared.shell.Shell.{Shell};
-
-    ghost Value = { Shell R C C.Call C.Ask C.Answer C.Value };
-
-    ghost view = { λ form. form.shell };
-}
 
 /// A core of permits, whose type says how many there are at most.
 pub trait PermitCore: Primitive {
@@ -69,12 +53,12 @@ impl<const MAX: usize> PermitCore for SemaphoreCoreOf<MAX> {
     const MAX_PERMITS: usize = MAX;
 }
 
-impl<R: Wait + Drop, C: PermitCore> SemaphoreOn<R, C> {
+impl<R: Wait + Drop, C: PermitCore> Form<R, C> {
     /// The most permits of a semaphore.
     pub const MAX_PERMITS: usize = C::MAX_PERMITS;
 }
 
-impl<R: Wait + Drop, const MAX: usize> SemaphoreOn<R, SemaphoreCoreOf<MAX>> {
+impl<R: Wait + Drop, const MAX: usize> Form<R, SemaphoreCoreOf<MAX>> {
     /// A semaphore with all its permits available, and room for so many waiters. Costs O(`room`).
     ///
     /// Reserves all the memory that it will ever need; the error comes only where that was refused, and so never for
@@ -120,8 +104,7 @@ impl<R: Wait + Drop, const MAX: usize> SemaphoreOn<R, SemaphoreCoreOf<MAX>> {
         ensures waiter { IfOk result (λ semaphore. waiter_patience_of semaphore ≡ PATIENCE) }
     {
         let core = SemaphoreCoreOf::with_permits(alloc, permits, room)?;
-        let shell = Shell::new(rt, alloc, core, room, PATIENCE)?.with_patience(patience);
-        Ok(SemaphoreOn { shell })
+        Self::of_core(rt, alloc, core, room, patience)
     }
 
     /// Whether a permit is available. Every ordering acts as the sequentially consistent one; none panics.
@@ -310,30 +293,24 @@ impl<R: Wait + Drop, const MAX: usize> SemaphoreOn<R, SemaphoreCoreOf<MAX>> {
         ensures mode { is_yes result ≡ true → mode_of pager.new ≡ Some is_sync }
         ensures idle { is_busy pager.old ≡ false → count ≤ MAX → IfOk result (λ is_registered. is_registered ≡ true) }
     {
-        if pager.is_registered() || is_too_many::<MAX>(count) {
+        if is_too_many::<MAX>(count) {
             return Ok(false);
         }
-        let mut ticket = Ticket::new();
-        let is_registered = self.shell.register(&mut ticket, count, is_sync)?;
-        pager.hold(ticket, self);
-        Ok(is_registered)
+        self.register(pager, count, is_sync)
     }
 }
 
-impl<R: Wait + Drop, const MAX: usize> SyncResult for SemaphoreOn<R, SemaphoreCoreOf<MAX>> {
+impl<const MAX: usize> PagerCore for SemaphoreCoreOf<MAX> {
     ghost use Rattle.saa_core.specs.Tickets.{fault_of};
     ghost use Rattle.std.proofs.Common.{refl};
     ghost use Rattle.saa_core_spec.specs.Values.{semaphore_value};
-    ghost use Rattle.saa_sync.specs.SemaphoreAnswers.{semaphore_answer};
-    ghost use Rattle.saa_sync.specs.Forms.{source_of};
-
-    type Result = Result<(), Error>;
+    ghost use Rattle.saa_sync.specs.Forms.{answer_of};
 
     ghost is_value = { λ value. Unit {0} };
 
     ghost is_answer = { λ value. Unit {0} };
 
-    ghost answer = { semaphore_answer };
+    ghost answer = { answer_of semaphore_value };
 
     ghost fault = { λ result. fault_of result };
 
@@ -341,35 +318,14 @@ impl<R: Wait + Drop, const MAX: usize> SyncResult for SemaphoreOn<R, SemaphoreCo
 
     ghost errors = { λ value error. refl };
 
-    ghost source = { source_of };
+    ghost answers = { λ value is. refl };
 
-    /// `Ok(())` for every value, and else the error.
-    fn to_result(_value: u8, pager_error: Option<Error>) -> Result<(), Error> {
-        match pager_error {
-            Some(error) => Err(error),
-            None => Ok(()),
-        }
+    /// Every value is a grant, `Ok(())`; an error is itself.
+    fn read(polled: Result<u8, Error>) -> Result<(), Error> {
+        SemaphoreCoreOf::<MAX>::value_of(polled)
     }
 
-    /// `Ok(())`: granted, and the ticket is idle; its slot, if it had one, is free again.
-    fn take(&self, ticket: &mut Ticket, how: How) -> Result<(), Error> {
-        SemaphoreCoreOf::<MAX>::value_of(self.shell.take(ticket, how))
-    }
-
-    /// As [`Self::take`] as async, for a task: it is woken once the answer is there.
-    fn poll_task(&self, ticket: &mut Ticket, cx: &mut Context<'_>) -> Poll<Result<(), Error>> {
-        match self.shell.poll_task(ticket, cx) {
-            Poll::Ready(answer) => Poll::Ready(SemaphoreCoreOf::<MAX>::value_of(answer)),
-            Poll::Pending => Poll::Pending,
-        }
-    }
-
-    /// A waiter leaves the line, and those behind it are granted while they fit; what was granted and not consumed is
-    /// given back, as by `release_many`. Costs O(1) at any position, and a wake for each
-    /// who is granted.
-    fn cancel(&self, ticket: &mut Ticket) {
-        self.shell.cancel(ticket);
-    }
+    ghost means = { λ value. refl };
 }
 
 // Whether a count is above the bound, so that it can never be granted.

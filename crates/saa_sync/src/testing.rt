@@ -8,22 +8,16 @@ ghost use Rattle.saa_core.specs.Tickets.{Polled, is_busy, is_not_ready, is_yes, 
 ghost use Rattle.saa_core_spec.specs.declared.polling.How.TheVariants.{Sync};
 ghost use Rattle.saa_sync.specs.Waits.{IsTold};
 
-use crate::barrier::Barrier;
-use crate::gate::Gate;
+use crate::form::Form;
 use crate::guarded::Guarded;
-use crate::lock::Lock;
 use crate::lock_api::{Mutex, RwLock};
 use crate::pager::{How, Pager, SyncResult, Ticket};
 pub use crate::seat::{PATIENCE, Patience, Seat};
-use crate::semaphore::SemaphoreOn;
 pub use crate::shell::Shell;
 use crate::tries::Tries;
 pub use crate::turn::TurnCounts;
 use crate::turn::Turns;
-use saa_core::barrier::BarrierCore;
-use saa_core::gate::GateCore;
 use saa_core::lock::LockCore;
-use saa_core::semaphore::SemaphoreCoreOf;
 use saa_core::ticket::Full;
 use std::sync::Wait;
 
@@ -44,72 +38,18 @@ pub trait OnShell: Sized {
     fn shell(&self) -> &Shell<Self::Runtime, Self::Core>;
 }
 
-impl<R: Wait + Drop, const MAX: usize> OnShell for SemaphoreOn<R, SemaphoreCoreOf<MAX>> {
+impl<R: Wait + Drop, P: Tries> OnShell for Form<R, P> {
     type Runtime = R;
 
-    type Core = SemaphoreCoreOf<MAX>;
+    type Core = P;
 
-    fn on_shell(shell: Shell<R, SemaphoreCoreOf<MAX>>) -> Self
+    fn on_shell(shell: Shell<R, P>) -> Self
         ensures { result ≡ shell }
     {
-        SemaphoreOn { shell }
+        Form { shell }
     }
 
-    fn shell(&self) -> &Shell<R, SemaphoreCoreOf<MAX>>
-        ensures { result.now ≡ self.now }
-    {
-        &self.shell
-    }
-}
-
-impl<R: Wait + Drop> OnShell for Lock<R> {
-    type Runtime = R;
-
-    type Core = LockCore;
-
-    fn on_shell(shell: Shell<R, LockCore>) -> Self
-        ensures { result ≡ shell }
-    {
-        Lock { shell }
-    }
-
-    fn shell(&self) -> &Shell<R, LockCore>
-        ensures { result.now ≡ self.now }
-    {
-        &self.shell
-    }
-}
-
-impl<R: Wait + Drop> OnShell for Gate<R> {
-    type Runtime = R;
-
-    type Core = GateCore;
-
-    fn on_shell(shell: Shell<R, GateCore>) -> Self
-        ensures { result ≡ shell }
-    {
-        Gate { shell }
-    }
-
-    fn shell(&self) -> &Shell<R, GateCore>
-        ensures { result.now ≡ self.now }
-    {
-        &self.shell
-    }
-}
-
-impl<R: Wait + Drop> OnShell for Barrier<R> {
-    type Runtime = R;
-
-    type Core = BarrierCore;
-
-    fn on_shell(shell: Shell<R, BarrierCore>) -> Self
-        ensures { result ≡ shell }
-    {
-        Barrier { shell }
-    }
-
-    fn shell(&self) -> &Shell<R, BarrierCore>
+    fn shell(&self) -> &Shell<R, P>
         ensures { result.now ≡ self.now }
     {
         &self.shell
@@ -157,7 +97,7 @@ pub fn mutex_on<R: Wait + Drop, T>(shell: Shell<R, LockCore>, value: T) -> Mutex
     ensures { result ≡ shell }
 {
     Mutex {
-        guarded: Guarded::of(Turns::of(Lock { shell }), value),
+        guarded: Guarded::of(Turns::of(Form { shell }), value),
     }
 }
 
@@ -166,7 +106,7 @@ pub fn rwlock_on<R: Wait + Drop, T>(shell: Shell<R, LockCore>, value: T) -> RwLo
     ensures { result ≡ shell }
 {
     RwLock {
-        guarded: Guarded::of(Turns::of(Lock { shell }), value),
+        guarded: Guarded::of(Turns::of(Form { shell }), value),
     }
 }
 

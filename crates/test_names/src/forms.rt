@@ -3,11 +3,12 @@
 use crate::futures_by_name::{are_had, gives_each_of, is_led, is_sealed};
 use futures::test::MockTask;
 use saa::barrier::Barrier;
+use saa::form::Form;
 use saa::gate::{Error as GateError, Gate, State};
 use saa::lock::{Lock, Mode};
 use saa::pager::{Error, How, Pager, SyncResult, Ticket};
 use saa::semaphore::{
-    Permit, PermitCore, PermitFrom, PermitOf, Semaphore, SemaphoreOf, SemaphoreOn, TakesBack,
+    Permit, PermitCore, PermitFrom, PermitOf, Semaphore, SemaphoreOf, TakesBack,
 };
 use saa::ticket::Full;
 use saa::timed::{Deadline, Timed};
@@ -67,8 +68,8 @@ fn a_semaphore<H: Wait + AllocGlobal>(rt: &H) -> Result<bool, AllocError> {
 }
 
 // The most permits of a semaphore, whatever its core.
-fn most<R: Wait + Drop, C: PermitCore>(_semaphore: &SemaphoreOn<R, C>) -> usize {
-    SemaphoreOn::<R, C>::MAX_PERMITS
+fn most<R: Wait + Drop, C: PermitCore>(_semaphore: &Form<R, C>) -> usize {
+    Form::<R, C>::MAX_PERMITS
 }
 
 // Keeps a permit out, and gives it back to what it came from.

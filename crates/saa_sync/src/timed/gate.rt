@@ -3,13 +3,14 @@
 ghost use Rattle.std.specs.Prelude.{◌≡◌, None, IfOk, IfSome};
 ghost use Rattle.saa_sync.specs.GateAnswers.{gate_fault};
 
-use crate::gate::{Error, Gate, State, read_value};
+use crate::form::Form;
+use crate::gate::{Error, GateCore, State, read_value};
 use crate::timed::Deadline;
 use saa_core::ticket::Full;
 use std::sync::Wait;
 use std::time::{Clock, Duration, Instant};
 
-impl<R: Wait + Clock + Drop> Gate<R> {
+impl<R: Wait + Clock + Drop> Form<R, GateCore> {
     /// Passes the gate as [`Self::enter_sync`] does, and waits at most so long.
     ///
     /// `Ok(Some(answer))` with the answer of that call. `Ok(None)`: time is up, and nothing is registered; all other waiters are
@@ -17,7 +18,7 @@ impl<R: Wait + Clock + Drop> Gate<R> {
     pub fn enter_sync_for(&self, duration: Duration) -> Result<Option<Result<State, Error>>, Full>
         ensures { IfOk result (λ told. IfSome told (λ answer. gate_fault answer ≡ None)) }
     {
-        self.enter_by(Deadline::after(self.shell.rt(), duration))
+        self.enter_by(Deadline::after(self.rt(), duration))
     }
 
     /// Passes the gate as [`Self::enter_sync_for`] does, and waits until this instant.

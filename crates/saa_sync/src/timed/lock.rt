@@ -1,12 +1,13 @@
 //! Locks that are waited for in time.
 
-use crate::lock::{Lock, Mode, is_granted};
+use crate::form::Form;
+use crate::lock::{LockCore, Mode, is_granted};
 use crate::timed::Deadline;
 use saa_core::ticket::Full;
 use std::sync::Wait;
 use std::time::{Clock, Duration, Instant};
 
-impl<R: Wait + Clock + Drop> Lock<R> {
+impl<R: Wait + Clock + Drop> Form<R, LockCore> {
     /// Takes the lock for one owner alone, and waits for it in the queue at most so long; it joins at once, without a look before it.
     ///
     /// `Ok(Some(true))`: it is granted. `Ok(Some(false))`: the lock is poisoned, or was while this waited. `Ok(None)`: time is up,

@@ -5,16 +5,9 @@ ghost use Rattle.saa_core_spec.specs.declared.polling.How.TheVariants.{Sync};
 ghost use Rattle.saa_core.specs.Tickets.{Polled, is_not_ready};
 ghost use Rattle.saa_sync.specs.Waits.{IsTold};
 
-use crate::barrier::Barrier;
-use crate::gate::{self, Gate, read_answer};
-use crate::lock::Lock;
+use crate::form::{Form, PagerCore};
 use crate::pager::{Error, Pager, SyncResult, Ticket};
-use crate::semaphore::SemaphoreOn;
 use crate::timed::Deadline;
-use saa_core::barrier::BarrierCore;
-use saa_core::lock::LockCore;
-use saa_core::primitive::Primitive;
-use saa_core::semaphore::SemaphoreCoreOf;
 use std::sync::Wait;
 use std::time::{Clock, Duration, Instant};
 
@@ -63,50 +56,16 @@ impl<'s, S: Timed> Pager<'s, S> {
     }
 }
 
-impl<R: Wait + Clock + Drop, const MAX: usize> Timed for SemaphoreOn<R, SemaphoreCoreOf<MAX>> {
-    fn after(&self, duration: Duration) -> Deadline {
-        Deadline::after(self.shell.rt(), duration)
-    }
-
-    fn take_until(&self, ticket: &mut Ticket, deadline: Deadline) -> Option<Result<(), Error>> {
-        let answer = self.shell.take_until(ticket, deadline)?;
-        Some(SemaphoreCoreOf::<MAX>::value_of(answer))
-    }
-}
-
-impl<R: Wait + Clock + Drop> Timed for Lock<R> {
+impl<R: Wait + Clock + Drop, P: PagerCore> Timed for Form<R, P>
+where
+    P::Value: Eq,
+{
     fn after(&self, duration: Duration) -> Deadline {
         Deadline::after(self.rt(), duration)
     }
 
-    fn take_until(&self, ticket: &mut Ticket, deadline: Deadline) -> Option<Result<bool, Error>> {
+    fn take_until(&self, ticket: &mut Ticket, deadline: Deadline) -> Option<P::Value> {
         let answer = self.shell.take_until(ticket, deadline)?;
-        Some(LockCore::value_of(answer))
-    }
-}
-
-impl<R: Wait + Clock + Drop> Timed for Gate<R> {
-    fn after(&self, duration: Duration) -> Deadline {
-        Deadline::after(self.shell.rt(), duration)
-    }
-
-    fn take_until(
-        &self,
-        ticket: &mut Ticket,
-        deadline: Deadline,
-    ) -> Option<Result<gate::State, gate::Error>> {
-        let answer = self.shell.take_until(ticket, deadline)?;
-        Some(read_answer(answer))
-    }
-}
-
-impl<R: Wait + Clock + Drop> Timed for Barrier<R> {
-    fn after(&self, duration: Duration) -> Deadline {
-        Deadline::after(self.shell.rt(), duration)
-    }
-
-    fn take_until(&self, ticket: &mut Ticket, deadline: Deadline) -> Option<Result<bool, Error>> {
-        let answer = self.shell.take_until(ticket, deadline)?;
-        Some(BarrierCore::value_of(answer))
+        Some(P::read(answer))
     }
 }

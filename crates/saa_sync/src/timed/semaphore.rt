@@ -2,21 +2,22 @@
 
 ghost use Rattle.std.specs.Prelude.{◌≡◌, ◌≤◌, ◌<◌, ◌↔◌, false, IfOk, IfSome, IsTrue, Ok, Some};
 
+use crate::form::Form;
 use crate::permit::PermitOf;
-use crate::semaphore::{SemaphoreOn, is_too_many};
+use crate::semaphore::is_too_many;
 use crate::timed::Deadline;
 use saa_core::semaphore::SemaphoreCoreOf;
 use saa_core::ticket::Full;
 use std::sync::Wait;
 use std::time::{Clock, Duration, Instant};
 
-impl<R: Wait + Clock + Drop, const MAX: usize> SemaphoreOn<R, SemaphoreCoreOf<MAX>> {
+impl<R: Wait + Clock + Drop, const MAX: usize> Form<R, SemaphoreCoreOf<MAX>> {
     /// Takes one permit, and waits for it in the queue at most so long; it joins at once, without a look before it.
     ///
     /// `Ok(Some(()))`: it is granted. `Ok(None)`: time is up, and nothing is registered or taken; those behind are granted while
     /// they fit. `Full` comes at once, where it would have to wait and as many slots are held as there is room.
     pub fn acquire_sync_for(&self, duration: Duration) -> Result<Option<()>, Full> {
-        self.acquire_by(Deadline::after(self.shell.rt(), duration))
+        self.acquire_by(Deadline::after(self.rt(), duration))
     }
 
     /// Takes one permit as [`Self::acquire_sync_for`] does, and waits for it until this instant.
@@ -37,7 +38,7 @@ impl<R: Wait + Clock + Drop, const MAX: usize> SemaphoreOn<R, SemaphoreCoreOf<MA
         ensures answer { IfOk result (λ told. IfSome told (λ is_granted. IsTrue is_granted ↔ (count ≤ MAX))) }
         ensures too_many { MAX < count → result ≡ Ok (Some false) }
     {
-        self.acquire_many_by(count, Deadline::after(self.shell.rt(), duration))
+        self.acquire_many_by(count, Deadline::after(self.rt(), duration))
     }
 
     /// Takes `count` permits as [`Self::acquire_many_sync_for`] does, and waits for them until this instant.
