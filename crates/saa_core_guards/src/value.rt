@@ -27,6 +27,7 @@ impl ValueReleased {
     }
 
     /// The turn ends that it was asked for.
+    #[inline(always)]
     pub fn end_turn(self) {
         let ValueReleased { by: _by } = self;
     }
