@@ -17,6 +17,7 @@ pub use Rattle.saa_core_laws.specs.Leaders
 pub use Rattle.saa_core_laws.specs.Conservation
 pub use Rattle.saa_core_laws.specs.WholeRuns
 pub use Rattle.saa_core_words.specs.Words
+pub use Rattle.saa_core_guards.specs.Guards
 pub use Rattle.saa_core_words.specs.Links
 pub use Rattle.saa_core.specs.BarrierStanding
 pub use Rattle.saa_core.specs.Futures

@@ -11,8 +11,8 @@ pub mod word;
 pub use saa_core_bench::journal;
 pub use saa_core_laws::laws;
 pub use saa_sync::{
-    Barrier, Full, Gate, Guard, Lends, Lock, Mutex, MutexGuard, Pager, PassesOn, Permit, PermitOf,
-    RwLock, RwLockReadGuard, RwLockWriteGuard, Semaphore, SemaphoreOf, Shows, TryLockError,
-    Writing, barrier, form, future, gate, line, lock, lock_api, lock_async, pager, patience,
-    read_async, semaphore, ticket, timed, words, write_async,
+    Barrier, Full, Gate, Guard, Lock, Lowers, Mutex, MutexGuard, Pager, Permit, PermitOf, RwLock,
+    RwLockReadGuard, RwLockWriteGuard, Semaphore, SemaphoreOf, TryLockError, Turn, ValueMut,
+    ValueRef, Writing, barrier, form, future, gate, line, lock, lock_api, lock_async, pager,
+    patience, read_async, semaphore, ticket, timed, words, write_async,
 };

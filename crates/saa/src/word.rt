@@ -4,7 +4,7 @@
 
 pub use saa_word::machine;
 pub use saa_word_forms::{
-    Error, Left, Lock, LockLeft, LockPlace, Mode, Mutex, MutexGuard, MutexWorker, Place, RwLock,
-    RwLockReadGuard, RwLockWorker, RwLockWriteGuard, Semaphore, SemaphoreOf, TryLockError, Visitor,
-    Words, guard,
+    Error, Guard, Left, Lock, LockLeft, LockPlace, Lowers, Mode, Mutex, MutexGuard, MutexWorker,
+    Place, RwLock, RwLockReadGuard, RwLockWorker, RwLockWriteGuard, Semaphore, SemaphoreOf,
+    TryLockError, Turn, ValueMut, ValueRef, Visitor, Words, Writing,
 };

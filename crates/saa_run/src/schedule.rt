@@ -15,11 +15,11 @@ use crate::schedule::lines::{
     FirstOfSchedule, ScheduleLine, parse_first_of_schedule, parse_schedule,
 };
 use crate::schedule::said::Said;
-use saa_core_words::word::Word;
+use saa::word::machine::{Kind, Machine, Move, Step, WordCall};
+use saa::words::word::Word;
 use saa_run_text::ended::Ended;
 use saa_run_text::opening::Opening;
 use saa_run_text::steps::{Speaker, run_lines};
-use saa_word::machine::{Kind, Machine, Move, Step, WordCall};
 use std::alloc::{AllocError, Global};
 use std::io::{Read, Write};
 

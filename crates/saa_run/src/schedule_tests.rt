@@ -6,7 +6,7 @@ use crate::lock_rows::LOCK_ROWS;
 use crate::schedule::end;
 use crate::spelling::Language;
 use crate::tests::{Repeated, Row, compare_repeated, compare_rows};
-use saa_word::machine::{Machine, Move, Step, WordCall};
+use saa::word::machine::{Machine, Move, Step, WordCall};
 use std::alloc::Global;
 use std::process::Abort;
 

@@ -18,6 +18,7 @@ pub use Rattle.saa_core_spec.specs.Gate
 pub use Rattle.saa_core_spec.specs.Barrier
 pub use Rattle.saa_core_spec.specs.Run
 pub use Rattle.saa_core_words.specs.Words
+pub use Rattle.saa_core_guards.specs.Guards
 pub use Rattle.saa_core_words.specs.Links
 pub use Rattle.saa_core.specs.BarrierStanding
 pub use Rattle.saa_core.specs.Futures

@@ -9,8 +9,9 @@ ghost use Rattle.saa_sync.specs.Forms.{patience_of, waiter_patience_of};
 use crate::patience::Patience;
 use crate::seat::PATIENCE;
 use crate::timed::Deadline;
-use crate::turn::{Alone, Lowered, Shared, Turns};
+use crate::turn::{Alone, Shared, Turns};
 use saa_core::ticket::Full;
+use saa_core_guards::turn::Writing;
 use std::alloc::{AllocError, Global};
 use std::sync::{RwLock, RwLockReadGuard, RwLockWriteGuard, Wait};
 use std::time::Clock;
@@ -120,19 +121,11 @@ impl<R: Wait + Drop, T> Guarded<R, T> {
         }
     }
 
-    // Makes the turn alone a share, and the value to write a value to read.
-    //
-    // The value comes first: while the turn is still one owner's alone nobody else asks for the value, so this should wait for
-    // nobody, and nobody writes in between; no clause says so. Were the turn lowered first, readers that are let in beside it
-    // would have to wait for the writer's guard.
-    pub(crate) fn lower<'a>(
-        &'a self,
-        turn: Alone<'a, R>,
-        value: RwLockWriteGuard<'a, T>,
-    ) -> (Shared<'a, R>, RwLockReadGuard<'a, T>)
-        ensures { result.0 ≡ turn.entry }
+    // The turn alone, as a writer's.
+    pub(crate) fn writing<'a>(&'a self, turn: Alone<'a, R>) -> Writing<'a, Alone<'a, R>, T>
+        ensures { result.turn ≡ turn.entry }
     {
-        turn.lower(Lowered::from_writer(value, &self.value, self.turn.rt()))
+        Writing::new(turn, &self.value)
     }
 
     // The value to write, with the turn alone.

@@ -33,8 +33,8 @@ pub use barrier::Barrier;
 pub use gate::Gate;
 pub use lock::{Lock, TryLockError};
 pub use lock_api::{
-    Guard, Lends, Mutex, MutexGuard, PassesOn, RwLock, RwLockReadGuard, RwLockWriteGuard, Shows,
-    Writing, lock_async, read_async, write_async,
+    Guard, Lowers, Mutex, MutexGuard, RwLock, RwLockReadGuard, RwLockWriteGuard, Turn, ValueMut,
+    ValueRef, Writing, lock_async, read_async, write_async,
 };
 pub use pager::Pager;
 pub use permit::{Permit, PermitOf};

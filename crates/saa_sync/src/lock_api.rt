@@ -5,11 +5,10 @@
 //! known by the value's type: each guard keeps every invariant of that type.
 
 mod future;
-mod guard;
 mod mutex;
 mod rwlock;
 
 pub use future::{MutexFuture, ReadFuture, WriteFuture, lock_async, read_async, write_async};
-pub use guard::{Guard, Lends, PassesOn, Shows};
 pub use mutex::{Mutex, MutexGuard};
-pub use rwlock::{RwLock, RwLockReadGuard, RwLockWriteGuard, Writing};
+pub use rwlock::{RwLock, RwLockReadGuard, RwLockWriteGuard};
+pub use saa_core_guards::{Guard, Lowers, Turn, ValueMut, ValueRef, Writing};

@@ -1,10 +1,9 @@
-//! The turn at a lock, of one owner alone or shared, and that it ends after the value's guard.
+//! The turn at a lock, of one owner alone or shared. It ends after the hold on the value (`saa_core_guards::turn`).
 //!
 //! A turn can be neither dropped nor forgotten, so the code here passes each on; a guard's holder may leak the guard, and its turn with
-//! it (`mem::forget`). `give_back` asks for a `PutDown`, which only dropping a guard of a value makes, and `lower` for a `Lowered`, which
-//! only giving up a writer's guard makes; the types don't say of which value. Only this module makes a turn, and only it reaches the
-//! lock: code beside it tries for a turn, waits for one or polls for one, and a test reads counts (`TurnCounts`). That the bodies here
-//! make a turn of a grant alone, and give it back to the lock, is shown by tests.
+//! it (`mem::forget`). Only this module makes a turn, and only it reaches the lock: code beside it tries for a turn, waits for one or polls
+//! for one, and a test reads counts (`TurnCounts`). That the bodies here make a turn of a grant alone, and give it back to the lock, is shown by
+//! tests: no clause can follow the calls of a lock with a mutex, so a turn has nothing to say of what was granted.
 
 ghost use Rattle.std.specs.Prelude.{◌≡◌, false, IfOk, IfSome, IsOk};
 ghost use Rattle.futures.specs.Task.{Covers, Keeps};
@@ -23,48 +22,12 @@ use futures::task::{Context, Poll};
 use futures::{Future, ready};
 use saa_core::lock::LockCore;
 use saa_core::ticket::Full;
+use saa_core_guards::turn::{Lowers, Turn};
+use saa_core_guards::value::{Lowered, ValueReleased};
 use std::alloc::{AllocError, Global};
-use std::marker::{Model, PhantomData};
-use std::sync::{RwLock, RwLockReadGuard, RwLockWriteGuard, Wait};
+use std::marker::Model;
+use std::sync::{RwLockReadGuard, Wait};
 use std::time::Clock;
-
-/// Says that a guard of a value was dropped; only that makes one.
-pub struct PutDown {
-    by: PhantomData<()>,
-}
-
-impl PutDown {
-    // Gives up a reader's guard of the value.
-    pub(crate) fn by_reader<T>(value: RwLockReadGuard<'_, T>) -> Self {
-        drop(value);
-        PutDown { by: PhantomData }
-    }
-
-    // Gives up a writer's guard of the value.
-    pub(crate) fn by_writer<T>(value: RwLockWriteGuard<'_, T>) -> Self {
-        drop(value);
-        PutDown { by: PhantomData }
-    }
-}
-
-/// A guard of the value that was changed from a writer's to a reader's; only that makes one, and only `lower` opens it.
-pub(crate) struct Lowered<'a, T> {
-    reader: RwLockReadGuard<'a, T>,
-}
-
-impl<'a, T> Lowered<'a, T> {
-    // Gives up a writer's guard of the value, and takes a reader's.
-    pub(crate) fn from_writer<R: Wait>(
-        writer: RwLockWriteGuard<'_, T>,
-        value: &'a RwLock<T>,
-        rt: &R,
-    ) -> Self {
-        drop(writer);
-        Lowered {
-            reader: value.read(rt),
-        }
-    }
-}
 
 /// A lock that gives turns, and is reached through them alone. Contracts see the lock.
 #[derive(Drop)]
@@ -241,20 +204,33 @@ impl<'a, R: Wait + Drop> Alone<'a, R> {
         }
         unreachable!()
     }
+}
 
-    // Makes the turn a share, beside which others may have shares; and gives the value to read with it.
-    pub(crate) fn lower<T>(self, value: Lowered<'a, T>) -> (Shared<'a, R>, RwLockReadGuard<'a, T>)
-        ensures { result.0 ≡ self.entry }
-    {
-        let (Alone { turns }, Lowered { reader }) = (self, value);
-        turns.lock.downgrade();
-        (Shared { turns }, reader)
+impl<R: Wait + Drop> Turn for Alone<'_, R> {
+    ghost granted = { λ turn. Unit {0} };
+
+    fn pass_on(self, value: ValueReleased) {
+        let Alone { turns } = self;
+        value.end_turn();
+        turns.lock.release_lock();
+    }
+}
+
+impl<'a, R: Wait + Drop> Lowers for Alone<'a, R> {
+    type Shared = Shared<'a, R>;
+
+    type Blocks = R;
+
+    ghost lowered = { λ alone shared. shared ≡ alone };
+
+    fn blocks(&self) -> &R {
+        self.turns.rt()
     }
 
-    // Gives the turn back, to the next waiter.
-    pub(crate) fn give_back(self, value: PutDown) {
-        let (Alone { turns }, PutDown { by: _by }) = (self, value);
-        turns.lock.release_lock();
+    fn lower<'l, T>(self, value: Lowered<'l, T>) -> (Shared<'a, R>, RwLockReadGuard<'l, T>) {
+        let Alone { turns } = self;
+        turns.lock.downgrade();
+        (Shared { turns }, value.into_reader())
     }
 }
 
@@ -314,10 +290,14 @@ impl<'a, R: Wait + Drop> Shared<'a, R> {
         }
         unreachable!()
     }
+}
 
-    // Gives the share back.
-    pub(crate) fn give_back(self, value: PutDown) {
-        let (Shared { turns }, PutDown { by: _by }) = (self, value);
+impl<R: Wait + Drop> Turn for Shared<'_, R> {
+    ghost granted = { λ turn. Unit {0} };
+
+    fn pass_on(self, value: ValueReleased) {
+        let Shared { turns } = self;
+        value.end_turn();
         turns.lock.release_share();
     }
 }

@@ -3,6 +3,7 @@ pub mod Workers
 pub use Rattle.saa_core_spec.specs.Held
 pub use Rattle.saa_core_spec.specs.Object
 pub use Rattle.saa_core_words.specs.Words
+pub use Rattle.saa_core_guards.specs.Guards
 pub use Rattle.saa_word_steps.specs.Needs
 pub use Rattle.saa_word_steps.specs.Readings as WordReadings
 pub use Rattle.saa_word_steps.specs.AbstractState

@@ -8,9 +8,9 @@ ghost use Rattle.saa_word_forms.specs.Turns.{IsTriedAndGranted, IsWaitedFor};
 ghost use Rattle.saa_word_threads.specs.Dealt.{IsLedTo, numbers};
 ghost use Rattle.saa_word_threads.specs.Locks.{AreNew, HasLeft, IsDealtBy, IsLeftOf, about_of, table_of, view_left};
 
-use crate::guard::Guard;
 use crate::guarded::{Guarded, Worker};
 use crate::turn::Alone;
+use saa_core_guards::guard::Guard;
 use saa_word_threads::lock::{Left, Place, Words};
 use std::alloc::{AllocError, Global};
 use std::marker::Model;

@@ -1,7 +1,7 @@
 //! A place beside the lock that dealt it, and the calls of the lock that guards make there.
 //!
 //! What keeps the place at its lock is the type, so that nobody above has to carry that fact. A turn ends by `end_lock` or `end_share`, or
-//! is lowered by `lower`. The first two ask for a `PutDown`, which only dropping a guard of a value makes; the types don't say of which value.
+//! is lowered by `lower`. The first two ask for a `ValueReleased`, which only the end of a hold on a value makes; the types don't say of which value.
 
 ghost use Rattle.std.specs.Prelude.{◌≡◌, is_ok, true};
 ghost use Rattle.saa_core_spec.specs.declared.lock.Mode.TheVariants.{Exclusive, Shared};
@@ -12,47 +12,9 @@ ghost use Rattle.saa_word_threads.specs.Locks.{IsDealtBy, IsMade, IsWaited};
 ghost use Rattle.saa_word_threads.specs.Public.{is_yes, tried};
 ghost use Rattle.saa_word_forms.specs.Turns.{HasLock, HasShare, IsLoweredOrWaitedFor, IsWaitedFor};
 
+use saa_core_guards::value::ValueReleased;
 use saa_word_threads::lock::{Left, Lock, Place};
-use std::marker::PhantomData;
-use std::sync::{RwLock, RwLockReadGuard, RwLockWriteGuard, Wait};
-
-/// Says that a guard of a value was dropped; only that makes one.
-pub struct PutDown {
-    by: PhantomData<()>,
-}
-
-impl PutDown {
-    // Drops a reader's guard of the value.
-    pub(crate) fn by_reader<T>(value: RwLockReadGuard<'_, T>) -> Self {
-        drop(value);
-        PutDown { by: PhantomData }
-    }
-
-    // Drops a writer's guard of the value.
-    pub(crate) fn by_writer<T>(value: RwLockWriteGuard<'_, T>) -> Self {
-        drop(value);
-        PutDown { by: PhantomData }
-    }
-}
-
-/// A guard of the value that was changed from a writer's to a reader's; only that makes one, and only a downgrade opens it.
-pub(crate) struct Lowered<'l, T> {
-    reader: RwLockReadGuard<'l, T>,
-}
-
-impl<'l, T> Lowered<'l, T> {
-    // Drops a writer's guard of the value, and takes a reader's.
-    pub(crate) fn from_writer<R: Wait>(
-        writer: RwLockWriteGuard<'_, T>,
-        value: &'l RwLock<T>,
-        rt: &R,
-    ) -> Self {
-        drop(writer);
-        Lowered {
-            reader: value.read(rt),
-        }
-    }
-}
+use std::sync::Wait;
 
 /// A place at the lock that dealt it.
 #[derive(Drop)]
@@ -144,26 +106,16 @@ impl<'l> PlaceAt<'l> {
         self.lock.share(rt, &mut self.place)
     }
 
-    // Makes the lock of its one owner a share, and gives the value to read with it. Where the lock is no one owner's, as it never is in a turn, a
-    // share is waited for.
-    //
-    // The value comes first: while the turn is still one owner's alone no other task asks for the value, so taking it should not block, and none
-    // writes in between. Were the turn lowered first, the readers that are let in beside it would have to wait for the writer's guard.
-    pub(crate) fn lower<R: Wait, T>(
-        &mut self,
-        rt: &R,
-        value: Lowered<'l, T>,
-    ) -> RwLockReadGuard<'l, T>
+    // Makes the lock of its one owner a share. Where the lock is no one owner's, as it never is in a turn, a share is waited for.
+    pub(crate) fn lower<R: Wait>(&mut self, rt: &R)
         requires { HasLock self.old.place }
         ensures lock { self.new.lock ≡ self.old.lock }
         ensures granted { HasShare self.new.place }
         ensures lowered { IsLoweredOrWaitedFor self.old.place self.new.place }
     {
-        let Lowered { reader } = value;
         if !self.ask_lower(rt) {
             self.share(rt);
         }
-        reader
     }
 
     // Makes the lock of its one owner a share. `false`: it is no one owner's.
@@ -184,22 +136,22 @@ impl<'l> PlaceAt<'l> {
     }
 
     // Ends the turn of one owner alone, behind the guard of the value.
-    pub(crate) fn end_lock<R: Wait>(&mut self, rt: &R, value: PutDown)
+    pub(crate) fn end_lock<R: Wait>(&mut self, rt: &R, value: ValueReleased)
         requires { HasLock self.old.place }
         ensures lock { self.new.lock ≡ self.old.lock }
         ensures ended { (answer : Answer) × IsMade ReleaseLock self.old.place answer self.new.place }
     {
-        let PutDown { by: _by } = value;
+        value.end_turn();
         self.lock.release_lock(rt, &mut self.place);
     }
 
     // Ends a share, behind the guard of the value.
-    pub(crate) fn end_share<R: Wait>(&mut self, rt: &R, value: PutDown)
+    pub(crate) fn end_share<R: Wait>(&mut self, rt: &R, value: ValueReleased)
         requires { HasShare self.old.place }
         ensures lock { self.new.lock ≡ self.old.lock }
         ensures ended { (answer : Answer) × IsMade ReleaseShare self.old.place answer self.new.place }
     {
-        let PutDown { by: _by } = value;
+        value.end_turn();
         self.lock.release_share(rt, &mut self.place);
     }
 

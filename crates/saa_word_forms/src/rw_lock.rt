@@ -8,9 +8,10 @@ ghost use Rattle.saa_word_forms.specs.Turns.{IsLoweredOrWaitedFor, IsTriedAndGra
 ghost use Rattle.saa_word_threads.specs.Dealt.{IsLedTo, numbers};
 ghost use Rattle.saa_word_threads.specs.Locks.{AreNew, HasLeft, IsDealtBy, IsLeftOf, about_of, table_of, view_left};
 
-use crate::guard::Guard;
 use crate::guarded::{Guarded, Worker};
-use crate::turn::{Shared, Writing};
+use crate::turn::{Alone, Shared};
+use saa_core_guards::guard::Guard;
+use saa_core_guards::turn::Writing;
 use saa_word_threads::lock::{Left, Place, Words};
 use std::alloc::{AllocError, Global};
 use std::marker::Model;
@@ -128,8 +129,8 @@ impl<'l, T> RwLockWorker<'l, T> {
     /// The worker is the guard's until that is dropped. A waiter spins, yields and then parks. A thread that asks with a second worker while it has the
     /// guard of a first waits for itself, so for ever.
     pub fn write<'a, R: Wait>(&'a mut self, rt: &'a R) -> RwLockWriteGuard<'a, 'l, R, T>
-        ensures lock { result.turn.at.now.lock ≡ self.old.lock }
-        ensures taken { IsWaitedFor Exclusive self.old.place result.turn.at.now.place }
+        ensures lock { result.turn.turn.at.now.lock ≡ self.old.lock }
+        ensures taken { IsWaitedFor Exclusive self.old.place result.turn.turn.at.now.place }
     {
         let cell = self.worker.value();
         let (turn, value) = self.worker.write(rt);
@@ -140,8 +141,8 @@ impl<'l, T> RwLockWorker<'l, T> {
     ///
     /// `None` changes nothing.
     pub fn try_write<'a, R: Wait>(&'a mut self, rt: &'a R) -> Option<RwLockWriteGuard<'a, 'l, R, T>>
-        ensures lock { IfSome result (λ guard. guard.turn.at.now.lock ≡ self.old.lock) }
-        ensures tried { IfSome result (λ guard. IsTriedAndGranted TryLock self.old.place guard.turn.at.now.place) }
+        ensures lock { IfSome result (λ guard. guard.turn.turn.at.now.lock ≡ self.old.lock) }
+        ensures tried { IfSome result (λ guard. IsTriedAndGranted TryLock self.old.place guard.turn.turn.at.now.place) }
     {
         let cell = self.worker.value();
         let (turn, value) = self.worker.try_write(rt)?;
@@ -161,19 +162,4 @@ impl<'l, T> RwLockWorker<'l, T> {
 pub type RwLockReadGuard<'a, 'l, R, T> = Guard<Reader<'l, T>, Shared<'a, 'l, R>>;
 
 /// A writer's turn at an [`RwLock`], and its value to read and write. Its drop gives both up.
-pub type RwLockWriteGuard<'a, 'l, R, T> = Guard<Writer<'l, T>, Writing<'a, 'l, R, T>>;
-
-impl<'a, 'l, R: Wait, T> Guard<Writer<'l, T>, Writing<'a, 'l, R, T>> {
-    /// Becomes a reader's guard, and lets in the oldest readers while they may share; no other task writes in between.
-    ///
-    /// Never waits for an owner. Who reads through the new guard sees what was written through this one. Readers behind a writer that waits go on
-    /// waiting. Costs a walk of the line, and a wake for each who is let in.
-    pub fn downgrade(guard: Self) -> RwLockReadGuard<'a, 'l, R, T>
-        ensures lock { result.turn.at.now.lock ≡ guard.entry.turn.at.now.lock }
-        ensures lowered { IsLoweredOrWaitedFor guard.entry.turn.at.now.place result.turn.at.now.place }
-    {
-        let (turn, value) = guard.into_parts();
-        let (turn, value) = turn.lower(value);
-        RwLockReadGuard::new(turn, value)
-    }
-}
+pub type RwLockWriteGuard<'a, 'l, R, T> = Guard<Writer<'l, T>, Writing<'l, Alone<'a, 'l, R>, T>>;

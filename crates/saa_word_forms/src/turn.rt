@@ -1,25 +1,17 @@
-//! The turn at a lock, of one owner alone or shared, and that it ends behind the value's guard.
+//! The turn at the word's lock, of one owner alone or shared.
 //!
-//! A turn has its place until it ends. It can be neither dropped nor forgotten, so each that is taken is passed on or kept in a guard, which its
-//! holder may leak (`mem::forget`). Passing it on asks for a `PutDown`, and for the proof that the place's last call took what the turn is of.
+//! A turn has its place until it ends. It keeps nothing of what was granted: a guard does, and passing the turn on asks for the proof that the place's
+//! last call took what the turn is of (`saa_core_guards::turn`).
 
 ghost use Rattle.std.specs.Prelude.{◌≡◌, IfSome};
 ghost use Rattle.saa_core_spec.specs.declared.lock.Mode.TheVariants.{Exclusive, Shared as Sharing};
 ghost use Rattle.saa_word_steps.specs.declared.call.WordCall.TheVariants.{TryLock, TryShare};
 ghost use Rattle.saa_word_forms.specs.Turns.{HasLock, HasShare, IsLoweredOrWaitedFor, IsTriedAndGranted, IsWaitedFor, TookLock, TookShare};
 
-use crate::place_at::{Lowered, PlaceAt, PutDown};
-use std::sync::{RwLock, RwLockReadGuard, RwLockWriteGuard, Wait};
-
-/// A turn at a lock, to be passed on once the value is put down.
-pub trait PassesOn {
-    // What was granted, which the turn is of.
-    ghost granted: { Self → Type 0 };
-
-    /// Gives the turn up, and grants the oldest waiters while they fit.
-    fn pass_on(self, value: PutDown)
-        requires { ∥ granted self ∥₁ };
-}
+use crate::place_at::PlaceAt;
+use saa_core_guards::turn::{Lowers, Turn};
+use saa_core_guards::value::{Lowered, ValueReleased};
+use std::sync::{RwLockReadGuard, Wait};
 
 /// The turn of one owner alone.
 pub struct Alone<'a, 'l, R: Wait> {
@@ -52,12 +44,30 @@ impl<'a, 'l, R: Wait> Alone<'a, 'l, R> {
     }
 }
 
-impl<R: Wait> PassesOn for Alone<'_, '_, R> {
+impl<R: Wait> Turn for Alone<'_, '_, R> {
     ghost granted = { λ turn. TookLock turn.at.now.place };
 
-    fn pass_on(self, value: PutDown) {
+    fn pass_on(self, value: ValueReleased) {
         let Alone { at, rt } = self;
         at.end_lock(rt, value);
+    }
+}
+
+impl<'a, 'b, R: Wait> Lowers for Alone<'a, 'b, R> {
+    type Shared = Shared<'a, 'b, R>;
+
+    type Blocks = R;
+
+    ghost lowered = { λ alone shared. (shared.at.now.lock ≡ alone.at.now.lock) × IsLoweredOrWaitedFor alone.at.now.place shared.at.now.place };
+
+    fn blocks(&self) -> &R {
+        self.rt
+    }
+
+    fn lower<'l, T>(self, value: Lowered<'l, T>) -> (Self::Shared, RwLockReadGuard<'l, T>) {
+        let Alone { at, rt } = self;
+        at.lower(rt);
+        (Shared { at, rt }, value.into_reader())
     }
 }
 
@@ -92,59 +102,11 @@ impl<'a, 'l, R: Wait> Shared<'a, 'l, R> {
     }
 }
 
-impl<R: Wait> PassesOn for Shared<'_, '_, R> {
+impl<R: Wait> Turn for Shared<'_, '_, R> {
     ghost granted = { λ turn. TookShare turn.at.now.place };
 
-    fn pass_on(self, value: PutDown) {
+    fn pass_on(self, value: ValueReleased) {
         let Shared { at, rt } = self;
         at.end_share(rt, value);
-    }
-}
-
-/// A writer's turn, which can be lowered to a reader's.
-pub struct Writing<'a, 'l, R: Wait, T> {
-    at: &'a mut PlaceAt<'l>,
-    rt: &'a R,
-    // Where a downgrade finds the value again.
-    value: &'l RwLock<T>,
-}
-
-impl<'a, 'l, R: Wait, T> Writing<'a, 'l, R, T> {
-    // The turn alone, at the lock of this value.
-    pub(crate) fn new(turn: Alone<'a, 'l, R>, value: &'l RwLock<T>) -> Self
-        requires { HasLock turn.at.now.place }
-        ensures granted { HasLock result.at.now.place }
-        ensures place { (result.at.now.place ≡ turn.entry.at.now.place) × (result.at.now.lock ≡ turn.entry.at.now.lock) }
-    {
-        let Alone { at, rt } = turn;
-        Writing { at, rt, value }
-    }
-
-    // Makes the turn a share, and the value to write a value to read.
-    pub(crate) fn lower(
-        self,
-        writer: RwLockWriteGuard<'l, T>,
-    ) -> (Shared<'a, 'l, R>, RwLockReadGuard<'l, T>)
-        requires { HasLock self.at.now.place }
-        ensures lock { result.0.at.now.lock ≡ self.entry.at.now.lock }
-        ensures granted { HasShare result.0.at.now.place }
-        ensures lowered { IsLoweredOrWaitedFor self.entry.at.now.place result.0.at.now.place }
-    {
-        let Writing { at, rt, value } = self;
-        let reader = at.lower(rt, Lowered::from_writer(writer, value, rt));
-        (Shared { at, rt }, reader)
-    }
-}
-
-impl<R: Wait, T> PassesOn for Writing<'_, '_, R, T> {
-    ghost granted = { λ writing. TookLock writing.at.now.place };
-
-    fn pass_on(self, value: PutDown) {
-        let Writing {
-            at,
-            rt,
-            value: _value,
-        } = self;
-        at.end_lock(rt, value);
     }
 }

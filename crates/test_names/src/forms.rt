@@ -7,14 +7,12 @@ use saa::form::Form;
 use saa::gate::{Error as GateError, Gate, State};
 use saa::lock::{Lock, Mode};
 use saa::pager::{Error, How, Pager, SyncResult, Ticket};
-use saa::semaphore::{
-    Permit, PermitCore, PermitFrom, PermitOf, Semaphore, SemaphoreOf, TakesBack,
-};
+use saa::semaphore::{Permit, PermitCore, PermitFrom, PermitOf, Semaphore, SemaphoreOf, TakesBack};
 use saa::ticket::Full;
 use saa::timed::{Deadline, Timed};
 use saa::{
-    Guard, Lends, Mutex, MutexGuard, PassesOn, RwLock, RwLockReadGuard, RwLockWriteGuard, Shows,
-    Writing, lock_api, lock_async, patience, read_async, write_async,
+    Guard, Lowers, Mutex, MutexGuard, RwLock, RwLockReadGuard, RwLockWriteGuard, Turn, ValueMut,
+    ValueRef, Writing, lock_api, lock_async, patience, read_async, write_async,
 };
 use std::alloc::{AllocError, AllocGlobal};
 use std::sync::Wait;
@@ -184,17 +182,17 @@ fn values<R: Wait + Drop>(
 }
 
 // The value of any guard.
-fn value<V: Shows<Value = u32>, U: PassesOn>(guard: &Guard<V, U>) -> u32 {
+fn value<V: ValueRef<Value = u32>, U: Turn>(guard: &Guard<V, U>) -> u32 {
     **guard
 }
 
 // Puts a value behind any guard that writes.
-fn put<V: Lends<Value = u32>, U: PassesOn>(guard: &mut Guard<V, U>, number: u32) {
+fn put<V: ValueMut<Value = u32>, U: Turn>(guard: &mut Guard<V, U>, number: u32) {
     **guard = number;
 }
 
 // Gives up a writer's guard by the call for that.
-fn end<'a, V: Shows, R: Wait + Drop>(guard: Guard<V, Writing<'a, R, u32>>) {
+fn end<V: ValueRef, U: Lowers>(guard: Guard<V, Writing<'_, U, u32>>) {
     Guard::unlock_fair(guard);
 }
 

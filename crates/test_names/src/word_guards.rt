@@ -2,10 +2,9 @@
 
 ghost use Rattle.saa.specs.WordLocks.{IsDealtBy};
 
-use saa::word::guard::{Guard, Lends, PassesOn, Shows};
 use saa::word::{
-    LockLeft, LockPlace, Mutex, MutexGuard, MutexWorker, RwLock, RwLockReadGuard, RwLockWorker,
-    RwLockWriteGuard,
+    Guard, LockLeft, LockPlace, Mutex, MutexGuard, MutexWorker, RwLock, RwLockReadGuard,
+    RwLockWorker, RwLockWriteGuard, Turn, ValueMut, ValueRef,
 };
 use std::alloc::{AllocError, Global};
 use std::sync::Wait;
@@ -32,12 +31,12 @@ pub(crate) fn is_right<R: Wait>(
 }
 
 // What any guard shows.
-fn value<V: Shows<Value = u32>, U: PassesOn>(guard: &Guard<V, U>) -> u32 {
+fn value<V: ValueRef<Value = u32>, U: Turn>(guard: &Guard<V, U>) -> u32 {
     **guard
 }
 
 // Writes through any guard that lends its value.
-fn put<V: Lends<Value = u32>, U: PassesOn>(guard: &mut Guard<V, U>, number: u32) {
+fn put<V: ValueMut<Value = u32>, U: Turn>(guard: &mut Guard<V, U>, number: u32) {
     **guard = number;
 }
 

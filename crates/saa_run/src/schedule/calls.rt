@@ -6,9 +6,9 @@ ghost use Rattle.saa_word_steps.specs.Readings.{is_taken};
 ghost use Rattle.saa_run.specs.ScheduleCalls.{call_of_both, counted_call_of, in_steps, lock_call, lone_call_of, mode_call_of, paired_call_of, semaphore_call};
 
 use crate::script::lock_words;
-use saa_core_spec::lock::LockCall;
+use saa::lock::LockCall;
+use saa::word::machine::WordCall;
 use saa_run_text::fields::count;
-use saa_word::machine::WordCall;
 
 /// A lock's call as a machine makes it.
 fn in_steps(call: LockCall) -> WordCall

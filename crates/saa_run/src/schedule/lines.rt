@@ -6,8 +6,8 @@ ghost use Rattle.saa_run.specs.Schedules.{IsLineOf, bound_of, bounded_made, firs
 
 use crate::schedule::calls::{lone_call, paired_call};
 use crate::words::meaning;
+use saa::word::machine::{Kind, WordCall};
 use saa_run_text::fields::{count, first_field, number};
-use saa_word::machine::{Kind, WordCall};
 use std::marker::Model;
 
 /// The bound of a machine: 1 to 65535.

@@ -7,10 +7,10 @@ ghost use Rattle.saa_run.specs.MachineWords.{done_words, kind_word, main_words, 
 
 use crate::script::said::{error_text, truth_text};
 use itoa::Buffer;
-use saa_core_spec::lock::TryLockError;
-use saa_core_words::word::Word;
+use saa::lock::TryLockError;
+use saa::word::machine::{Answer, Kind, Step};
+use saa::words::word::Word;
 use saa_run_text::reply::{Reply, ReplyText, joined, numbered, word};
-use saa_word::machine::{Answer, Kind, Step};
 
 /// What a reply says.
 #[derive(Clone, Copy)]

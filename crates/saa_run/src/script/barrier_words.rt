@@ -10,8 +10,8 @@ ghost use Rattle.saa_run.specs.ScriptSaid.{said_words};
 
 use crate::script::said::Said;
 use crate::script::spoken::{Spoken, nothing_asked, said_truth};
-use saa_core::barrier::{BarrierAnswer, BarrierCall, BarrierCore};
-use saa_core::ticket::Error;
+use saa::barrier::{BarrierAnswer, BarrierCall, BarrierCore};
+use saa::ticket::Error;
 
 impl Spoken for BarrierCore {
     ghost readings = { barrier_readings };

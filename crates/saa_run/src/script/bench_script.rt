@@ -10,8 +10,7 @@ ghost use Rattle.saa_run.specs.ScriptText.{pagers};
 use crate::script::command::{ScriptLine, parse_line};
 use crate::script::said::Said;
 use crate::script::spoken::{Spoken, said};
-use saa_core::primitive::Primitive;
-use saa_core_bench::bench::Bench;
+use saa::bench::{Bench, Primitive};
 use saa_run_text::steps::Speaker;
 use std::alloc::{AllocError, Global};
 

@@ -10,8 +10,7 @@ ghost use Rattle.saa_run_text.specs.Fields.{number_of};
 
 use crate::script::spoken::Spoken;
 use crate::words::meaning;
-use saa_core::primitive::Primitive;
-use saa_core_bench::bench::CommandOf;
+use saa::bench::{CommandOf, Primitive};
 use saa_run_text::fields::{count, first_field, number};
 
 /// The bounds of a semaphore that a script can name.

@@ -7,7 +7,7 @@ ghost use Rattle.saa_run.specs.ScriptSaid.{said_words};
 use crate::script::said::Said;
 use crate::script::spoken::{Spoken, nothing_asked};
 use crate::words::meaning;
-use saa_core::gate::{Error, GateAnswer, GateCall, GateCore, State};
+use saa::gate::{Error, GateAnswer, GateCall, GateCore, State};
 
 impl Spoken for GateCore {
     ghost readings = { gate_readings };

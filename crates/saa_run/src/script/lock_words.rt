@@ -9,8 +9,8 @@ ghost use Rattle.saa_run.specs.ScriptSaid.{said_words};
 use crate::script::said::Said;
 use crate::script::spoken::{Spoken, said_truth};
 use crate::words::meaning;
-use saa_core::lock::{LockAnswer, LockCall, LockCore, Mode, TryLockError};
-use saa_core::ticket::Error;
+use saa::lock::{LockAnswer, LockCall, LockCore, Mode, TryLockError};
+use saa::ticket::Error;
 
 impl Spoken for LockCore {
     ghost readings = { lock_readings };

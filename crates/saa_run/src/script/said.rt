@@ -6,8 +6,8 @@ ghost use Rattle.saa_run.specs.Replies.{error_word, truth_word};
 ghost use Rattle.saa_run.specs.GateWords.{state_word, gate_error_word};
 
 use itoa::Buffer;
-use saa_core::gate::{self, State};
-use saa_core::ticket::Error;
+use saa::gate::{self, State};
+use saa::ticket::Error;
 use saa_run_text::reply::{Reply, ReplyText, joined, numbered, word};
 
 /// What a reply says.

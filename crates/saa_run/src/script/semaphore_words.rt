@@ -7,8 +7,8 @@ ghost use Rattle.saa_run.specs.SemaphoreWords.{semaphore_answer, semaphore_poll,
 use crate::script::said::Said;
 use crate::script::spoken::Spoken;
 use crate::words::meaning;
-use saa_core::semaphore::{SemaphoreAnswer, SemaphoreCall, SemaphoreCoreOf};
-use saa_core::ticket::Error;
+use saa::semaphore::{SemaphoreAnswer, SemaphoreCall, SemaphoreCoreOf};
+use saa::ticket::Error;
 use saa_run_text::fields::count;
 
 impl<const MAX: usize> Spoken for SemaphoreCoreOf<MAX> {

@@ -10,9 +10,8 @@ ghost use Rattle.saa_run.specs.Replies.{reply_words, no_ask, truth_poll};
 ghost use Rattle.saa_run.specs.ScriptSaid.{said_words};
 
 use crate::script::said::Said;
-use saa_core::primitive::Primitive;
-use saa_core::ticket::Error;
-use saa_core_bench::bench::{Reply, ReplyOf};
+use saa::bench::{Primitive, Reply, ReplyOf};
+use saa::ticket::Error;
 
 /// A primitive that scripts speak to.
 pub trait Spoken: Primitive {

@@ -10,7 +10,7 @@ ghost use Rattle.saa_core.specs.declared.ticket.Registration.TheVariants.{Unregi
 
 use crate::guarded::Guarded;
 use crate::lock_api::mutex::{Mutex, MutexGuard};
-use crate::lock_api::rwlock::{RwLock, RwLockReadGuard, RwLockWriteGuard, Writing};
+use crate::lock_api::rwlock::{RwLock, RwLockReadGuard, RwLockWriteGuard};
 use crate::turn::{AwaitAlone, AwaitShared};
 use futures::task::{Context, Poll};
 use futures::{Future, ready};
@@ -102,15 +102,14 @@ impl<'a, R: Wait + Drop, T> Future for WriteFuture<'a, R, T> {
 
     ghost needs = { λ future source. source ≡ future.asked.source };
 
-    ghost gives = { λ future answer. IfOk answer (λ guard. guard.turn.now ≡ future.lock) };
+    ghost gives = { λ future answer. IfOk answer (λ guard. guard.turn.turn.now ≡ future.lock) };
 
     fn poll(&mut self, cx: &mut Context<'_>) -> Poll<Result<RwLockWriteGuard<'a, R, T>, Full>> {
         let guarded = self.guarded;
         match ready!(self.turn.poll_turn(cx)) {
             Ok(turn) => {
                 let (turn, value) = guarded.write_in(turn);
-                let turn = Writing::new(guarded, turn);
-                Poll::Ready(Ok(RwLockWriteGuard::new(turn, value)))
+                Poll::Ready(Ok(RwLockWriteGuard::new(guarded.writing(turn), value)))
             }
             Err(full) => Poll::Ready(Err(full)),
         }

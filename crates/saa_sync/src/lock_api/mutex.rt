@@ -4,11 +4,11 @@ ghost use Rattle.std.specs.Prelude.{◌≡◌, IfOk, IfSome, IsOk};
 ghost use Rattle.saa_sync.specs.Forms.{patience_of, waiter_patience_of};
 
 use crate::guarded::Guarded;
-use crate::lock_api::guard::Guard;
 use crate::patience::{Patience, UNREGISTERED};
 use crate::seat::PATIENCE;
 use crate::turn::Alone;
 use saa_core::ticket::Full;
+use saa_core_guards::guard::Guard;
 use std::alloc::{AllocError, Global};
 use std::marker::Model;
 use std::sync::{RwLockWriteGuard as Writer, Wait};

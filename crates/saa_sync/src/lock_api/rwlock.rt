@@ -4,11 +4,12 @@ ghost use Rattle.std.specs.Prelude.{◌≡◌, IfOk, IfSome, IsOk};
 ghost use Rattle.saa_sync.specs.Forms.{patience_of, waiter_patience_of};
 
 use crate::guarded::Guarded;
-use crate::lock_api::guard::{Guard, PassesOn};
 use crate::patience::{Patience, UNREGISTERED};
 use crate::seat::PATIENCE;
-use crate::turn::{Alone, PutDown, Shared};
+use crate::turn::{Alone, Shared};
 use saa_core::ticket::Full;
+use saa_core_guards::guard::Guard;
+use saa_core_guards::turn::Writing;
 use std::alloc::{AllocError, Global};
 use std::marker::Model;
 use std::sync::{RwLockReadGuard as Reader, RwLockWriteGuard as Writer, Wait};
@@ -95,27 +96,20 @@ impl<R: Wait + Drop, T> RwLock<R, T> {
     /// `Full`: its patience is over, it would have to wait, and as many slots are held as there is room; nothing is changed. A thread that has a
     /// guard already waits for itself, so for ever, where there is room.
     pub fn write(&self) -> Result<RwLockWriteGuard<'_, R, T>, Full>
-        ensures { IfOk result (λ guard. guard.turn.now ≡ self.now) }
+        ensures { IfOk result (λ guard. guard.turn.turn.now ≡ self.now) }
     {
         let (turn, value) = self.guarded.write()?;
-        Ok(RwLockWriteGuard::new(self.writing(turn), value))
+        Ok(RwLockWriteGuard::new(self.guarded.writing(turn), value))
     }
 
     /// Takes the lock to write if nobody has it and nobody waits; never waits for it.
     ///
     /// `None` changes nothing.
     pub fn try_write(&self) -> Option<RwLockWriteGuard<'_, R, T>>
-        ensures { IfSome result (λ guard. guard.turn.now ≡ self.now) }
+        ensures { IfSome result (λ guard. guard.turn.turn.now ≡ self.now) }
     {
         let (turn, value) = self.guarded.try_write()?;
-        Some(RwLockWriteGuard::new(self.writing(turn), value))
-    }
-
-    // The turn of a writer here.
-    pub(crate) fn writing<'a>(&'a self, turn: Alone<'a, R>) -> Writing<'a, R, T>
-        ensures { result ≡ turn.entry }
-    {
-        Writing::new(&self.guarded, turn)
+        Some(RwLockWriteGuard::new(self.guarded.writing(turn), value))
     }
 
     /// The value, with no lock: an exclusive reference to the lock needs none.
@@ -134,54 +128,4 @@ impl<R: Wait + Drop, T> RwLock<R, T> {
 pub type RwLockReadGuard<'a, R, T> = Guard<Reader<'a, T>, Shared<'a, R>>;
 
 /// A writer's turn at an [`RwLock`], and its value to read and write. Its drop gives both up.
-pub type RwLockWriteGuard<'a, R, T> = Guard<Writer<'a, T>, Writing<'a, R, T>>;
-
-/// A writer's turn, which can be lowered to a reader's. Contracts see whose turn it is.
-pub struct Writing<'a, R: Wait + Drop, T> {
-    turn: Alone<'a, R>,
-    // Where a downgrade finds the value again.
-    guarded: &'a Guarded<R, T>,
-}
-
-impl<'a, R: Wait + Drop, T> Model for Writing<'a, R, T> {
-    ghost use Rattle.std.specs.Borrow.{Bor};
-    ghost use Rattle.saa_sync.specs.Forms.{TurnLock};
-
-    ghost Value = { Bor (TurnLock R) };
-
-    ghost view = { λ writing. writing.turn };
-}
-
-impl<'a, R: Wait + Drop, T> Writing<'a, R, T> {
-    // The turn alone, at the lock of this value.
-    pub(crate) fn new(guarded: &'a Guarded<R, T>, turn: Alone<'a, R>) -> Self
-        ensures { result ≡ turn.entry }
-    {
-        Writing { turn, guarded }
-    }
-}
-
-impl<R: Wait + Drop, T> PassesOn for Writing<'_, R, T> {
-    fn pass_on(self, value: PutDown) {
-        let Writing {
-            turn,
-            guarded: _guarded,
-        } = self;
-        turn.pass_on(value);
-    }
-}
-
-impl<'a, R: Wait + Drop, T> Guard<Writer<'a, T>, Writing<'a, R, T>> {
-    /// Becomes a reader's guard, and lets in the oldest readers while they may share, up to the first writer; no other task
-    /// writes in between.
-    ///
-    /// Never waits for a turn. The new guard reads what was written through this one. Readers behind a writer in the queue go on
-    /// waiting. Costs the mutex once, and a wake for each reader that is let in.
-    pub fn downgrade(guard: Self) -> RwLockReadGuard<'a, R, T>
-        ensures { result.turn ≡ guard.entry.turn }
-    {
-        let (Writing { turn, guarded }, value) = guard.into_parts();
-        let (turn, value) = guarded.lower(turn, value);
-        RwLockReadGuard::new(turn, value)
-    }
-}
+pub type RwLockWriteGuard<'a, R, T> = Guard<Writer<'a, T>, Writing<'a, Alone<'a, R>, T>>;

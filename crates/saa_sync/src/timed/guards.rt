@@ -60,14 +60,14 @@ impl<R: Wait + Clock + Drop, T> RwLock<R, T> {
     /// `Ok(None)`: time is up, and nothing is registered or taken; those behind are granted while they fit. `Full` comes at once, where it
     /// would have to wait and as many slots are held as there is room.
     pub fn write_for(&self, duration: Duration) -> Result<Option<RwLockWriteGuard<'_, R, T>>, Full>
-        ensures { IfOk result (λ told. IfSome told (λ guard. guard.turn.now ≡ self.now)) }
+        ensures { IfOk result (λ told. IfSome told (λ guard. guard.turn.turn.now ≡ self.now)) }
     {
         self.write_by(Deadline::after(self.guarded.turn.rt(), duration))
     }
 
     /// Takes the lock to write as [`Self::write_for`] does, and waits for it until this instant.
     pub fn write_until(&self, deadline: Instant) -> Result<Option<RwLockWriteGuard<'_, R, T>>, Full>
-        ensures { IfOk result (λ told. IfSome told (λ guard. guard.turn.now ≡ self.now)) }
+        ensures { IfOk result (λ told. IfSome told (λ guard. guard.turn.turn.now ≡ self.now)) }
     {
         self.write_by(Deadline::At(deadline))
     }
@@ -84,10 +84,13 @@ impl<R: Wait + Clock + Drop, T> RwLock<R, T> {
 
     // A writer's guard, by this time.
     fn write_by(&self, deadline: Deadline) -> Result<Option<RwLockWriteGuard<'_, R, T>>, Full>
-        ensures { IfOk result (λ told. IfSome told (λ guard. guard.turn.now ≡ self.now)) }
+        ensures { IfOk result (λ told. IfSome told (λ guard. guard.turn.turn.now ≡ self.now)) }
     {
         match self.guarded.write_by(deadline)? {
-            Some((turn, value)) => Ok(Some(RwLockWriteGuard::new(self.writing(turn), value))),
+            Some((turn, value)) => Ok(Some(RwLockWriteGuard::new(
+                self.guarded.writing(turn),
+                value,
+            ))),
             None => Ok(None),
         }
     }

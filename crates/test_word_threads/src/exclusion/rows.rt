@@ -1,6 +1,6 @@
 //! A mutex and a reader-writer lock with two workers in one thread: what their guards show, and which calls they let in.
 
-use saa_word_forms::guard::Guard;
+use saa_word_forms::Guard;
 use saa_word_forms::mutex::{Mutex, MutexWorker};
 use saa_word_forms::rw_lock::{RwLock, RwLockWorker, RwLockWriteGuard};
 use std::alloc::{AllocError, AllocGlobal, Global};
