@@ -12,10 +12,11 @@ use Rattle.saa_word_steps.specs.declared.call.Answer.{Answer}
 use Rattle.saa_word_steps.specs.declared.place.Place.{Place}
 use Rattle.saa_word_steps.specs.declared.place.Next.{Next}
 use Rattle.saa_word_steps.specs.declared.place.Next.TheVariants.{Going as GoesOn, Waits as HasToWait, Done as IsDone}
+use Rattle.saa_word_steps.specs.declared.place.Stage.{Stage}
 use Rattle.saa_word_steps.specs.declared.place.Stage.TheVariants.{Quiet}
 use Rattle.saa_word_steps.specs.declared.place.Registration.{Registration}
 use Rattle.saa_word_steps.specs.Needs.{Needs, needs_of, permit_needs}
-use Rattle.saa_word_steps.specs.AbstractState.{AbstractState, IsRun, after_event, opening}
+use Rattle.saa_word_steps.specs.AbstractState.{AbstractState, IsRun, OwesNothing, after_event, is_in, opening}
 use Rattle.saa_word_proofs.proofs.ConservationLemmas.{opening-granted, run-balanced, run-never, run-pending, run-permits}
 use Rattle.saa_word_proofs.specs.Registering.{AreRegistered, begun_as, is_slot, left_behind, starting_answer}
 use Rattle.saa_word_proofs.specs.CallStages.{IsBegun, IsLeft, IsStartedAs, IsUnder, IsUnderNext}
@@ -27,7 +28,7 @@ use Rattle.saa_word_steps.specs.declared.event.Event.{Event}
 use Rattle.saa_word_steps.specs.Steps.{next_of, started, word_at, written_by}
 use Rattle.saa_word_steps.specs.Readings.{is_taken}
 use Rattle.saa_word_proofs.specs.Rows.{main_of, updated}
-use Rattle.saa_word_proofs.specs.Refinement.{is_holder}
+use Rattle.saa_word_proofs.specs.Refinement.{IsShowing, is_holder}
 use Rattle.saa_word_proofs.specs.StepRefinement.{named_at, place_after, row_after}
 use Rattle.saa_word_proofs.specs.History.{named, of_place}
 use Rattle.saa_word_proofs.specs.Calls.{asked_by}
@@ -192,6 +193,17 @@ silent-next me (GoesOn place) events none = tt
 silent-next me HasToWait events none = none refl
 silent-next me (IsDone place answer) events none = tt
 
+-- a place in no call owes nothing
+owes-nothing : (state : State) (trace : Trace) → Tracks state trace → (place : ℕ) → trace.calls place ≡ None → OwesNothing place trace.state
+owes-nothing state trace tracks place none other due mine =
+    let s = tracks.refines in
+    let quiet : (place_of state place).stage ≡ Quiet =
+    subst (λ (underway : Option Underway). IsIn (needs_of state.rules) underway (place_of state place)) none (tracks.calls place) in
+    let nothing : s.owed place ≡ [] = subst (λ (stage : Stage). IsShowing (s.owed place) (s.worth place) stage) quiet (s.stages.showing place) in
+    let there : is_in other (s.owed (trace.state.granter other)) ≡ true = s.debts.paid_by other due in
+    let wrong : true ≡ false = sym there ∙ ap (λ (n : ℕ). is_in other (s.owed n)) mine ∙ ap (is_in other) nothing in
+    absurd (cc)
+
 -- While no place is in a call all is at rest
 pub rests : (state : State) (trace : Trace) → Tracks state trace → IsQuiescent trace → IsAtRest (needs_of state.rules) (row_of state) trace.state
 rests state trace tracks quiescent =
@@ -291,6 +303,7 @@ went state trace me here tracks busy =
       leads = record { last = stepped.last; run = run; shown = shown };
       conserved = conserves state (trace_after state (Go me) (worked_at state me) trace events stepped.last) run;
       few = λ one. omega (arith, within_here one);
+      shown = owes-nothing machine after then;
       quiet = rests machine after then;
       tracks = then;
     })
@@ -383,6 +396,7 @@ begun state trace me call here taken tracks quiet =
       leads = record { last = trace.state; run = run; shown = shown };
       conserved = conserves state (trace_after state (Start me call) (followed state me next) trace [] trace.state) run;
       few = λ one. omega (arith, within_here one);
+      shown = owes-nothing after behind_it then;
       quiet = rests after behind_it then;
       tracks = then;
     })
@@ -417,6 +431,7 @@ idled state trace move step calls registered made exact silent right waits track
       leads = record { last = trace.state; run = run; shown = shown };
       conserved = conserves state (trace_after state move (record { step = step; machine = state }) trace [] trace.state) run;
       few = λ one. subst (λ (m : ℕ → ℕ). m one ≤ 16 * length state.places + 48) (sym made_is) (omega (arith, tracks.within one));
+      shown = owes-nothing state (trace_after state move (record { step = step; machine = state }) trace [] trace.state) (subst (λ (t : Trace). Tracks state t) (sym trace_is) tracks);
       quiet = rests state (trace_after state move (record { step = step; machine = state }) trace [] trace.state) (subst (λ (t : Trace). Tracks state t) (sym trace_is) tracks);
       tracks = subst (λ (t : Trace). Tracks state t) (sym trace_is) tracks;
     }

@@ -154,7 +154,8 @@ Conserves state trace = (bound : ℕ) → state.rules ≡ Permits bound → IsCo
 
 -- A move is one step of the machine; rules and places stay. It simulates a list of events, none where it starts a call or waits, each enabled where
 -- it comes. What it answers is what its call and events name; the words show the abstract state then, and all events so far lead to them; permits are
--- conserved; no place has made too many steps; if no place is in a call then, all is at rest; and the trace after the events tracks the machine
+-- conserved; no place has made too many steps; each place that is in no call then has shown each answer that it granted, and if no place is in one all is at
+-- rest; and the trace after the events tracks the machine
 pub record Simulates (state : State) (move : Move) (moved : Moved) (trace : Trace) : Type 0 where
   pub exact : IsOneStep move moved.step state moved.machine
   pub rules : moved.machine.rules ≡ state.rules
@@ -169,6 +170,7 @@ pub record Simulates (state : State) (move : Move) (moved : Moved) (trace : Trac
   pub leads : LeadsTo (needs_of state.rules) (length state.places) trace.withheld (trace.history ++ of_place (mover move) events) (row_of moved.machine)
   pub conserved : Conserves state (trace_after state move moved trace events last)
   pub few : (place : ℕ) → (trace_after state move moved trace events last).made place ≤ 16 * length state.places + 48
+  pub shown : (place : ℕ) → (trace_after state move moved trace events last).calls place ≡ None → OwesNothing place last
   pub quiet : IsQuiescent (trace_after state move moved trace events last) → IsAtRest (needs_of state.rules) (row_of moved.machine) last
   pub tracks : Tracks moved.machine (trace_after state move moved trace events last)
 

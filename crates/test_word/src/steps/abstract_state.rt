@@ -6,6 +6,13 @@ use std::alloc::{AllocError, Global};
 // Who waits: a link, and what it asks.
 type Asker = (u16, u16);
 
+// An answer that is to be shown: by which place, which granted it, and its value.
+#[derive(Clone, Copy)]
+struct Due {
+    by: u16,
+    value: u8,
+}
+
 // The values of the answers: granted, and the lock is poisoned.
 const GRANTED: u8 = 0;
 
@@ -61,7 +68,7 @@ pub struct AbstractState {
     pub held: Held,
     pub line: Vec<Asker>,
     pub unclosed: bool,
-    due: Vec<Option<u8>>,
+    due: Vec<Option<Due>>,
     shown: Vec<Option<u8>>,
 }
 
@@ -86,7 +93,8 @@ impl AbstractState {
 
     /// The answer of a place that is to be shown.
     pub fn due(&self, link: u16) -> Option<u8> {
-        self.due.get(usize::from(link)).copied().unwrap_or(None)
+        let due = self.due.get(usize::from(link)).copied().unwrap_or(None);
+        due.map(|due| due.value)
     }
 
     /// The answer of a place that is shown.
@@ -97,6 +105,14 @@ impl AbstractState {
     /// Whether an answer is to be shown still.
     pub fn owes_an_answer(&self) -> bool {
         self.due.iter().any(|due| due.is_some())
+    }
+
+    /// Whether a place has an answer to show still.
+    pub fn owes(&self, link: u16) -> bool {
+        self.due.iter().any(|due| match due {
+            Some(due) => due.by == link,
+            None => false,
+        })
     }
 
     /// Whether a place is in the line.
@@ -141,13 +157,13 @@ impl AbstractState {
             Event::Lowered => self.lowered(),
             Event::NotLowered => self.held != Held::Alone,
             Event::Left => self.left(link)?,
-            Event::Granted(askers) => self.granted(askers),
+            Event::Granted(askers) => self.granted(link, askers),
             Event::Closed => self.closed(),
-            Event::Poisoned => self.poisoned(),
+            Event::Poisoned => self.poisoned(link),
             Event::NotPoisoned => self.held != Held::Alone,
             Event::Cleared => self.cleared(),
             Event::NotCleared => self.held != Held::Poisoned,
-            Event::Showed(shown) => self.showed(shown),
+            Event::Showed(shown) => self.showed(link, shown),
             Event::Took(value) => self.took(link, value),
             Event::NotReady => self.is_unanswered(link),
             Event::Read => true,
@@ -207,15 +223,15 @@ impl AbstractState {
         Ok(is_allowed)
     }
 
-    // The oldest leaves the line, and is to be answered; what it asked.
-    fn answer_oldest(&mut self, value: u8) -> Option<u16> {
+    // The oldest leaves the line, and is to be answered by a place; what it asked.
+    fn answer_oldest(&mut self, by: u16, value: u8) -> Option<u16> {
         if self.line.is_empty() {
             return None;
         }
         let (link, request) = self.line.remove(0);
         let is_held = self.due(link).is_some() || self.shown(link).is_some();
         if let Some(due) = self.due.get_mut(usize::from(link)) {
-            *due = Some(value);
+            *due = Some(Due { by, value });
         }
         if is_held {
             return None;
@@ -223,10 +239,10 @@ impl AbstractState {
         Some(request)
     }
 
-    fn granted(&mut self, askers: usize) -> bool {
+    fn granted(&mut self, by: u16, askers: usize) -> bool {
         let is_allowed = self.unclosed && askers > 0 && askers <= self.line.len();
         for _asker in 0..askers {
-            let Some(request) = self.answer_oldest(GRANTED) else {
+            let Some(request) = self.answer_oldest(by, GRANTED) else {
                 return false;
             };
             let Some(held) = self.held.plus(request) else {
@@ -243,11 +259,11 @@ impl AbstractState {
         is_allowed
     }
 
-    fn poisoned(&mut self) -> bool {
+    fn poisoned(&mut self, by: u16) -> bool {
         let mut is_allowed = !self.unclosed && self.held == Held::Alone;
         self.held = Held::Poisoned;
         for _asker in 0..self.line.len() {
-            is_allowed = self.answer_oldest(POISONED).is_some() && is_allowed;
+            is_allowed = self.answer_oldest(by, POISONED).is_some() && is_allowed;
         }
         is_allowed
     }
@@ -258,7 +274,9 @@ impl AbstractState {
         is_allowed
     }
 
-    fn showed(&mut self, link: u16) -> bool {
+    // It is shown by the place that granted it.
+    fn showed(&mut self, by: u16, link: u16) -> bool {
+        let granted = self.due.get(usize::from(link)).copied().unwrap_or(None);
         let answer = self.due(link);
         if let Some(due) = self.due.get_mut(usize::from(link)) {
             *due = None;
@@ -266,7 +284,10 @@ impl AbstractState {
         if let Some(shown) = self.shown.get_mut(usize::from(link)) {
             *shown = answer;
         }
-        answer.is_some()
+        match granted {
+            Some(due) => due.by == by,
+            None => false,
+        }
     }
 
     fn took(&mut self, link: u16, value: u8) -> bool {
