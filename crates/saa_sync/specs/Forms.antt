@@ -9,7 +9,7 @@ use Rattle.saa_sync.specs.declared.patience.Patience.{Patience}
 use Rattle.saa_sync.specs.declared.shell.Shell.{Shell}
 use Rattle.saa_sync.specs.NamedFutures.{FutureState}
 
--- what a value reads as, by what answers mean, and else the error
+-- what a value reads as, by what answers mean; and an error, in its place
 abbrev pub answer_of : {V : Type 0} → (Result ℕ Error → V) → ℕ → Option Error → V
 answer_of reading value None = reading (Ok value)
 answer_of reading value (Some error) = reading (Err error)

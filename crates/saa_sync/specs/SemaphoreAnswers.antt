@@ -1,7 +1,5 @@
--- What the answers of a semaphore mean to its pagers, to the waiters, and to its futures; a future without an answer was
--- refused its registration.
-use Rattle.std.specs.Prelude.{ℕ, Bool, true, false, Option, Some, None, Result, Ok, Err}
-use Rattle.saa_core_spec.specs.declared.polling.Error.{Error}
+-- What the answers of a semaphore mean to its futures; a future without an answer was refused its registration.
+use Rattle.std.specs.Prelude.{ℕ, Bool, true, false, Option, Some, None}
 
 -- one permit is granted
 abbrev pub one_permit : Option ℕ → Unit {0}

@@ -127,6 +127,9 @@ impl<R: Wait + Drop> Form<R, BarrierCore> {
     /// `Ok(true)`: it was the last arrival of its round, and all others of the round are answered and woken; or it waits,
     /// last in the line. `Ok(false)`: the pager is registered already, here or elsewhere. `Full`: it would have to wait,
     /// and as many slots are held as there is room. All but `Ok(true)` change nothing.
+    ///
+    /// Where the pager is cancelled, a waiter's arrival is taken back, so the round waits for one more, and no waiter is answered. An
+    /// answer that wasn't consumed is only consumed. Costs O(waiters) for a waiter.
     pub fn register_pager<'s>(
         &'s self,
         pager: &mut Pager<'s, Self>,

@@ -142,7 +142,7 @@ where
 
     ghost source = { source_of };
 
-    /// What the core's `value_of` says of the value, and else the error as its `read` says.
+    /// What the value means to the core, as its `value_of` says; and an error in its place, as its `read` does.
     fn to_result(value: u8, pager_error: Option<Error>) -> P::Value {
         match pager_error {
             Some(error) => P::read(Err(error)),
@@ -150,7 +150,7 @@ where
         }
     }
 
-    /// What the core answered, as its `read` says. The ticket is idle after an answer; its slot, if it had one, is free again.
+    /// What the core answered, as its `read` says. After an answer the ticket is idle; its slot, if it had one, is free again.
     fn take(&self, ticket: &mut Ticket, how: How) -> P::Value {
         P::read(self.shell.take(ticket, how))
     }
@@ -163,7 +163,7 @@ where
         }
     }
 
-    /// A waiter leaves the queue, and what that does to the others is said at each primitive.
+    /// A waiter leaves the queue; the `register_pager` of each primitive says what that does to the others.
     fn cancel(&self, ticket: &mut Ticket) {
         self.shell.cancel(ticket);
     }

@@ -158,6 +158,9 @@ impl<R: Wait + Drop> Form<R, GateCore> {
     /// `Ok(true)`: it was answered at once, at a sealed or an open gate, or waits, last in the line. `Ok(false)`: the
     /// pager is registered already, here or elsewhere. `Full`: it would have to wait, and as many slots are held as there
     /// is room. All but `Ok(true)` change nothing.
+    ///
+    /// Where the pager is cancelled, a waiter leaves the queue, and all other waiters are answered that one cancelled (`SpuriousFailure`),
+    /// and woken. An answer that wasn't consumed is only consumed. Costs O(waiters) for a waiter, and a wake for each that is answered.
     pub fn register_pager<'s>(
         &'s self,
         pager: &mut Pager<'s, Self>,

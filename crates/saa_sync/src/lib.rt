@@ -2,10 +2,10 @@
 //!
 //! A program that takes no word form may name this crate alone: it has all of `saa` but the word forms and the laws, under the same names.
 //!
-//! `shell` is the mutex round any core, `seat` where a thread parks, `wakers` what tasks are woken by. A form (`semaphore`, `lock`,
-//! `gate`, `barrier`) is a thin type over a `Shell`; `future` has the futures that they hand out, `permit` a semaphore's permits as
-//! values, `pager` waits that are kept outside a call, and `lock_api` mutexes and reader-writer locks. `testing` has what tests alone
-//! may see.
+//! `shell` is the mutex round any core, `seat` where a thread parks, `wakers` what tasks are woken by. `form` is the one type of the
+//! four forms, over a `Shell`; `semaphore`, `lock`, `gate` and `barrier` have the calls of each. `future` has the futures that they hand
+//! out, `permit` a semaphore's permits as values, `pager` waits that are kept outside a call, and `lock_api` mutexes and reader-writer
+//! locks. `testing` has what tests alone may see.
 #![tactic(auto)]
 
 pub mod barrier;

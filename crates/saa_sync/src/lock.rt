@@ -252,6 +252,10 @@ impl<R: Wait + Drop> Form<R, LockCore> {
     /// `Ok(true)`: it was answered at once, granted or poisoned, or waits, last in the line. `Ok(false)`: the pager is
     /// registered already, here or elsewhere. `Full`: it would have to wait, and as many slots are held as there is room.
     /// All but `Ok(true)` change nothing.
+    ///
+    /// Where the pager is cancelled, a waiter leaves the queue, and those behind it are granted while they fit; what was granted and not
+    /// consumed is given back as by the release of its mode, and nothing where the lock is poisoned by then. A granted wait mode and a
+    /// Poisoned answer give nothing back. Costs O(1) at any position, and a wake for each that is granted.
     pub fn register_pager<'s>(
         &'s self,
         pager: &mut Pager<'s, Self>,

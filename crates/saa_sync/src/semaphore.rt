@@ -280,6 +280,9 @@ impl<R: Wait + Drop, const MAX: usize> Form<R, SemaphoreCoreOf<MAX>> {
     /// `Ok(true)`: it was granted at once, or waits, last in the line. `Ok(false)`: the pager is registered already,
     /// here or elsewhere, or the count is above [`Self::MAX_PERMITS`]. `Full`: it would have to wait, and as many
     /// slots are held as there is room. All but `Ok(true)` change nothing.
+    ///
+    /// Where the pager is cancelled, a waiter leaves the queue, and those behind it are granted while they fit; what was granted and not
+    /// consumed is given back, as by `release_many`. Costs O(1) at any position, and a wake for each that is granted.
     pub fn register_pager<'s>(
         &'s self,
         pager: &mut Pager<'s, Self>,

@@ -1,20 +1,19 @@
 //! One mutex around any core, and a seat for each slot of its room: what every threaded form is built on.
 //!
 //! A wait is a registration followed by polls: a waiter spins at its seat, then yields, and only then parks there. A call
-//! that answers waiters wakes exactly these, with the mutex free. The methods of `Inside` take the core, and say what they
-//! do to it; those of `Shell` only lock the mutex around one of them, and wake.
+//! that answers waiters wakes exactly these, with the mutex free. The methods of `Shell` lock the mutex around one call of the core, or
+//! around one of `Inside`, which makes two calls of it and says what both do, and wake.
 //!
 //! What nobody waits in is inlined, and the waiting and waking isn't: each register that a call saves in memory before it
 //! takes the lock is waited for there, which cost a lock some 10 ns. Waits that end in time stand in `timed`.
 
-ghost use Rattle.std.specs.Prelude.{◌≡◌, ◌⊎◌, ◌||◌, ◌&&◌, not, true, false, Some, IfErr, IfOk, IsNone, IsOk, slice_get};
+ghost use Rattle.std.specs.Prelude.{◌≡◌, ◌⊎◌, ◌||◌, ◌&&◌, not, true, false, Some, IfErr, IfOk, IsOk, slice_get};
 ghost use Rattle.saa_core_spec.specs.declared.polling.Error.TheVariants.{NotReady, NotRegistered};
 ghost use Rattle.saa_core_spec.specs.declared.polling.How.TheVariants.{Sync, Async};
 ghost use Rattle.saa_core.specs.declared.ticket.Registration.TheVariants.{Unregistered};
 ghost use Rattle.saa_core_spec.specs.Asking.{registered};
-ghost use Rattle.saa_core_spec.specs.Polling.{polled};
-ghost use Rattle.saa_core.specs.Tickets.{Acts, Calls, HasAnswer, Polled, dropping, fault_of, is_busy, is_not_ready, is_yes, IsNeverTooMuch};
-ghost use Rattle.saa_core.specs.Slots.{OwesAnswered, wake_told};
+ghost use Rattle.saa_core.specs.Tickets.{Acts, HasAnswer, Polled, fault_of, is_busy, is_not_ready, is_yes, IsNeverTooMuch};
+ghost use Rattle.saa_core.specs.Slots.{wake_told};
 ghost use Rattle.saa_core.specs.Beginning.{BeginOwes, alone, mode_of};
 ghost use Rattle.saa_sync.specs.Forms.{patience_of, waiter_patience_of};
 ghost use Rattle.saa_sync.specs.Waits.{begun, concluded, has_joined, registration_of, slot_woken};
@@ -95,17 +94,6 @@ impl<P: Tries> Inside<P> {
         self.lingered.add(spent);
     }
 
-    /// The slot of the oldest pending wake, taken out of the core's list; mostly there is none.
-    ///
-    /// Its waker is taken by [`Self::wakes_from`], in a call of its own: what a call that wakes no waiter costs is this look.
-    #[inline(always)]
-    pub(crate) fn next_answered(&mut self) -> Option<u16>
-        ensures oldest { slice_get (P.core self.old.core).slots.owed 0 ≡ result }
-        ensures told { P.core self.new.core ≡ record (P.core self.old.core) { slots = wake_told (P.core self.old.core).slots } }
-    {
-        self.core.next_answered()
-    }
-
     /// The wake of a slot that was taken out, and the next pending one, taken out too; both with the waker of the task that
     /// waits there, if one does.
     #[inline(never)]
@@ -115,7 +103,7 @@ impl<P: Tries> Inside<P> {
         ensures told { P.core self.new.core ≡ record (P.core self.old.core) { slots = wake_told (P.core self.old.core).slots } }
     {
         let first = self.wake_at(slot);
-        let second = match self.next_answered() {
+        let second = match self.core.next_answered() {
             Some(next) => Some(self.wake_at(next)),
             None => None,
         };
@@ -131,46 +119,6 @@ impl<P: Tries> Inside<P> {
         Wake { slot, waker }
     }
 
-    // Tries for what is asked, without a ticket.
-    #[inline(always)]
-    fn try_now(&mut self, ask: P::Ask) -> Option<u8>
-        ensures calls { Calls (P.core self.old.core) (P.core self.new.core) (P.tried ask) result }
-        ensures refused { IsNone result → P.core self.new.core ≡ P.core self.old.core }
-    {
-        self.core.try_now(ask)
-    }
-
-    // Registers a ticket.
-    fn register(&mut self, ticket: &mut Ticket, ask: P::Ask, is_sync: bool) -> Result<bool, Full>
-        ensures acts { Acts (P.core self.old.core) (P.core self.new.core) ticket.old ticket.new
-            (λ s name. registered s name (P.request ask) is_sync) result }
-        ensures ticket { is_busy ticket.new ≡ (is_busy ticket.old || is_yes result) }
-        ensures mode { ticket.old ≡ Unregistered → is_yes result ≡ true → mode_of ticket.new ≡ Some is_sync }
-        ensures wakes { OwesAnswered (P.core self.old.core).slots (P.core self.new.core).slots }
-    {
-        self.core.register(ticket, ask, is_sync)
-    }
-
-    // Registers a pager's ticket. An idle one that asks for no more than there ever is is registered, or finds the room
-    // full.
-    fn register_pager(
-        &mut self,
-        ticket: &mut Ticket,
-        ask: P::Ask,
-        is_sync: bool,
-    ) -> Result<bool, Full>
-        ensures acts { Acts (P.core self.old.core) (P.core self.new.core) ticket.old ticket.new
-            (λ s name. registered s name (P.request ask) is_sync) result }
-        ensures ticket { is_busy ticket.new ≡ (is_busy ticket.old || is_yes result) }
-        ensures mode { ticket.old ≡ Unregistered → is_yes result ≡ true → mode_of ticket.new ≡ Some is_sync }
-        ensures sure { ticket.old ≡ Unregistered → IsNeverTooMuch P.stands (P.request ask)
-            → IfOk result (λ is_registered. is_registered ≡ true) }
-        ensures wakes { OwesAnswered (P.core self.old.core).slots (P.core self.new.core).slots }
-    {
-        self.core.stands();
-        self.register(ticket, ask, is_sync)
-    }
-
     // Registers an idle ticket as sync, and consumes the answer if that is there at once.
     #[inline(always)]
     fn begin(&mut self, ticket: &mut Ticket, ask: P::Ask) -> Result<Begun, Full>
@@ -182,24 +130,13 @@ impl<P: Tries> Inside<P> {
         ensures mode { has_joined result ≡ true → mode_of ticket.new ≡ Some true }
         ensures wakes { BeginOwes (P.core self.old.core) (P.core self.new.core) ticket.old (P.request ask) true (registration_of result) }
     {
-        if !self.register(ticket, ask, true)? {
+        if !self.core.register(ticket, ask, true)? {
             return Ok(Begun::Refused);
         }
-        match self.poll(ticket, How::Sync) {
+        match self.core.poll_number(ticket, How::Sync) {
             Ok(value) => Ok(Begun::Answered(value)),
             Err(_not_ready) => Ok(Begun::Joined),
         }
-    }
-
-    // Polls a ticket; doesn't wait.
-    fn poll(&mut self, ticket: &mut Ticket, how: How) -> Result<u8, Error>
-        ensures acts { Acts (P.core self.old.core) (P.core self.new.core) ticket.old ticket.new
-            (λ s name. polled s name how) result }
-        ensures ticket { Polled ticket.old ticket.new how (fault_of result) }
-        ensures kept { HasAnswer ticket.old result }
-        ensures owed { (P.core self.new.core).slots.owed ≡ (P.core self.old.core).slots.owed }
-    {
-        self.core.poll_number(ticket, how)
     }
 
     // Ends the wait of a ticket that was registered as sync: takes the answer if it is there, and else drops what the ticket is
@@ -211,21 +148,12 @@ impl<P: Tries> Inside<P> {
         ensures answered { HasAnswer ticket.old result }
         ensures lost { mode_of ticket.old ≡ Some true → IfErr result (λ error. (error ≡ NotReady) ⊎ (error ≡ NotRegistered)) }
     {
-        let answer = self.poll(ticket, How::Sync);
+        let answer = self.core.poll_number(ticket, How::Sync);
         let is_unanswered = matches!(answer, Err(Error::NotReady));
         if is_unanswered {
-            self.cancel(ticket);
+            self.core.cancel(ticket);
         }
         answer
-    }
-
-    // Drops what a ticket is registered for.
-    fn cancel(&mut self, ticket: &mut Ticket)
-        ensures acts { Acts (P.core self.old.core) (P.core self.new.core) ticket.old ticket.new dropping result }
-        ensures idle { ticket.new ≡ Unregistered }
-        ensures wakes { OwesAnswered (P.core self.old.core).slots (P.core self.new.core).slots }
-    {
-        self.core.cancel(ticket);
     }
 }
 
@@ -363,7 +291,7 @@ impl<R: Wait + Drop, P: Tries> Shell<R, P> {
         if self.hint.is_watched() {
             self.hint.show(&inside.core);
         }
-        match inside.next_answered() {
+        match inside.core.next_answered() {
             Some(slot) => self.wake(inside, slot),
             None => drop(inside),
         }
@@ -386,7 +314,7 @@ impl<R: Wait + Drop, P: Tries> Shell<R, P> {
             };
             self.ring(second);
             inside = self.lock();
-            let Some(next) = inside.next_answered() else {
+            let Some(next) = inside.core.next_answered() else {
                 return;
             };
             slot = next;
@@ -418,7 +346,7 @@ impl<R: Wait + Drop, P: Tries> Shell<R, P> {
             return self.look_on(ask);
         }
         let mut inside = self.lock();
-        let answer = inside.try_now(ask);
+        let answer = inside.core.try_now(ask);
         self.leave(inside);
         if answer.is_some() {
             return answer;
@@ -446,7 +374,7 @@ impl<R: Wait + Drop, P: Tries> Shell<R, P> {
                 if let Some(mut inside) = self.lock.try_lock() {
                     is_due = false;
                     inside.count();
-                    let answer = inside.try_now(ask);
+                    let answer = inside.core.try_now(ask);
                     self.leave(inside);
                     if answer.is_some() {
                         return answer;
@@ -515,7 +443,10 @@ impl<R: Wait + Drop, P: Tries> Shell<R, P> {
             → IfOk result (λ is_registered. is_registered ≡ true) }
     {
         let mut inside = self.lock();
-        let answer = inside.register_pager(ticket, ask, is_sync);
+        let core = &mut inside.core;
+        // The proof learns what always holds of the core.
+        core.stands();
+        let answer = core.register(ticket, ask, is_sync);
         self.take_seat(ticket);
         self.leave(inside);
         answer
@@ -527,7 +458,7 @@ impl<R: Wait + Drop, P: Tries> Shell<R, P> {
         ensures answered { HasAnswer ticket.old result }
         ensures waited { how ≡ Sync → is_not_ready (fault_of result) ≡ false }
     {
-        let answer = self.lock().poll(ticket, how);
+        let answer = self.lock().core.poll_number(ticket, how);
         if matches!(how, How::Sync) && matches!(answer, Err(Error::NotReady)) {
             return self.wait(ticket);
         }
@@ -554,7 +485,7 @@ impl<R: Wait + Drop, P: Tries> Shell<R, P> {
     {
         let slot = ticket.slot();
         let mut inside = self.lock();
-        let answer = inside.poll(ticket, How::Async);
+        let answer = inside.core.poll_number(ticket, How::Async);
         if matches!(answer, Err(Error::NotReady)) {
             return inside.wakers.keep(slot, &self.source, cx);
         }
@@ -569,7 +500,7 @@ impl<R: Wait + Drop, P: Tries> Shell<R, P> {
     {
         let slot = ticket.slot();
         let mut inside = self.lock();
-        inside.cancel(ticket);
+        inside.core.cancel(ticket);
         let _unused = inside.wakers.take_of(slot);
         self.leave(inside);
     }
@@ -673,7 +604,7 @@ impl<R: Wait + Drop, P: Tries> Shell<R, P> {
         let mut inside = self.lock();
         inside.count_linger(&spent);
         for _ in self.rt.forever() {
-            match inside.poll(ticket, How::Sync) {
+            match inside.core.poll_number(ticket, How::Sync) {
                 Err(Error::NotReady) => {}
                 answer => return answer,
             }

@@ -55,7 +55,7 @@ impl<R: Wait + Clock + Drop, P: Tries> Shell<R, P> {
         if told.is_some() {
             return told;
         }
-        match inside.poll(ticket, How::Sync) {
+        match inside.core.poll_number(ticket, How::Sync) {
             Err(Error::NotReady) => None,
             answer => Some(answer),
         }
@@ -74,7 +74,7 @@ impl<R: Wait + Clock + Drop, P: Tries> Shell<R, P> {
             None => inside.conclude(ticket),
         };
         if answer.is_err() {
-            inside.cancel(ticket);
+            inside.core.cancel(ticket);
         }
         self.leave(inside);
         answer
@@ -107,7 +107,7 @@ impl<R: Wait + Clock + Drop, P: Tries> Shell<R, P> {
             let Some(left) = deadline.left(&self.rt) else {
                 return (inside, None);
             };
-            match inside.poll(ticket, How::Sync) {
+            match inside.core.poll_number(ticket, How::Sync) {
                 Err(Error::NotReady) => {}
                 answer => return (inside, Some(answer)),
             }

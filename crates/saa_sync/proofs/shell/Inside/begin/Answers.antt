@@ -1,5 +1,6 @@
-use Rattle.std.proofs.Common.{rules, ◌≡◌, Ok, true, false, ap, sym, ◌∙◌}
-use Rattle.saa_core.proofs.TicketLemmas.Modes.{begin-owes, reply-alone}
+use Rattle.std.proofs.Common.{rules, ◌≡◌, Ok, true, false, ap, refl, sym, ◌∙◌}
+use Rattle.saa_core.specs.Beginning.{mode_of}
+use Rattle.saa_core.proofs.TicketLemmas.Modes.{begin-owes, registered-mode, reply-alone}
 use Rattle.saa_sync.proofs.ShellFollows.{begun-polled, full-stays}
 use Rattle.saa_sync.proofs.shell.Inside.begin.Goals as goal
 
@@ -42,3 +43,9 @@ pub returns-in-Err-clause-wakes : goal.returns-in-Err-clause-wakes
 returns-in-Err-clause-wakes g c =
     let is_true : c.in_ok-register.field-0 ≡ true = search rules in
     begin-owes _ _ _ _ _ _ _ _ is_true c.in_ok-register.ensures.acts c.in_ok-register.ensures.wakes c.in-Err.ensures.owed
+
+pub returns-in-Err-clause-mode : goal.returns-in-Err-clause-mode
+returns-in-Err-clause-mode g c = λ joined.
+    let is_true : c.in_ok-register.field-0 ≡ true = search rules in
+    ap mode_of (c.in-Err.ensures.ticket.same refl)
+    ∙ registered-mode _ _ _ _ _ (Ok c.in_ok-register.field-0) is_true (rw c.requires at c.in_ok-register.ensures.acts)
