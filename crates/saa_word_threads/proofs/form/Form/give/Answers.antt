@@ -39,21 +39,21 @@ seek_by_exchange-other-requires-clause-made g c =
 
 pub returns-in_default-clause-called : goal.returns-in_default-clause-called
 returns-in_default-clause-called g c = (
-  c.follow.result,
+  c.give_on.result,
   c.yes.ensures,
   pending-called c.args.self.now c.of-pending.result c.args.place.now c.args.call
       (record c.args.place.now.position { stage = ReleaseLoad (Asked c.args.request); back = Tells })
-      c.follow.new.position c.follow.result c.follow.new.seat c.of-pending.ensures c.requires.starts c.follow.ensures.ended,
+      c.give_on.new.position c.give_on.result c.give_on.new.seat c.of-pending.ensures c.requires.starts c.give_on.ensures.ended,
 )
 
 pub returns-then-other-old-clause-called : goal.returns-then-other-old-clause-called
 returns-then-other-old-clause-called g c = (
-  c.follow-then-other-old.result,
+  c.give_anew.result,
   c.yes-then-other-old.ensures,
   pending-called c.args.self.now c.of-pending.result c.args.place.now c.args.call
       (record c.args.place.now.position { stage = ReleaseLoad (Asked c.args.request); back = Tells })
-      c.follow-then-other-old.new.position c.follow-then-other-old.result c.follow-then-other-old.new.seat c.of-pending.ensures c.requires.starts
-      c.follow-then-other-old.ensures.ended,
+      c.give_anew.new.position c.give_anew.result c.give_anew.new.seat c.of-pending.ensures c.requires.starts
+      c.give_anew.ensures.ended,
 )
 
 pub returns-clause-called : goal.returns-clause-called
