@@ -50,7 +50,7 @@ impl Form {
         call: WordCall,
     ) -> Answer
         requires dealt { IsAt self.now place.old.seat }
-        requires taken { Takes self.now call }
+        requires takes { Takes self.now call }
         ensures same { IsSamePlace place.old place.new }
         ensures patience { patience_of place.new ≡ patience_of place.old }
         ensures called { IsCalledAt self.now call place.old result place.new }
@@ -73,7 +73,7 @@ impl Form {
     // Makes a call of one step at most, which never blocks.
     pub(crate) fn call_at_once(&self, place: &mut Place, call: WordCall) -> Answer
         requires dealt { IsAt self.now place.old.seat }
-        requires taken { Takes self.now call }
+        requires takes { Takes self.now call }
         requires single { is_single call ≡ true }
         ensures same { IsSamePlace place.old place.new }
         ensures called { IsCalledAt self.now call place.old result place.new }

@@ -64,7 +64,7 @@ impl Form {
         patience: Patience,
     ) -> Answer
         requires dealt { IsAt self.now place.old.seat }
-        requires taken { Takes self.now call }
+        requires takes { Takes self.now call }
         requires refused { started (needs self.now) place.old.position call ≡ Done place.old.position (Says false) }
         ensures same { IsSamePlace place.old place.new }
         ensures patience { patience_of place.new ≡ patience }
@@ -86,7 +86,7 @@ impl Form {
         patience: Patience,
     ) -> Answer
         requires dealt { IsAt self.now place.old.seat }
-        requires taken { Takes self.now call }
+        requires takes { Takes self.now call }
         requires starts { started (needs self.now) place.old.position call ≡ going place.old.position (AskLoad ask) }
         ensures same { IsSamePlace place.old place.new }
         ensures patience { patience_of place.new ≡ patience }
@@ -160,7 +160,7 @@ impl Form {
         request: u16,
     ) -> bool
         requires dealt { IsAt self.now place.old.seat }
-        requires taken { Takes self.now call }
+        requires takes { Takes self.now call }
         requires starts { started (needs self.now) place.old.position call ≡ released_as place.old.position (Asked request) }
         ensures same { IsSamePlace place.old place.new }
         ensures called { (answer : Answer) × (result ≡ is_yes answer) × IsCalledAt self.now call place.old answer place.new }

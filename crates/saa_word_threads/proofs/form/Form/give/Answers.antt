@@ -16,7 +16,7 @@ pub seek_by_load-found-requires-clause-pending : goal.seek_by_load-found-require
 seek_by_load-found-requires-clause-pending g c =
     rw (c.of-looking.ensures)
     (pending-begins c.args.self.now c.of-pending.result c.args.place.now c.args.call (record c.args.place.now.position { stage = ReleaseLoad (Asked c.args.request); back = Tells })
-    c.of-pending.ensures c.requires.dealt (search rules) c.requires.taken c.requires.starts)
+    c.of-pending.ensures c.requires.dealt (search rules) c.requires.takes c.requires.starts)
 
 pub seek_by_exchange-other-requires-clause-pending : goal.seek_by_exchange-other-requires-clause-pending
 seek_by_exchange-other-requires-clause-pending g c =
