@@ -48,7 +48,7 @@ IsAt form seat = seat.table_id ≡ form.table.shared.table_id
 abbrev pub IsSeatOf : Form → ℕ → Seat → Type 0
 IsSeatOf form me seat = (seat.table_id ≡ form.table.shared.table_id) × (seat.me.0.role ≡ Acting) × (seat.me.0.number ≡ me) × (me < form.places)
 
--- a seat goes on: it is the same one of the same table
+-- a seat goes on: it is the same one of the same table, with the same slots
 abbrev pub IsSameSeat : Seat → Seat → Type 0
 IsSameSeat old new = (new.table_id ≡ old.table_id) × (new.id ≡ old.id) × (new.me.1 ≡ old.me.1)
 

@@ -1,13 +1,11 @@
 //! A whole call of a place: the steps from its start to its answer.
 
 ghost use Rattle.std.specs.Prelude.{◌≡◌, true};
-ghost use Rattle.saa_word_steps.specs.Steps.{IsRanged};
 ghost use Rattle.saa_word_threads.specs.Called.{is_single};
-ghost use Rattle.saa_word_threads.specs.Pending.{BeganAt, HasEnded, HasFound, IsAt, IsCalledAt, IsPending, IsSameSeat, Takes, needs, withheld};
+ghost use Rattle.saa_word_threads.specs.Pending.{BeganAt, HasEnded, IsAt, IsCalledAt, IsPending, IsSameSeat, Takes, needs, withheld};
 ghost use Rattle.saa_word_threads.specs.Public.{HasLeft, IsSamePlace, patience_of};
 
 use crate::form::Form;
-use crate::looking::{Patience, unless_joining};
 use crate::place::{Left, Place};
 use crate::table::View;
 use crate::watch::{Moment, Unwatched, Watch};
@@ -52,7 +50,7 @@ impl Form {
         call: WordCall,
     ) -> Answer
         requires dealt { IsAt self.now place.old.seat }
-        requires taken { Takes self.now call }
+        requires takes { Takes self.now call }
         ensures same { IsSamePlace place.old place.new }
         ensures patience { patience_of place.new ≡ patience_of place.old }
         ensures called { IsCalledAt self.now call place.old result place.new }
@@ -75,7 +73,7 @@ impl Form {
     // Makes a call of one step at most, which never blocks.
     pub(crate) fn call_at_once(&self, place: &mut Place, call: WordCall) -> Answer
         requires dealt { IsAt self.now place.old.seat }
-        requires taken { Takes self.now call }
+        requires takes { Takes self.now call }
         requires single { is_single call ≡ true }
         ensures same { IsSamePlace place.old place.new }
         ensures called { IsCalledAt self.now call place.old result place.new }
@@ -112,43 +110,6 @@ impl Form {
             last_ask: _,
         } = place;
         Left { seat, number }
-    }
-
-    // Goes on with a call whose place has just found this number at this stage: it looks on while its patience lasts, and then goes step by step.
-    #[cold]
-    pub(crate) fn follow<R: Wait, W: Watch>(
-        &self,
-        rt: &R,
-        watch: &W,
-        seat: &mut Seat<(), View>,
-        position: &mut Position,
-        stage: Stage,
-        found: u64,
-        patience: Patience,
-        pending: Pending,
-    ) -> Answer
-        requires ranged { IsRanged (needs self.now) stage }
-        requires found { HasFound self.now pending (record position.old { stage = stage }) found seat.old }
-        ensures same { IsSameSeat seat.old seat.new }
-        ensures ended { HasEnded self.now pending position.new result seat.new }
-    {
-        let place = Position { stage, ..*position };
-        match unless_joining(place, place.resume(self.rules, pending.me, found)) {
-            Next::Going(next) => {
-                let (behind, answer) = self.look_on(rt, watch, seat, next, patience, pending);
-                *position = behind;
-                answer
-            }
-            Next::Waits => {
-                let (behind, answer) = self.go_on(rt, watch, seat, place, pending);
-                *position = behind;
-                answer
-            }
-            Next::Done(behind, answer) => {
-                *position = behind;
-                answer
-            }
-        }
     }
 
     // Goes on with a call to its end, from the stage that its place is at.

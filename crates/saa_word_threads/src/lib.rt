@@ -1,14 +1,15 @@
 //! The word's semaphore and lock on shared memory: threads that make the word's single steps on a table of atomic words.
 //!
 //! What a place does next, and how it goes on with what it finds, is `saa_word_steps`', and that each step keeps the refinement is
-//! `saa_word_proofs`'. Here stand the table with its rule (`table`), the form that makes steps and calls on it (`form`, `step`, `call`), the two
-//! steps of an uncontended call (`straight`, `main_word`), how a place looks before it joins the waiters (`looking`), waits (`waiting`) and is woken
-//! (`written`, `mark`), a caller with no place (`visitor`, `visit`),
-//! and the public semaphore and lock. `laws` says what follows for several places. `docs/PROTOCOL.md` tells the protocol.
+//! `saa_word_proofs`'. Here stand the table with its rule (`table`), the form that makes steps and calls on it (`form`, `step`, `call`), the two steps
+//! of an uncontended call (`straight`, `main_word`, `answers`) and how it goes on where it is contended (`contended`), how a place looks before it
+//! joins the waiters (`looking`), waits (`waiting`) and is woken (`written`, `mark`), a caller with no place (`visitor`, `visit`), and the public
+//! semaphore and lock. `laws` says what follows for several places. `docs/PROTOCOL.md` tells the protocol.
 #![tactic(auto)]
 
 mod answers;
 mod call;
+mod contended;
 mod form;
 pub mod laws;
 pub mod lock;

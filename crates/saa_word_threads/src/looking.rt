@@ -118,7 +118,7 @@ impl Form {
         place: Position,
         pending: &Pending,
     ) -> Next
-        requires told { (M.about ≡ about_of self.now) × (M.place ≡ place) × (M.me ≡ pending.now.me) }
+        requires mover { (M.about ≡ about_of self.now) × (M.place ≡ place) × (M.me ≡ pending.now.me) }
         requires pending { IsPending self.now pending.now place seat.old }
         ensures same { IsSameSeat seat.old seat.new }
         ensures next { GoesOn self.now pending.now place result seat.new }
@@ -150,7 +150,7 @@ impl Form {
         at: Snapshot<Position>,
         pending: &Pending,
     ) -> u64
-        requires told { (M.about ≡ about_of self.now) × (M.place ≡ at.value) × (M.me ≡ pending.now.me) }
+        requires mover { (M.about ≡ about_of self.now) × (M.place ≡ at.value) × (M.me ≡ pending.now.me) }
         requires pending { IsPending self.now pending.now at.value seat.old }
         requires loads { operation_of (needs self.now) self.now.places pending.now.me at.value.stage ≡ Load 0 }
         ensures same { IsSameSeat seat.old seat.new }
@@ -169,7 +169,7 @@ impl Form {
         old: u64,
         new: u64,
     ) -> u64
-        requires told { (M.about ≡ about_of self.now) × (M.place ≡ at.value) × (M.me ≡ pending.now.me) }
+        requires mover { (M.about ≡ about_of self.now) × (M.place ≡ at.value) × (M.me ≡ pending.now.me) }
         requires pending { IsPending self.now pending.now at.value seat.old }
         requires exchanges { operation_of (needs self.now) self.now.places pending.now.me at.value.stage ≡ Exchange 0 old new }
         requires made { (found : ℕ) → prepares (next_of (needs self.now) pending.now.me at.value at.value.stage found) ≡ true → (found == old) ≡ false }

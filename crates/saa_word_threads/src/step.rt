@@ -25,7 +25,7 @@ impl Form {
         place: Position,
         pending: &Pending,
     ) -> Next
-        requires told { (M.about ≡ about_of self.now) × (M.place ≡ place) × (M.me ≡ pending.now.me) }
+        requires mover { (M.about ≡ about_of self.now) × (M.place ≡ place) × (M.me ≡ pending.now.me) }
         requires pending { IsPending self.now pending.now place seat.old }
         ensures same { IsSameSeat seat.old seat.new }
         ensures next { GoesOn self.now pending.now place result seat.new }

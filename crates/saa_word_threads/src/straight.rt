@@ -1,7 +1,7 @@
 //! The straight path of an uncontended call: it loads the main word, and exchanges it.
 //!
 //! These are the very steps of `seek`, of the same stages, but the stages that the place is at are seen by contracts alone, so that nothing is
-//! built or copied. Where there is a waiter or the exchange fails, the call goes on from the stage that it has reached (`follow`).
+//! built or copied. Where there is a waiter or the exchange fails, the call goes on from the stage that it has reached (`contended`).
 
 ghost use Rattle.std.specs.Prelude.{◌≡◌, false};
 ghost use Rattle.saa_word_steps.specs.declared.call.WordCall.TheVariants.{Poll};
@@ -64,7 +64,7 @@ impl Form {
         patience: Patience,
     ) -> Answer
         requires dealt { IsAt self.now place.old.seat }
-        requires taken { Takes self.now call }
+        requires takes { Takes self.now call }
         requires refused { started (needs self.now) place.old.position call ≡ Done place.old.position (Says false) }
         ensures same { IsSamePlace place.old place.new }
         ensures patience { patience_of place.new ≡ patience }
@@ -86,7 +86,7 @@ impl Form {
         patience: Patience,
     ) -> Answer
         requires dealt { IsAt self.now place.old.seat }
-        requires taken { Takes self.now call }
+        requires takes { Takes self.now call }
         requires starts { started (needs self.now) place.old.position call ≡ going place.old.position (AskLoad ask) }
         ensures same { IsSamePlace place.old place.new }
         ensures patience { patience_of place.new ≡ patience }
@@ -103,8 +103,7 @@ impl Form {
         let seen = Word::unpack(found);
         if !self.grants(seen, ask) {
             let (seat, position) = (&mut place.seat, &mut place.position);
-            let stage = Stage::AskLoad { ask };
-            return self.follow(rt, watch, seat, position, stage, found, patience, pending);
+            return self.ask_on(rt, watch, seat, position, ask, found, patience, pending);
         }
         let changing = Snapshot::of(&Position {
             stage: Stage::AskExchange { ask, seen },
@@ -119,8 +118,9 @@ impl Form {
         let other = self.seek_by_exchange::<Brand>(seat, changing, &pending, old, new);
         if other != old {
             let (seat, position) = (&mut place.seat, &mut place.position);
-            let stage = Stage::AskExchange { ask, seen };
-            return self.follow(rt, watch, seat, position, stage, other, patience, pending);
+            return self.ask_anew(
+                rt, watch, seat, position, ask, found, other, patience, pending,
+            );
         }
         if ask.joins {
             place.position.registration = Registration::Once(GRANTED, ask.request);
@@ -160,7 +160,7 @@ impl Form {
         request: u16,
     ) -> bool
         requires dealt { IsAt self.now place.old.seat }
-        requires taken { Takes self.now call }
+        requires takes { Takes self.now call }
         requires starts { started (needs self.now) place.old.position call ≡ released_as place.old.position (Asked request) }
         ensures same { IsSamePlace place.old place.new }
         ensures called { (answer : Answer) × (result ≡ is_yes answer) × IsCalledAt self.now call place.old answer place.new }
@@ -177,8 +177,7 @@ impl Form {
         place.position.back = Back::Tells;
         let Some(count) = self.lowers(seen, request) else {
             let (seat, position) = (&mut place.seat, &mut place.position);
-            let stage = Stage::ReleaseLoad { given };
-            return yes(self.follow(rt, watch, seat, position, stage, found, NONE, pending));
+            return yes(self.give_on(rt, watch, seat, position, request, found, pending));
         };
         let changing = Snapshot::of(&Position {
             stage: Stage::ReleaseExchange { given, seen },
@@ -190,8 +189,7 @@ impl Form {
         let other = self.seek_by_exchange::<Brand>(seat, changing, &pending, old, new);
         if other != old {
             let (seat, position) = (&mut place.seat, &mut place.position);
-            let stage = Stage::ReleaseExchange { given, seen };
-            return yes(self.follow(rt, watch, seat, position, stage, other, NONE, pending));
+            return yes(self.give_anew(rt, watch, seat, position, request, found, other, pending));
         }
         true
     }

@@ -63,7 +63,7 @@ impl Form {
 
     #[inline(always)]
     fn enter_as<M: Mover>(&self) -> Seat<(), View>
-        requires told { M.about ≡ about_of self.now }
+        requires mover { M.about ≡ about_of self.now }
         ensures table { IsAt self.now result }
         ensures new { IsEntering self.now.places result.me.0 }
     {
@@ -81,8 +81,8 @@ impl Form {
         call: WordCall,
         request: u16,
     ) -> Answer
-        requires dealt { IsAt self.now visitor.old.seat }
-        requires taken { Takes self.now call }
+        requires entered { IsAt self.now visitor.old.seat }
+        requires takes { Takes self.now call }
         requires starts { started (needs self.now) idle_place call ≡ going idle_place (AskLoad (record { request = request; joins = false })) }
         ensures same { visitor.new.seat.table_id ≡ visitor.old.seat.table_id }
         ensures called { IsCalledBy self.now call visitor.old result visitor.new }
@@ -124,8 +124,8 @@ impl Form {
         call: WordCall,
         request: u16,
     ) -> bool
-        requires dealt { IsAt self.now visitor.old.seat }
-        requires taken { Takes self.now call }
+        requires entered { IsAt self.now visitor.old.seat }
+        requires takes { Takes self.now call }
         requires starts { started (needs self.now) idle_place call ≡ released_as idle_place (Asked request) }
         ensures same { visitor.new.seat.table_id ≡ visitor.old.seat.table_id }
         ensures called { (answer : Answer) × (result ≡ is_yes answer) × IsCalledBy self.now call visitor.old answer visitor.new }
@@ -159,8 +159,8 @@ impl Form {
         call: WordCall,
         stage: Stage,
     ) -> Answer
-        requires dealt { IsAt self.now visitor.old.seat }
-        requires taken { Takes self.now call }
+        requires entered { IsAt self.now visitor.old.seat }
+        requires takes { Takes self.now call }
         requires starts { started (needs self.now) idle_place call ≡ Going (record idle_place { stage = stage }) }
         requires visits { IsVisiting stage }
         ensures same { visitor.new.seat.table_id ≡ visitor.old.seat.table_id }
@@ -177,8 +177,8 @@ impl Form {
         call: WordCall,
         reading: Reading,
     ) -> Answer
-        requires dealt { IsAt self.now visitor.old.seat }
-        requires taken { Takes self.now call }
+        requires entered { IsAt self.now visitor.old.seat }
+        requires takes { Takes self.now call }
         requires starts { started (needs self.now) idle_place call ≡ going idle_place (ReadLoad reading) }
         ensures same { visitor.new.seat.table_id ≡ visitor.old.seat.table_id }
         ensures called { IsCalledBy self.now call visitor.old result visitor.new }
@@ -202,7 +202,7 @@ impl Form {
         visit: &Visit,
     ) -> u64
         requires table { IsVisitorSeat self.now seat.old }
-        requires told { (M.about ≡ about_of self.now) × (M.place ≡ at.value) × (M.me ≡ seat.old.me.0.number) }
+        requires mover { (M.about ≡ about_of self.now) × (M.place ≡ at.value) × (M.me ≡ seat.old.me.0.number) }
         requires in_call { IsVisitPending self.now visit.now at.value seat.old }
         requires loads { operation_of (needs self.now) self.now.places 0 at.value.stage ≡ Load 0 }
         ensures same { IsSameVisitor seat.old seat.new }
@@ -222,7 +222,7 @@ impl Form {
         visit: &Visit,
     ) -> u64
         requires table { IsVisitorSeat self.now seat.old }
-        requires told { (M.about ≡ about_of self.now) × (M.place ≡ at.value) × (M.me ≡ seat.old.me.0.number) }
+        requires mover { (M.about ≡ about_of self.now) × (M.place ≡ at.value) × (M.me ≡ seat.old.me.0.number) }
         requires in_call { IsVisitPending self.now visit.now at.value seat.old }
         requires exchanges { operation_of (needs self.now) self.now.places 0 at.value.stage ≡ Exchange 0 old new }
         ensures same { IsSameVisitor seat.old seat.new }
@@ -296,7 +296,7 @@ impl Form {
         visit: &Visit,
     ) -> Next
         requires table { IsVisitorSeat self.now seat.old }
-        requires told { (M.about ≡ about_of self.now) × (M.place ≡ place) × (M.me ≡ seat.old.me.0.number) }
+        requires mover { (M.about ≡ about_of self.now) × (M.place ≡ place) × (M.me ≡ seat.old.me.0.number) }
         requires in_call { IsVisitPending self.now visit.now place seat.old }
         ensures same { IsSameVisitor seat.old seat.new }
         ensures in_call { VisitGoesOn self.now visit.now place result seat.new }

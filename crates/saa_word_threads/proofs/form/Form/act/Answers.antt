@@ -11,4 +11,4 @@ returns-clause-next g c =
     (pending-moves c.args.self.now c.args.pending.now c.args.place c.args.seat.now c.requires.pending c.perform-found.new.seat c.perform-found.ensures.same
     c.perform-found.result
     (moves-so (needs c.args.self.now) (withheld c.args.self.now) c.args.self.now.places g.M.Mover.me c.args.pending.now.me c.perform-found.result g.M.Mover.place
-    c.args.place c.args.seat.now.me.0 c.perform-found.new.seat.me.0 c.requires.told.1 c.requires.told.2 c.perform-found.ensures.moved))
+    c.args.place c.args.seat.now.me.0 c.perform-found.new.seat.me.0 c.requires.mover.1 c.requires.mover.2 c.perform-found.ensures.moved))

@@ -15,7 +15,7 @@ pub seek_by_load-found-requires-clause-pending : goal.seek_by_load-found-require
 seek_by_load-found-requires-clause-pending g c =
     rw (c.of-looking.ensures)
     (pending-begins c.args.self.now c.of-pending.result c.args.place.now c.args.call (record c.args.place.now.position { stage = AskLoad c.args.ask })
-    c.of-pending.ensures c.requires.dealt (search rules) c.requires.taken c.requires.starts)
+    c.of-pending.ensures c.requires.dealt (search rules) c.requires.takes c.requires.starts)
 
 pub seek_by_exchange-other-requires-clause-pending : goal.seek_by_exchange-other-requires-clause-pending
 seek_by_exchange-other-requires-clause-pending g c =
@@ -32,13 +32,13 @@ seek_by_exchange-other-requires-clause-made g c =
 pub returns-then-not-grants-clause-called : goal.returns-then-not-grants-clause-called
 returns-then-not-grants-clause-called g c =
     pending-called c.args.self.now c.of-pending.result c.args.place.now c.args.call (record c.args.place.now.position { stage = AskLoad c.args.ask })
-    c.follow.new.position c.follow.result c.follow.new.seat c.of-pending.ensures c.requires.starts c.follow.ensures.ended
+    c.ask_on.new.position c.ask_on.result c.ask_on.new.seat c.of-pending.ensures c.requires.starts c.ask_on.ensures.ended
 
 pub returns-then-other-old-clause-called : goal.returns-then-other-old-clause-called
 returns-then-other-old-clause-called g c =
     pending-called c.args.self.now c.of-pending.result c.args.place.now c.args.call (record c.args.place.now.position { stage = AskLoad c.args.ask })
-    c.follow-then-other-old.new.position c.follow-then-other-old.result c.follow-then-other-old.new.seat c.of-pending.ensures c.requires.starts
-    c.follow-then-other-old.ensures.ended
+    c.ask_anew.new.position c.ask_anew.result c.ask_anew.new.seat c.of-pending.ensures c.requires.starts
+    c.ask_anew.ensures.ended
 
 pub returns-then-ask-clause-called : goal.returns-then-ask-clause-called
 returns-then-ask-clause-called g c =

@@ -12,7 +12,7 @@ invariant_of-place-clause-since g c =
 pub go_on-answer-requires : goal.go_on-answer-requires
 go_on-answer-requires g c =
     pending-begins c.args.self.now c.of-pending.result c.args.place.now c.args.call c.in-Going.first c.of-pending.ensures c.requires.dealt (search rules)
-    c.requires.taken (sym c.start.ensures ∙ c.in-Going.is)
+    c.requires.takes (sym c.start.ensures ∙ c.in-Going.is)
 
 pub returns-in-Done-clause-called : goal.returns-in-Done-clause-called
 returns-in-Done-clause-called g c =

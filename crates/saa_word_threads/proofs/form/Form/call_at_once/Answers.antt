@@ -17,7 +17,7 @@ returns-in-Done-clause-called c =
 pub act-requires-clause-pending : goal.act-requires-clause-pending
 act-requires-clause-pending c =
     pending-begins c.args.self.now c.of-pending.result c.args.place.now c.args.call c.in-Going.first c.of-pending.ensures c.requires.dealt (search rules)
-    c.requires.taken (sym c.start.ensures ∙ c.in-Going.is)
+    c.requires.takes (sym c.start.ensures ∙ c.in-Going.is)
 
 pub unreachable-requires : goal.unreachable-requires
 unreachable-requires c =

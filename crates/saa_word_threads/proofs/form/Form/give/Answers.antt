@@ -16,7 +16,7 @@ pub seek_by_load-found-requires-clause-pending : goal.seek_by_load-found-require
 seek_by_load-found-requires-clause-pending g c =
     rw (c.of-looking.ensures)
     (pending-begins c.args.self.now c.of-pending.result c.args.place.now c.args.call (record c.args.place.now.position { stage = ReleaseLoad (Asked c.args.request); back = Tells })
-    c.of-pending.ensures c.requires.dealt (search rules) c.requires.taken c.requires.starts)
+    c.of-pending.ensures c.requires.dealt (search rules) c.requires.takes c.requires.starts)
 
 pub seek_by_exchange-other-requires-clause-pending : goal.seek_by_exchange-other-requires-clause-pending
 seek_by_exchange-other-requires-clause-pending g c =
@@ -39,21 +39,21 @@ seek_by_exchange-other-requires-clause-made g c =
 
 pub returns-in_default-clause-called : goal.returns-in_default-clause-called
 returns-in_default-clause-called g c = (
-  c.follow.result,
+  c.give_on.result,
   c.yes.ensures,
   pending-called c.args.self.now c.of-pending.result c.args.place.now c.args.call
       (record c.args.place.now.position { stage = ReleaseLoad (Asked c.args.request); back = Tells })
-      c.follow.new.position c.follow.result c.follow.new.seat c.of-pending.ensures c.requires.starts c.follow.ensures.ended,
+      c.give_on.new.position c.give_on.result c.give_on.new.seat c.of-pending.ensures c.requires.starts c.give_on.ensures.ended,
 )
 
 pub returns-then-other-old-clause-called : goal.returns-then-other-old-clause-called
 returns-then-other-old-clause-called g c = (
-  c.follow-then-other-old.result,
+  c.give_anew.result,
   c.yes-then-other-old.ensures,
   pending-called c.args.self.now c.of-pending.result c.args.place.now c.args.call
       (record c.args.place.now.position { stage = ReleaseLoad (Asked c.args.request); back = Tells })
-      c.follow-then-other-old.new.position c.follow-then-other-old.result c.follow-then-other-old.new.seat c.of-pending.ensures c.requires.starts
-      c.follow-then-other-old.ensures.ended,
+      c.give_anew.new.position c.give_anew.result c.give_anew.new.seat c.of-pending.ensures c.requires.starts
+      c.give_anew.ensures.ended,
 )
 
 pub returns-clause-called : goal.returns-clause-called

@@ -12,7 +12,7 @@ compare_exchange-requires g c =
       subst (λ n. 0 < n) (sym c.args.self.now.words) next.inside,
       allowed-look c.args.self.now.table.shared.key c.args.self.now.rules c.args.self.now.places g.M.Mover.about g.M.Mover.place c.args.at.value g.M.Mover.me
           c.args.pending.now.me c.args.self.now.table.shared.table_id.slots c.args.seat.now.id c.args.seat.now.me (Exchange 0 c.args.old c.args.new)
-          c.args.self.now.key.0 c.args.self.now.key.1 c.args.self.now.few c.args.self.now.wide c.requires.told next
+          c.args.self.now.key.0 c.args.self.now.key.1 c.args.self.now.few c.args.self.now.wide c.requires.mover next
           (λ found joins. let misses = c.requires.made found joins in rw misses refl),
     )
 
@@ -20,4 +20,4 @@ pub returns-clause-found : goal.returns-clause-found
 returns-clause-found g c =
     pending-looks c.args.self.now c.args.pending.now c.args.at.value c.args.seat.now c.requires.pending c.compare_exchange.new.seat (c.compare_exchange.ensures.0, c.compare_exchange.ensures.1, c.compare_exchange.ensures.2.1) c.compare_exchange.result
     (looks-so c.args.self.now g.M.Mover.about g.M.Mover.place c.args.at.value g.M.Mover.me c.args.pending.now.me c.compare_exchange.result c.args.seat.now c.compare_exchange.new.seat
-    c.requires.told.0 c.requires.told.1 c.requires.told.2 c.compare_exchange.ensures.2.0)
+    c.requires.mover.0 c.requires.mover.1 c.requires.mover.2 c.compare_exchange.ensures.2.0)

@@ -12,7 +12,7 @@ load-requires g c =
       subst (λ n. 0 < n) (sym c.args.self.now.words) next.inside,
       allowed-look c.args.self.now.table.shared.key c.args.self.now.rules c.args.self.now.places g.M.Mover.about g.M.Mover.place c.args.at.value g.M.Mover.me
           c.args.pending.now.me c.args.self.now.table.shared.table_id.slots c.args.seat.now.id c.args.seat.now.me (Load 0)
-          c.args.self.now.key.0 c.args.self.now.key.1 c.args.self.now.few c.args.self.now.wide c.requires.told next
+          c.args.self.now.key.0 c.args.self.now.key.1 c.args.self.now.few c.args.self.now.wide c.requires.mover next
           (λ found joins. refl),
     )
 
@@ -20,4 +20,4 @@ pub returns-clause-found : goal.returns-clause-found
 returns-clause-found g c =
     pending-looks c.args.self.now c.args.pending.now c.args.at.value c.args.seat.now c.requires.pending c.load.new.seat (c.load.ensures.0, c.load.ensures.1, c.load.ensures.2.1) c.load.result
     (looks-so c.args.self.now g.M.Mover.about g.M.Mover.place c.args.at.value g.M.Mover.me c.args.pending.now.me c.load.result c.args.seat.now c.load.new.seat
-    c.requires.told.0 c.requires.told.1 c.requires.told.2 c.load.ensures.2.0)
+    c.requires.mover.0 c.requires.mover.1 c.requires.mover.2 c.load.ensures.2.0)

@@ -12,4 +12,4 @@ returns-clause-in_call g c =
     (visit-next (needs_of c.args.self.now.rules) c.args.self.now.table.shared.key.withheld c.args.self.now.places c.args.visit.now.call.value c.args.visit.now.seat.value.me.0 c.args.place
     c.args.seat.now.me.0 c.requires.in_call c.perform-found.new.seat.me.0 c.perform-found.result
     (moves-so (needs_of c.args.self.now.rules) c.args.self.now.table.shared.key.withheld c.args.self.now.places g.M.Mover.me c.args.seat.now.me.0.number c.perform-found.result g.M.Mover.place c.args.place
-    c.args.seat.now.me.0 c.perform-found.new.seat.me.0 c.requires.told.1 c.requires.told.2 c.perform-found.ensures.moved))
+    c.args.seat.now.me.0 c.perform-found.new.seat.me.0 c.requires.mover.1 c.requires.mover.2 c.perform-found.ensures.moved))

@@ -12,4 +12,4 @@ visit_look-found-requires-clause-in_call c =
     c.args.visitor.now.rests.1
     (number-beyond c.args.self.now.places c.args.self.now.table.shared.table_id.words c.args.visitor.now.seat.table_id.words c.args.visitor.now.seat.me.0.number
     c.args.self.now.words (search rules) c.args.visitor.now.beyond)
-    c.requires.taken c.requires.starts refl (refl, refl))
+    c.requires.takes c.requires.starts refl (refl, refl))

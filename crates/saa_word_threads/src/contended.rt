@@ -1,0 +1,150 @@
+//! Where a call can't go straight: it goes on step by step, from the stage that it has reached.
+//!
+//! The stage is built here, so that the straight path (`straight`) builds none.
+
+ghost use Rattle.std.specs.Prelude.{◌≡◌};
+ghost use Rattle.saa_core_words.specs.Words.{count_bits, word_of};
+ghost use Rattle.saa_word_steps.specs.declared.place.Given.TheVariants.{Asked};
+ghost use Rattle.saa_word_steps.specs.declared.place.Stage.TheVariants.{AskLoad, AskExchange, ReleaseLoad, ReleaseExchange};
+ghost use Rattle.saa_word_steps.specs.Steps.{IsRanged};
+ghost use Rattle.saa_word_threads.specs.Pending.{HasEnded, HasFound, IsSameSeat, needs};
+
+use crate::call::Pending;
+use crate::form::Form;
+use crate::looking::{NONE, Patience, unless_joining};
+use crate::table::View;
+use crate::watch::Watch;
+use atomic_table::Seat;
+use saa_core_words::word::Word;
+use saa_word_steps::call::Answer;
+use saa_word_steps::place::{Ask, Given, Next, Place as Position, Stage};
+use std::sync::Wait;
+
+impl Form {
+    // Goes on with an ask that has found a word which doesn't grant it.
+    #[cold]
+    pub(crate) fn ask_on<R: Wait, W: Watch>(
+        &self,
+        rt: &R,
+        watch: &W,
+        seat: &mut Seat<(), View>,
+        position: &mut Position,
+        ask: Ask,
+        found: u64,
+        patience: Patience,
+        pending: Pending,
+    ) -> Answer
+        requires ranged { IsRanged (needs self.now) (AskLoad ask) }
+        requires found { HasFound self.now pending (record position.old { stage = AskLoad ask }) found seat.old }
+        ensures same { IsSameSeat seat.old seat.new }
+        ensures ended { HasEnded self.now pending position.new result seat.new }
+    {
+        let stage = Stage::AskLoad { ask };
+        self.follow(rt, watch, seat, position, stage, found, patience, pending)
+    }
+
+    // Goes on with an ask whose exchange of the first word failed.
+    #[cold]
+    pub(crate) fn ask_anew<R: Wait, W: Watch>(
+        &self,
+        rt: &R,
+        watch: &W,
+        seat: &mut Seat<(), View>,
+        position: &mut Position,
+        ask: Ask,
+        first: u64,
+        found: u64,
+        patience: Patience,
+        pending: Pending,
+    ) -> Answer
+        requires ranged { IsRanged (needs self.now) (AskExchange ask (word_of count_bits first)) }
+        requires found { HasFound self.now pending (record position.old { stage = AskExchange ask (word_of count_bits first) }) found seat.old }
+        ensures same { IsSameSeat seat.old seat.new }
+        ensures ended { HasEnded self.now pending position.new result seat.new }
+    {
+        let seen = Word::unpack(first);
+        let stage = Stage::AskExchange { ask, seen };
+        self.follow(rt, watch, seat, position, stage, found, patience, pending)
+    }
+
+    // Goes on with a release that has found a word which it can't lower by an exchange.
+    #[cold]
+    pub(crate) fn give_on<R: Wait, W: Watch>(
+        &self,
+        rt: &R,
+        watch: &W,
+        seat: &mut Seat<(), View>,
+        position: &mut Position,
+        request: u16,
+        found: u64,
+        pending: Pending,
+    ) -> Answer
+        requires ranged { IsRanged (needs self.now) (ReleaseLoad (Asked request)) }
+        requires found { HasFound self.now pending (record position.old { stage = ReleaseLoad (Asked request) }) found seat.old }
+        ensures same { IsSameSeat seat.old seat.new }
+        ensures ended { HasEnded self.now pending position.new result seat.new }
+    {
+        let given = Given::Asked(request);
+        let stage = Stage::ReleaseLoad { given };
+        self.follow(rt, watch, seat, position, stage, found, NONE, pending)
+    }
+
+    // Goes on with a release whose exchange of the first word failed.
+    #[cold]
+    pub(crate) fn give_anew<R: Wait, W: Watch>(
+        &self,
+        rt: &R,
+        watch: &W,
+        seat: &mut Seat<(), View>,
+        position: &mut Position,
+        request: u16,
+        first: u64,
+        found: u64,
+        pending: Pending,
+    ) -> Answer
+        requires ranged { IsRanged (needs self.now) (ReleaseExchange (Asked request) (word_of count_bits first)) }
+        requires found { HasFound self.now pending (record position.old { stage = ReleaseExchange (Asked request) (word_of count_bits first) }) found seat.old }
+        ensures same { IsSameSeat seat.old seat.new }
+        ensures ended { HasEnded self.now pending position.new result seat.new }
+    {
+        let (given, seen) = (Given::Asked(request), Word::unpack(first));
+        let stage = Stage::ReleaseExchange { given, seen };
+        self.follow(rt, watch, seat, position, stage, found, NONE, pending)
+    }
+
+    // Goes on with a call whose place has just found this number at this stage: it looks on while its patience lasts, and then goes step by step.
+    fn follow<R: Wait, W: Watch>(
+        &self,
+        rt: &R,
+        watch: &W,
+        seat: &mut Seat<(), View>,
+        position: &mut Position,
+        stage: Stage,
+        found: u64,
+        patience: Patience,
+        pending: Pending,
+    ) -> Answer
+        requires ranged { IsRanged (needs self.now) stage }
+        requires found { HasFound self.now pending (record position.old { stage = stage }) found seat.old }
+        ensures same { IsSameSeat seat.old seat.new }
+        ensures ended { HasEnded self.now pending position.new result seat.new }
+    {
+        let place = Position { stage, ..*position };
+        match unless_joining(place, place.resume(self.rules, pending.me, found)) {
+            Next::Going(next) => {
+                let (behind, answer) = self.look_on(rt, watch, seat, next, patience, pending);
+                *position = behind;
+                answer
+            }
+            Next::Waits => {
+                let (behind, answer) = self.go_on(rt, watch, seat, place, pending);
+                *position = behind;
+                answer
+            }
+            Next::Done(behind, answer) => {
+                *position = behind;
+                answer
+            }
+        }
+    }
+}
