@@ -13,7 +13,7 @@ ghost use Rattle.saa_core_spec.specs.Values.{gate_value, permitted_value, reject
 ghost use Rattle.saa_core.specs.Slots.{all_slots_answered};
 ghost use Rattle.saa_core_spec.specs.declared.request.Request.TheVariants.{Enter as AskEnter};
 ghost use Rattle.saa_core.specs.declared.ticket.Registration.TheVariants.{Unregistered};
-ghost use Rattle.saa_core.specs.Tickets.{Calls, fault_of, is_busy, is_yes};
+ghost use Rattle.saa_core.specs.Tickets.{Calls, is_busy, is_yes};
 ghost use Rattle.saa_core.specs.Beginning.{mode_of};
 ghost use Rattle.saa_sync.specs.Forms.{patience_of, waiter_patience_of};
 ghost use Rattle.saa_sync.specs.GateAnswers.{gate_fault, gate_reading};
