@@ -19,7 +19,7 @@ use std::sync::{RwLockReadGuard as Reader, RwLockWriteGuard as Writer, Wait};
 /// A value that up to 62 readers share, or one writer uses alone, taken by one atomic word.
 ///
 /// Waiters are granted in FIFO order of joining the queue: no later request passes a waiter, a reader beside readers included. `new` deals as many places as there may be
-/// workers; [`Self::worker`] makes one of a place. What holds of the value whenever nobody writes it is said by its type: a guard is given up
+/// workers; [`Self::worker`] makes one of a place. What is true of the value whenever it isn't written is said by its type: a guard is given up
 /// only where every invariant of the type holds, and its holder may use them. Contracts see a lock round a value as the word's lock whose turns
 /// the value is used in. The lock's calls aren't handed out, so it is never poisoned.
 #[derive(Drop)]
@@ -36,7 +36,7 @@ impl<T> Model for RwLock<T> {
 }
 
 impl<T> RwLock<T> {
-    /// A lock that nobody has, and its places, in the order of their numbers. Costs O(`places`). With 0 places no worker can be made.
+    /// A lock with no owner, and its places, in the order of their numbers. Costs O(`places`). With 0 places no worker can be made.
     ///
     /// The error comes only where memory was refused; the value is dropped then. No other call takes memory.
     pub fn new(alloc: Global, value: T, places: u16) -> Result<(Self, Vec<Place>), AllocError>
@@ -66,7 +66,7 @@ impl<T> RwLock<T> {
         self.guarded.get_mut()
     }
 
-    /// The value; nobody uses it any more.
+    /// The value, which is no longer in use.
     pub fn into_inner(self) -> T {
         let RwLock { guarded } = self;
         guarded.into_inner()
@@ -112,7 +112,7 @@ impl<'l, T> RwLockWorker<'l, T> {
         RwLockReadGuard::new(turn, value)
     }
 
-    /// Takes the lock to read if nobody writes, fewer than 62 read, and nobody waits; never waits for an owner.
+    /// Takes the lock to read if there is no writer, fewer than 62 readers, and no waiter; never waits for an owner.
     ///
     /// `None` changes nothing.
     pub fn try_read<'a, R: Wait>(&'a mut self, rt: &'a R) -> Option<RwLockReadGuard<'a, 'l, R, T>>
@@ -136,7 +136,7 @@ impl<'l, T> RwLockWorker<'l, T> {
         RwLockWriteGuard::new(Writing::new(turn, cell), value)
     }
 
-    /// Takes the lock to write if nobody has it and nobody waits; never waits for an owner.
+    /// Takes the lock to write if it has no owner and no waiter; never waits for an owner.
     ///
     /// `None` changes nothing.
     pub fn try_write<'a, R: Wait>(&'a mut self, rt: &'a R) -> Option<RwLockWriteGuard<'a, 'l, R, T>>
@@ -166,8 +166,8 @@ pub type RwLockWriteGuard<'a, 'l, R, T> = Guard<Writer<'l, T>, Writing<'a, 'l, R
 impl<'a, 'l, R: Wait, T> Guard<Writer<'l, T>, Writing<'a, 'l, R, T>> {
     /// Becomes a reader's guard, and lets in the oldest readers while they may share; no other task writes in between.
     ///
-    /// Never waits for an owner. Who reads through the new guard sees what was written through this one. Readers behind a writer that waits go on
-    /// waiting. Costs a walk of the line, and a wake for each who is let in.
+    /// Never waits for an owner. A read through the new guard sees what was written through this one. Readers behind a writer that waits go on
+    /// waiting. Costs a walk of the queue, and a wake for each reader that is let in.
     pub fn downgrade(guard: Self) -> RwLockReadGuard<'a, 'l, R, T>
         ensures lock { result.turn.at.now.lock ≡ guard.entry.turn.at.now.lock }
         ensures lowered { IsLoweredOrWaitedFor guard.entry.turn.at.now.place result.turn.at.now.place }
