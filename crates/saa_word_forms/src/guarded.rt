@@ -25,7 +25,7 @@ pub(crate) struct Guarded<T> {
 }
 
 impl<T> Guarded<T> {
-    // A value that nobody uses yet, and the places of its lock.
+    // A value that isn't in use yet, and the places of its lock.
     pub(crate) fn new(
         alloc: Global,
         value: T,
@@ -54,12 +54,12 @@ impl<T> Guarded<T> {
         }
     }
 
-    // The value, which nobody else can use meanwhile.
+    // The value, which no other turn can use meanwhile.
     pub(crate) fn get_mut(&mut self) -> &mut T {
         self.value.get_mut()
     }
 
-    // The value, which nobody uses any more.
+    // The value, which is no longer in use.
     pub(crate) fn into_inner(self) -> T {
         let Guarded { lock: _lock, value } = self;
         value.into_inner()

@@ -3,7 +3,7 @@
 //! A program that takes no threaded form may name this crate alone: it has `saa::word` but the machine, under the same names. `Place` and `Left` are the
 //! semaphore's, `LockPlace` and `LockLeft` the lock's; a `Visitor` is of either, and has no place. The semaphore and the lock are `saa_word_threads`'.
 //!
-//! Here a value lies behind that lock. A worker is a place beside the lock that dealt it (`place_at`). A turn (`turn`) is taken where that place was
+//! Here a value is behind that lock. A worker is a place beside the lock that dealt it (`place_at`). A turn (`turn`) is taken where that place was
 //! granted the lock, and ends after the hold on the value: the guards are those of `saa_core_guards`. `mutex` and `rw_lock` are the public locks, over
 //! `guarded`; `testing` is for tests alone.
 #![tactic(auto)]

@@ -18,7 +18,7 @@ use std::sync::{RwLockWriteGuard as Writer, Wait};
 
 /// A value that one owner at a time uses, taken by one atomic word. Waiters are granted in FIFO order of joining the queue.
 ///
-/// `new` deals as many places as there may be workers; [`Self::worker`] makes one of a place. What holds of the value whenever nobody uses it is
+/// `new` deals as many places as there may be workers; [`Self::worker`] makes one of a place. What is true of the value whenever it isn't in use is
 /// said by its type: a guard is given up only where every invariant of the type holds, and its holder may use them. Contracts see a mutex as the
 /// word's lock whose turns the value is used in. The lock's calls aren't handed out, so it is never poisoned.
 #[derive(Drop)]
@@ -35,7 +35,7 @@ impl<T> Model for Mutex<T> {
 }
 
 impl<T> Mutex<T> {
-    /// A mutex that nobody has, and its places, in the order of their numbers. Costs O(`places`). With 0 places no worker can be made.
+    /// A mutex with no owner, and its places, in the order of their numbers. Costs O(`places`). With 0 places no worker can be made.
     ///
     /// The error comes only where memory was refused; the value is dropped then. No other call takes memory.
     pub fn new(alloc: Global, value: T, places: u16) -> Result<(Self, Vec<Place>), AllocError>
@@ -65,7 +65,7 @@ impl<T> Mutex<T> {
         self.guarded.get_mut()
     }
 
-    /// The value; nobody uses it any more.
+    /// The value, which is no longer in use.
     pub fn into_inner(self) -> T {
         let Mutex { guarded } = self;
         guarded.into_inner()
@@ -111,7 +111,7 @@ impl<'l, T> MutexWorker<'l, T> {
         MutexGuard::new(turn, value)
     }
 
-    /// Takes the mutex if nobody has it and nobody waits; never waits for an owner.
+    /// Takes the mutex if it has no owner and no waiter; never waits for an owner.
     ///
     /// `None` changes nothing.
     pub fn try_lock<'a, R: Wait>(&'a mut self, rt: &'a R) -> Option<MutexGuard<'a, 'l, R, T>>

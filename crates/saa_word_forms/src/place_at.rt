@@ -1,6 +1,6 @@
 //! A place beside the lock that dealt it, and the calls of the lock that guards make there.
 //!
-//! What keeps the place at its lock is the type, so that nobody above has to carry that fact. A turn ends by `end_lock` or `end_share`, or
+//! What keeps the place at its lock is the type, so that no crate above has to carry that fact. A turn ends by `end_lock` or `end_share`, or
 //! is lowered by `lower`. The first two ask for a `ValueReleased`, which only the end of a hold on a value makes; the types don't say of which value.
 
 ghost use Rattle.std.specs.Prelude.{◌≡◌, is_ok, true};

@@ -20,7 +20,7 @@ use std::sync::{RwLockReadGuard as Reader, RwLockWriteGuard as Writer, Wait};
 /// A value that up to 62 readers share, or one writer uses alone, taken by one atomic word.
 ///
 /// Waiters are granted in FIFO order of joining the queue: no later request passes a waiter, a reader beside readers included. `new` deals as many places as there may be
-/// workers; [`Self::worker`] makes one of a place. What holds of the value whenever nobody writes it is said by its type: a guard is given up
+/// workers; [`Self::worker`] makes one of a place. What is true of the value whenever it isn't written is said by its type: a guard is given up
 /// only where every invariant of the type holds, and its holder may use them. Contracts see a lock round a value as the word's lock whose turns
 /// the value is used in. The lock's calls aren't handed out, so it is never poisoned.
 #[derive(Drop)]
@@ -37,7 +37,7 @@ impl<T> Model for RwLock<T> {
 }
 
 impl<T> RwLock<T> {
-    /// A lock that nobody has, and its places, in the order of their numbers. Costs O(`places`). With 0 places no worker can be made.
+    /// A lock with no owner, and its places, in the order of their numbers. Costs O(`places`). With 0 places no worker can be made.
     ///
     /// The error comes only where memory was refused; the value is dropped then. No other call takes memory.
     pub fn new(alloc: Global, value: T, places: u16) -> Result<(Self, Vec<Place>), AllocError>
@@ -67,7 +67,7 @@ impl<T> RwLock<T> {
         self.guarded.get_mut()
     }
 
-    /// The value; nobody uses it any more.
+    /// The value, which is no longer in use.
     pub fn into_inner(self) -> T {
         let RwLock { guarded } = self;
         guarded.into_inner()
@@ -113,7 +113,7 @@ impl<'l, T> RwLockWorker<'l, T> {
         RwLockReadGuard::new(turn, value)
     }
 
-    /// Takes the lock to read if nobody writes, fewer than 62 read, and nobody waits; never waits for an owner.
+    /// Takes the lock to read if there is no writer, fewer than 62 readers, and no waiter; never waits for an owner.
     ///
     /// `None` changes nothing.
     pub fn try_read<'a, R: Wait>(&'a mut self, rt: &'a R) -> Option<RwLockReadGuard<'a, 'l, R, T>>
@@ -137,7 +137,7 @@ impl<'l, T> RwLockWorker<'l, T> {
         RwLockWriteGuard::new(Writing::new(turn, cell), value)
     }
 
-    /// Takes the lock to write if nobody has it and nobody waits; never waits for an owner.
+    /// Takes the lock to write if it has no owner and no waiter; never waits for an owner.
     ///
     /// `None` changes nothing.
     pub fn try_write<'a, R: Wait>(&'a mut self, rt: &'a R) -> Option<RwLockWriteGuard<'a, 'l, R, T>>

@@ -1,4 +1,4 @@
-//! For tests alone: the lock whose turns a value is used in, at which `saa_word_threads::testing` sees who is parked.
+//! For tests alone: the lock whose turns a value is used in, at which `saa_word_threads::testing` sees which places are parked.
 //!
 //! A program has no use for this: the lock's calls need a place, and each place is a worker's.
 

@@ -20,7 +20,7 @@ pub struct Alone<'a, 'l, R: Wait> {
 }
 
 impl<'a, 'l, R: Wait> Alone<'a, 'l, R> {
-    // Takes the turn if it is free and nobody waits for it.
+    // Takes the turn if it is free and has no waiter.
     pub(crate) fn try_take(rt: &'a R, at: &'a mut PlaceAt<'l>) -> Option<Self>
         ensures lock { IfSome result (λ turn. turn.at.now.lock ≡ at.old.lock) }
         ensures granted { IfSome result (λ turn. HasLock turn.at.now.place) }
@@ -78,7 +78,7 @@ pub struct Shared<'a, 'l, R: Wait> {
 }
 
 impl<'a, 'l, R: Wait> Shared<'a, 'l, R> {
-    // Takes a share of the turn if one is left and nobody waits.
+    // Takes a share of the turn if one is left and there is no waiter.
     pub(crate) fn try_take(rt: &'a R, at: &'a mut PlaceAt<'l>) -> Option<Self>
         ensures lock { IfSome result (λ turn. turn.at.now.lock ≡ at.old.lock) }
         ensures granted { IfSome result (λ turn. HasShare turn.at.now.place) }

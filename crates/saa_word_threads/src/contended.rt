@@ -34,7 +34,6 @@ impl Form {
         patience: Patience,
         pending: Pending,
     ) -> Answer
-        requires ranged { IsRanged (needs self.now) (AskLoad ask) }
         requires found { HasFound self.now pending (record position.old { stage = AskLoad ask }) found seat.old }
         ensures same { IsSameSeat seat.old seat.new }
         ensures ended { HasEnded self.now pending position.new result seat.new }
@@ -79,7 +78,6 @@ impl Form {
         found: u64,
         pending: Pending,
     ) -> Answer
-        requires ranged { IsRanged (needs self.now) (ReleaseLoad (Asked request)) }
         requires found { HasFound self.now pending (record position.old { stage = ReleaseLoad (Asked request) }) found seat.old }
         ensures same { IsSameSeat seat.old seat.new }
         ensures ended { HasEnded self.now pending position.new result seat.new }
