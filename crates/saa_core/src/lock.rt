@@ -105,7 +105,7 @@ impl LockCore {
         matches!(self.core.needs().owner(), Owner::Poisoned)
     }
 
-    /// The lock in one number, laid out as `docs/PROTOCOL.md` draws it: from bit 0 how many share it, in 16 bits, or 63 for one
+    /// The lock in one number, laid out as `docs/LAYOUT.md` draws it: from bit 0 how many share it, in 16 bits, or 63 for one
     /// owner alone; bit 16 clear; bit 17 set exactly where it is poisoned; from bit 18 the newest waiter, by its slot
     /// plus 1, and 0 where there is no waiter. Costs O(1).
     pub fn word(&self) -> u64

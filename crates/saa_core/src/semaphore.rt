@@ -95,7 +95,7 @@ impl<const MAX: usize> SemaphoreCoreOf<MAX> {
         })
     }
 
-    /// The semaphore in one number, laid out as `docs/PROTOCOL.md` draws it: from bit 0 the permits that are out, in 16
+    /// The semaphore in one number, laid out as `docs/LAYOUT.md` draws it: from bit 0 the permits that are out, in 16
     /// bits; bits 16 and 17 clear; from bit 18 the newest waiter, by its slot plus 1, and 0 where there is no waiter. Costs O(1).
     pub fn word(&self) -> u64
         ensures number { result ≡ word_number count_bits (core_word self.now) }
