@@ -18,7 +18,7 @@ use Rattle.saa_word_steps.specs.declared.place.Registration.{Registration}
 use Rattle.saa_word_steps.specs.Needs.{Needs, needs_of, permit_needs}
 use Rattle.saa_word_steps.specs.AbstractState.{AbstractState, IsRun, OwesNothing, after_event, is_in, opening}
 use Rattle.saa_word_proofs.proofs.ConservationLemmas.{opening-granted, run-balanced, run-never, run-pending, run-permits}
-use Rattle.saa_word_proofs.specs.Registering.{AreRegistered, begun_as, is_slot, left_behind, starting_answer}
+use Rattle.saa_word_proofs.specs.Registering.{AreRegistered, registration_after_start, is_slot, registration_after, starting_answer}
 use Rattle.saa_word_proofs.specs.CallStages.{IsBegun, IsLeft, IsStartedAs, IsUnder, IsUnderNext}
 use Rattle.saa_word_proofs.proofs.SoloLemmas.Paths.{left-next}
 use Rattle.saa_word_proofs.proofs.SoloLemmas.Registered.{started-as}
@@ -137,10 +137,10 @@ left-quiet was now (IsDone place other) left behind answer is =
 -- what the step of a call leaves its place registered as
 step-left : (needs : Needs) (underway : Option Underway) (me : ℕ) (place : Place) (found : ℕ) (events : List Event) → IsIn needs underway place
     → is_quiet place.stage ≡ false → events ≡ named_at needs place.stage found
-    → IsLeft place.registration (left_behind events (asked_in underway) place.registration) (next_of needs me place place.stage found)
+    → IsLeft place.registration (registration_after events (asked_in underway) place.registration) (next_of needs me place place.stage found)
 step-left needs None me place found events is busy names = absurd (not-quiet place.stage busy is)
 step-left needs (Some underway) me place found events is busy names =
-    subst (λ (e : List Event). IsLeft place.registration (left_behind e (asked_by underway.call) place.registration) (next_of needs me place place.stage found))
+    subst (λ (e : List Event). IsLeft place.registration (registration_after e (asked_by underway.call) place.registration) (next_of needs me place place.stage found))
     (sym names) (left-next needs underway.call underway.registered me place place.stage found underway.events is)
 
 -- what a call that starts leaves its place registered as, and what it answers
@@ -161,7 +161,7 @@ started-answers (Some answer) now HasToWait is = absurd is
 started-answers (Some answer) now (IsDone behind said) is = ap Done is.0
 
 begun-registered : (underway : Option Underway) (me : ℕ) (call : WordCall) (events : List Event) (was : Registration) (next : Next)
-    → registered_after underway (Start me call) events (step_of next) was ≡ begun_as call was
+    → registered_after underway (Start me call) events (step_of next) was ≡ registration_after_start call was
 begun-registered underway me call events was (GoesOn behind) = refl
 begun-registered underway me call events was HasToWait = refl
 begun-registered underway me call events was (IsDone behind answer) = refl
@@ -199,7 +199,7 @@ owes-nothing state trace tracks place none other due mine =
     let s = tracks.refines in
     let quiet : (place_of state place).stage ≡ Quiet =
     subst (λ (underway : Option Underway). IsIn (needs_of state.rules) underway (place_of state place)) none (tracks.calls place) in
-    let nothing : s.owed place ≡ [] = subst (λ (stage : Stage). IsShowing (s.owed place) (s.worth place) stage) quiet (s.stages.showing place) in
+    let nothing : s.owed place ≡ [] = subst (λ (stage : Stage). IsShowing (s.owed place) (s.answer_value place) stage) quiet (s.stages.showing place) in
     let there : is_in other (s.owed (trace.state.granter other)) ≡ true = s.debts.paid_by other due in
     let wrong : true ≡ false = sym there ∙ ap (λ (n : ℕ). is_in other (s.owed n)) mine ∙ ap (is_in other) nothing in
     absurd (cc)
@@ -231,7 +231,7 @@ went state trace me here tracks busy =
     let goes = in-next needs (trace.registered me) holds (trace.calls me) me place (named events) next (tracks.calls me) busy
     (λ u is. subst (λ (l : List Event). IsUnderNext needs u.call u.registered place.back place.stage (u.events ++ l) next) (sym stepped.names)
     (under-next needs u.call u.registered me place place.stage found u.events (subst (λ (o : Option Underway). IsIn needs o place) is (tracks.calls me))))
-    (left-quiet place.registration (left_behind (named events) (asked_in (trace.calls me)) place.registration) next left) in
+    (left-quiet place.registration (registration_after (named events) (asked_in (trace.calls me)) place.registration) next left) in
     let row_is : row_of machine ≡ row_after (row_of state) operation =
     set-updated state.row (word_at operation) (written_by operation found) 0 (omega (arith, stepped.inside, tracks.sized.words)) in
     let place_is : place_of machine ≡ updated (place_of state) me (place_after place next) =
@@ -257,11 +257,11 @@ went state trace me here tracks busy =
     subst (λ n. Observes needs n (row_of machine) stepped.last) (length-set state.places me (place_after place next))
     (says-so needs (length machine.places) (row_of machine) (place_of machine) stepped.last refines) in
     let registered : (other : ℕ) → (place_of machine other).registration
-    ≡ updated trace.registered me (left_behind (named events) (asked_in (trace.calls me)) (trace.registered me)) other =
+    ≡ updated trace.registered me (registration_after (named events) (asked_in (trace.calls me)) (trace.registered me)) other =
     registered-next state.places trace.registered me (place_after place next)
-    (left_behind (named events) (asked_in (trace.calls me)) (trace.registered me)) here tracks.registered
-    (left-after place.registration (left_behind (named events) (asked_in (trace.calls me)) place.registration) place next refl left
-    ∙ ap (left_behind (named events) (asked_in (trace.calls me))) (tracks.registered me)) in
+    (registration_after (named events) (asked_in (trace.calls me)) (trace.registered me)) here tracks.registered
+    (left-after place.registration (registration_after (named events) (asked_in (trace.calls me)) place.registration) place next refl left
+    ∙ ap (registration_after (named events) (asked_in (trace.calls me))) (tracks.registered me)) in
     let shown_before : Observes needs (length state.places) (row_of state) trace.state =
     says-so needs (length state.places) (row_of state) (place_of state) trace.state tracks.refines in
     let after : Trace = trace_after state (Go me) (worked_at state me) trace events stepped.last in
@@ -356,8 +356,8 @@ begun state trace me call here taken tracks quiet =
     ≡ updated trace.registered me (registered_after (trace.calls me) (Start me call) [] (step_of next) (trace.registered me)) other =
     registered-next state.places trace.registered me behind
     (registered_after (trace.calls me) (Start me call) [] (step_of next) (trace.registered me)) here tracks.registered
-    (started-left (starting_answer needs call place.registration) (begun_as call place.registration) place next answered
-    ∙ ap (begun_as call) (tracks.registered me) ∙ sym (begun-registered (trace.calls me) me call [] (trace.registered me) next)) in
+    (started-left (starting_answer needs call place.registration) (registration_after_start call place.registration) place next answered
+    ∙ ap (registration_after_start call) (tracks.registered me) ∙ sym (begun-registered (trace.calls me) me call [] (trace.registered me) next)) in
     let behind_it : Trace = trace_after state (Start me call) (followed state me next) trace [] trace.state in
     let holds : Bool = holds_after state (Start me call) (followed state me next) trace in
     let then : Tracks after behind_it = record {
@@ -389,7 +389,7 @@ begun state trace me call here taken tracks quiet =
       run = refl;
       silent = refl;
       answers = start-right needs (trace.registered me) (trace.calls me) me call place next (tracks.calls me) none
-          (started-answers (starting_answer needs call place.registration) (begun_as call place.registration) next answered
+          (started-answers (starting_answer needs call place.registration) (registration_after_start call place.registration) next answered
           ∙ ap (λ (r : Registration). started_step (starting_answer needs call r)) (tracks.registered me));
       waits = tt;
       words = shown;

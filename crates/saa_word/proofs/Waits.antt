@@ -171,14 +171,14 @@ waits-free abstract me seen Clear stalled = refl
 waits-free abstract me seen stage stalled = absurd stalled
 
 -- a place that waits has no answer to show
-pays-nothing : (abstract : AbstractState) (me : ℕ) (seen : Word) (owed : List (ℕ × ℕ)) (worth : ℕ) (stage : Stage) → IsBlockedAt abstract me seen stage
-    → IsShowing owed worth stage → owed ≡ []
-pays-nothing abstract me seen owed worth (Take taking) stalled showing = showing
-pays-nothing abstract me seen owed worth FlagLoad stalled showing = showing
-pays-nothing abstract me seen owed worth (FlagExchange old) stalled showing = showing
-pays-nothing abstract me seen owed worth PoisonLoad stalled showing = showing
-pays-nothing abstract me seen owed worth (PoisonExchange old) stalled showing = showing
-pays-nothing abstract me seen owed worth stage stalled showing = absurd stalled
+pays-nothing : (abstract : AbstractState) (me : ℕ) (seen : Word) (owed : List (ℕ × ℕ)) (answer_value : ℕ) (stage : Stage) → IsBlockedAt abstract me seen stage
+    → IsShowing owed answer_value stage → owed ≡ []
+pays-nothing abstract me seen owed answer_value (Take taking) stalled showing = showing
+pays-nothing abstract me seen owed answer_value FlagLoad stalled showing = showing
+pays-nothing abstract me seen owed answer_value (FlagExchange old) stalled showing = showing
+pays-nothing abstract me seen owed answer_value PoisonLoad stalled showing = showing
+pays-nothing abstract me seen owed answer_value (PoisonExchange old) stalled showing = showing
+pays-nothing abstract me seen owed answer_value stage stalled showing = absurd stalled
 
 pub waiting : (state : State) (trace : Trace) (me : ℕ) → me < length state.places → Tracks state trace → is_quiet (place_of state me).stage ≡ false
     → next_of (needs_of state.rules) me (place_of state me) (place_of state me).stage (found_by state (operation_at state me)) ≡ HasToWait
@@ -201,7 +201,7 @@ waiting state trace me here tracks busy waits =
       free = free;
       clear = λ place due mine.
           let none : s.owed me ≡ [] =
-          pays-nothing trace.state me (main_of (row_of state)) (s.owed me) (s.worth me) (place_of state me).stage only.0 (s.stages.showing me) in
+          pays-nothing trace.state me (main_of (row_of state)) (s.owed me) (s.answer_value me) (place_of state me).stage only.0 (s.stages.showing me) in
           let there : is_in place (s.owed me) ≡ true =
           subst (λ (n : ℕ). is_in place (s.owed n) ≡ true) mine (s.debts.paid_by place due) in
           let wrong : false ≡ true = ap (is_in place) (sym none) ∙ there in absurd (cc);

@@ -16,7 +16,7 @@ use Rattle.saa_word_proofs.specs.Calls.{IsAnswered, asked_by}
 use Rattle.saa_word_proofs.specs.History.{LeadsTo, named, of_place}
 use Rattle.saa_word_proofs.specs.Promises.{IsAtRest, Observes}
 use Rattle.saa_word_proofs.specs.Conservation.{AreOfPermits, ConservesPermits, tally_of}
-use Rattle.saa_word_proofs.specs.Registering.{begun_as, is_slot, left_behind, starting_answer}
+use Rattle.saa_word_proofs.specs.Registering.{registration_after_start, is_slot, registration_after, starting_answer}
 use Rattle.saa_word.specs.declared.moves.Move.{Move}
 use Rattle.saa_word.specs.declared.moves.Move.TheVariants.{Start, Go}
 use Rattle.saa_word.specs.declared.moves.Step.{Step}
@@ -38,8 +38,8 @@ asked_in (Some underway) = asked_by underway.call
 -- what the mover is registered as behind a move that named these events
 abbrev pub registered_after : Option Underway → Move → List Event → Step → Registration → Registration
 registered_after underway (Start me call) events Busy was = was
-registered_after underway (Start me call) events step was = begun_as call was
-registered_after underway (Go me) events step was = left_behind events (asked_in underway) was
+registered_after underway (Start me call) events step was = registration_after_start call was
+registered_after underway (Go me) events step was = registration_after events (asked_in underway) was
 
 -- the flag's holder behind a move: nobody while it is clear, the holder so far while it stays set, and the mover where the move set it
 abbrev pub holder_after : ℕ → ℕ → Word → Word → ℕ

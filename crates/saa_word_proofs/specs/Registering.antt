@@ -23,25 +23,25 @@ is_slot _ = false
 -- What a place is registered as behind an event of its call, which may ask for something. Got: a registration was answered at once, with
 -- that request. Asked a poisoned lock: it was answered at once that the lock is poisoned. Joined: it is in the line with that request.
 -- Left and took: it is idle
-abbrev pub left_by : Event → Option Ask → Registration → Registration
-left_by (Got request) (Some ask) was = if ask.joins then Once granted_value request else was
-left_by AskedPoisoned (Some ask) was = if ask.joins then Once poisoned_value ask.request else was
-left_by (Joined request) asks was = Slot request
-left_by Left asks was = Idle
-left_by (Took value) asks was = Idle
-left_by _ asks was = was
+abbrev pub registration_after_event : Event → Option Ask → Registration → Registration
+registration_after_event (Got request) (Some ask) was = if ask.joins then Once granted_value request else was
+registration_after_event AskedPoisoned (Some ask) was = if ask.joins then Once poisoned_value ask.request else was
+registration_after_event (Joined request) asks was = Slot request
+registration_after_event Left asks was = Idle
+registration_after_event (Took value) asks was = Idle
+registration_after_event _ asks was = was
 
 -- the same behind some events
-abbrev pub left_behind : List Event → Option Ask → Registration → Registration
-left_behind [] asks was = was
-left_behind (event ∷ rest) asks was = left_behind rest asks (left_by event asks was)
+abbrev pub registration_after : List Event → Option Ask → Registration → Registration
+registration_after [] asks was = was
+registration_after (event ∷ rest) asks was = registration_after rest asks (registration_after_event event asks was)
 
 -- What a place is registered as once a call has started: a poll and a cancel take what was answered at once, and it is idle then
-abbrev pub begun_as : WordCall → Registration → Registration
-begun_as TryPoll (Once value request) = Idle
-begun_as Poll (Once value request) = Idle
-begun_as Cancel (Once value request) = Idle
-begun_as call was = was
+abbrev pub registration_after_start : WordCall → Registration → Registration
+registration_after_start TryPoll (Once value request) = Idle
+registration_after_start Poll (Once value request) = Idle
+registration_after_start Cancel (Once value request) = Idle
+registration_after_start call was = was
 
 -- what a registration, a poll and a cancel answer at their start; nothing where they have a word to look at
 abbrev pub registering_answer : Registration → Option Answer

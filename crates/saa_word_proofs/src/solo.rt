@@ -24,7 +24,7 @@ ghost use Rattle.saa_word_proofs.specs.StepRefinement.{named_at};
 ghost use Rattle.saa_word_proofs.specs.History.{named, of_place};
 ghost use Rattle.saa_word_proofs.specs.Calls.{asked_by};
 ghost use Rattle.saa_word_proofs.specs.CallStages.{IsLeft, IsReadyNext, IsStartedAs, IsUnder};
-ghost use Rattle.saa_word_proofs.specs.Registering.{AreRegistered, begun_as, is_slot, left_behind, starting_answer};
+ghost use Rattle.saa_word_proofs.specs.Registering.{AreRegistered, registration_after_start, is_slot, registration_after, starting_answer};
 ghost use Rattle.saa_word_proofs.specs.Refinement.{Refines};
 ghost use Rattle.saa_word_proofs.specs.Rows.{updated};
 ghost use Rattle.saa_word_proofs.specs.Alone.{IsCalledAlone, IsKeptWaiting, IsLeftWaiting, IsQuiet, Mirrors, Moment};
@@ -85,14 +85,14 @@ pub fn ends()
 /// stays registered there with what it asks.
 pub fn registrations()
     ensures started { (needs : Needs) (place : Place) (call : WordCall) → place.stage ≡ Quiet
-        → IsStartedAs (starting_answer needs call place.registration) (begun_as call place.registration) (started needs place call) }
+        → IsStartedAs (starting_answer needs call place.registration) (registration_after_start call place.registration) (started needs place call) }
     ensures left { (needs : Needs) (call : WordCall) (registered : Registration) (me : ℕ) (place : Place) (found : ℕ) (events : List Event)
         → IsUnder needs call registered place.back place.stage events
-        → IsLeft place.registration (left_behind (named_at needs place.stage found) (asked_by call) place.registration)
+        → IsLeft place.registration (registration_after (named_at needs place.stage found) (asked_by call) place.registration)
         (next_of needs me place place.stage found) }
     ensures line { (needs : Needs) (state last : AbstractState) (me : ℕ) (events : List Event) (asks : Option Ask) (registered : ℕ → Registration) (was : Registration)
         → IsRun needs state (of_place me events) last → ((other : ℕ) → held_by other state ≤ 1) → (state.poisoned ≡ true → state.line ≡ [])
-        → AreRegistered (updated registered me was) state.line → AreRegistered (updated registered me (left_behind (named events) asks was)) last.line }
+        → AreRegistered (updated registered me was) state.line → AreRegistered (updated registered me (registration_after (named events) asks was)) last.line }
 {}
 
 /// The next operation of a place is on a word of the row, and what it remembers is within the bits of a count: behind the start of each call,

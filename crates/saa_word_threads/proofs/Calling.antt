@@ -24,7 +24,7 @@ use Rattle.saa_word_steps.specs.Steps.{cancelled_as, going, next_of, polled_as, 
 use Rattle.saa_word_steps.specs.Readings.{is_idle, is_taken, mode_number}
 use Rattle.saa_word_proofs.specs.Calls.{asked_by, is_taken_up}
 use Rattle.saa_word_proofs.specs.CallStages.{IsBegun, IsLeft, IsReadyNext, IsStartedAs, IsUnderNext}
-use Rattle.saa_word_proofs.specs.Registering.{begun_as, is_slot, left_behind, starting_answer}
+use Rattle.saa_word_proofs.specs.Registering.{registration_after_start, is_slot, registration_after, starting_answer}
 use Rattle.saa_word_proofs.specs.StepRefinement.{named_at, place_after}
 use Rattle.saa_word_proofs.specs.History.{named}
 use Rattle.saa_word_proofs.proofs.RefinementLemmas.Calls.{under-next}
@@ -64,13 +64,13 @@ started-waits None now is = is
 started-waits (Some said) now is = is
 
 module _ (needs : Needs) (call : WordCall) (rest : Place) (quiet : rest.stage ≡ Quiet) where
-  so : (next : Next) → started needs rest call ≡ next → IsStartedAs (starting_answer needs call rest.registration) (begun_as call rest.registration) next
+  so : (next : Next) → started needs rest call ≡ next → IsStartedAs (starting_answer needs call rest.registration) (registration_after_start call rest.registration) next
   so next is =
-      subst (IsStartedAs (starting_answer needs call rest.registration) (begun_as call rest.registration)) is (started-as needs rest call quiet)
+      subst (IsStartedAs (starting_answer needs call rest.registration) (registration_after_start call rest.registration)) is (started-as needs rest call quiet)
 
   -- it never waits
   pub never-waits : started needs rest call ≡ Waits → ⊥
-  never-waits is = started-waits (starting_answer needs call rest.registration) (begun_as call rest.registration) (so Waits is)
+  never-waits is = started-waits (starting_answer needs call rest.registration) (registration_after_start call rest.registration) (so Waits is)
 
 module _ (needs : Needs) (withheld : ℕ) (call : WordCall) (rest : Place) (quiet : rest.stage ≡ Quiet) where
   -- it has the events that it has where it goes on
@@ -78,13 +78,13 @@ module _ (needs : Needs) (withheld : ℕ) (call : WordCall) (rest : Place) (quie
       → HasEvents needs withheld call rest.registration answer now v w → IsCalled needs withheld call rest.registration answer now v w
   going-called first answer now v w is has =
       subst (λ (s : Option Answer). IsCalledFrom s needs withheld call rest.registration answer now v w)
-      (sym (started-going (starting_answer needs call rest.registration) (begun_as call rest.registration) first (so needs call rest quiet (Going first) is)).0) has
+      (sym (started-going (starting_answer needs call rest.registration) (registration_after_start call rest.registration) first (so needs call rest quiet (Going first) is)).0) has
 
   -- it is done at once
   pub done-called : (place : Place) (answer : Answer) (v w : View) → started needs rest call ≡ Done place answer → w ≡ v
       → IsCalled needs withheld call rest.registration answer place.registration v w
   done-called place answer v w is same =
-      let done = started-done (starting_answer needs call rest.registration) (begun_as call rest.registration) place answer (so needs call rest quiet (Done place answer) is) in
+      let done = started-done (starting_answer needs call rest.registration) (registration_after_start call rest.registration) place answer (so needs call rest quiet (Done place answer) is) in
       subst (λ (s : Option Answer). IsCalledFrom s needs withheld call rest.registration answer place.registration v w) (sym done.0) (refl, done.1, same)
 
 -- a poll of what was answered at once
@@ -168,8 +168,8 @@ started-back needs rest Poll = polling-back rest Awaits rest.registration
 started-back needs rest Cancel = cancelling-back needs rest rest.registration
 
 begun-cases : (call : WordCall) (registration : Registration)
-    → (begun_as call registration ≡ registration)
-    ⊎ ((value : ℕ) × (request : ℕ) × (registration ≡ Once value request) × (begun_as call registration ≡ Idle))
+    → (registration_after_start call registration ≡ registration)
+    ⊎ ((value : ℕ) × (request : ℕ) × (registration ≡ Once value request) × (registration_after_start call registration ≡ Idle))
 begun-cases TryPoll Idle = inl refl
 begun-cases TryPoll (Once value request) = inr (value, request, refl, refl)
 begun-cases TryPoll (Slot request) = inl refl
@@ -182,7 +182,7 @@ begun-cases Cancel (Slot request) = inl refl
 begun-cases call registration = inl refl
 
 -- a place that rests still does where it takes what was given at once
-since-begun : (was rest : Place) (call : WordCall) → RestsAfter was rest → RestsAfter was (record rest { registration = begun_as call rest.registration })
+since-begun : (was rest : Place) (call : WordCall) → RestsAfter was rest → RestsAfter was (record rest { registration = registration_after_start call rest.registration })
 since-begun was rest call since =
     elim (begun-cases call rest.registration) [
       | inl same ↦ subst (λ (r : Registration). RestsAfter was (record rest { registration = r })) (sym same) since
@@ -200,11 +200,11 @@ pub since-started : (needs : Needs) (was rest : Place) (call : WordCall) (place 
 unfolding back_of
 since-started needs was rest call place answer since is =
     let done =
-    started-done (starting_answer needs call rest.registration) (begun_as call rest.registration) place answer (so needs call rest since.0 (Done place answer) is) in
+    started-done (starting_answer needs call rest.registration) (registration_after_start call rest.registration) place answer (so needs call rest since.0 (Done place answer) is) in
     let back : rest.back ≡ place.back = sym (started-back needs rest call) ∙ ap (back_of rest) is in
     subst (λ (b : Back). RestsAfter was (record place { back = b })) back
     (subst (λ (r : Registration). RestsAfter was (record { registration = r; stage = place.stage; back = rest.back })) (sym done.1)
-    (subst (λ (s : Stage). RestsAfter was (record { registration = begun_as call rest.registration; stage = s; back = rest.back })) (since.0 ∙ sym done.2)
+    (subst (λ (s : Stage). RestsAfter was (record { registration = registration_after_start call rest.registration; stage = s; back = rest.back })) (since.0 ∙ sym done.2)
     (since-begun was rest call since)))
 
 -- The steps of a call
@@ -217,7 +217,7 @@ in-call-begins needs places me call rest first v here since takes is = record {
   events = [];
   under = subst (IsBegun needs call rest.registration) is (call-begun needs rest call since.0);
   extends = extends-none v;
-  registered = (started-going (starting_answer needs call rest.registration) (begun_as call rest.registration) first (so needs call rest since.0 (Going first) is)).1;
+  registered = (started-going (starting_answer needs call rest.registration) (registration_after_start call rest.registration) first (so needs call rest since.0 (Going first) is)).1;
   begins = inr (rest, call, since, takes, ap (place_after rest) (sym is));
   ready = subst (IsReadyNext needs places me) is (started-ready-anyone needs places me rest call here);
 }
@@ -239,13 +239,13 @@ module _ (needs : Needs) (withheld places me : ℕ) (call : WordCall) (was : Reg
         (subst (λ (l : List Event). IsUnderNext needs call was place.back place.stage l (next_of needs me place place.stage found)) (sym names)
         (under-next needs call was me place place.stage found (named m.events) m.under))
 
-    left : IsLeft place.registration (left_behind (named (m.events ++ moved.events)) (asked_by call) (begun_as call was)) next
+    left : IsLeft place.registration (registration_after (named (m.events ++ moved.events)) (asked_by call) (registration_after_start call was)) next
     left =
         subst (λ (r : Registration). IsLeft place.registration r next)
-        (ap (left_behind (named_at needs place.stage found) (asked_by call)) m.registered
-        ∙ sym (ap (λ (l : List Event). left_behind l (asked_by call) (begun_as call was)) names
-        ∙ left-append (named m.events) (named_at needs place.stage found) (asked_by call) (begun_as call was)))
-        (subst (λ (n : Next). IsLeft place.registration (left_behind (named_at needs place.stage found) (asked_by call) place.registration) n) (sym is)
+        (ap (registration_after (named_at needs place.stage found) (asked_by call)) m.registered
+        ∙ sym (ap (λ (l : List Event). registration_after l (asked_by call) (registration_after_start call was)) names
+        ∙ left-append (named m.events) (named_at needs place.stage found) (asked_by call) (registration_after_start call was)))
+        (subst (λ (n : Next). IsLeft place.registration (registration_after (named_at needs place.stage found) (asked_by call) place.registration) n) (sym is)
         (left-next needs call was me place place.stage found (named m.events) m.under))
 
     grown : Extends began (m.events ++ moved.events) w

@@ -18,15 +18,15 @@ use Rattle.saa_word_threads.proofs.Growing.{neither, seen-rest}
 
 -- At a stage
 
-none-to-show : (owed : List (ℕ × ℕ)) (worth : ℕ) (stage : Stage) → is_showing stage ≡ false → IsShowing owed worth stage → owed ≡ []
-none-to-show owed worth (ShowLoad current value afterwards) never shows = absurd (cc)
-none-to-show owed worth (ShowStore current next value afterwards) never shows = absurd (cc)
-none-to-show owed worth stage never shows = shows
+none-to-show : (owed : List (ℕ × ℕ)) (answer_value : ℕ) (stage : Stage) → is_showing stage ≡ false → IsShowing owed answer_value stage → owed ≡ []
+none-to-show owed answer_value (ShowLoad current value afterwards) never shows = absurd (cc)
+none-to-show owed answer_value (ShowStore current next value afterwards) never shows = absurd (cc)
+none-to-show owed answer_value stage never shows = shows
 
 pub owes-nothing : (needs : Needs) (places : ℕ) (row : ℕ → ℕ) (standing : ℕ → Place) (state : AbstractState) → (s : Refines needs places row standing state)
     → (me : ℕ) → is_showing (standing me).stage ≡ false → OwesNothing me state
 owes-nothing needs places row standing state s me never other due mine =
-    let none : s.owed me ≡ [] = none-to-show (s.owed me) (s.worth me) (standing me).stage never (s.stages.showing me) in
+    let none : s.owed me ≡ [] = none-to-show (s.owed me) (s.answer_value me) (standing me).stage never (s.stages.showing me) in
     let there : is_in other (s.owed (state.granter other)) ≡ true = s.debts.paid_by other due in
     let wrong : true ≡ false = sym there ∙ ap (λ (n : ℕ). is_in other (s.owed n)) mine ∙ ap (is_in other) none in
     absurd (cc)

@@ -12,7 +12,7 @@ use Rattle.saa_word_steps.specs.Needs.{Needs}
 use Rattle.saa_word_steps.specs.AbstractState.{OwesNothing}
 use Rattle.saa_word_proofs.specs.Calls.{IsAnswered, asked_by}
 use Rattle.saa_word_proofs.specs.CallStages.{IsReadyNext, IsUnder}
-use Rattle.saa_word_proofs.specs.Registering.{begun_as, left_behind, starting_answer}
+use Rattle.saa_word_proofs.specs.Registering.{registration_after_start, registration_after, starting_answer}
 use Rattle.saa_word_proofs.specs.History.{named, part_of}
 use Rattle.saa_word_threads.specs.declared.table.View.{View}
 use Rattle.saa_word_threads.specs.Told.{Begins, Extends, IsLegal, RestsAfter}
@@ -28,11 +28,11 @@ pub record HasEvents (needs : Needs) (withheld : ℕ) (call : WordCall) (was : R
   pub shown : OwesNothing w.number legal.0
   pub own : part_of w.number w.seen ≡ w.part
   pub answers : IsAnswered needs call was (named events) answer
-  pub registered : now ≡ left_behind (named events) (asked_by call) (begun_as call was)
+  pub registered : now ≡ registration_after (named events) (asked_by call) (registration_after_start call was)
 
 -- A call that needs no shared word answers at its start, and has no events; each other call has
 abbrev pub IsCalledFrom : Option Answer → Needs → ℕ → WordCall → Registration → Answer → Registration → View → View → Type 0
-IsCalledFrom (Some said) needs withheld call was answer now v w = (answer ≡ said) × (now ≡ begun_as call was) × (w ≡ v)
+IsCalledFrom (Some said) needs withheld call was answer now v w = (answer ≡ said) × (now ≡ registration_after_start call was) × (w ≡ v)
 IsCalledFrom None needs withheld call was answer now v w = HasEvents needs withheld call was answer now v w
 
 abbrev pub IsCalled : Needs → ℕ → WordCall → Registration → Answer → Registration → View → View → Type 0
@@ -44,7 +44,7 @@ pub record InCall (needs : Needs) (places me : ℕ) (call : WordCall) (was : Reg
   pub events : List Event
   pub under : IsUnder needs call was place.back place.stage (named events)
   pub extends : Extends began events v
-  pub registered : place.registration ≡ left_behind (named events) (asked_by call) (begun_as call was)
+  pub registered : place.registration ≡ registration_after (named events) (asked_by call) (registration_after_start call was)
   pub begins : Begins needs v.position place
   pub ready : IsReadyNext needs places me (Going place)
 

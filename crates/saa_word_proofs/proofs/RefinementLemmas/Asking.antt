@@ -38,7 +38,7 @@ step-ReadLoad needs lawful wide places row standing state me room s reading at =
   inside = omega arith;
   stands = loaded needs places row (updated standing me (record (standing me) { stage = Quiet })) state 0
       (moved needs places row standing state me s (record (standing me) { stage = Quiet }) (λ out. refl) refl tt tt (λ gives. absurd (cc)) tt
-      (subst (λ stage. IsShowing (s.owed me) (s.worth me) stage) at (s.stages.showing me)) (ap is_holder (sym at))
+      (subst (λ stage. IsShowing (s.owed me) (s.answer_value me) stage) at (s.stages.showing me)) (ap is_holder (sym at))
       (λ is. absurd (not-holder needs places row standing state me s (ap is_holder at) is)));
 }
 
@@ -184,5 +184,5 @@ step-AskLoad needs lawful wide places row standing state me room s ask at =
     let alone : IsAlone needs (standing me).registration (standing me).back (AskLoad ask) =
     subst (λ stage. IsAlone needs (standing me).registration (standing me).back stage) at (s.stages.alone me) in
     let out = decided-outcome needs wide places row standing state me s (ap is_holder at)
-    (subst (λ stage. IsShowing (s.owed me) (s.worth me) stage) at (s.stages.showing me)) ask (λ out. ap joins_line (sym at) ∙ s.seats.beyond me out) alone.0 alone.1 in
+    (subst (λ stage. IsShowing (s.owed me) (s.answer_value me) stage) at (s.stages.showing me)) ask (λ out. ap joins_line (sym at) ∙ s.seats.beyond me out) alone.0 alone.1 in
     only-looked needs places row standing state me (AskLoad ask) out refl refl refl refl

@@ -137,7 +137,7 @@ step-Close needs lawful wide places row standing state me room s seen count top 
     let mine : s.holder ≡ me + 1 = flag-held needs places row standing state me s (ap is_holder at) in
     let ranged = subst (λ (stage : Stage). IsRanged needs stage) at (s.stages.ranged me) in
     let alone = subst (λ (stage : Stage). IsAlone needs (standing me).registration (standing me).back stage) at (s.stages.alone me) in
-    let none = subst (λ (stage : Stage). IsShowing (s.owed me) (s.worth me) stage) at (s.stages.showing me) in
+    let none = subst (λ (stage : Stage). IsShowing (s.owed me) (s.answer_value me) stage) at (s.stages.showing me) in
     let apart = apart-at needs places row standing state me s (Close seen count top) at in
     let holding = flag-knows needs places row standing state me s (Close seen count top) at refl in
     elim (cases_Bool (row 0 == word_number count_bits seen)) [

@@ -63,7 +63,7 @@ cut : (needs : Needs) (places : ℕ) (row : ℕ → ℕ) (standing : ℕ → Pla
     (seen : Word) (work : Work state.count state.line seen) (current : ℕ) (line : LineWord) (next : Stage)
     → joins_line next ≡ false → is_holder (standing me).stage ≡ true → s.cut ≡ [] → IsAt (line_of row) work.behind current → line ≡ line_of row (pred current)
     → IsRanged needs next → IsAlone needs (standing me).registration (standing me).back next
-    → (gives_up (standing me).back next ≡ true → is_in me state.line ≡ false) → ((word : LineWord) → IsOwn word next) → IsShowing (s.owed me) (s.worth me) next
+    → (gives_up (standing me).back next ≡ true → is_in me state.line ≡ false) → ((word : LineWord) → IsOwn word next) → IsShowing (s.owed me) (s.answer_value me) next
     → is_holder next ≡ true
     → (IsLooked (line_of row) state.count state.line seen work current → (new : ℕ → LineWord) → IsHolding needs new me state.count state.line work.front next)
     → Refines needs places (updated row current (line_number (record line { older = 0 }))) (updated standing me (record (standing me) { stage = next })) state
@@ -122,7 +122,7 @@ step-CutToClose needs lawful wide places row standing state me room s seen curre
             subst (λ stage. IsAlone needs (standing me).registration (standing me).back stage) at (s.stages.alone me),
           )
           (apart-at needs places row standing state me s (CutToClose seen current count line) at) (λ word. tt)
-          (subst (λ stage. IsShowing (s.owed me) (s.worth me) stage) at (s.stages.showing me)) refl
+          (subst (λ stage. IsShowing (s.owed me) (s.answer_value me) stage) at (s.stages.showing me)) refl
           (λ look new. (
             knows.0,
             refl,
@@ -153,6 +153,6 @@ step-CutToGoRound needs lawful wide places row standing state me room s seen cur
           (subst (λ stage. IsRanged needs stage) at (s.stages.ranged me))
           (subst (λ stage. IsAlone needs (standing me).registration (standing me).back stage) at (s.stages.alone me))
           (apart-at needs places row standing state me s (CutToGoRound seen current count line) at) (λ word. tt)
-          (subst (λ stage. IsShowing (s.owed me) (s.worth me) stage) at (s.stages.showing me)) refl
+          (subst (λ stage. IsShowing (s.owed me) (s.answer_value me) stage) at (s.stages.showing me)) refl
           (λ look new. (knows.0, refl, knows.2, ap (λ (w : LineWord). w.older) knows.4 ∙ look.older, knows.3.1));
     }

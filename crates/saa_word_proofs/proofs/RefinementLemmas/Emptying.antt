@@ -173,7 +173,7 @@ step-Empty needs lawful wide places row standing state me room s seen current co
     let ranged = subst (λ (stage : Stage). IsRanged needs stage) at (s.stages.ranged me) in
     let alone = subst (λ (stage : Stage). IsAlone needs (standing me).registration (standing me).back stage) at (s.stages.alone me) in
     let apart = apart-at needs places row standing state me s (Empty seen current count word) at in
-    let none = subst (λ (stage : Stage). IsShowing (s.owed me) (s.worth me) stage) at (s.stages.showing me) in
+    let none = subst (λ (stage : Stage). IsShowing (s.owed me) (s.answer_value me) stage) at (s.stages.showing me) in
     let holding = subst (λ (stage : Stage). IsHolding needs (line_of row) me state.count state.line s.cut stage) at (s.stages.holding me mine) in
     elim (cases_Bool (row 0 == word_number count_bits seen)) [
       | inl same ↦ emptied-step needs lawful places row standing state me s seen current count word same mine ranged alone apart none holding

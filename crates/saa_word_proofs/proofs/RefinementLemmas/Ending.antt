@@ -51,10 +51,10 @@ ended-own word Tells = tt
 ended-own word Ends = tt
 ended-own word (Takes request) = tt
 
-pub ended-showing : (owed : List (ℕ × ℕ)) (worth : ℕ) (back : Back) → owed ≡ [] → IsShowing owed worth (end_stage back)
-ended-showing owed worth Tells none = none
-ended-showing owed worth Ends none = none
-ended-showing owed worth (Takes request) none = none
+pub ended-showing : (owed : List (ℕ × ℕ)) (answer_value : ℕ) (back : Back) → owed ≡ [] → IsShowing owed answer_value (end_stage back)
+ended-showing owed answer_value Tells none = none
+ended-showing owed answer_value Ends none = none
+ended-showing owed answer_value (Takes request) none = none
 
 pub ended-holder : (back : Back) → is_holder (end_stage back) ≡ false
 ended-holder Tells = refl

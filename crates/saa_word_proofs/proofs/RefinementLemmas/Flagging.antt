@@ -59,7 +59,7 @@ flag-outcome needs places row standing state me here s none nothing leaving fals
       stands = subst (λ (p : Place). Refines needs places row (updated standing me p) state) (sym (ended (standing me) back))
           (moved needs places row standing state me s (record (standing me) { stage = end_stage back }) (λ out. absurd (omega (arith, out, here))) refl
           (ended-ranged needs back) (ended-alone needs registration back (returning-leaving registration back leaving))
-          (λ gives. ap (is_in me) empty) (ended-own (line_of row me) back) (ended-showing (s.owed me) (s.worth me) back nothing)
+          (λ gives. ap (is_in me) empty) (ended-own (line_of row me) back) (ended-showing (s.owed me) (s.answer_value me) back nothing)
           (ended-holder back ∙ sym none) (λ it. absurd (not-holder needs places row standing state me s none it)));
     }
 flag-outcome needs places row standing state me here s none nothing leaving false false clear some = record {
@@ -89,7 +89,7 @@ step-FlagLoad needs lawful wide places row standing state me room here s at =
     let leaving : IsLeaving (standing me).registration (standing me).back =
     subst (λ stage. IsAlone needs (standing me).registration (standing me).back stage) at (s.stages.alone me) in
     let out = flagging-outcome needs places row standing state me here s (ap is_holder at)
-    (subst (λ stage. IsShowing (s.owed me) (s.worth me) stage) at (s.stages.showing me)) leaving in
+    (subst (λ stage. IsShowing (s.owed me) (s.answer_value me) stage) at (s.stages.showing me)) leaving in
     only-looked needs places row standing state me FlagLoad out refl refl refl refl
 
 -- the link of a place isn't 0
@@ -128,18 +128,18 @@ flag-set needs places row standing state me here s nothing leaving seen small ta
       cut = s.cut;
       uncut = s.uncut;
       owed = s.owed;
-      worth = s.worth;
+      answer_value = s.answer_value;
       free = λ free. let wrong : true ≡ false = sym free ∙ link-some me in absurd (cc);
       main = main-now needs state (me + 1) word small tail_small count tail (sym (ap not (link-some me))) poison s.main.barren s.main.bounded
           (λ free. let wrong : true ≡ false = sym free ∙ link-some me in absurd (cc)) s.main.settled;
       line = subst (λ (w : ℕ → LineWord). IsLine w state.line s.cut s.uncut) (sym (line-main row number)) s.line;
       seats = seats-next places standing state me place s.seats (λ out. absurd (omega (arith, out, here))) refl;
       answers = answers-main places row number state.shown s.answers;
-      debts = subst (λ (w : ℕ → LineWord). AreDebts w state.due state.granter s.owed s.worth) (sym (line-main row number)) s.debts;
-      stages = subst (λ (w : ℕ → LineWord). AreStages needs w (updated standing me place) state.count state.line s.cut (me + 1) s.owed s.worth)
+      debts = subst (λ (w : ℕ → LineWord). AreDebts w state.due state.granter s.owed s.answer_value) (sym (line-main row number)) s.debts;
+      stages = subst (λ (w : ℕ → LineWord). AreStages needs w (updated standing me place) state.count state.line s.cut (me + 1) s.owed s.answer_value)
           (sym (line-main row number))
           (stages-next needs (line_of row) (line_of row) standing state.count state.count state.line state.line s.cut s.cut s.holder (me + 1)
-          s.owed s.owed s.worth s.worth me place s.stages
+          s.owed s.owed s.answer_value s.answer_value me place s.stages
           small leaving (λ gives. absurd (cc)) tt nothing (sym (number_same (me + 1)))
           (λ it. (
             record {
@@ -167,7 +167,7 @@ step-FlagExchange needs lawful wide places row standing state me room here s see
     let alone : IsAlone needs (standing me).registration (standing me).back (FlagExchange seen) =
     subst (λ stage. IsAlone needs (standing me).registration (standing me).back stage) at (s.stages.alone me) in
     let small : IsRanged needs (FlagExchange seen) = subst (λ stage. IsRanged needs stage) at (s.stages.ranged me) in
-    let nothing : s.owed me ≡ [] = subst (λ stage. IsShowing (s.owed me) (s.worth me) stage) at (s.stages.showing me) in
+    let nothing : s.owed me ≡ [] = subst (λ stage. IsShowing (s.owed me) (s.answer_value me) stage) at (s.stages.showing me) in
     elim (cases_Bool (row 0 == word_number count_bits seen)) [
       | inl same ↦ record {
         events = [];

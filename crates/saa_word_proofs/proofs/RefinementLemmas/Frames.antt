@@ -155,8 +155,8 @@ holding-frame needs words new me held now line after more cut Clear less grown n
 
 -- What is so of each place, where one moved and the others remember what they did
 pub stages-next : (needs : Needs) (words new : ℕ → LineWord) (standing : ℕ → Place) (held now : ℕ) (line after cut off : List (ℕ × ℕ))
-    (holder next : ℕ) (owed owing : ℕ → List (ℕ × ℕ)) (worth gives : ℕ → ℕ) (me : ℕ) (place : Place)
-    → AreStages needs words standing held line cut holder owed worth
+    (holder next : ℕ) (owed owing : ℕ → List (ℕ × ℕ)) (answer_value gives : ℕ → ℕ) (me : ℕ) (place : Place)
+    → AreStages needs words standing held line cut holder owed answer_value
     → IsRanged needs place.stage → IsAlone needs place.registration place.back place.stage
     → (gives_up place.back place.stage ≡ true → is_in me after ≡ false)
     → IsOwn (new me) place.stage → IsShowing (owing me) (gives me) place.stage
@@ -165,11 +165,11 @@ pub stages-next : (needs : Needs) (words new : ℕ → LineWord) (standing : ℕ
     → ((other : ℕ) → (other ≡ me → ⊥) → is_in other line ≡ false → is_in other after ≡ false)
     → ((other : ℕ) → (other ≡ me → ⊥) → IsOwn (new other) (standing other).stage)
     → ((other : ℕ) → (other ≡ me → ⊥) → owing other ≡ owed other)
-    → ((other : ℕ) → (other ≡ me → ⊥) → gives other ≡ worth other)
+    → ((other : ℕ) → (other ≡ me → ⊥) → gives other ≡ answer_value other)
     → ((other : ℕ) → (other ≡ me → ⊥) → (holder == other + 1) ≡ (next == other + 1))
     → ((other : ℕ) → (other ≡ me → ⊥) → holder ≡ other + 1 → IsHolding needs new other now after off (standing other).stage)
     → AreStages needs new (updated standing me place) now after off next owing gives
-stages-next needs words new standing held now line after cut off holder next owed owing worth gives me place was ranged alone apart own showing one holding
+stages-next needs words new standing held now line after cut off holder next owed owing answer_value gives me place was ranged alone apart own showing one holding
     out owns shows values ones holds = record {
       ranged = each-updated (λ (n : ℕ) (p : Place). IsRanged needs p.stage) standing me place ranged (λ other differs. was.ranged other);
       alone = each-updated (λ (n : ℕ) (p : Place). IsAlone needs p.registration p.back p.stage) standing me place alone (λ other differs. was.alone other);
@@ -179,7 +179,7 @@ stages-next needs words new standing held now line after cut off holder next owe
       showing = each-updated (λ (n : ℕ) (p : Place). IsShowing (owing n) (gives n) p.stage) standing me place showing
           (λ other differs.
           subst (λ (n : ℕ). IsShowing (owing other) n (standing other).stage) (sym (values other differs))
-          (subst (λ (l : List (ℕ × ℕ)). IsShowing l (worth other) (standing other).stage) (sym (shows other differs)) (was.showing other)));
+          (subst (λ (l : List (ℕ × ℕ)). IsShowing l (answer_value other) (standing other).stage) (sym (shows other differs)) (was.showing other)));
       one = each-updated (λ (n : ℕ) (p : Place). is_holder p.stage ≡ (next == n + 1)) standing me place one (λ other differs. was.one other ∙ ones other differs);
       holding = each-updated (λ (n : ℕ) (p : Place). next ≡ n + 1 → IsHolding needs new n now after off p.stage) standing me place holding
           (λ other differs is. holds other differs

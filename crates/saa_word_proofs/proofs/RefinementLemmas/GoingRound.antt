@@ -69,7 +69,7 @@ pub step-GoRound : (needs : Needs) → AreNeeds needs → needs.top < 2 ^ count_
     → (seen : Word) (count top : ℕ) → (standing me).stage ≡ GoRound seen count top → StepRefines needs places row standing state me (GoRound seen count top)
 step-GoRound needs lawful wide places row standing state me room s seen count top at =
     let mine : s.holder ≡ me + 1 = flag-held needs places row standing state me s (ap is_holder at) in
-    let none = subst (λ (stage : Stage). IsShowing (s.owed me) (s.worth me) stage) at (s.stages.showing me) in
+    let none = subst (λ (stage : Stage). IsShowing (s.owed me) (s.answer_value me) stage) at (s.stages.showing me) in
     let holding = subst (λ (stage : Stage). IsHolding needs (line_of row) me state.count state.line s.cut stage) at (s.stages.holding me mine) in
     let work : Work state.count state.line seen = holding.0 in
     let rest : List (ℕ × ℕ) = work.behind ++ work.joined in

@@ -228,14 +228,14 @@ held-granted needs state me front rest unclosed place parts once =
       | inr none ↦ rw none (omega (arith, both, in-no place front none))
     ]
 
-pub debts-granted : (words : ℕ → LineWord) (state : AbstractState) (owed : ℕ → List (ℕ × ℕ)) (worth : ℕ → ℕ) (me value : ℕ) (front rest : List (ℕ × ℕ))
-    → AreDebts words state.due state.granter owed worth → value < 256 → state.line ≡ front ++ rest → ((place : ℕ) → held_by place state ≤ 1) → owed me ≡ [] → IsBehind words 0 front
-    → AreDebts words (answered_with value front state.due) (granted_by me front state.granter) (updated owed me front) (updated worth me value)
-debts-granted words state owed worth me value front rest was fits parts once none linked = record {
+pub debts-granted : (words : ℕ → LineWord) (state : AbstractState) (owed : ℕ → List (ℕ × ℕ)) (answer_value : ℕ → ℕ) (me value : ℕ) (front rest : List (ℕ × ℕ))
+    → AreDebts words state.due state.granter owed answer_value → value < 256 → state.line ≡ front ++ rest → ((place : ℕ) → held_by place state ≤ 1) → owed me ≡ [] → IsBehind words 0 front
+    → AreDebts words (answered_with value front state.due) (granted_by me front state.granter) (updated owed me front) (updated answer_value me value)
+debts-granted words state owed answer_value me value front rest was fits parts once none linked = record {
   due_to = λ place other.
       each-updated
       (λ (n : ℕ) (l : List (ℕ × ℕ)). is_in other l ≡ true
-      → (granted_by me front state.granter other ≡ n) × (answered_with value front state.due other ≡ Some (updated worth me value n)))
+      → (granted_by me front state.granter other ≡ n) × (answered_with value front state.due other ≡ Some (updated answer_value me value n)))
       owed me front
       (λ there. (rw there refl, rw (there, number_same me) refl))
       (λ other_place apart there.
@@ -262,7 +262,7 @@ debts-granted words state owed worth me value front rest was fits parts once non
       (λ other_place apart. was.once other_place other)
       place;
   links = each-updated (λ (n : ℕ) (l : List (ℕ × ℕ)). IsBehind words 0 l) owed me front linked (λ other apart. was.links other);
-  small = each-updated (λ (n value : ℕ). value < 256) worth me value fits (λ other apart. was.small other);
+  small = each-updated (λ (n value : ℕ). value < 256) answer_value me value fits (λ other apart. was.small other);
 }
 
 -- The whole
@@ -318,9 +318,9 @@ granting needs places row standing state me s number stage front rest next unclo
     holder holding others =
     let once = held-once places standing state s.seats in
     let seats = seats-next places standing state me (record (standing me) { stage = stage }) s.seats free refl in
-    let debts = debts-granted (line_of row) state s.owed s.worth me 0 front rest s.debts (omega arith) parts once none linked in
+    let debts = debts-granted (line_of row) state s.owed s.answer_value me 0 front rest s.debts (omega arith) parts once none linked in
     let stages = stages-next needs (line_of row) (line_of row) standing state.count (state.count + takes_of needs front) state.line rest s.cut []
-    s.holder next s.owed (updated s.owed me front) s.worth (updated s.worth me 0) me (record (standing me) { stage = stage }) s.stages
+    s.holder next s.owed (updated s.owed me front) s.answer_value (updated s.answer_value me 0) me (record (standing me) { stage = stage }) s.stages
     ranged alone (λ gives. out-of-rest me front rest state.line parts (apart gives)) own (rw (number_same me) showing) holder holding
     (λ other differs. out-of-rest other front rest state.line parts)
     (λ other differs. s.stages.own other)
@@ -333,7 +333,7 @@ granting needs places row standing state me s number stage front rest next unclo
       cut = [];
       uncut = rest;
       owed = updated s.owed me front;
-      worth = updated s.worth me 0;
+      answer_value = updated s.answer_value me 0;
       free = λ unheld. refl;
       main = main;
       line = record { parts = refl; granted = tt; stays = rw (line-main row number) stays; some = λ gone. refl };

@@ -48,7 +48,7 @@ raised needs lawful wide places row standing state me s none nothing calm reques
       cut = s.cut;
       uncut = s.uncut;
       owed = s.owed;
-      worth = s.worth;
+      answer_value = s.answer_value;
       free = s.free;
       main = main-now needs (record state { count = state.count + needs.takes request }) s.holder word (omega (arith, within, wide))
           (omega (arith, same_number seen.tail 0 alone)) (ap (λ (n : ℕ). n + needs.takes request) count) tail
@@ -60,15 +60,15 @@ raised needs lawful wide places row standing state me s none nothing calm reques
           let seats = seats-next places standing state me place s.seats (λ out. ap joins_line quiet) same in
           record { held = seats.held; within = seats.within; beyond = seats.beyond };
       answers = answers-main places row number state.shown s.answers;
-      debts = subst (λ (w : ℕ → LineWord). AreDebts w state.due state.granter s.owed s.worth) (sym (line-main row number)) s.debts;
+      debts = subst (λ (w : ℕ → LineWord). AreDebts w state.due state.granter s.owed s.answer_value) (sym (line-main row number)) s.debts;
       stages = subst
-          (λ (w : ℕ → LineWord). AreStages needs w (updated standing me place) (state.count + needs.takes request) state.line s.cut s.holder s.owed s.worth)
+          (λ (w : ℕ → LineWord). AreStages needs w (updated standing me place) (state.count + needs.takes request) state.line s.cut s.holder s.owed s.answer_value)
           (sym (line-main row number))
           (stages-next needs (line_of row) (line_of row) standing state.count (state.count + needs.takes request) state.line state.line
-          s.cut s.cut s.holder s.holder s.owed s.owed s.worth s.worth me place s.stages
+          s.cut s.cut s.holder s.holder s.owed s.owed s.answer_value s.answer_value me place s.stages
           (subst (λ stage. IsRanged needs stage) (sym quiet) tt) (subst (λ stage. IsAlone needs place.registration place.back stage) (sym quiet) tt)
           (λ gives. let wrong : true ≡ false = sym gives ∙ ap (gives_up place.back) quiet in absurd (cc))
-          (subst (λ stage. IsOwn (line_of row me) stage) (sym quiet) tt) (subst (λ stage. IsShowing (s.owed me) (s.worth me) stage) (sym quiet) nothing)
+          (subst (λ stage. IsOwn (line_of row me) stage) (sym quiet) tt) (subst (λ stage. IsShowing (s.owed me) (s.answer_value me) stage) (sym quiet) nothing)
           (ap is_holder quiet ∙ sym none ∙ s.stages.one me)
           (λ it. absurd (not-holder needs places row standing state me s none it))
           (λ other apart out. out) (λ other apart. s.stages.own other) (λ other apart. refl) (λ other apart. refl) (λ other apart. refl)
@@ -84,7 +84,7 @@ step-AskExchange needs lawful wide places row standing state me room s ask seen 
     subst (λ stage. IsAlone needs (standing me).registration (standing me).back stage) at (s.stages.alone me) in
     let ranged : IsRanged needs (AskExchange ask seen) = subst (λ stage. IsRanged needs stage) at (s.stages.ranged me) in
     let none : is_holder (standing me).stage ≡ false = ap is_holder at in
-    let nothing : s.owed me ≡ [] = subst (λ stage. IsShowing (s.owed me) (s.worth me) stage) at (s.stages.showing me) in
+    let nothing : s.owed me ≡ [] = subst (λ stage. IsShowing (s.owed me) (s.answer_value me) stage) at (s.stages.showing me) in
     elim (cases_Bool (row 0 == word_number count_bits seen)) [
       | inl same ↦
           let is : main_of row ≡ seen = main-found (row 0) seen ranged.0 (omega (arith, same_number seen.tail 0 alone.2)) same in
@@ -140,7 +140,7 @@ step-Prepare needs lawful wide places row standing state me room here s request 
     subst (λ stage. IsAlone needs (standing me).registration (standing me).back stage) at (s.stages.alone me) in
     let ranged : IsRanged needs (Prepare request seen) = subst (λ stage. IsRanged needs stage) at (s.stages.ranged me) in
     let none : is_holder (standing me).stage ≡ false = ap is_holder at in
-    let nothing : s.owed me ≡ [] = subst (λ stage. IsShowing (s.owed me) (s.worth me) stage) at (s.stages.showing me) in
+    let nothing : s.owed me ≡ [] = subst (λ stage. IsShowing (s.owed me) (s.answer_value me) stage) at (s.stages.showing me) in
     let out = outside needs places row standing state me s alone.1 in
     let word : LineWord = record { request = request; older = seen.tail; newer = 0 } in
     let number : ℕ = line_number word in
@@ -167,7 +167,7 @@ step-Prepare needs lawful wide places row standing state me room here s request 
         cut = s.cut;
         uncut = s.uncut;
         owed = s.owed;
-        worth = s.worth;
+        answer_value = s.answer_value;
         free = s.free;
         main = subst (λ (n : ℕ). IsMain needs n state s.holder) (sym (row-other row (me + 1) number 0 (λ is. absurd (omega (arith, is))))) s.main;
         line = record {
@@ -191,7 +191,7 @@ step-Prepare needs lawful wide places row standing state me room here s request 
           links = λ place. behind-frame (line_of row) new 0 (s.owed place) (λ other there. fields other (apart_owed place other there)) (s.debts.links place);
         };
         stages = stages-next needs (line_of row) new standing state.count state.count state.line state.line s.cut s.cut
-            s.holder s.holder s.owed s.owed s.worth s.worth me (record (standing me) { stage = Join request seen }) s.stages
+            s.holder s.holder s.owed s.owed s.answer_value s.answer_value me (record (standing me) { stage = Join request seen }) s.stages
             ranged alone (λ gives. absurd (cc))
             (ap (λ (w : LineWord). w.request) (line-at row me number ∙ read), ap (λ (w : LineWord). w.older) (line-at row me number ∙ read)) nothing
             (sym none ∙ s.stages.one me)
@@ -242,7 +242,7 @@ joined needs lawful wide places row standing state me room here s none nothing c
       cut = s.cut;
       uncut = s.uncut ++ (me, request) ∷ [];
       owed = s.owed;
-      worth = s.worth;
+      answer_value = s.answer_value;
       free = s.free;
       main = main-now needs (record state { line = after }) s.holder word small (omega (arith, room, here)) count
           (sym (newest-append 0 state.line ((me, request) ∷ []))) (ap (λ (w : Word). w.is_flagged) (sym is) ∙ s.main.flag)
@@ -261,11 +261,11 @@ joined needs lawful wide places row standing state me room here s none nothing c
         beyond = each-updated (λ (n : ℕ) (p : Place). places ≤ n → joins_line p.stage ≡ false) standing me place (λ out. refl) (λ other apart. s.seats.beyond other);
       };
       answers = answers-main places row number state.shown s.answers;
-      debts = subst (λ (w : ℕ → LineWord). AreDebts w state.due state.granter s.owed s.worth) (sym (line-main row number)) s.debts;
-      stages = subst (λ (w : ℕ → LineWord). AreStages needs w (updated standing me place) state.count after s.cut s.holder s.owed s.worth)
+      debts = subst (λ (w : ℕ → LineWord). AreDebts w state.due state.granter s.owed s.answer_value) (sym (line-main row number)) s.debts;
+      stages = subst (λ (w : ℕ → LineWord). AreStages needs w (updated standing me place) state.count after s.cut s.holder s.owed s.answer_value)
           (sym (line-main row number))
           (stages-next needs (line_of row) (line_of row) standing state.count state.count state.line after s.cut s.cut s.holder s.holder s.owed s.owed
-          s.worth s.worth me place s.stages tt tt (λ gives. absurd (cc)) tt nothing (sym none ∙ s.stages.one me)
+          s.answer_value s.answer_value me place s.stages tt tt (λ gives. absurd (cc)) tt nothing (sym none ∙ s.stages.one me)
           (λ it. absurd (not-holder needs places row standing state me s none it))
           (λ other apart out. rw (in-append other state.line ((me, request) ∷ []), out) (not-joined other apart))
           (λ other apart. s.stages.own other) (λ other apart. refl) (λ other apart. refl) (λ other apart. refl)
@@ -290,7 +290,7 @@ step-Join needs lawful wide places row standing state me room here s request see
     let ranged : IsRanged needs (Join request seen) = subst (λ stage. IsRanged needs stage) at (s.stages.ranged me) in
     let own : IsOwn (line_of row me) (Join request seen) = subst (λ stage. IsOwn (line_of row me) stage) at (s.stages.own me) in
     let none : is_holder (standing me).stage ≡ false = ap is_holder at in
-    let nothing : s.owed me ≡ [] = subst (λ stage. IsShowing (s.owed me) (s.worth me) stage) at (s.stages.showing me) in
+    let nothing : s.owed me ≡ [] = subst (λ stage. IsShowing (s.owed me) (s.answer_value me) stage) at (s.stages.showing me) in
     elim (cases_Bool (row 0 == word_number count_bits seen)) [
       | inl same ↦
           let is : main_of row ≡ seen = main-found (row 0) seen ranged alone.2 same in

@@ -176,10 +176,10 @@ seats-left places standing state me request before after stage was here parts =
     }
 
 -- no answer is due to a waiter, so nobody owes it one
-pub owed-out : (places : ℕ) (words : ℕ → LineWord) (standing : ℕ → Place) (state : AbstractState) (owed : ℕ → List (ℕ × ℕ)) (worth : ℕ → ℕ)
-    → AreSeats places standing state → AreDebts words state.due state.granter owed worth
+pub owed-out : (places : ℕ) (words : ℕ → LineWord) (standing : ℕ → Place) (state : AbstractState) (owed : ℕ → List (ℕ × ℕ)) (answer_value : ℕ → ℕ)
+    → AreSeats places standing state → AreDebts words state.due state.granter owed answer_value
     → (place other : ℕ) → 0 < times other (owed place) → is_in other state.line ≡ false
-owed-out places words standing state owed worth seats debts place other owes =
+owed-out places words standing state owed answer_value seats debts place other owes =
     elim (cases_Bool (is_in other state.line)) [
       | inl waits ↦
           let due : is_some (state.due other) ≡ true = ap is_some (debts.due_to place other (in-some other (owed place) owes)).1 in
@@ -199,7 +199,7 @@ pub leaving : (needs : Needs) (places : ℕ) (row : ℕ → ℕ) (standing : ℕ
     → IsBehind (line_of (updated row at number)) 0 (before ++ after)
     → IsMain needs (updated row at number 0) (left state (before ++ after)) next
     → IsRanged needs stage → IsAlone needs Idle EndsCall stage → (gives_up EndsCall stage ≡ false)
-    → IsOwn (line_of (updated row at number) me) stage → IsShowing (s.owed me) (s.worth me) stage
+    → IsOwn (line_of (updated row at number) me) stage → IsShowing (s.owed me) (s.answer_value me) stage
     → is_holder stage ≡ (next == me + 1)
     → (next ≡ me + 1 → IsHolding needs (line_of (updated row at number)) me state.count (before ++ after) [] stage)
     → ((other : ℕ) → (other ≡ me → ⊥) → (s.holder == other + 1) ≡ (next == other + 1))
@@ -210,7 +210,7 @@ leaving needs places row standing state me s at number request stage before afte
       cut = [];
       uncut = before ++ after;
       owed = s.owed;
-      worth = s.worth;
+      answer_value = s.answer_value;
       free = λ nobody. refl;
       main = main;
       line = record { parts = refl; granted = tt; stays = linked; some = λ none. refl };
@@ -227,12 +227,12 @@ leaving needs places row standing state me s at number request stage before afte
         links = λ place.
             behind-frame (line_of row) (line_of (updated row at number)) 0 (s.owed place)
             (λ other owes.
-            let same = words other (owed-out places (line_of row) standing state s.owed s.worth s.seats s.debts place other owes) in
+            let same = words other (owed-out places (line_of row) standing state s.owed s.answer_value s.seats s.debts place other owes) in
             (ap (λ (w : LineWord). w.request) same, ap (λ (w : LineWord). w.older) same))
             (s.debts.links place);
       };
       stages = stages-next needs (line_of row) (line_of (updated row at number)) standing state.count state.count state.line (before ++ after) s.cut []
-          s.holder next s.owed s.owed s.worth s.worth me (record (left_line (standing me)) { stage = stage }) s.stages
+          s.holder next s.owed s.owed s.answer_value s.answer_value me (record (left_line (standing me)) { stage = stage }) s.stages
           ranged alone (λ gives. let wrong : true ≡ false = sym gives ∙ stays in absurd (cc)) own showing holder holding
           (λ other differs. out-left other state.line before after (me, request) parts)
           (λ other differs. owns other) (λ other differs. refl) (λ other differs. refl) others

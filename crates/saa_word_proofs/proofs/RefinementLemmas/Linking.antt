@@ -96,7 +96,7 @@ pub relinked : (needs : Needs) (places : ℕ) (row : ℕ → ℕ) (standing : �
     → IsLine (line_of (updated row (at + 1) number)) state.line off rest
     → IsRanged needs next → IsAlone needs (standing me).registration (standing me).back next
     → (gives_up (standing me).back next ≡ true → is_in me state.line ≡ false)
-    → IsOwn (line_of (updated row (at + 1) number) me) next → IsShowing (s.owed me) (s.worth me) next
+    → IsOwn (line_of (updated row (at + 1) number) me) next → IsShowing (s.owed me) (s.answer_value me) next
     → is_holder next ≡ true → IsHolding needs (line_of (updated row (at + 1) number)) me state.count state.line off next
     → Refines needs places (updated row (at + 1) number) (updated standing me (record (standing me) { stage = next })) state
 relinked needs places row standing state me s next at number off rest free flag there line ranged alone apart own showing holder holding =
@@ -106,7 +106,7 @@ relinked needs places row standing state me s next at number off rest free flag 
       cut = off;
       uncut = rest;
       owed = s.owed;
-      worth = s.worth;
+      answer_value = s.answer_value;
       free = λ nobody. absurd (omega (arith, flag, same_number s.holder 0 nobody));
       main = subst (λ (n : ℕ). IsMain needs n state s.holder) (sym (row-other row (at + 1) number 0 (λ is. omega (arith, is)))) s.main;
       line = line;
@@ -130,7 +130,7 @@ relinked needs places row standing state me s next at number off rest free flag 
             (s.debts.links place);
       };
       stages = stages-next needs (line_of row) (line_of (updated row (at + 1) number)) standing state.count state.count state.line state.line s.cut off
-          s.holder s.holder s.owed s.owed s.worth s.worth me (record (standing me) { stage = next }) s.stages
+          s.holder s.holder s.owed s.owed s.answer_value s.answer_value me (record (standing me) { stage = next }) s.stages
           ranged alone apart own showing (holder ∙ sym (ap (λ (n : ℕ). n == me + 1) flag ∙ number_same (me + 1))) (λ is. holding)
           (λ other differs out. out)
           (owns seat.1) (λ other differs. refl) (λ other differs. refl) (λ other differs. refl) (λ other differs is. absurd (differs (omega (arith, is, flag))));
@@ -138,7 +138,7 @@ relinked needs places row standing state me s next at number off rest free flag 
   where
     not-owed : is_some (state.due at) ≡ false → (place other : ℕ) → 0 < times other (s.owed place) → other ≡ at → ⊥
     not-owed none place other owes is =
-        let due : state.due other ≡ Some (s.worth place) = (s.debts.due_to place other (in-some other (s.owed place) owes)).1 in
+        let due : state.due other ≡ Some (s.answer_value place) = (s.debts.due_to place other (in-some other (s.owed place) owes)).1 in
         let wrong : is_some (state.due at) ≡ true = ap (λ (n : ℕ). is_some (state.due n)) (sym is) ∙ ap is_some due in
         absurd (cc)
 

@@ -58,12 +58,12 @@ step-LookLoad needs lawful wide places row standing state me room here s seen cu
     let leaving : IsLeaving (standing me).registration (standing me).back =
     subst (λ stage. IsAlone needs (standing me).registration (standing me).back stage) at (s.stages.alone me) in
     let small : seen.count < 2 ^ count_bits = subst (λ stage. IsRanged needs stage) at (s.stages.ranged me) in
-    let nothing : s.owed me ≡ [] = subst (λ stage. IsShowing (s.owed me) (s.worth me) stage) at (s.stages.showing me) in
+    let nothing : s.owed me ≡ [] = subst (λ stage. IsShowing (s.owed me) (s.answer_value me) stage) at (s.stages.showing me) in
     let linked : IsBehind (line_of row) 0 state.line = linked-all (line_of row) state.line s.cut s.uncut s.line knows.1 in
     let line : LineWord = line_word_of (row current) in
     let on : (next : Stage) → IsRanged needs next → IsAlone needs (standing me).registration (standing me).back next
     → (gives_up (standing me).back next ≡ true → is_in me state.line ≡ false)
-    → IsOwn (line_of row me) next → IsShowing (s.owed me) (s.worth me) next → is_holder next ≡ true
+    → IsOwn (line_of row me) next → IsShowing (s.owed me) (s.answer_value me) next → is_holder next ≡ true
     → IsHolding needs (line_of row) me state.count state.line s.cut next
     → Refines needs places (updated row current (row current)) (updated standing me (record (standing me) { stage = next })) state =
     λ next ranged alone apart own showing holder holding.
@@ -126,11 +126,11 @@ step-LookStore needs lawful wide places row standing state me room here s seen c
     let leaving : IsLeaving (standing me).registration (standing me).back =
     subst (λ stage. IsAlone needs (standing me).registration (standing me).back stage) at (s.stages.alone me) in
     let small : seen.count < 2 ^ count_bits = subst (λ stage. IsRanged needs stage) at (s.stages.ranged me) in
-    let nothing : s.owed me ≡ [] = subst (λ stage. IsShowing (s.owed me) (s.worth me) stage) at (s.stages.showing me) in
+    let nothing : s.owed me ≡ [] = subst (λ stage. IsShowing (s.owed me) (s.answer_value me) stage) at (s.stages.showing me) in
     let number : ℕ = line_number (record line { newer = newer }) in
     let on : (next : Stage) → IsRanged needs next → IsAlone needs (standing me).registration (standing me).back next
     → (gives_up (standing me).back next ≡ true → is_in me state.line ≡ false)
-    → IsOwn (line_of (updated row (pred current + 1) number) me) next → IsShowing (s.owed me) (s.worth me) next → is_holder next ≡ true
+    → IsOwn (line_of (updated row (pred current + 1) number) me) next → IsShowing (s.owed me) (s.answer_value me) next → is_holder next ≡ true
     → IsHolding needs (line_of (updated row (pred current + 1) number)) me state.count state.line s.cut next
     → Refines needs places (updated row current number) (updated standing me (record (standing me) { stage = next })) state =
     λ next ranged alone apart own showing holder holding.

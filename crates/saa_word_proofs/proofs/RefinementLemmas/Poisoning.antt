@@ -105,7 +105,7 @@ step-PoisonLoad needs lawful wide places row standing state me room s at =
     let alone : IsAlone needs (standing me).registration (standing me).back PoisonLoad =
     subst (λ (stage : Stage). IsAlone needs (standing me).registration (standing me).back stage) at (s.stages.alone me) in
     let out = poisoning-outcome needs places row standing state me s (ap is_holder at)
-    (subst (λ (stage : Stage). IsShowing (s.owed me) (s.worth me) stage) at (s.stages.showing me)) alone.0 alone.1 in
+    (subst (λ (stage : Stage). IsShowing (s.owed me) (s.answer_value me) stage) at (s.stages.showing me)) alone.0 alone.1 in
     only-looked needs places row standing state me PoisonLoad out refl refl refl refl
 
 -- the object once a lock is poisoned
@@ -140,10 +140,10 @@ poisoned-stands needs places row standing state me s stage never unheld none loc
     let once = held-once places standing state s.seats in
     let seats = seats-next places standing state me place s.seats (λ out. never) refl in
     let linked = linked-all (line_of row) state.line s.cut s.uncut s.line (s.free unheld) in
-    let debts = debts-granted (line_of row) state s.owed s.worth me 2 state.line [] s.debts (omega arith) (sym (append-nil state.line))
+    let debts = debts-granted (line_of row) state s.owed s.answer_value me 2 state.line [] s.debts (omega arith) (sym (append-nil state.line))
     once none linked in
     let stages = stages-next needs (line_of row) (line_of row) standing state.count 0 state.line [] s.cut []
-    s.holder 0 s.owed (updated s.owed me state.line) s.worth (updated s.worth me 2) me place s.stages
+    s.holder 0 s.owed (updated s.owed me state.line) s.answer_value (updated s.answer_value me 2) me place s.stages
     ranged alone (λ gives. refl) own (rw (number_same me) showing) (holder ∙ sym (nobody me)) (λ is. absurd (omega (arith, is)))
     (λ other differs out. refl)
     (λ other differs. s.stages.own other)
@@ -156,7 +156,7 @@ poisoned-stands needs places row standing state me s stage never unheld none loc
       cut = [];
       uncut = [];
       owed = updated s.owed me state.line;
-      worth = updated s.worth me 2;
+      answer_value = updated s.answer_value me 2;
       free = λ free. refl;
       main = main-now needs (poisoned_after state me) 0 poisoned_word (omega arith) (omega arith) refl refl refl refl
           (λ poisoned. (refl, refl, lock)) (omega arith) (λ free. s.main.closed unheld) (λ closed. tt);
@@ -180,7 +180,7 @@ step-PoisonExchange needs lawful wide places row standing state me room s seen a
     subst (λ (stage : Stage). IsAlone needs (standing me).registration (standing me).back stage) at (s.stages.alone me) in
     let ranged : IsRanged needs (PoisonExchange seen) = subst (λ (stage : Stage). IsRanged needs stage) at (s.stages.ranged me) in
     let none : is_holder (standing me).stage ≡ false = ap is_holder at in
-    let nothing : s.owed me ≡ [] = subst (λ (stage : Stage). IsShowing (s.owed me) (s.worth me) stage) at (s.stages.showing me) in
+    let nothing : s.owed me ≡ [] = subst (λ (stage : Stage). IsShowing (s.owed me) (s.answer_value me) stage) at (s.stages.showing me) in
     elim (cases_Bool (row 0 == word_number count_bits seen)) [
       | inl same ↦
           let is : main_of row ≡ seen = main-found (row 0) seen ranged alone.2 same in
@@ -272,7 +272,7 @@ cleared-stands needs places row standing state me s none nothing poisoned =
     let place : Place = record (standing me) { stage = Quiet } in
     let seats = seats-next places standing state me place s.seats (λ out. refl) refl in
     let stages = stages-next needs (line_of row) (line_of row) standing state.count state.count state.line state.line s.cut s.cut
-    s.holder s.holder s.owed s.owed s.worth s.worth me place s.stages
+    s.holder s.holder s.owed s.owed s.answer_value s.answer_value me place s.stages
     tt tt (λ gives. absurd (cc)) tt nothing (sym none ∙ s.stages.one me) (λ is. absurd (not-holder needs places row standing state me s none is))
     (λ other differs out. out) (λ other differs. s.stages.own other) (λ other differs. refl) (λ other differs. refl)
     (λ other differs. refl) (λ other differs. s.stages.holding other) in
@@ -281,15 +281,15 @@ cleared-stands needs places row standing state me s none nothing poisoned =
       cut = s.cut;
       uncut = s.uncut;
       owed = s.owed;
-      worth = s.worth;
+      answer_value = s.answer_value;
       free = s.free;
       main = main-now needs (record state { poisoned = false }) s.holder (settled_word 0 0) (omega arith) (omega arith)
           (sym barren.0) (sym (ap (newest 0) barren.1)) (sym (ap not unheld)) refl (λ now. absurd (cc)) s.main.bounded s.main.closed s.main.settled;
       line = subst (λ (w : ℕ → LineWord). IsLine w state.line s.cut s.uncut) (sym (line-main row number)) s.line;
       seats = record { held = seats.held; within = seats.within; beyond = seats.beyond };
       answers = answers-main places row number state.shown s.answers;
-      debts = subst (λ (w : ℕ → LineWord). AreDebts w state.due state.granter s.owed s.worth) (sym (line-main row number)) s.debts;
-      stages = subst (λ (w : ℕ → LineWord). AreStages needs w (updated standing me place) state.count state.line s.cut s.holder s.owed s.worth)
+      debts = subst (λ (w : ℕ → LineWord). AreDebts w state.due state.granter s.owed s.answer_value) (sym (line-main row number)) s.debts;
+      stages = subst (λ (w : ℕ → LineWord). AreStages needs w (updated standing me place) state.count state.line s.cut s.holder s.owed s.answer_value)
           (sym (line-main row number)) stages;
     }
 
@@ -299,7 +299,7 @@ pub step-Clear : (needs : Needs) → AreNeeds needs → needs.top < 2 ^ count_bi
     → (standing me).stage ≡ Clear → StepRefines needs places row standing state me Clear
 step-Clear needs lawful wide places row standing state me room s at =
     let none : is_holder (standing me).stage ≡ false = ap is_holder at in
-    let nothing : s.owed me ≡ [] = subst (λ (stage : Stage). IsShowing (s.owed me) (s.worth me) stage) at (s.stages.showing me) in
+    let nothing : s.owed me ≡ [] = subst (λ (stage : Stage). IsShowing (s.owed me) (s.answer_value me) stage) at (s.stages.showing me) in
     elim (cases_Bool (row 0 == word_number count_bits poisoned_word)) [
       | inl same ↦
           let is : main_of row ≡ poisoned_word = main-found (row 0) poisoned_word (omega arith) (omega arith) same in

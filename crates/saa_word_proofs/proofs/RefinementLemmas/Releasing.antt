@@ -129,7 +129,7 @@ step-ReleaseLoad needs lawful wide places row standing state me room s what at =
     let ends : takes_back (standing me).back ≡ false =
     subst (λ stage. IsAlone needs (standing me).registration (standing me).back stage) at (s.stages.alone me) in
     let out = given-outcome needs places row standing state me s (ap is_holder at)
-    (subst (λ stage. IsShowing (s.owed me) (s.worth me) stage) at (s.stages.showing me)) ends
+    (subst (λ stage. IsShowing (s.owed me) (s.answer_value me) stage) at (s.stages.showing me)) ends
     what (main_of row).is_poisoned (left_from needs (main_of row).count what) refl refl in
     only-looked needs places row standing state me (ReleaseLoad what) out refl refl refl refl
 
@@ -144,7 +144,7 @@ given-back : (needs : Needs) → AreNeeds needs → needs.top < 2 ^ count_bits �
     → (what : Given) (left : ℕ) (seen : Word) → seen.tail < 65536 → seen.is_poisoned ≡ false → main_of row ≡ seen → left_from needs seen.count what ≡ Some left
     → (stage : Stage) (holder : ℕ) → joins_line stage ≡ false
     → IsRanged needs stage → IsAlone needs (standing me).registration (standing me).back stage → gives_up (standing me).back stage ≡ false
-    → ((word : LineWord) → IsOwn word stage) → IsShowing (s.owed me) (s.worth me) stage
+    → ((word : LineWord) → IsOwn word stage) → IsShowing (s.owed me) (s.answer_value me) stage
     → is_holder stage ≡ (holder == me + 1)
     → (holder ≡ me + 1 → IsHolding needs (line_of row) me left state.line s.cut stage)
     → ((other : ℕ) → (other ≡ me → ⊥) → (s.holder == other + 1) ≡ (holder == other + 1))
@@ -168,7 +168,7 @@ given-back needs lawful wide places row standing state me s what left seen tail_
       cut = s.cut;
       uncut = s.uncut;
       owed = s.owed;
-      worth = s.worth;
+      answer_value = s.answer_value;
       free = λ free. s.free (nobody free).1;
       main = main-now needs after holder word
           (omega (arith, word_count, less, count, s.main.bounded, wide)) tail_small word_count tail flag (sym calm) (never-barren needs after calm)
@@ -180,11 +180,11 @@ given-back needs lawful wide places row standing state me s what left seen tail_
           let seats = seats-next places standing state me place s.seats (λ out. never) refl in
           record { held = seats.held; within = seats.within; beyond = seats.beyond };
       answers = answers-main places row number state.shown s.answers;
-      debts = subst (λ (w : ℕ → LineWord). AreDebts w state.due state.granter s.owed s.worth) (sym (line-main row number)) s.debts;
-      stages = subst (λ (w : ℕ → LineWord). AreStages needs w (updated standing me place) left state.line s.cut holder s.owed s.worth)
+      debts = subst (λ (w : ℕ → LineWord). AreDebts w state.due state.granter s.owed s.answer_value) (sym (line-main row number)) s.debts;
+      stages = subst (λ (w : ℕ → LineWord). AreStages needs w (updated standing me place) left state.line s.cut holder s.owed s.answer_value)
           (sym (line-main row number))
           (stages-next needs (line_of row) (line_of row) standing state.count left state.line state.line s.cut s.cut s.holder holder s.owed s.owed
-          s.worth s.worth me place s.stages ranged alone
+          s.answer_value s.answer_value me place s.stages ranged alone
           (λ gives. let wrong : true ≡ false = sym gives ∙ stays in absurd (cc))
           (own (line_of row me)) showing one holding
           (λ other apart out. out) (λ other apart. s.stages.own other) (λ other apart. refl) (λ other apart. refl) ones
@@ -222,7 +222,7 @@ step-ReleaseExchange needs lawful wide places row standing state me room s what 
     let returning = returning-any (standing me).registration back alone.3 in
     let ranged : IsRanged needs (ReleaseExchange what seen) = subst (λ stage. IsRanged needs stage) at (s.stages.ranged me) in
     let none : is_holder (standing me).stage ≡ false = ap is_holder at in
-    let nothing : s.owed me ≡ [] = subst (λ stage. IsShowing (s.owed me) (s.worth me) stage) at (s.stages.showing me) in
+    let nothing : s.owed me ≡ [] = subst (λ stage. IsShowing (s.owed me) (s.answer_value me) stage) at (s.stages.showing me) in
     let left : ℕ = alone.1.0 in
     elim (cases_Bool (row 0 == word_number count_bits seen)) [
       | inl same ↦
@@ -279,7 +279,7 @@ step-ReleaseExchange needs lawful wide places row standing state me room s what 
                   stands = rw (same, ends, ended (standing me) back)
                       (given-back needs lawful wide places row standing state me s what left seen alone.0 alone.2 is alone.1.1
                       (end_stage back) s.holder (ended-joins back) (ended-ranged needs back) (ended-alone needs (standing me).registration back returning)
-                      (ended-apart back ∙ alone.3) (λ word. ended-own word back) (ended-showing (s.owed me) (s.worth me) back nothing)
+                      (ended-apart back ∙ alone.3) (λ word. ended-own word back) (ended-showing (s.owed me) (s.answer_value me) back nothing)
                       (ended-holder back ∙ sym none ∙ s.stages.one me)
                       (λ it. absurd (not-holder needs places row standing state me s none it)) (λ other apart. refl)
                       (no-flag (seen.tail == 0) seen.is_flagged ends ∙ flagged)

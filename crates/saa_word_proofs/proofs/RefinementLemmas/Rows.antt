@@ -123,7 +123,7 @@ pub moved : (needs : Needs) (places : ℕ) (row : ℕ → ℕ) (standing : ℕ �
     → (places ≤ me → joins_line place.stage ≡ false) → is_slot place.registration ≡ is_slot (standing me).registration
     → IsRanged needs place.stage → IsAlone needs place.registration place.back place.stage
     → (gives_up place.back place.stage ≡ true → is_in me state.line ≡ false)
-    → IsOwn (line_of row me) place.stage → IsShowing (s.owed me) (s.worth me) place.stage
+    → IsOwn (line_of row me) place.stage → IsShowing (s.owed me) (s.answer_value me) place.stage
     → is_holder place.stage ≡ is_holder (standing me).stage
     → (s.holder ≡ me + 1 → IsHolding needs (line_of row) me state.count state.line s.cut place.stage)
     → Refines needs places row (updated standing me place) state
@@ -132,7 +132,7 @@ moved needs places row standing state me s place free same ranged alone apart ow
   cut = s.cut;
   uncut = s.uncut;
   owed = s.owed;
-  worth = s.worth;
+  answer_value = s.answer_value;
   free = s.free;
   main = s.main;
   line = s.line;
@@ -140,7 +140,7 @@ moved needs places row standing state me s place free same ranged alone apart ow
   answers = s.answers;
   debts = s.debts;
   stages = stages-next needs (line_of row) (line_of row) standing state.count state.count state.line state.line s.cut s.cut s.holder s.holder s.owed s.owed
-      s.worth s.worth me place s.stages ranged alone apart own showing (holder ∙ s.stages.one me) holding
+      s.answer_value s.answer_value me place s.stages ranged alone apart own showing (holder ∙ s.stages.one me) holding
       (λ other differs out. out)
       (λ other differs. s.stages.own other) (λ other differs. refl) (λ other differs. refl) (λ other differs. refl) (λ other differs. s.stages.holding other);
 }

@@ -85,7 +85,7 @@ step-ShowLoad needs lawful wide places row standing state me room s current valu
     let alone : IsAlone needs (standing me).registration (standing me).back stage =
     subst (λ stage. IsAlone needs (standing me).registration (standing me).back stage) at (s.stages.alone me) in
     let ranged : IsRanged needs stage = subst (λ stage. IsRanged needs stage) at (s.stages.ranged me) in
-    let showing : IsShowing (s.owed me) (s.worth me) stage = subst (λ stage. IsShowing (s.owed me) (s.worth me) stage) at (s.stages.showing me) in
+    let showing : IsShowing (s.owed me) (s.answer_value me) stage = subst (λ stage. IsShowing (s.owed me) (s.answer_value me) stage) at (s.stages.showing me) in
     let split = split-last (s.owed me) showing.1 in
     let link : current ≡ split.last.0 + 1 = sym showing.0 ∙ ap (newest 0) split.is ∙ newest-last 0 split.before split.last in
     let there : 0 < times split.last.0 (s.owed me) =
@@ -227,7 +227,7 @@ answers-shown needs places row standing state s asker value due fits = record {
 -- what is owed once the newest of what a place owed is shown
 debts-shown : (needs : Needs) (places : ℕ) (row : ℕ → ℕ) (standing : ℕ → Place) (state : AbstractState) (s : Refines needs places row standing state) (me : ℕ)
     (before : List (ℕ × ℕ)) (asker : ℕ × ℕ) (number : ℕ) → s.owed me ≡ before ++ asker ∷ []
-    → AreDebts (line_of (updated row (places + (asker.0 + 1)) number)) (with_answer asker.0 None state.due) state.granter (updated s.owed me before) s.worth
+    → AreDebts (line_of (updated row (places + (asker.0 + 1)) number)) (with_answer asker.0 None state.due) state.granter (updated s.owed me before) s.answer_value
 debts-shown needs places row standing state s me before asker number is =
     let new : ℕ → LineWord = line_of (updated row (places + (asker.0 + 1)) number) in
     let whole : (other : ℕ) → times other (s.owed me) ≡ times other before + times other (asker ∷ []) =
@@ -247,7 +247,7 @@ debts-shown needs places row standing state s me before asker number is =
     record {
       due_to = each-updated
           (λ (place : ℕ) (l : List (ℕ × ℕ)). (other : ℕ) → is_in other l ≡ true
-          → (state.granter other ≡ place) × (with_answer asker.0 None state.due other ≡ Some (s.worth place)))
+          → (state.granter other ≡ place) × (with_answer asker.0 None state.due other ≡ Some (s.answer_value place)))
           s.owed me before
           (λ other there. let was = s.debts.due_to me other (still other there) in (was.0, rw (gone other there) was.1))
           (λ place apart other there.
@@ -300,35 +300,35 @@ debts-shown needs places row standing state s me before asker number is =
 pub shown : (needs : Needs) (places : ℕ) (row : ℕ → ℕ) (standing : ℕ → Place) (state : AbstractState) (me : ℕ)
     → (s : Refines needs places row standing state) (before : List (ℕ × ℕ)) (asker : ℕ × ℕ) → s.owed me ≡ before ++ asker ∷ []
     → (stage : Stage) → joins_line stage ≡ false → IsRanged needs stage → IsAlone needs (standing me).registration (standing me).back stage
-    → (gives_up (standing me).back stage ≡ true → is_in me state.line ≡ false) → ((word : LineWord) → IsOwn word stage) → IsShowing before (s.worth me) stage
+    → (gives_up (standing me).back stage ≡ true → is_in me state.line ≡ false) → ((word : LineWord) → IsOwn word stage) → IsShowing before (s.answer_value me) stage
     → is_holder stage ≡ is_holder (standing me).stage
     → (s.holder ≡ me + 1 → IsHolding needs (line_of row) me state.count state.line s.cut stage)
-    → Refines needs places (updated row (places + (asker.0 + 1)) (answer_number (Some (s.worth me)))) (updated standing me (record (standing me) { stage = stage }))
+    → Refines needs places (updated row (places + (asker.0 + 1)) (answer_number (Some (s.answer_value me)))) (updated standing me (record (standing me) { stage = stage }))
     (record state { due = with_answer asker.0 None state.due; shown = with_answer asker.0 (state.due asker.0) state.shown })
 shown needs places row standing state me s before asker is stage never ranged alone apart own showing holder holding =
-    let number : ℕ = answer_number (Some (s.worth me)) in
+    let number : ℕ = answer_number (Some (s.answer_value me)) in
     let place : Place = record (standing me) { stage = stage } in
     let some : 0 < asker.0 + 1 = omega arith in
     let mine : is_in asker.0 (s.owed me) ≡ true =
     in-some asker.0 (s.owed me) (omega (arith, ap (λ (l : List (ℕ × ℕ)). times asker.0 l) is, times-append asker.0 before (asker ∷ []), one_if-same asker.0)) in
-    let due : state.due asker.0 ≡ Some (s.worth me) = (s.debts.due_to me asker.0 mine).1 in
+    let due : state.due asker.0 ≡ Some (s.answer_value me) = (s.debts.due_to me asker.0 mine).1 in
     let last : AbstractState = record state { due = with_answer asker.0 None state.due; shown = with_answer asker.0 (state.due asker.0) state.shown } in
     record {
       holder = s.holder;
       cut = s.cut;
       uncut = s.uncut;
       owed = updated s.owed me before;
-      worth = s.worth;
+      answer_value = s.answer_value;
       free = s.free;
       main = main-shown needs places row standing state s (asker.0 + 1) number (with_answer asker.0 None state.due) (with_answer asker.0 (state.due asker.0) state.shown) some;
       line = line-shown needs places row standing state s (asker.0 + 1) number some;
-      seats = seats-shown needs places row standing state last s me place (λ out. never) refl (held-shown needs places row standing state s asker.0 (s.worth me) due);
-      answers = answers-shown needs places row standing state s asker.0 (s.worth me) due (s.debts.small me);
+      seats = seats-shown needs places row standing state last s me place (λ out. never) refl (held-shown needs places row standing state s asker.0 (s.answer_value me) due);
+      answers = answers-shown needs places row standing state s asker.0 (s.answer_value me) due (s.debts.small me);
       debts = debts-shown needs places row standing state s me before asker number is;
       stages = stages-next needs (line_of row) (line_of (updated row (places + (asker.0 + 1)) number)) standing state.count state.count state.line state.line s.cut s.cut
-          s.holder s.holder s.owed (updated s.owed me before) s.worth s.worth me place s.stages
+          s.holder s.holder s.owed (updated s.owed me before) s.answer_value s.answer_value me place s.stages
           ranged alone apart (own (line_of (updated row (places + (asker.0 + 1)) number) me))
-          (subst (λ (l : List (ℕ × ℕ)). IsShowing l (s.worth me) stage) (sym (updated-at s.owed me before)) showing)
+          (subst (λ (l : List (ℕ × ℕ)). IsShowing l (s.answer_value me) stage) (sym (updated-at s.owed me before)) showing)
           (holder ∙ s.stages.one me)
           (λ it. holding-shown needs places row standing state s (asker.0 + 1) number some me stage (holding it))
           (λ other differs out. out)

@@ -39,12 +39,12 @@ use Rattle.saa_word_proofs.proofs.RefinementLemmas.Outcomes.{not-holder}
 begun : (needs : Needs) (places : ℕ) (row : ℕ → ℕ) (standing : ℕ → Place) (state : AbstractState) (me : ℕ) (s : Refines needs places row standing state) (place : Place)
     → (places ≤ me → joins_line place.stage ≡ false) → (standing me).stage ≡ Quiet → is_slot place.registration ≡ is_slot (standing me).registration
     → IsRanged needs place.stage → IsAlone needs place.registration place.back place.stage → gives_up place.back place.stage ≡ false
-    → IsOwn (line_of row me) place.stage → ((owed : List (ℕ × ℕ)) (worth : ℕ) → owed ≡ [] → IsShowing owed worth place.stage) → is_holder place.stage ≡ false
+    → IsOwn (line_of row me) place.stage → ((owed : List (ℕ × ℕ)) (answer_value : ℕ) → owed ≡ [] → IsShowing owed answer_value place.stage) → is_holder place.stage ≡ false
     → Refines needs places row (updated standing me place) state
 begun needs places row standing state me s place free quiet same ranged alone keeps own showing none =
     moved needs places row standing state me s place free same ranged alone
     (λ gives. (let wrong : true ≡ false = sym gives ∙ keeps in absurd (cc))) own
-    (showing (s.owed me) (s.worth me) (subst (λ stage. IsShowing (s.owed me) (s.worth me) stage) quiet (s.stages.showing me))) (none ∙ ap is_holder (sym quiet))
+    (showing (s.owed me) (s.answer_value me) (subst (λ stage. IsShowing (s.owed me) (s.answer_value me) stage) quiet (s.stages.showing me))) (none ∙ ap is_holder (sym quiet))
     (λ it. absurd (not-holder needs places row standing state me s (ap is_holder quiet) it))
 
 -- a call that is done at once leaves its place as it was
@@ -70,7 +70,7 @@ reading-starts : (needs : Needs) (places : ℕ) (row : ℕ → ℕ) (standing : 
     → (standing me).stage ≡ Quiet → (reading : Reading)
     → Refines needs places row (updated standing me (record (standing me) { stage = ReadLoad reading })) state
 reading-starts needs places row standing state me s quiet reading =
-    begun needs places row standing state me s (record (standing me) { stage = ReadLoad reading }) (λ out. refl) quiet refl tt tt refl tt (λ owed worth nothing. nothing) refl
+    begun needs places row standing state me s (record (standing me) { stage = ReadLoad reading }) (λ out. refl) quiet refl tt tt refl tt (λ owed answer_value nothing. nothing) refl
 
 -- an ask that starts
 ask-starts : (needs : Needs) (places : ℕ) (row : ℕ → ℕ) (standing : ℕ → Place) (state : AbstractState) (me : ℕ) (s : Refines needs places row standing state)
@@ -78,7 +78,7 @@ ask-starts : (needs : Needs) (places : ℕ) (row : ℕ → ℕ) (standing : ℕ 
     → Refines needs places row (updated standing me (record (standing me) { stage = AskLoad ask })) state
 ask-starts needs places row standing state me s quiet ask free small idle =
     begun needs places row standing state me s (record (standing me) { stage = AskLoad ask }) free quiet refl tt (small, idle) refl tt
-    (λ owed worth nothing. nothing) refl
+    (λ owed answer_value nothing. nothing) refl
 
 -- a try that starts
 try-starts : (needs : Needs) (places : ℕ) (row : ℕ → ℕ) (standing : ℕ → Place) (state : AbstractState) (me : ℕ) (s : Refines needs places row standing state)
@@ -105,7 +105,7 @@ release-starts : (needs : Needs) (places : ℕ) (row : ℕ → ℕ) (standing : 
     → Refines needs places row (updated standing me (record (standing me) { stage = ReleaseLoad what; back = Tells })) state
 release-starts needs places row standing state me s quiet what =
     begun needs places row standing state me s (record (standing me) { stage = ReleaseLoad what; back = Tells }) (λ out. refl) quiet refl tt refl refl tt
-    (λ owed worth nothing. nothing) refl
+    (λ owed answer_value nothing. nothing) refl
 
 -- a poll that starts; it doesn't give up what it is registered as
 poll-starts : (needs : Needs) (places : ℕ) (row : ℕ → ℕ) (standing : ℕ → Place) (state : AbstractState) (me : ℕ) (s : Refines needs places row standing state) (taking : Taking)
@@ -119,7 +119,7 @@ poll-starts needs places row standing state me s taking quiet (Once value reques
     (s.stages.holding me)
 poll-starts needs places row standing state me s taking quiet (Slot request) is alone keeps =
     begun needs places row standing state me s (record (standing me) { stage = Take taking }) (λ out. refl) quiet refl tt (alone refl) keeps tt
-    (λ owed worth nothing. nothing) refl
+    (λ owed answer_value nothing. nothing) refl
 
 -- a cancel that starts: it gives back what it was granted, or looks for itself in the line
 cancel-starts : (needs : Needs) (places : ℕ) (row : ℕ → ℕ) (standing : ℕ → Place) (state : AbstractState) (me : ℕ) (s : Refines needs places row standing state)
@@ -129,13 +129,13 @@ cancel-starts needs places row standing state me s quiet Idle is = same-place ne
 cancel-starts needs places row standing state me s quiet (Once value request) is =
     elim (cases_Bool (is_taken_up needs request value)) [
       | inl up ↦ rw up (begun needs places row standing state me s (record (standing me) { registration = Idle; stage = ReleaseLoad (Asked request); back = Ends }) (λ out. refl) quiet
-          (ap is_slot (sym is)) tt refl refl tt (λ owed worth nothing. nothing) refl)
+          (ap is_slot (sym is)) tt refl refl tt (λ owed answer_value nothing. nothing) refl)
       | inr free ↦ rw free (begun needs places row standing state me s (record (standing me) { registration = Idle; stage = Quiet }) (λ out. refl) quiet
-          (ap is_slot (sym is)) tt tt refl tt (λ owed worth nothing. nothing) refl)
+          (ap is_slot (sym is)) tt tt refl tt (λ owed answer_value nothing. nothing) refl)
     ]
 cancel-starts needs places row standing state me s quiet (Slot request) is =
     begun needs places row standing state me s (record (standing me) { stage = FlagLoad; back = Takes request }) (λ out. refl) quiet refl tt is refl tt
-    (λ owed worth nothing. nothing) refl
+    (λ owed answer_value nothing. nothing) refl
 
 -- A call that starts leaves all standing together; a visitor's doesn't go on to join the line
 pub starts-anyone : (needs : Needs) → needs.top < 2 ^ count_bits → (places : ℕ) (row : ℕ → ℕ) (standing : ℕ → Place) (state : AbstractState) (me : ℕ) (call : WordCall)
@@ -175,9 +175,9 @@ starts-anyone needs wide places row standing state me ReleaseShare free s quiet 
 starts-anyone needs wide places row standing state me Downgrade free s quiet taken = release-starts needs places row standing state me s quiet AllButAShare
 starts-anyone needs wide places row standing state me PoisonLock free s quiet taken =
     begun needs places row standing state me s (record (standing me) { stage = PoisonLoad; back = Tells }) (λ out. refl) quiet refl tt (taken, refl) refl tt
-    (λ owed worth nothing. nothing) refl
+    (λ owed answer_value nothing. nothing) refl
 starts-anyone needs wide places row standing state me ClearPoison free s quiet taken =
-    begun needs places row standing state me s (record (standing me) { stage = Clear }) (λ out. refl) quiet refl tt tt refl tt (λ owed worth nothing. nothing) refl
+    begun needs places row standing state me s (record (standing me) { stage = Clear }) (λ out. refl) quiet refl tt tt refl tt (λ owed answer_value nothing. nothing) refl
 starts-anyone needs wide places row standing state me IsFree free s quiet taken = reading-starts needs places row standing state me s quiet ReadsFree
 starts-anyone needs wide places row standing state me IsLocked free s quiet taken = reading-starts needs places row standing state me s quiet ReadsLocked
 starts-anyone needs wide places row standing state me IsShared free s quiet taken = reading-starts needs places row standing state me s quiet ReadsShared

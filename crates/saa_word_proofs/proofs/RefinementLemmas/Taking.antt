@@ -66,16 +66,16 @@ step-ShowStore needs lawful wide places row standing state me room s current nex
     subst (λ stage. IsAlone needs (standing me).registration (standing me).back stage) at (s.stages.alone me) in
     let apart : takes_back (standing me).back ≡ true → is_in me state.line ≡ false = apart-at needs places row standing state me s stage at in
     let ranged : IsRanged needs stage = subst (λ stage. IsRanged needs stage) at (s.stages.ranged me) in
-    let showing : IsShowing (s.owed me) (s.worth me) stage = subst (λ stage. IsShowing (s.owed me) (s.worth me) stage) at (s.stages.showing me) in
+    let showing : IsShowing (s.owed me) (s.answer_value me) stage = subst (λ stage. IsShowing (s.owed me) (s.answer_value me) stage) at (s.stages.showing me) in
     let holding : s.holder ≡ me + 1 → IsHolding needs (line_of row) me state.count state.line s.cut stage =
     λ it. subst (λ stage. IsHolding needs (line_of row) me state.count state.line s.cut stage) at (s.stages.holding me it) in
     let before : List (ℕ × ℕ) = showing.0 in
     let asker : ℕ × ℕ = showing.1 in
     let mine : is_in asker.0 (s.owed me) ≡ true =
     in-some asker.0 (s.owed me) (omega (arith, ap (λ (l : List (ℕ × ℕ)). times asker.0 l) showing.2, times-append asker.0 before (asker ∷ []), one_if-same asker.0)) in
-    let due : state.due asker.0 ≡ Some (s.worth me) = (s.debts.due_to me asker.0 mine).1 in
+    let due : state.due asker.0 ≡ Some (s.answer_value me) = (s.debts.due_to me asker.0 mine).1 in
     let last : AbstractState = record state { due = with_answer asker.0 None state.due; shown = with_answer asker.0 (state.due asker.0) state.shown } in
-    let row_is : updated row (places + current) (answer_number (Some value)) ≡ updated row (places + (asker.0 + 1)) (answer_number (Some (s.worth me))) =
+    let row_is : updated row (places + current) (answer_number (Some value)) ≡ updated row (places + (asker.0 + 1)) (answer_number (Some (s.answer_value me))) =
     ap (λ (n : ℕ). updated row (places + n) (answer_number (Some value))) showing.3
     ∙ ap (λ (n : ℕ). updated row (places + (asker.0 + 1)) (answer_number (Some n))) showing.5 in
     let empty : next == 0 ≡ is_empty before = ap (λ (n : ℕ). n == 0) showing.4 ∙ newest-empty before in
@@ -83,12 +83,12 @@ step-ShowStore needs lawful wide places row standing state me room s current nex
     let place : Place = place_after (standing me) (if next == 0 then shown_all (standing me) afterwards else going (standing me) (ShowLoad next value afterwards)) in
     let then_stands : (goes : Stage) → place ≡ record (standing me) { stage = goes } → joins_line goes ≡ false → IsRanged needs goes
     → IsAlone needs (standing me).registration (standing me).back goes → (gives_up (standing me).back goes ≡ true → is_in me state.line ≡ false)
-    → ((word : LineWord) → IsOwn word goes) → IsShowing before (s.worth me) goes → is_holder goes ≡ is_holder stage
+    → ((word : LineWord) → IsOwn word goes) → IsShowing before (s.answer_value me) goes → is_holder goes ≡ is_holder stage
     → (s.holder ≡ me + 1 → IsHolding needs (line_of row) me state.count state.line s.cut goes)
     → Refines needs places (updated row (places + current) (answer_number (Some value))) (updated standing me place) last =
     λ goes is goes_never goes_ranged goes_alone goes_apart goes_own goes_showing goes_holder goes_holding.
     subst (λ (r : ℕ → ℕ). Refines needs places r (updated standing me place) last) (sym row_is)
-    (subst (λ (p : Place). Refines needs places (updated row (places + (asker.0 + 1)) (answer_number (Some (s.worth me)))) (updated standing me p) last) (sym is)
+    (subst (λ (p : Place). Refines needs places (updated row (places + (asker.0 + 1)) (answer_number (Some (s.answer_value me)))) (updated standing me p) last) (sym is)
     (shown needs places row standing state me s before asker showing.2 goes goes_never goes_ranged goes_alone goes_apart goes_own goes_showing
     (goes_holder ∙ ap is_holder (sym at)) goes_holding)) in
     record {
@@ -116,7 +116,7 @@ step-ShowStore needs lawful wide places row standing state me room s current nex
         → ((goes : Stage) → place_after (standing me) (if next == 0 then shown_all (standing me) afterwards else going (standing me) (ShowLoad next value afterwards))
         ≡ record (standing me) { stage = goes } → joins_line goes ≡ false → IsRanged needs goes
         → IsAlone needs (standing me).registration (standing me).back goes → (gives_up (standing me).back goes ≡ true → is_in me state.line ≡ false)
-        → ((word : LineWord) → IsOwn word goes) → IsShowing before (s.worth me) goes → is_holder goes ≡ is_holder (ShowStore current next value afterwards)
+        → ((word : LineWord) → IsOwn word goes) → IsShowing before (s.answer_value me) goes → is_holder goes ≡ is_holder (ShowStore current next value afterwards)
         → (s.holder ≡ me + 1 → IsHolding needs (line_of row) me state.count state.line s.cut goes)
         → Refines needs places (updated row (places + current) (answer_number (Some value)))
         (updated standing me (place_after (standing me) (if next == 0 then shown_all (standing me) afterwards else going (standing me) (ShowLoad next value afterwards)))) last)
@@ -125,7 +125,7 @@ step-ShowStore needs lawful wide places row standing state me room s current nex
     at-end needs places row standing state me s current next value Ends before last done nothing ranged alone apart holding goes =
         let back : Back = (standing me).back in
         goes (end_stage back) (rw done (ended (standing me) back)) (ended-joins back) (ended-ranged needs back) (ended-alone needs (standing me).registration back alone)
-        (λ gives. apart (sym (ended-apart back) ∙ gives)) (λ word. ended-own word back) (ended-showing before (s.worth me) back nothing) (ended-holder back)
+        (λ gives. apart (sym (ended-apart back) ∙ gives)) (λ word. ended-own word back) (ended-showing before (s.answer_value me) back nothing) (ended-holder back)
         (λ it. absurd (holding it))
     at-end needs places row standing state me s current next value (Again seen) before last done nothing ranged alone apart holding goes =
         goes (BackLoad seen seen.tail 0) (rw done refl) refl ranged alone apart (λ word. tt) nothing refl
@@ -174,7 +174,7 @@ taken : (needs : Needs) (places : ℕ) (row : ℕ → ℕ) (standing : ℕ → P
     → me < places → (s : Refines needs places row standing state) → is_slot (standing me).registration ≡ true → is_holder (standing me).stage ≡ false
     → state.shown me ≡ Some value
     → (place : Place) → is_slot place.registration ≡ false → IsRanged needs place.stage → IsAlone needs place.registration place.back place.stage
-    → gives_up place.back place.stage ≡ false → ((word : LineWord) → IsOwn word place.stage) → IsShowing (s.owed me) (s.worth me) place.stage
+    → gives_up place.back place.stage ≡ false → ((word : LineWord) → IsOwn word place.stage) → IsShowing (s.owed me) (s.answer_value me) place.stage
     → is_holder place.stage ≡ false
     → Refines needs places (updated row (places + me + 1) 0) (updated standing me place) (record state { shown = with_answer me None state.shown })
 taken needs places row standing state me value here s slot none is place idle ranged alone apart own showing free =
@@ -190,7 +190,7 @@ taken needs places row standing state me value here s slot none is place idle ra
       cut = s.cut;
       uncut = s.uncut;
       owed = s.owed;
-      worth = s.worth;
+      answer_value = s.answer_value;
       free = s.free;
       main = main-shown needs places row standing state s (me + 1) 0 state.due (with_answer me None state.shown) some;
       line = line-shown needs places row standing state s (me + 1) 0 some;
@@ -211,7 +211,7 @@ taken needs places row standing state me value here s slot none is place idle ra
             (λ one there. fields one (due-inside needs places row standing state s other one (in-some one (s.owed other) there))) (s.debts.links other);
       };
       stages = stages-next needs (line_of row) new standing state.count state.count state.line state.line s.cut s.cut s.holder s.holder s.owed s.owed
-          s.worth s.worth me place s.stages
+          s.answer_value s.answer_value me place s.stages
           ranged alone (λ gives. let wrong : true ≡ false = sym gives ∙ apart in absurd (cc)) (own (new me)) showing (free ∙ sym none ∙ s.stages.one me)
           (λ it. absurd (not-holder needs places row standing state me s none it))
           (λ other differs out. out)
@@ -324,7 +324,7 @@ step-Take needs lawful wide places row standing state me room here s taking at =
     let alone : IsAlone needs (standing me).registration (standing me).back (Take taking) =
     subst (λ stage. IsAlone needs (standing me).registration (standing me).back stage) at (s.stages.alone me) in
     let slot : is_slot (standing me).registration ≡ true = take-slot needs (standing me).registration (standing me).back taking alone in
-    let nothing : s.owed me ≡ [] = subst (λ stage. IsShowing (s.owed me) (s.worth me) stage) at (s.stages.showing me) in
+    let nothing : s.owed me ≡ [] = subst (λ stage. IsShowing (s.owed me) (s.answer_value me) stage) at (s.stages.showing me) in
     let number : row (places + me + 1) ≡ answer_number (state.shown me) = s.answers.words me here in
     let answer_is : answer_of (row (places + me + 1) % 65536) ≡ state.shown me =
     ap (λ (n : ℕ). answer_of (n % 65536)) number ∙ answer-again (state.shown me) (s.answers.small me) in

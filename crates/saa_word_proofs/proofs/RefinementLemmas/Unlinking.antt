@@ -70,7 +70,7 @@ unlinking : (needs : Needs) (places : ℕ) (row : ℕ → ℕ) (standing : ℕ �
     (seen : Word) (work : Work state.count state.line seen) (newer older : ℕ) (line : LineWord) (found : IsFound me work.front older) (next : Stage)
     → me < places → is_holder (standing me).stage ≡ true → s.cut ≡ [] → IsAt (line_of row) work.behind newer → line ≡ line_of row (pred newer)
     → IsRanged needs next → IsAlone needs Idle EndsCall next → gives_up EndsCall next ≡ false → ((word : LineWord) → IsOwn word next)
-    → IsShowing (s.owed me) (s.worth me) next → is_holder next ≡ true
+    → IsShowing (s.owed me) (s.answer_value me) next → is_holder next ≡ true
     → ((new : ℕ → LineWord) → IsAhead new work.behind
     → IsHolding needs new me state.count (found.0 ++ (work.behind ++ work.joined)) [] next)
     → Refines needs places (updated row newer (line_number (record line { older = older })))
@@ -135,7 +135,7 @@ pub step-Unlink : (needs : Needs) → AreNeeds needs → needs.top < 2 ^ count_b
 step-Unlink needs lawful wide places row standing state me room here s seen newer line older at =
     let knows = flag-knows needs places row standing state me s (Unlink seen newer line older) at refl in
     let ranged = subst (λ (stage : Stage). IsRanged needs stage) at (s.stages.ranged me) in
-    let showing = subst (λ (stage : Stage). IsShowing (s.owed me) (s.worth me) stage) at (s.stages.showing me) in
+    let showing = subst (λ (stage : Stage). IsShowing (s.owed me) (s.answer_value me) stage) at (s.stages.showing me) in
     let work : Work state.count state.line seen = knows.0 in
     let before : List (ℕ × ℕ) = knows.2.0 in
     let after : List (ℕ × ℕ) = work.behind ++ work.joined in
@@ -176,7 +176,7 @@ dropping : (needs : Needs) (places : ℕ) (row : ℕ → ℕ) (standing : ℕ �
     (seen : Word) (older request : ℕ) (before : List (ℕ × ℕ)) (stage : Stage) (next : ℕ)
     → me < places → s.holder ≡ me + 1 → s.cut ≡ [] → main_of row ≡ seen → state.line ≡ before ++ (me, request) ∷ [] → older ≡ newest 0 before
     → IsRanged needs stage → IsAlone needs Idle EndsCall stage → gives_up EndsCall stage ≡ false → ((word : LineWord) → IsOwn word stage)
-    → IsShowing (s.owed me) (s.worth me) stage → is_holder stage ≡ (next == me + 1)
+    → IsShowing (s.owed me) (s.answer_value me) stage → is_holder stage ≡ (next == me + 1)
     → (next ≡ me + 1 → IsHolding needs (line_of row) me state.count before [] stage)
     → ((other : ℕ) → (other ≡ me → ⊥) → (s.holder == other + 1) ≡ (next == other + 1)) → (older == 0) ≡ (next == 0)
     → Refines needs places (updated row 0 (word_number count_bits (dropped_word seen older)))
@@ -316,7 +316,7 @@ step-DropTail needs lawful wide places row standing state me room here s seen ol
     let knows = flag-knows needs places row standing state me s (DropTail seen older) at refl in
     let ranged = subst (λ (stage : Stage). IsRanged needs stage) at (s.stages.ranged me) in
     let alone = subst (λ (stage : Stage). IsAlone needs (standing me).registration (standing me).back stage) at (s.stages.alone me) in
-    let nothing = subst (λ (stage : Stage). IsShowing (s.owed me) (s.worth me) stage) at (s.stages.showing me) in
+    let nothing = subst (λ (stage : Stage). IsShowing (s.owed me) (s.answer_value me) stage) at (s.stages.showing me) in
     elim (cases_Bool (row 0 == word_number count_bits seen)) [
       | inl same ↦ dropped-step needs places row standing state me here s seen older same mine ranged alone nothing knows
       | inr differs ↦ looks-again needs places row standing state me here s seen older at differs alone.0 nothing knows

@@ -43,7 +43,7 @@ step-BackLoad needs lawful wide places row standing state me room s seen current
           (subst (λ stage. IsRanged needs stage) at (s.stages.ranged me))
           (subst (λ stage. IsAlone needs (standing me).registration (standing me).back stage) at (s.stages.alone me))
           (apart-at needs places row standing state me s (BackLoad seen current newer) at) tt
-          (subst (λ stage. IsShowing (s.owed me) (s.worth me) stage) at (s.stages.showing me)) (ap is_holder (sym at))
+          (subst (λ stage. IsShowing (s.owed me) (s.answer_value me) stage) at (s.stages.showing me)) (ap is_holder (sym at))
           (λ is. (knows.0, knows.1, knows.2, ap (λ (n : ℕ). line_word_of (row n)) there.1)));
     }
 
@@ -62,7 +62,7 @@ step-BackStore needs lawful wide places row standing state me room s seen curren
     let ranged = subst (λ stage. IsRanged needs stage) at (s.stages.ranged me) in
     let alone = subst (λ stage. IsAlone needs (standing me).registration (standing me).back stage) at (s.stages.alone me) in
     let apart = apart-at needs places row standing state me s (BackStore seen current newer line) at in
-    let showing = subst (λ stage. IsShowing (s.owed me) (s.worth me) stage) at (s.stages.showing me) in
+    let showing = subst (λ stage. IsShowing (s.owed me) (s.answer_value me) stage) at (s.stages.showing me) in
     record {
       events = [];
       last = state;
@@ -153,7 +153,7 @@ step-Forward needs lawful wide places row standing state me room s seen current 
     (subst (λ stage. IsRanged needs stage) at (s.stages.ranged me)) in
     let alone = subst (λ stage. IsAlone needs (standing me).registration (standing me).back stage) at (s.stages.alone me) in
     let apart = apart-at needs places row standing state me s (Forward seen current count) at in
-    let showing : s.owed me ≡ [] = subst (λ stage. IsShowing (s.owed me) (s.worth me) stage) at (s.stages.showing me) in
+    let showing : s.owed me ≡ [] = subst (λ stage. IsShowing (s.owed me) (s.answer_value me) stage) at (s.stages.showing me) in
     record {
       events = [];
       last = state;

@@ -28,7 +28,7 @@ use Rattle.saa_word_proofs.proofs.RefinementLemmas.Calls.{under-next}
 use Rattle.saa_word_proofs.proofs.RefinementLemmas.Starting.{starts, call-begun}
 use Rattle.saa_word_proofs.specs.Alone.{Moment, put, next_at, IsEither, IsDoneIn}
 use Rattle.saa_word_proofs.proofs.SoloLemmas.Events.{run-append, named-append}
-use Rattle.saa_word_proofs.specs.Registering.{left_behind}
+use Rattle.saa_word_proofs.specs.Registering.{registration_after}
 use Rattle.saa_word_proofs.proofs.SoloLemmas.Paths.{left-append, left-next}
 
 updated-twice : {A : Type 0} (old : ℕ → A) (at : ℕ) (one two : A) → updated (updated old at one) at two ≡ updated old at two
@@ -53,17 +53,17 @@ pub record Arrives (needs : Needs) (places me : ℕ) (start : AbstractState) (fi
   pub names : List Event
   pub far : SoFar needs me start state names
   pub answered : IsAnswered needs call registered names answer
-  pub left : (last.standing me).registration ≡ left_behind names (asked_by call) was
+  pub left : (last.standing me).registration ≡ registration_after names (asked_by call) was
   pub quiet : (last.standing me).stage ≡ Quiet
   pub others : last.standing ≡ updated first me (last.standing me)
 
 -- how a call goes on behind a step, where what it does then is known
 goes : (needs : Needs) (places me : ℕ) (call : WordCall) (registered was : Registration) (steps : ℕ) (first : ℕ → Place) (now : Moment) (row : ℕ → ℕ) (start state : AbstractState) (stage : Stage) (names : List Event) (answer : Answer) (last : Moment)
     → ((next : Moment) → Refines needs places next.row next.standing state → IsUnder needs call registered (next.standing me).back (next.standing me).stage names
-    → (next.standing me).registration ≡ left_behind names (asked_by call) was → next.standing ≡ updated first me (next.standing me)
+    → (next.standing me).registration ≡ registration_after names (asked_by call) was → next.standing ≡ updated first me (next.standing me)
     → IsDoneIn needs places me steps next answer last → Arrives needs places me start first call registered was answer last)
     → (next : Next) → SoFar needs me start state names → now.standing ≡ updated first me (now.standing me)
-    → IsUnderNext needs call registered (now.standing me).back stage names next → IsLeft (now.standing me).registration (left_behind names (asked_by call) was) next
+    → IsUnderNext needs call registered (now.standing me).back stage names next → IsLeft (now.standing me).registration (registration_after names (asked_by call) was) next
     → Refines needs places row (updated now.standing me (place_after (now.standing me) next)) state
     → IsEither next (IsDoneIn needs places me steps (put me next (record now { row = row })) answer last)
     (λ said. (steps ≡ 0) × (said ≡ answer) × (put me next (record now { row = row }) ≡ last))
@@ -98,7 +98,7 @@ along : (needs : Needs) → AreNeeds needs → needs.top < 2 ^ count_bits → (p
     → (call : WordCall) (registered was : Registration) (first : ℕ → Place) (start : AbstractState) (answer : Answer) (last : Moment)
     → (steps : ℕ) (now : Moment) (state : AbstractState) (names : List Event) → SoFar needs me start state names
     → Refines needs places now.row now.standing state → IsUnder needs call registered (now.standing me).back (now.standing me).stage names
-    → (now.standing me).registration ≡ left_behind names (asked_by call) was → now.standing ≡ updated first me (now.standing me)
+    → (now.standing me).registration ≡ registration_after names (asked_by call) was → now.standing ≡ updated first me (now.standing me)
     → IsDoneIn needs places me steps now answer last → Arrives needs places me start first call registered was answer last
 along needs lawful small places me room here call registered was first start answer last zero now state names far s under same others h = absurd h
 along needs lawful small places me room here call registered was first start answer last (suc more) now state names far s under same others h =
@@ -112,8 +112,8 @@ along needs lawful small places me room here call registered was first start ans
       run = run-append needs me far.events made.events start state made.last far.run made.run;
       named = named-append far.events made.events ∙ (λ i. far.named i ++ made.names i);
     } in
-    let behind : left_behind (named_at needs stage found) asks (now.standing me).registration ≡ left_behind (names ++ named_at needs stage found) asks was =
-    ap (left_behind (named_at needs stage found) asks) same ∙ sym (left-append names (named_at needs stage found) asks was) in
+    let behind : registration_after (named_at needs stage found) asks (now.standing me).registration ≡ registration_after (names ++ named_at needs stage found) asks was =
+    ap (registration_after (named_at needs stage found) asks) same ∙ sym (left-append names (named_at needs stage found) asks was) in
     goes needs places me call registered was more first now (row_after now.row (operation_of needs places me stage)) start made.last stage
     (names ++ named_at needs stage found) answer last
     (λ next stands then_under then_same then_others then_h.

@@ -36,7 +36,7 @@ use Rattle.saa_word_proofs.proofs.SoloLemmas.Cancels.{cancel-once-gave, cancel-o
 use Rattle.saa_word_proofs.proofs.SoloLemmas.PollsAlone.{poll-took, poll-not_ready}
 use Rattle.saa_word_proofs.proofs.SoloLemmas.Locks.{reads, downgrade-done, downgrade-refused, poison-done, poison-refused, clear-done, clear-refused}
 use Rattle.saa_word_proofs.proofs.SoloLemmas.Events.{no-events, IsFirst, first-event, settles, tells}
-use Rattle.saa_word_proofs.specs.Registering.{left_behind}
+use Rattle.saa_word_proofs.specs.Registering.{registration_after}
 use Rattle.saa_word_proofs.proofs.SoloLemmas.Along.{Arrives}
 
 -- What is known of both ends of a call that moved alone
@@ -60,8 +60,8 @@ came-first rules places me call first start s was answer last e event more is =
 
 left-as : (rules : Rules) (places me : ℕ) (call : WordCall) (first : ℕ → Place) (start : AbstractState) (s : Object) (was : Registration) (answer : Answer) (last : Moment)
     (e : IsOver rules places me call first start s was answer last) (names : List Event) (asks : Option Ask) → e.arrived.names ≡ names → asked_by call ≡ asks
-    → (last.standing me).registration ≡ left_behind names asks was
-left-as rules places me call first start s was answer last e names asks is same = e.arrived.left ∙ (λ i. left_behind (is i) (same i) was)
+    → (last.standing me).registration ≡ registration_after names asks was
+left-as rules places me call first start s was answer last e names asks is same = e.arrived.left ∙ (λ i. registration_after (is i) (same i) was)
 
 -- a call whose one event opens nothing and makes nothing due
 only : (rules : Rules) (places me : ℕ) (is_sync : Bool) (call : WordCall) (first : ℕ → Place) (start : AbstractState) (s : Object) (was : Registration) (answer : Answer) (last : Moment)

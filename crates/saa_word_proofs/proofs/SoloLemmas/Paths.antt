@@ -29,16 +29,16 @@ use Rattle.saa_word_proofs.specs.Refinement.{waits_behind}
 use Rattle.saa_word_proofs.specs.StepRefinement.{gave, gave_not, named_at, decided_events, given_events, left_events, taken_events, poisoning_events}
 use Rattle.saa_word_proofs.specs.Calls.{asked_by}
 use Rattle.saa_word_proofs.specs.CallStages.{IsLeft, IsUnder}
-use Rattle.saa_word_proofs.specs.Registering.{left_by, left_behind}
+use Rattle.saa_word_proofs.specs.Registering.{registration_after_event, registration_after}
 
 pub left-append : (first second : List Event) (asks : Option Ask) (was : Registration)
-    → left_behind (first ++ second) asks was ≡ left_behind second asks (left_behind first asks was)
+    → registration_after (first ++ second) asks was ≡ registration_after second asks (registration_after first asks was)
 left-append [] second asks was = refl
-left-append (event ∷ first) second asks was = left-append first second asks (left_by event asks was)
+left-append (event ∷ first) second asks was = left-append first second asks (registration_after_event event asks was)
 
 -- Asks
 
-granted-left : (needs : Needs) (place : Place) (ask : Ask) → IsLeft place.registration (left_by (Got ask.request) (Some ask) place.registration) (granted needs place ask)
+granted-left : (needs : Needs) (place : Place) (ask : Ask) → IsLeft place.registration (registration_after_event (Got ask.request) (Some ask) place.registration) (granted needs place ask)
 granted-left needs place ask =
     elim (cases_Bool ask.joins) [
       | inl joins ↦ rw joins (refl, refl)
@@ -46,7 +46,7 @@ granted-left needs place ask =
     ]
 
 decided-left : (needs : Needs) (place : Place) (ask : Ask) (seen : Word)
-    → IsLeft place.registration (left_behind (decided_events needs ask.request ask.joins seen) (Some ask) place.registration) (decided needs place ask seen)
+    → IsLeft place.registration (registration_after (decided_events needs ask.request ask.joins seen) (Some ask) place.registration) (decided needs place ask seen)
 decided-left needs place ask seen =
     elim (cases_Bool seen.is_poisoned) [
       | inl poisoned ↦
@@ -71,7 +71,7 @@ decided-left needs place ask seen =
 
 -- the same of a call that asks so
 asks-left : (needs : Needs) (asks : Option Ask) (place : Place) (ask : Ask) (seen : Word) → asks ≡ Some ask
-    → IsLeft place.registration (left_behind (decided_events needs ask.request ask.joins seen) asks place.registration) (decided needs place ask seen)
+    → IsLeft place.registration (registration_after (decided_events needs ask.request ask.joins seen) asks place.registration) (decided needs place ask seen)
 asks-left needs asks place ask seen is = rw is (decided-left needs place ask seen)
 
 -- Releases
@@ -82,30 +82,30 @@ gave_nothing-left place EndsCall = (refl, refl)
 gave_nothing-left place (Takes request) = (refl, refl)
 
 -- what is given back, and what isn't held, leaves the registration
-gave-leaves : (what : Given) (asks : Option Ask) (was : Registration) → left_by (gave what) asks was ≡ was
+gave-leaves : (what : Given) (asks : Option Ask) (was : Registration) → registration_after_event (gave what) asks was ≡ was
 gave-leaves (Asked request) asks was = refl
 gave-leaves AllButAShare asks was = refl
 
-nothing-leaves : (what : Given) (asks : Option Ask) (was : Registration) → left_by (gave_not what) asks was ≡ was
+nothing-leaves : (what : Given) (asks : Option Ask) (was : Registration) → registration_after_event (gave_not what) asks was ≡ was
 nothing-leaves (Asked request) asks was = refl
 nothing-leaves AllButAShare asks was = refl
 
 given-left : (needs : Needs) (asks : Option Ask) (place : Place) (what : Given) (seen : Word)
-    → IsLeft place.registration (left_behind (given_events needs what seen) asks place.registration) (given needs place what seen)
+    → IsLeft place.registration (registration_after (given_events needs what seen) asks place.registration) (given needs place what seen)
 given-left needs asks place what seen = by-poison seen.is_poisoned
   where
-    nothing : IsLeft place.registration (left_behind (gave_not what ∷ []) asks place.registration) (gave_nothing place place.back)
+    nothing : IsLeft place.registration (registration_after (gave_not what ∷ []) asks place.registration) (gave_nothing place place.back)
     nothing =
         subst (λ (r : Registration). IsLeft place.registration r (gave_nothing place place.back)) (sym (nothing-leaves what asks place.registration))
         (gave_nothing-left place place.back)
 
-    by-left : (left : Option ℕ) → IsLeft place.registration (left_behind (left_events what left) asks place.registration) (given_to place what seen left)
+    by-left : (left : Option ℕ) → IsLeft place.registration (registration_after (left_events what left) asks place.registration) (given_to place what seen left)
     by-left None = nothing
     by-left (Some left) = refl
 
     by-poison : (poisoned : Bool)
         → IsLeft place.registration
-        (left_behind (if poisoned then gave_not what ∷ [] else left_events what (left_from needs seen.count what)) asks place.registration)
+        (registration_after (if poisoned then gave_not what ∷ [] else left_events what (left_from needs seen.count what)) asks place.registration)
         (if poisoned then gave_nothing place place.back else given_to place what seen (left_from needs seen.count what))
     by-poison true = nothing
     by-poison false = by-left (left_from needs seen.count what)
@@ -155,7 +155,7 @@ shown-left place (Again seen) = refl
 -- Polls and cancels
 
 taken-left : (needs : Needs) (asks : Option Ask) (place : Place) (taking : Taking) (answer : Option ℕ)
-    → IsLeft place.registration (left_behind (taken_events taking answer) asks place.registration) (taken_answer needs place taking answer)
+    → IsLeft place.registration (registration_after (taken_events taking answer) asks place.registration) (taken_answer needs place taking answer)
 taken-left needs asks place Tries None = (refl, refl)
 taken-left needs asks place Tries (Some value) = (refl, refl)
 taken-left needs asks place Awaits None = refl
@@ -181,7 +181,7 @@ flagging-left place seen =
 -- Poison
 
 poisoning-left : (asks : Option Ask) (place : Place) (seen : Word)
-    → IsLeft place.registration (left_behind (poisoning_events seen) asks place.registration) (poisoning place seen)
+    → IsLeft place.registration (registration_after (poisoning_events seen) asks place.registration) (poisoning place seen)
 poisoning-left asks place seen =
     elim (cases_Bool (seen.is_poisoned || not (seen.count == lock_count Exclusive))) [
       | inl other ↦ rw other (refl, refl)
@@ -195,7 +195,7 @@ poisoning-left asks place seen =
 -- Behind each step of a call its place is registered so
 pub left-next : (needs : Needs) (call : WordCall) (registered : Registration) (me : ℕ) (place : Place) (stage : Stage) (found : ℕ) (events : List Event)
     → IsUnder needs call registered place.back stage events
-    → IsLeft place.registration (left_behind (named_at needs stage found) (asked_by call) place.registration) (next_of needs me place stage found)
+    → IsLeft place.registration (registration_after (named_at needs stage found) (asked_by call) place.registration) (next_of needs me place stage found)
 left-next needs call registered me place Quiet found events h = absurd h
 left-next needs call registered me place (ReadLoad reading) found events h = (refl, refl)
 left-next needs call registered me place (AskLoad ask) found events h = asks-left needs (asked_by call) place ask (word_of count_bits found) h.0

@@ -42,7 +42,7 @@ quiet-due needs places row standing state s quiet place =
     elim (cases_Bool (is_some (state.due place))) [
       | inl due ↦
           let shower : ℕ = state.granter place in
-          let none : s.owed shower ≡ [] = subst (λ (stage : Stage). IsShowing (s.owed shower) (s.worth shower) stage) (quiet shower) (s.stages.showing shower) in
+          let none : s.owed shower ≡ [] = subst (λ (stage : Stage). IsShowing (s.owed shower) (s.answer_value shower) stage) (quiet shower) (s.stages.showing shower) in
           let wrong : false ≡ true = ap (is_in place) (sym none) ∙ s.debts.paid_by place due in
           absurd (cc)
       | inr none ↦ none-due (state.due place) none

@@ -15,7 +15,7 @@ use Rattle.saa_word_steps.specs.Needs.{Needs}
 use Rattle.saa_word_steps.specs.Steps.{cancelled_as, going, polled_as, started}
 use Rattle.saa_word_steps.specs.Readings.{is_idle, mode_number}
 use Rattle.saa_word_proofs.specs.Calls.{is_taken_up}
-use Rattle.saa_word_proofs.specs.Registering.{begun_as, cancelling_answer, polling_answer, registering_answer, starting_answer}
+use Rattle.saa_word_proofs.specs.Registering.{registration_after_start, cancelling_answer, polling_answer, registering_answer, starting_answer}
 use Rattle.saa_word_proofs.specs.CallStages.{IsStartedAs}
 
 registering : (place : Place) (request : ℕ) (registration : Registration) → place.registration ≡ registration → place.stage ≡ Quiet
@@ -26,19 +26,19 @@ registering place request (Once value asked) is quiet = (refl, refl, quiet)
 registering place request (Slot asked) is quiet = (refl, refl, quiet)
 
 polling : (place : Place) (taking : Taking) (registration : Registration) → place.registration ≡ registration → place.stage ≡ Quiet
-    → IsStartedAs (polling_answer registration) (begun_as Poll registration) (polled_as place taking registration)
+    → IsStartedAs (polling_answer registration) (registration_after_start Poll registration) (polled_as place taking registration)
 polling place taking Idle is quiet = (refl, is, quiet)
 polling place taking (Once value asked) is quiet = (refl, refl, quiet)
 polling place taking (Slot asked) is quiet = is
 
 trying : (place : Place) (taking : Taking) (registration : Registration) → place.registration ≡ registration → place.stage ≡ Quiet
-    → IsStartedAs (polling_answer registration) (begun_as TryPoll registration) (polled_as place taking registration)
+    → IsStartedAs (polling_answer registration) (registration_after_start TryPoll registration) (polled_as place taking registration)
 trying place taking Idle is quiet = (refl, is, quiet)
 trying place taking (Once value asked) is quiet = (refl, refl, quiet)
 trying place taking (Slot asked) is quiet = is
 
 cancelling : (needs : Needs) (place : Place) (registration : Registration) → place.registration ≡ registration → place.stage ≡ Quiet
-    → IsStartedAs (cancelling_answer needs registration) (begun_as Cancel registration) (cancelled_as needs place registration)
+    → IsStartedAs (cancelling_answer needs registration) (registration_after_start Cancel registration) (cancelled_as needs place registration)
 cancelling needs place Idle is quiet = (refl, is, quiet)
 cancelling needs place (Once value request) is quiet =
     elim (cases_Bool (is_taken_up needs request value)) [
@@ -49,7 +49,7 @@ cancelling needs place (Slot request) is quiet = is
 
 -- A call that starts answers by what its place is registered as
 pub started-as : (needs : Needs) (place : Place) (call : WordCall) → place.stage ≡ Quiet
-    → IsStartedAs (starting_answer needs call place.registration) (begun_as call place.registration) (started needs place call)
+    → IsStartedAs (starting_answer needs call place.registration) (registration_after_start call place.registration) (started needs place call)
 started-as needs place (Try count) quiet =
     elim (cases_Bool (nat_lt needs.top count)) [
       | inl more ↦ rw more (refl, refl, quiet)

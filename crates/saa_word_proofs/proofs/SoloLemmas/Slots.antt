@@ -17,7 +17,7 @@ use Rattle.saa_word_steps.proofs.AbstractRuns.{run-once, waits-some}
 use Rattle.saa_word_proofs.specs.Rows.{updated}
 use Rattle.saa_word_proofs.specs.History.{is_named, named, of_place}
 use Rattle.saa_word_proofs.proofs.RefinementLemmas.Lists.{updated-same}
-use Rattle.saa_word_proofs.specs.Registering.{AreRegistered, begun_as, is_slot, left_behind, left_by}
+use Rattle.saa_word_proofs.specs.Registering.{AreRegistered, registration_after_start, is_slot, registration_after, registration_after_event}
 
 -- Lines
 
@@ -98,13 +98,13 @@ barren-step needs state place (Read count poisoned_now) allowed was poisoned = w
 
 -- what a place is registered as behind an event, where an answer names that
 abbrev left_by_named : Event → Option Ask → Registration → Registration
-left_by_named event asks was = if is_named event then left_by event asks was else was
+left_by_named event asks was = if is_named event then registration_after_event event asks was else was
 
 event-registered : (needs : Needs) (state : AbstractState) (me : ℕ) (event : Event) (asks : Option Ask) (registered : ℕ → Registration) (was : Registration)
     → IsEnabled needs state me event → held_by me state ≤ 1 → (state.poisoned ≡ true → state.line ≡ []) → AreRegistered (updated registered me was) state.line
     → AreRegistered (updated registered me (left_by_named event asks was)) (after_event needs state me event).line
 event-registered needs state me (Got request) asks registered was allowed once barren are =
-    subst (λ (l : List (ℕ × ℕ)). AreRegistered (updated registered me (left_by (Got request) asks was)) l) (sym allowed.1) tt
+    subst (λ (l : List (ℕ × ℕ)). AreRegistered (updated registered me (registration_after_event (Got request) asks was)) l) (sym allowed.1) tt
 event-registered needs state me (Refused request) asks registered was allowed once barren are = are
 event-registered needs state me (Joined request) asks registered was allowed once barren are =
     push-registered (updated registered me (Slot request)) me request state.line (others-registered registered me was (Slot request) state.line allowed.2 are)
@@ -114,7 +114,7 @@ event-registered needs state me (GaveNothing request) asks registered was allowe
 event-registered needs state me Lowered asks registered was allowed once barren are = are
 event-registered needs state me NotLowered asks registered was allowed once barren are = are
 event-registered needs state me AskedPoisoned asks registered was allowed once barren are =
-    subst (λ (l : List (ℕ × ℕ)). AreRegistered (updated registered me (left_by AskedPoisoned asks was)) l) (sym (barren allowed)) tt
+    subst (λ (l : List (ℕ × ℕ)). AreRegistered (updated registered me (registration_after_event AskedPoisoned asks was)) l) (sym (barren allowed)) tt
 event-registered needs state me Left asks registered was allowed once barren are =
     others-registered registered me was Idle (without me state.line) (without-out me state.line)
     (without-registered (updated registered me was) me state.line are)
@@ -133,7 +133,7 @@ event-registered needs state me (Read count poisoned) asks registered was allowe
 -- a list of events of one place
 pub run-registered : (needs : Needs) (state last : AbstractState) (me : ℕ) (events : List Event) (asks : Option Ask) (registered : ℕ → Registration) (was : Registration)
     → IsRun needs state (of_place me events) last → ((other : ℕ) → held_by other state ≤ 1) → (state.poisoned ≡ true → state.line ≡ [])
-    → AreRegistered (updated registered me was) state.line → AreRegistered (updated registered me (left_behind (named events) asks was)) last.line
+    → AreRegistered (updated registered me was) state.line → AreRegistered (updated registered me (registration_after (named events) asks was)) last.line
 run-registered needs state last me [] asks registered was run once barren are =
     subst (λ (z : AbstractState). AreRegistered (updated registered me was) z.line) run are
 run-registered needs state last me (event ∷ events) asks registered was run once barren are =
@@ -143,13 +143,13 @@ run-registered needs state last me (event ∷ events) asks registered was run on
     (event-registered needs state me event asks registered was run.0 (once me) barren are) in
     subst (λ (r : Registration). AreRegistered (updated registered me r) last.line) (same (is_named event)) behind
   where
-    same : (names : Bool) → left_behind (named events) asks (if names then left_by event asks was else was)
-        ≡ left_behind (if names then (event ∷ named events) else named events) asks was
+    same : (names : Bool) → registration_after (named events) asks (if names then registration_after_event event asks was else was)
+        ≡ registration_after (if names then (event ∷ named events) else named events) asks was
     same true = refl
     same false = refl
 
 -- a call that starts leaves each place that is registered in the line as it is
-begun-slot : (call : WordCall) (registration : Registration) → is_slot registration ≡ true → begun_as call registration ≡ registration
+begun-slot : (call : WordCall) (registration : Registration) → is_slot registration ≡ true → registration_after_start call registration ≡ registration
 begun-slot call Idle slot = absurd (cc)
 begun-slot call (Once value request) slot = absurd (cc)
 begun-slot TryPoll (Slot request) slot = refl
@@ -158,12 +158,12 @@ begun-slot Cancel (Slot request) slot = refl
 begun-slot call (Slot request) slot = refl
 
 pub begun-registered-line : (state : AbstractState) (registered : ℕ → Registration) (me : ℕ) (call : WordCall) → held_by me state ≡ one_if (is_slot (registered me))
-    → AreRegistered registered state.line → AreRegistered (updated registered me (begun_as call (registered me))) state.line
+    → AreRegistered registered state.line → AreRegistered (updated registered me (registration_after_start call (registered me))) state.line
 begun-registered-line state registered me call held are =
     elim (cases_Bool (is_slot (registered me))) [
       | inl slot ↦
           subst (λ (f : ℕ → Registration). AreRegistered f state.line)
-          (sym (updated-same registered me (begun_as call (registered me)) (begun-slot call (registered me) slot))) are
+          (sym (updated-same registered me (registration_after_start call (registered me)) (begun-slot call (registered me) slot))) are
       | inr none ↦
           let nothing : held_by me state ≡ 0 = held ∙ ap one_if none in
           let out : is_in me state.line ≡ false =
@@ -171,6 +171,6 @@ begun-registered-line state registered me call held are =
             | inl there ↦ absurd (omega (arith, nothing, waits-some me state.line there))
             | inr out ↦ out
           ] in
-          others-registered registered me (registered me) (begun_as call (registered me)) state.line out
+          others-registered registered me (registered me) (registration_after_start call (registered me)) state.line out
           (subst (λ (f : ℕ → Registration). AreRegistered f state.line) (sym (updated-same registered me (registered me) refl)) are)
     ]

@@ -111,7 +111,7 @@ alone-paid : (needs : Needs) (places : ℕ) (row : ℕ → ℕ) (standing : ℕ 
 alone-paid needs places row standing state me s quiet mine place due =
     let none : s.owed (state.granter place) ≡ [] =
     each-but (λ (other : ℕ). s.owed other ≡ []) me mine
-    (λ other apart. subst (λ (stage : Stage). IsShowing (s.owed other) (s.worth other) stage) (quiet other apart) (s.stages.showing other)) (state.granter place) in
+    (λ other apart. subst (λ (stage : Stage). IsShowing (s.owed other) (s.answer_value other) stage) (quiet other apart) (s.stages.showing other)) (state.granter place) in
     let wrong : false ≡ true = ap (is_in place) (sym none) ∙ s.debts.paid_by place due in
     absurd (cc)
 
@@ -123,7 +123,7 @@ alone-stalls needs places row standing state me here s quiet (Take Awaits) at wa
 alone-stalls needs places row standing state me here s quiet (Take (Gives request)) at waits =
     let stalled = only-stalls needs places row standing state me here s (Take (Gives request)) at waits in
     absurd (alone-paid needs places row standing state me s quiet
-    (subst (λ (stage : Stage). IsShowing (s.owed me) (s.worth me) stage) at (s.stages.showing me)) me stalled.0)
+    (subst (λ (stage : Stage). IsShowing (s.owed me) (s.answer_value me) stage) at (s.stages.showing me)) me stalled.0)
 alone-stalls needs places row standing state me here s quiet FlagLoad at waits =
     let stalled = only-stalls needs places row standing state me here s FlagLoad at waits in
     let wrong : true ≡ false = sym stalled.0 ∙ alone-clear needs places row standing state me s quiet (ap is_holder at) in

@@ -33,7 +33,7 @@ held-once needs places row standing state s place = omega (arith, s.seats.held p
 -- an answer that a place has to show is due
 pub owed-due : (needs : Needs) (places : ℕ) (row : ℕ → ℕ) (standing : ℕ → Place) (state : AbstractState) (s : Refines needs places row standing state)
     (shows place : ℕ)
-    → 0 < times place (s.owed shows) → state.due place ≡ Some (s.worth shows)
+    → 0 < times place (s.owed shows) → state.due place ≡ Some (s.answer_value shows)
 owed-due needs places row standing state s shows place there = (s.debts.due_to shows place (in-some place (s.owed shows) there)).1
 
 -- the newest whose answer a place has to show leads along all of them
@@ -104,8 +104,8 @@ part-length needs places row standing state s whole part rest is =
 
 -- what a place knows of the answers that it has to show
 pub shows : (needs : Needs) (places : ℕ) (row : ℕ → ℕ) (standing : ℕ → Place) (state : AbstractState) (s : Refines needs places row standing state) (me : ℕ)
-    (stage : Stage) → (standing me).stage ≡ stage → IsShowing (s.owed me) (s.worth me) stage
-shows needs places row standing state s me stage at = subst (λ (now : Stage). IsShowing (s.owed me) (s.worth me) now) at (s.stages.showing me)
+    (stage : Stage) → (standing me).stage ≡ stage → IsShowing (s.owed me) (s.answer_value me) stage
+shows needs places row standing state s me stage at = subst (λ (now : Stage). IsShowing (s.owed me) (s.answer_value me) now) at (s.stages.showing me)
 
 -- The line as the holder of the flag sees it
 
