@@ -34,7 +34,7 @@ struct Waiter<'l, W> {
     lock: &'l Lock,
     watch: &'l W,
     place: Place,
-    ghost dealt: { IsDealtBy lock place },
+    ghost dealt: { IsDealtBy lock.now place },
 }
 
 impl<W: Watch> Future for Waiter<'_, W> {
@@ -133,10 +133,10 @@ impl Watch for Sees<'_> {
 // What happens to a place that waits for a lock of which there is a share, and to the tasks that poll it. Each is a list of what has to be so.
 
 // It is answered: one task that polled is woken behind the write, and once.
-fn answered<R: Wait>(
+fn answered<'x, R: Wait>(
     rt: &R,
-    lock: &Lock,
-    task: &MockTask,
+    lock: &'x Lock,
+    task: &'x MockTask,
     mut owner: Place,
     place: Place,
 ) -> [bool; 6]
@@ -283,9 +283,9 @@ fn poisoned<R: Wait>(
 }
 
 // It is answered in the middle of a poll: right before its waker is kept, or right behind. That poll finds the answer.
-fn answered_meanwhile<R: Wait>(
-    rt: &R,
-    lock: &Lock,
+fn answered_meanwhile<'x, R: Wait>(
+    rt: &'x R,
+    lock: &'x Lock,
     when: Moment,
     task: &MockTask,
     mut owner: Place,
@@ -346,7 +346,7 @@ struct Permits<'s> {
     semaphore: &'s Semaphore,
     polls: &'s AtomicU64,
     place: PermitPlace,
-    ghost dealt: { IsDealtBySemaphore semaphore place },
+    ghost dealt: { IsDealtBySemaphore semaphore.now place },
 }
 
 impl Future for Permits<'_> {

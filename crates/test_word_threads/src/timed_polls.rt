@@ -174,14 +174,23 @@ fn a_poll_ends_with_its_answer_or_in_time(rt: HostRuntime) {
 
 #[test]
 fn a_poll_whose_time_is_up_is_no_longer_marked_and_leaves_the_line(rt: HostRuntime) {
-    let not_ready = Err(Error::NotReady);
-    let free = ([true, true, false], (Some(0), Some(0)));
-    let parked = (not_ready, [500, 500, 500, 1, 1], free.0, free.1);
+    let late = Err(Error::NotReady);
+    let parked: Ended = (
+        late,
+        [500, 500, 500, 1, 1],
+        [true, true, false],
+        (Some(0), Some(0)),
+    );
     same!(rt; ended(&rt, TIL_PARKED).ok(), Some(parked));
-    let at_once = (not_ready, [0; 5], free.0, free.1);
-    same!(rt; ended(&rt, 0).ok(), Some(at_once));
-    let yielded = (not_ready, [500, 500, 100, 0, 0], free.0, free.1);
+    let yielded: Ended = (
+        late,
+        [500, 500, 100, 0, 0],
+        [true, true, false],
+        (Some(0), Some(0)),
+    );
     same!(rt; ended(&rt, 101).ok(), Some(yielded));
+    let at_once: Ended = (late, [0; 5], [true, true, false], (Some(0), Some(0)));
+    same!(rt; ended(&rt, 0).ok(), Some(at_once));
 }
 
 #[test]
