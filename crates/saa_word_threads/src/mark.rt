@@ -2,7 +2,8 @@
 //!
 //! A waiter sets its mark, and looks at its answer word for the last time as it parks; a task's waker is kept and its mark set before it looks. The call that
 //! answers it writes that word, and then looks at the mark. So one of the two sees the other. The second order is kept by types: only `write` makes
-//! a `Written`, in a module (`written`) that can't read a mark, and nothing but `wake` takes it, or tells anything by a mark, beside what tests see.
+//! a `Written`, in a module (`written`) that can't read a mark, and nothing but `wake` takes it. Beside that a place reads its own mark as its wait ends
+//! (`forget`), and tests do.
 
 ghost use Rattle.std.specs.Prelude.{◌≡◌, ◌+◌, ◌<◌, vec_len};
 
