@@ -1,0 +1,171 @@
+//! A pool of values, without a lock.
+
+ghost use Rattle.std.specs.Prelude.{◌≡◌, ◌+◌, ◌<◌, ◌∷◌, [], IfOk, IfErr, None};
+ghost use Rattle.saa_word_pool.specs.declared.table.Part.TheVariants.{Refused, Reserved, Holding, Returning, Returned};
+ghost use Rattle.saa_word_pool.specs.Kept.{at_part};
+
+use crate::table::{Counted, CountedBack, Looked, PoolRule, PutBack, Resting, Taken, View};
+use atomic_table::{Seat, Table};
+use std::alloc::Global;
+use std::sync::Wait;
+
+// The word of a slot: its value is out, or rests in it.
+const OUT: u64 = 0;
+
+const RESTS: u64 = 1;
+
+/// Values that rest until somebody takes one out.
+#[derive(Drop)]
+pub struct Pool<T, K, P: PoolRule<T, K>> {
+    table: Table<Option<T>, View<K>, K, Resting<P>, Global>,
+    places: u16,
+    ghost wide: { (table.shared.table_id.words ≡ places + 1) × (table.shared.table_id.slots ≡ places) },
+}
+
+/// A value that is out of a pool, and the slot that it comes from. It can't be dropped: give it back, or keep its value by `into_value`.
+pub struct Borrowed<T, K> {
+    seat: Seat<Option<T>, View<K>>,
+    index: u16,
+    pub value: T,
+    ghost holds: { seat.me ≡ (at_part seat.me.0.key (Holding index), (index, None) ∷ []) },
+}
+
+/// A call that was refused, as the witness that all values were out when it looked. It has no bytes.
+#[derive(Drop)]
+pub struct AllOut<T, K> {
+    seat: Seat<Option<T>, View<K>>,
+    ghost refused: { seat.me.0.part ≡ Refused },
+}
+
+/// A call that has given its value back, as the witness of that. It has no bytes.
+#[derive(Drop)]
+pub struct Receipt<T, K> {
+    seat: Seat<Option<T>, View<K>>,
+    ghost returned: { seat.me.0.part ≡ Returned },
+}
+
+// A call that has taken one from the count.
+struct Reservation<T, K> {
+    seat: Seat<Option<T>, View<K>>,
+    ghost reserved: { seat.me ≡ (at_part seat.me.0.key Reserved, []) },
+}
+
+impl<T, K, P: PoolRule<T, K>> Pool<T, K, P> {
+    ghost use Rattle.saa_word_pool.specs.Pools.{IsOf};
+
+    /// Takes a value out.
+    ///
+    /// # Errors
+    ///
+    /// `AllOut` exactly where all values are out, or reserved by a call that takes one: nothing has changed then.
+    pub fn take<R: Wait>(&self, rt: &R) -> Result<Borrowed<T, K>, AllOut<T, K>>
+        ensures taken { IfOk result (λ borrowed. IsOf self.now.table.shared.table_id self.now.table.shared.key borrowed.seat × P.belongs self.now.table.shared.key borrowed.value) }
+        ensures refused { IfErr result (λ all_out. IsOf self.now.table.shared.table_id self.now.table.shared.key all_out.seat) }
+    {
+        let reservation = self.reserve(rt)?;
+        Ok(self.redeem(rt, reservation))
+    }
+
+    // Takes one from the count.
+    fn reserve<R: Wait>(&self, rt: &R) -> Result<Reservation<T, K>, AllOut<T, K>>
+        ensures reserved { IfOk result (λ reservation. IsOf self.now.table.shared.table_id self.now.table.shared.key reservation.seat) }
+        ensures refused { IfErr result (λ all_out. IsOf self.now.table.shared.table_id self.now.table.shared.key all_out.seat) }
+    {
+        let count = usize::from(self.places);
+        let (mut found, mut seat) = self.table.shared.load_new_seat::<Looked>(count);
+        for _turn in rt.forever() {
+            if found == 0 {
+                return Err(AllOut { seat });
+            }
+            let seen = found;
+            found = self
+                .table
+                .shared
+                .compare_exchange::<Counted>(&mut seat, count, seen, seen - 1);
+            if found == seen {
+                return Ok(Reservation { seat });
+            }
+        }
+        unreachable!()
+    }
+
+    // Takes the value out of a slot, for a call that has taken one from the count.
+    fn redeem<R: Wait>(&self, rt: &R, reservation: Reservation<T, K>) -> Borrowed<T, K>
+        requires { IsOf self.now.table.shared.table_id self.now.table.shared.key reservation.seat }
+        ensures { IsOf self.now.table.shared.table_id self.now.table.shared.key result.seat × P.belongs self.now.table.shared.key result.value }
+    {
+        let mut reservation = reservation;
+        for _turn in rt.forever() {
+            match self.scan(reservation) {
+                Ok(borrowed) => return borrowed,
+                Err(still) => reservation = still,
+            }
+        }
+        unreachable!()
+    }
+
+    // Looks at every slot once.
+    fn scan(&self, reservation: Reservation<T, K>) -> Result<Borrowed<T, K>, Reservation<T, K>>
+        requires { IsOf self.now.table.shared.table_id self.now.table.shared.key reservation.seat }
+        ensures taken { IfOk result (λ borrowed. IsOf self.now.table.shared.table_id self.now.table.shared.key borrowed.seat × P.belongs self.now.table.shared.key borrowed.value) }
+        ensures missed { IfErr result (λ still. IsOf self.now.table.shared.table_id self.now.table.shared.key still.seat) }
+    {
+        let mut reservation = reservation;
+        for index in 0..self.places {
+            match self.take_from(index, reservation) {
+                Ok(borrowed) => return Ok(borrowed),
+                Err(still) => reservation = still,
+            }
+        }
+        Err(reservation)
+    }
+
+    // Takes the value of a slot, where it rests there.
+    fn take_from(
+        &self,
+        index: u16,
+        reservation: Reservation<T, K>,
+    ) -> Result<Borrowed<T, K>, Reservation<T, K>>
+        requires within { index < self.now.places }
+        requires ours { IsOf self.now.table.shared.table_id self.now.table.shared.key reservation.seat }
+        ensures taken { IfOk result (λ borrowed. IsOf self.now.table.shared.table_id self.now.table.shared.key borrowed.seat × P.belongs self.now.table.shared.key borrowed.value) }
+        ensures missed { IfErr result (λ still. IsOf self.now.table.shared.table_id self.now.table.shared.key still.seat) }
+    {
+        let slot = usize::from(index);
+        if self.table.shared.peek(slot) != RESTS {
+            return Err(reservation);
+        }
+        let Reservation { mut seat } = reservation;
+        let found = self.table.shared.swap::<Taken<P>>(&mut seat, slot, OUT);
+        if found != RESTS {
+            return Err(Reservation { seat });
+        }
+        match self.table.shared.exchange(&mut seat, slot, None) {
+            Some(value) => Ok(Borrowed { seat, index, value }),
+            None => unreachable!(),
+        }
+    }
+
+    /// Gives a value back. Nobody waits for this, and it is never refused.
+    pub fn give(&self, borrowed: Borrowed<T, K>) -> Receipt<T, K>
+        requires ours { IsOf self.now.table.shared.table_id self.now.table.shared.key borrowed.seat }
+        requires belongs { P.belongs self.now.table.shared.key borrowed.value }
+        ensures { IsOf self.now.table.shared.table_id self.now.table.shared.key result.seat }
+    {
+        let Borrowed {
+            mut seat,
+            index,
+            value,
+        } = borrowed;
+        let slot = usize::from(index);
+        match self.table.shared.exchange(&mut seat, slot, Some(value)) {
+            None => {}
+            Some(_) => unreachable!(),
+        }
+        self.table.shared.store::<PutBack>(&mut seat, slot, RESTS);
+        self.table
+            .shared
+            .fetch_add::<CountedBack>(&mut seat, usize::from(self.places), 1);
+        Receipt { seat }
+    }
+}
