@@ -1,3 +1,4 @@
 pub mod Totals
 pub mod Keeping
+pub mod Recording
 pub mod Stepping

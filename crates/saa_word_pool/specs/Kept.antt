@@ -1,10 +1,11 @@
 -- What is always so of a pool, and what each step of a call tells.
 -- The words of the table are one for each slot, 1 where its value rests in it, and behind them the count of the values that a call may still take.
-use Rattle.std.specs.Prelude.{◌≡◌, ◌≢◌, ℕ, zero, suc, ◌+◌, ◌<◌, ◌==◌, if◌then◌else◌, List, [], ◌∷◌, length, slice_index, Option, Some}
+use Rattle.std.specs.Prelude.{◌≡◌, ◌≢◌, ℕ, zero, suc, ◌+◌, ◌<◌, ◌≤◌, ◌==◌, if◌then◌else◌, List, [], ◌∷◌, length, slice_index, Option, Some}
 use mathlib.Core.Option as maybe
 use mathlib.Core.Option.{some, none}
 use lib.ListN.{get_elem?}
 use Rattle.atomic_table.specs.Table.{State, Me}
+use Rattle.saa_word_pool.specs.History.{Event, IsHistory, gave, out_after, part_of, refused, took}
 use Rattle.saa_word_pool.specs.declared.table.Part.{Part}
 use Rattle.saa_word_pool.specs.declared.table.Part.TheVariants.{Coming, Refused, Reserved, Holding, Returning, Returned}
 use Rattle.saa_word_pool.specs.declared.table.View.{View}
@@ -61,6 +62,27 @@ pub record Kept {T K : Type 0} (belongs : T → Type 0) (s : State (Option T) (V
   pub gone : (seat index : ℕ) (v : View K) → get_elem? s.views seat ≡ some v → v.part ≡ Holding index → get_elem? s.homes index ≡ some none
   pub apart : (one other index : ℕ) (v w : View K) → get_elem? s.views one ≡ some v → get_elem? s.views other ≡ some w → v.part ≡ Holding index
       → w.part ≡ Holding index → one ≡ other
+
+-- what a call that has come so far did
+abbrev pub part_by : Part → List Event
+part_by Coming = []
+part_by Refused = refused ∷ []
+part_by Reserved = took ∷ []
+part_by (Holding index) = took ∷ []
+part_by Returning = took ∷ []
+part_by Returned = gave ∷ took ∷ []
+
+-- One history leads to the count, and each call knows its part of it
+pub record Recorded {T K : Type 0} (s : State (Option T) (View K)) : Type 0 where
+  pub history : List (ℕ × Event)
+  pub legal : IsHistory (length s.homes) history
+  pub sums : slice_index s.words (length s.homes) + out_after history ≡ length s.homes
+  pub parts : (seat : ℕ) (v : View K) → get_elem? s.views seat ≡ some v → part_of seat history ≡ part_by v.part
+  pub fresh : (seat : ℕ) → length s.views ≤ seat → part_of seat history ≡ []
+
+-- The rule of a pool
+abbrev pub IsPool : {T K : Type 0} → (T → Type 0) → State (Option T) (View K) → Type 0
+IsPool belongs s = Kept belongs s × Recorded s
 
 -- where a call that looks at the count comes to: it is refused where the count is 0
 abbrev pub looked : ℕ → Part

@@ -40,9 +40,9 @@ pub struct Resting<P> {
 }
 
 impl<T, K, P: PoolRule<T, K>> TableRule<Option<T>, View<K>, K> for Resting<P> {
-    ghost use Rattle.saa_word_pool.specs.Kept.{Kept, coming};
+    ghost use Rattle.saa_word_pool.specs.Kept.{IsPool, coming};
 
-    ghost holds = { λ key. Kept (P.belongs key) };
+    ghost holds = { λ key. IsPool (P.belongs key) };
 
     ghost first = { coming };
 }
