@@ -2,3 +2,4 @@ pub mod Totals
 pub mod Keeping
 pub mod Recording
 pub mod Stepping
+pub mod Opening

@@ -112,3 +112,7 @@ module _ {T K : Type 0} where
 
   abbrev pub HasCountedBack : K → Me (Option T) (View K) → Type 0
   HasCountedBack key after = (after.0 ≡ at_part key Returned) × (after.1 ≡ [])
+
+-- a slot that rests has a value that belongs to the pool
+abbrev pub IsRest : {T : Type 0} → (T → Type 0) → Option T → Type 0
+IsRest {T} belongs inside = (value : T) × (inside ≡ Some value) × belongs value

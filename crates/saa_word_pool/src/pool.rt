@@ -1,12 +1,12 @@
 //! A pool of values, without a lock.
 
-ghost use Rattle.std.specs.Prelude.{◌≡◌, ◌+◌, ◌<◌, ◌∷◌, [], IfOk, IfErr, None};
+ghost use Rattle.std.specs.Prelude.{◌≡◌, ℕ, ◌+◌, ◌<◌, ◌≤◌, ◌∷◌, ◌++◌, [], All, IfOk, IfErr, None, replicate, vec_capacity, vec_len};
 ghost use Rattle.saa_word_pool.specs.declared.table.Part.TheVariants.{Refused, Reserved, Holding, Returning, Returned};
-ghost use Rattle.saa_word_pool.specs.Kept.{at_part};
+ghost use Rattle.saa_word_pool.specs.Kept.{IsRest, at_part};
 
 use crate::table::{Counted, CountedBack, Looked, PoolRule, PutBack, Resting, Taken, View};
 use atomic_table::{Seat, Table};
-use std::alloc::Global;
+use std::alloc::{AllocError, Global};
 use std::sync::Wait;
 
 // The word of a slot: its value is out, or rests in it.
@@ -19,6 +19,9 @@ const RESTS: u64 = 1;
 pub struct Pool<T, K, P: PoolRule<T, K>> {
     table: Table<Option<T>, View<K>, K, Resting<P>, Global>,
     places: u16,
+    // Empty, with room for every value, so that `close` takes no memory.
+    room: Vec<T>,
+    ghost empty: { (vec_len room ≡ 0) × (places ≤ vec_capacity room) },
     ghost wide: { (table.shared.table_id.words ≡ places + 1) × (table.shared.table_id.slots ≡ places) },
 }
 
@@ -48,6 +51,70 @@ pub struct Receipt<T, K> {
 struct Reservation<T, K> {
     seat: Seat<Option<T>, View<K>>,
     ghost reserved: { seat.me ≡ (at_part seat.me.0.key Reserved, []) },
+}
+
+impl<T: Drop, K, P: PoolRule<T, K>> Pool<T, K, P> {
+    /// A pool that has these values, none of which is out. It takes memory for a slot of each, and no other call of a pool takes any.
+    ///
+    /// Costs O(values).
+    ///
+    /// # Errors
+    ///
+    /// `AllocError` if there is no memory: then the values are dropped.
+    pub fn new(alloc: Global, values: Vec<T>, about: &K) -> Result<Self, AllocError>
+        requires few { vec_len values < 65536 }
+        requires belong { All (P.belongs about.now) values.items }
+        ensures made { IfOk result (λ pool. (pool.places ≡ vec_len values) × (pool.table.shared.key ≡ about.now)) }
+    {
+        let mut room = values;
+        let places = room.len() as u16;
+        let words = opening_words(alloc, places)?;
+        let slots = Self::lay(alloc, about, &mut room)?;
+        match Table::new(alloc, words.as_slice(), slots, about) {
+            Ok((table, _seat)) => Ok(Pool {
+                table,
+                places,
+                room,
+            }),
+            Err(_refused) => Err(AllocError),
+        }
+    }
+
+    // Puts each value into a slot.
+    fn lay(alloc: Global, about: &K, values: &mut Vec<T>) -> Result<Vec<Option<T>>, AllocError>
+        requires { All (P.belongs about.now) values.old.items }
+        ensures empty { IfOk result (λ _. (vec_len values.new ≡ 0) × (vec_len values.old ≤ vec_capacity values.new)) }
+        ensures all { IfOk result (λ slots. (vec_len slots ≡ vec_len values.old) × All (IsRest (P.belongs about.now)) slots.items) }
+    {
+        let mut slots = Vec::with_capacity(alloc, values.len())?;
+        while let Some(value) = values.pop() {
+            slots.push_reserved(Some(value));
+        }
+        Ok(slots)
+    }
+}
+
+// The words of a pool of which all values are in.
+fn opening_words(alloc: Global, places: u16) -> Result<Vec<u64>, AllocError>
+    ensures { IfOk result (λ words. words.items ≡ replicate places 1 ++ places ∷ []) }
+{
+    let mut words = Vec::from_elem(alloc, RESTS, usize::from(places))?;
+    words.push(u64::from(places))?;
+    Ok(words)
+}
+
+impl<T, K> Borrowed<T, K> {
+    /// The value, for good: it never comes back to the pool, and counts as out from then on.
+    pub fn into_value(self) -> T
+        ensures { result ≡ self.value }
+    {
+        let Borrowed {
+            seat: _,
+            index: _,
+            value,
+        } = self;
+        value
+    }
 }
 
 impl<T, K, P: PoolRule<T, K>> Pool<T, K, P> {
