@@ -1,12 +1,12 @@
 -- A pool begins with all values in.
-use Rattle.std.proofs.Common.{◌≡◌, ◌≢◌, ℕ, zero, suc, ◌+◌, ◌<◌, ◌≤◌, List, [], ◌∷◌, ◌++◌, length, replicate, map, get_or, Option as Maybe, Some, None, refl, sym, ap, subst, ◌∙◌, arith}
+use Rattle.std.proofs.Common.{◌≡◌, ℕ, zero, suc, ◌+◌, ◌<◌, List, [], ◌∷◌, ◌++◌, length, replicate, map, get_or, Option as Maybe, None, refl, sym, ap, subst, ◌∙◌, arith}
 use Rattle.std.specs.Prelude.{All}
-use mathlib.Core.Option.{Option, none, some, some-injective, some-ne-none}
+use mathlib.Core.Option.{Option, some, some-injective, some-ne-none}
 use lib.ListN.{get_elem?}
 use Rattle.atomic_table.specs.Table.{opening}
 use Rattle.saa_word_pool.specs.declared.table.Part.TheVariants.{Coming, Holding}
 use Rattle.saa_word_pool.specs.declared.table.View.{View}
-use Rattle.saa_word_pool.specs.Kept.{IsPool, IsRest, Kept, Recorded, at_part, coming, is_due, is_in, is_out, part_by, total}
+use Rattle.saa_word_pool.specs.Kept.{IsPool, IsRest, coming, is_in, part_by, total}
 use Rattle.saa_word_pool.proofs.Totals.{found-within}
 use Rattle.saa_word_pool.proofs.Keeping.{held-not}
 

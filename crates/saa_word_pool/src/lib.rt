@@ -4,6 +4,7 @@
 //! The count decides whether a call gets one, and the word of a slot decides who gets the value there, so a hint may be wrong.
 #![tactic(auto)]
 
+mod hints;
 mod pool;
 mod table;
 

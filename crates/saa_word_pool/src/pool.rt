@@ -4,6 +4,7 @@ ghost use Rattle.std.specs.Prelude.{◌≡◌, ℕ, ◌+◌, ◌<◌, ◌≤◌,
 ghost use Rattle.saa_word_pool.specs.declared.table.Part.TheVariants.{Refused, Reserved, Holding, Returning, Returned};
 ghost use Rattle.saa_word_pool.specs.Kept.{IsRest, at_part};
 
+use crate::hints::Hints;
 use crate::table::{Counted, CountedBack, Looked, PoolRule, PutBack, Resting, Taken, View};
 use atomic_table::{Seat, Table};
 use std::alloc::{AllocError, Global};
@@ -14,14 +15,19 @@ const OUT: u64 = 0;
 
 const RESTS: u64 = 1;
 
+// How often a call goes by the hints before it looks at every slot.
+const ATTEMPTS: usize = 64;
+
 /// Values that rest until somebody takes one out.
 #[derive(Drop)]
 pub struct Pool<T, K, P: PoolRule<T, K>> {
     table: Table<Option<T>, View<K>, K, Resting<P>, Global>,
+    hints: Hints,
     places: u16,
     // Empty, with room for every value, so that `close` takes no memory.
     room: Vec<T>,
     ghost empty: { (vec_len room ≡ 0) × (places ≤ vec_capacity room) },
+    ghost hinted: { hints.slots ≡ places },
     ghost wide: { (table.shared.table_id.words ≡ places + 1) × (table.shared.table_id.slots ≡ places) },
 }
 
@@ -68,11 +74,13 @@ impl<T: Drop, K, P: PoolRule<T, K>> Pool<T, K, P> {
     {
         let mut room = values;
         let places = room.len() as u16;
+        let hints = Hints::new(alloc, places)?;
         let words = opening_words(alloc, places)?;
         let slots = Self::lay(alloc, about, &mut room)?;
         match Table::new(alloc, words.as_slice(), slots, about) {
             Ok((table, _seat)) => Ok(Pool {
                 table,
+                hints,
                 places,
                 room,
             }),
@@ -163,12 +171,34 @@ impl<T, K, P: PoolRule<T, K>> Pool<T, K, P> {
     {
         let mut reservation = reservation;
         for _turn in rt.forever() {
+            match self.seek(reservation) {
+                Ok(borrowed) => return borrowed,
+                Err(still) => reservation = still,
+            }
             match self.scan(reservation) {
                 Ok(borrowed) => return borrowed,
                 Err(still) => reservation = still,
             }
         }
         unreachable!()
+    }
+
+    // Goes by the hints, so often that other calls must have been in the way each time.
+    fn seek(&self, reservation: Reservation<T, K>) -> Result<Borrowed<T, K>, Reservation<T, K>>
+        requires { IsOf self.now.table.shared.table_id self.now.table.shared.key reservation.seat }
+        ensures taken { IfOk result (λ borrowed. IsOf self.now.table.shared.table_id self.now.table.shared.key borrowed.seat × P.belongs self.now.table.shared.key borrowed.value) }
+        ensures missed { IfErr result (λ still. IsOf self.now.table.shared.table_id self.now.table.shared.key still.seat) }
+    {
+        let mut reservation = reservation;
+        for _attempt in 0..ATTEMPTS {
+            if let Some(index) = self.hints.claim() {
+                match self.take_from(index, reservation) {
+                    Ok(borrowed) => return Ok(borrowed),
+                    Err(still) => reservation = still,
+                }
+            }
+        }
+        Err(reservation)
     }
 
     // Looks at every slot once.
@@ -180,7 +210,10 @@ impl<T, K, P: PoolRule<T, K>> Pool<T, K, P> {
         let mut reservation = reservation;
         for index in 0..self.places {
             match self.take_from(index, reservation) {
-                Ok(borrowed) => return Ok(borrowed),
+                Ok(borrowed) => {
+                    self.hints.clear(index);
+                    return Ok(borrowed);
+                }
                 Err(still) => reservation = still,
             }
         }

@@ -1,4 +1,4 @@
-use Rattle.std.proofs.Common.{◌≡◌, List, Option, Some, ap, rules, subst, sym, ◌∙◌, arith, refl}
+use Rattle.std.proofs.Common.{List, Option, Some, rules, subst, sym, refl}
 use Rattle.std.specs.Prelude.{All, IfSome}
 use Rattle.std.proofs.lemmas.List.Elements.{All-pop, All-push}
 use Rattle.saa_word_pool.specs.Kept.{IsRest}
@@ -13,7 +13,7 @@ loop-value-preserved g c =
       search rules,
       search rules,
       search rules,
-      subst (λ (l : List (Option g.row.T.Denot)). All (IsRest (g.P.PoolRule.belongs c.args.about.now)) l) (sym c.push_reserved.ensures.items)
+      subst (λ (l : List (Option g.row.T.Denot)). All (IsRest (g.P.PoolRule.belongs c.args.about.now)) l) (sym {A = List (Option g.row.T.Denot)} c.push_reserved.ensures.items)
           (All-push (IsRest (g.P.PoolRule.belongs c.args.about.now)) c.loop-value.slots.items (Some c.in-Some.value) c.loop-value.invariant.3
           (c.in-Some.value, refl, fits)),
       split.0,
