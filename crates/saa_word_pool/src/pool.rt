@@ -263,6 +263,7 @@ impl<T, K, P: PoolRule<T, K>> Pool<T, K, P> {
             Some(_) => unreachable!(),
         }
         self.table.shared.store::<PutBack>(&mut seat, slot, RESTS);
+        self.hints.show(index);
         self.table
             .shared
             .fetch_add::<CountedBack>(&mut seat, usize::from(self.places), 1);
