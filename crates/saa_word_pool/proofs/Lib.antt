@@ -3,3 +3,4 @@ pub mod Keeping
 pub mod Recording
 pub mod Stepping
 pub mod Opening
+pub mod Ending

@@ -1,12 +1,15 @@
 //! A pool of values, without a lock.
 
-ghost use Rattle.std.specs.Prelude.{◌≡◌, ℕ, ◌+◌, ◌<◌, ◌≤◌, ◌∷◌, ◌++◌, [], All, IfOk, IfErr, None, replicate, vec_capacity, vec_len};
+ghost use Rattle.std.specs.Prelude.{◌≡◌, ℕ, ◌+◌, ◌<◌, ◌≤◌, ◌∷◌, ◌++◌, [], All, false, IfOk, IfErr, IfSome, IsTrue, None, Some, replicate, slice_index_or, slice_set, vec_capacity, vec_len};
 ghost use Rattle.saa_word_pool.specs.declared.table.Part.TheVariants.{Refused, Reserved, Holding, Returning, Returned};
+ghost use Rattle.std.specs.Slots.{IsFull, slots_filled, slots_items, slots_len};
+ghost use mathlib.Core.Option.{some};
+ghost use lib.ListN.{get_elem?};
 ghost use Rattle.saa_word_pool.specs.Kept.{IsRest, at_part};
 
 use crate::hints::Hints;
 use crate::table::{Counted, CountedBack, Looked, PoolRule, PutBack, Resting, Taken, View};
-use atomic_table::{Seat, Table};
+use atomic_table::{Closed, Seat, Table};
 use std::alloc::{AllocError, Global};
 use std::sync::Wait;
 
@@ -100,6 +103,44 @@ impl<T: Drop, K, P: PoolRule<T, K>> Pool<T, K, P> {
         }
         Ok(slots)
     }
+
+    /// The values that are in, at the end. A value that is out, or was kept by `into_value`, isn't among them.
+    ///
+    /// Costs O(places), and takes no memory.
+    pub fn close(self) -> Vec<T>
+        ensures belong { All (P.belongs self.table.shared.key) result.items }
+        ensures few { vec_len result ≤ self.places }
+    {
+        let Pool {
+            table,
+            hints: _,
+            places,
+            room,
+        } = self;
+        let mut closed = table.close();
+        let mut values = room;
+        for index in 0..places {
+            if let Some(value) = take_rest(&mut closed, usize::from(index)) {
+                values.push_reserved(value);
+            }
+        }
+        closed.free();
+        values
+    }
+}
+
+// Empties a slot: its value, if it rests there.
+fn take_rest<T: Drop>(closed: &mut Closed<Option<T>, Global>, slot: usize) -> Option<T>
+    requires words { IsFull closed.old.words × (slot < slots_len closed.old.words) }
+    requires slots { (slot < slots_len closed.old.slots) × IsTrue (slice_index_or (slots_filled closed.old.slots) slot false) }
+    ensures rest { IfSome result (λ value. (get_elem? (slots_items closed.old.words) slot ≡ some 1) × (get_elem? (slots_items closed.old.slots) slot ≡ some (Some value))) }
+    ensures words { closed.new.words ≡ closed.old.words }
+    ensures slots { (slots_items closed.new.slots ≡ slots_items closed.old.slots) × (slots_len closed.new.slots ≡ slots_len closed.old.slots) }
+    ensures emptied { slots_filled closed.new.slots ≡ slice_set (slots_filled closed.old.slots) slot false }
+{
+    let number = closed.word(slot);
+    let inside = closed.take(slot);
+    if number == RESTS { inside } else { None }
 }
 
 // The words of a pool of which all values are in.
