@@ -63,6 +63,8 @@ struct Reservation<T, K> {
 }
 
 impl<T: Drop, K, P: PoolRule<T, K>> Pool<T, K, P> {
+    ghost use Rattle.saa_word_pool.specs.Pools.{key_of, places_of};
+
     /// A pool that has these values, none of which is out. It takes memory for a slot of each, and no other call of a pool takes any.
     ///
     /// Costs O(values).
@@ -73,7 +75,7 @@ impl<T: Drop, K, P: PoolRule<T, K>> Pool<T, K, P> {
     pub fn new(alloc: Global, values: Vec<T>, about: &K) -> Result<Self, AllocError>
         requires few { vec_len values < 65536 }
         requires belong { All (P.belongs about.now) values.items }
-        ensures made { IfOk result (λ pool. (pool.places ≡ vec_len values) × (pool.table.shared.key ≡ about.now)) }
+        ensures made { IfOk result (λ pool. (places_of pool ≡ vec_len values) × (key_of pool ≡ about.now)) }
     {
         let mut room = values;
         let places = room.len() as u16;
@@ -108,8 +110,8 @@ impl<T: Drop, K, P: PoolRule<T, K>> Pool<T, K, P> {
     ///
     /// Costs O(places), and takes no memory.
     pub fn close(self) -> Vec<T>
-        ensures belong { All (P.belongs self.table.shared.key) result.items }
-        ensures few { vec_len result ≤ self.places }
+        ensures belong { All (P.belongs (key_of self)) result.items }
+        ensures few { vec_len result ≤ places_of self }
     {
         let Pool {
             table,
@@ -167,7 +169,7 @@ impl<T, K> Borrowed<T, K> {
 }
 
 impl<T, K, P: PoolRule<T, K>> Pool<T, K, P> {
-    ghost use Rattle.saa_word_pool.specs.Pools.{IsOf};
+    ghost use Rattle.saa_word_pool.specs.Pools.{IsAt, IsFrom, IsReceiptOf, IsRefusedBy, key_of};
 
     /// Takes a value out.
     ///
@@ -175,8 +177,8 @@ impl<T, K, P: PoolRule<T, K>> Pool<T, K, P> {
     ///
     /// `AllOut` exactly where all values are out, or reserved by a call that takes one: nothing has changed then.
     pub fn take<R: Wait>(&self, rt: &R) -> Result<Borrowed<T, K>, AllOut<T, K>>
-        ensures taken { IfOk result (λ borrowed. IsOf self.now.table.shared.table_id self.now.table.shared.key borrowed.seat × P.belongs self.now.table.shared.key borrowed.value) }
-        ensures refused { IfErr result (λ all_out. IsOf self.now.table.shared.table_id self.now.table.shared.key all_out.seat) }
+        ensures taken { IfOk result (λ borrowed. IsFrom self.now borrowed × P.belongs (key_of self.now) borrowed.value) }
+        ensures refused { IfErr result (λ all_out. IsRefusedBy self.now all_out) }
     {
         let reservation = self.reserve(rt)?;
         Ok(self.redeem(rt, reservation))
@@ -184,8 +186,8 @@ impl<T, K, P: PoolRule<T, K>> Pool<T, K, P> {
 
     // Takes one from the count.
     fn reserve<R: Wait>(&self, rt: &R) -> Result<Reservation<T, K>, AllOut<T, K>>
-        ensures reserved { IfOk result (λ reservation. IsOf self.now.table.shared.table_id self.now.table.shared.key reservation.seat) }
-        ensures refused { IfErr result (λ all_out. IsOf self.now.table.shared.table_id self.now.table.shared.key all_out.seat) }
+        ensures reserved { IfOk result (λ reservation. IsAt self.now reservation.seat) }
+        ensures refused { IfErr result (λ all_out. IsRefusedBy self.now all_out) }
     {
         let count = usize::from(self.places);
         let (mut found, mut seat) = self.table.shared.load_new_seat::<Looked>(count);
@@ -207,8 +209,8 @@ impl<T, K, P: PoolRule<T, K>> Pool<T, K, P> {
 
     // Takes the value out of a slot, for a call that has taken one from the count.
     fn redeem<R: Wait>(&self, rt: &R, reservation: Reservation<T, K>) -> Borrowed<T, K>
-        requires { IsOf self.now.table.shared.table_id self.now.table.shared.key reservation.seat }
-        ensures { IsOf self.now.table.shared.table_id self.now.table.shared.key result.seat × P.belongs self.now.table.shared.key result.value }
+        requires { IsAt self.now reservation.seat }
+        ensures { IsFrom self.now result × P.belongs (key_of self.now) result.value }
     {
         let mut reservation = reservation;
         for _turn in rt.forever() {
@@ -226,9 +228,9 @@ impl<T, K, P: PoolRule<T, K>> Pool<T, K, P> {
 
     // Goes by the hints, so often that other calls must have been in the way each time.
     fn seek(&self, reservation: Reservation<T, K>) -> Result<Borrowed<T, K>, Reservation<T, K>>
-        requires { IsOf self.now.table.shared.table_id self.now.table.shared.key reservation.seat }
-        ensures taken { IfOk result (λ borrowed. IsOf self.now.table.shared.table_id self.now.table.shared.key borrowed.seat × P.belongs self.now.table.shared.key borrowed.value) }
-        ensures missed { IfErr result (λ still. IsOf self.now.table.shared.table_id self.now.table.shared.key still.seat) }
+        requires { IsAt self.now reservation.seat }
+        ensures taken { IfOk result (λ borrowed. IsFrom self.now borrowed × P.belongs (key_of self.now) borrowed.value) }
+        ensures missed { IfErr result (λ still. IsAt self.now still.seat) }
     {
         let mut reservation = reservation;
         for _attempt in 0..ATTEMPTS {
@@ -244,9 +246,9 @@ impl<T, K, P: PoolRule<T, K>> Pool<T, K, P> {
 
     // Looks at every slot once.
     fn scan(&self, reservation: Reservation<T, K>) -> Result<Borrowed<T, K>, Reservation<T, K>>
-        requires { IsOf self.now.table.shared.table_id self.now.table.shared.key reservation.seat }
-        ensures taken { IfOk result (λ borrowed. IsOf self.now.table.shared.table_id self.now.table.shared.key borrowed.seat × P.belongs self.now.table.shared.key borrowed.value) }
-        ensures missed { IfErr result (λ still. IsOf self.now.table.shared.table_id self.now.table.shared.key still.seat) }
+        requires { IsAt self.now reservation.seat }
+        ensures taken { IfOk result (λ borrowed. IsFrom self.now borrowed × P.belongs (key_of self.now) borrowed.value) }
+        ensures missed { IfErr result (λ still. IsAt self.now still.seat) }
     {
         let mut reservation = reservation;
         for index in 0..self.places {
@@ -268,9 +270,9 @@ impl<T, K, P: PoolRule<T, K>> Pool<T, K, P> {
         reservation: Reservation<T, K>,
     ) -> Result<Borrowed<T, K>, Reservation<T, K>>
         requires within { index < self.now.places }
-        requires ours { IsOf self.now.table.shared.table_id self.now.table.shared.key reservation.seat }
-        ensures taken { IfOk result (λ borrowed. IsOf self.now.table.shared.table_id self.now.table.shared.key borrowed.seat × P.belongs self.now.table.shared.key borrowed.value) }
-        ensures missed { IfErr result (λ still. IsOf self.now.table.shared.table_id self.now.table.shared.key still.seat) }
+        requires ours { IsAt self.now reservation.seat }
+        ensures taken { IfOk result (λ borrowed. IsFrom self.now borrowed × P.belongs (key_of self.now) borrowed.value) }
+        ensures missed { IfErr result (λ still. IsAt self.now still.seat) }
     {
         let slot = usize::from(index);
         if self.table.shared.peek(slot) != RESTS {
@@ -289,9 +291,9 @@ impl<T, K, P: PoolRule<T, K>> Pool<T, K, P> {
 
     /// Gives a value back. Nobody waits for this, and it is never refused.
     pub fn give(&self, borrowed: Borrowed<T, K>) -> Receipt<T, K>
-        requires ours { IsOf self.now.table.shared.table_id self.now.table.shared.key borrowed.seat }
-        requires belongs { P.belongs self.now.table.shared.key borrowed.value }
-        ensures { IsOf self.now.table.shared.table_id self.now.table.shared.key result.seat }
+        requires ours { IsFrom self.now borrowed }
+        requires belongs { P.belongs (key_of self.now) borrowed.value }
+        ensures { IsReceiptOf self.now result }
     {
         let Borrowed {
             mut seat,

@@ -1,4 +1,4 @@
-use Rattle.std.proofs.Common.{◌≡◌, ℕ, ◌+◌, ◌<◌, ◌≤◌, true, ◌++◌, ◌∷◌, [], Bool, false, List, Option as Maybe, Some, ap, get_or, rules, subst, sym, ◌∙◌}
+use Rattle.std.proofs.Common.{◌≡◌, ℕ, ◌+◌, ◌<◌, ◌≤◌, true, ◌++◌, ◌∷◌, [], Bool, false, List, Some, ap, get_or, rules, subst, sym, ◌∙◌}
 use Rattle.std.proofs.Math.ListN.{set}
 use Rattle.std.specs.Prelude.{All}
 use Rattle.std.specs.Slots.{slots_filled, slots_items}
