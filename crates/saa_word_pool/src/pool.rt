@@ -171,11 +171,16 @@ impl<T, K> Borrowed<T, K> {
 impl<T, K, P: PoolRule<T, K>> Pool<T, K, P> {
     ghost use Rattle.saa_word_pool.specs.Pools.{IsAt, IsFrom, IsReceiptOf, IsRefusedBy, key_of};
 
-    /// Takes a value out.
+    /// Takes a value out, which no other call gets until it is given back.
+    ///
+    /// It takes one from the count by an exchange, which it tries anew only where another call has changed the count meanwhile. Then it finds a slot, and
+    /// looks anew only where another call was faster there. Costs O(1) besides: it looks at 16 words of hints at most, and at every slot only if other
+    /// calls were in its way 64 times.
     ///
     /// # Errors
     ///
-    /// `AllOut` exactly where all values are out, or reserved by a call that takes one: nothing has changed then.
+    /// `AllOut` exactly where the count is 0: as many calls have a value, or are about to take one out or to count one that they gave back, as there are
+    /// values. Nothing has changed then.
     pub fn take<R: Wait>(&self, rt: &R) -> Result<Borrowed<T, K>, AllOut<T, K>>
         ensures taken { IfOk result (λ borrowed. IsFrom self.now borrowed × P.belongs (key_of self.now) borrowed.value) }
         ensures refused { IfErr result (λ all_out. IsRefusedBy self.now all_out) }
@@ -289,7 +294,7 @@ impl<T, K, P: PoolRule<T, K>> Pool<T, K, P> {
         }
     }
 
-    /// Gives a value back. Nobody waits for this, and it is never refused.
+    /// Gives a value back, into the slot that it was taken from, and counts it then. It is never refused. Costs O(1), and waits for nothing.
     pub fn give(&self, borrowed: Borrowed<T, K>) -> Receipt<T, K>
         requires ours { IsFrom self.now borrowed }
         requires belongs { P.belongs (key_of self.now) borrowed.value }
