@@ -11,4 +11,6 @@ mod held;
 #[cfg(test)]
 mod orders;
 #[cfg(test)]
+mod ruled;
+#[cfg(test)]
 mod sizes;
