@@ -26,6 +26,10 @@ about_of lock = lock.form.table.shared.key
 abbrev pub table_of : Lock → TableId
 table_of lock = lock.form.table.shared.table_id
 
+-- what a task that polls at it waits for
+abbrev pub source_of : Lock → ℕ
+source_of lock = lock.form.wakers.source.id
+
 -- a place was dealt by a lock, and so was a place that has left
 abbrev pub IsDealtBy : Lock → Place → Type 0
 IsDealtBy lock place = place.inner.seat.table_id ≡ table_of lock

@@ -21,6 +21,10 @@ about_of semaphore = semaphore.form.table.shared.key
 abbrev pub table_of : {max : ℕ} → SemaphoreOf max → TableId
 table_of semaphore = semaphore.form.table.shared.table_id
 
+-- what a task that polls at it waits for
+abbrev pub source_of : {max : ℕ} → SemaphoreOf max → ℕ
+source_of semaphore = semaphore.form.wakers.source.id
+
 -- a place was dealt by a semaphore, and so was a place that has left
 abbrev pub IsDealtBy : {max : ℕ} → SemaphoreOf max → Place → Type 0
 IsDealtBy semaphore place = place.seat.table_id ≡ table_of semaphore

@@ -102,7 +102,7 @@ impl Form {
         requires dealt { IsAt self.now place.seat }
         ensures left { HasLeft (needs self.now) (withheld self.now) place result }
     {
-        self.call(rt, watch, &mut place, WordCall::Cancel);
+        self.cancel(rt, watch, &mut place);
         let Place {
             seat,
             number,

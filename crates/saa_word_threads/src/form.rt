@@ -9,17 +9,19 @@ ghost use Rattle.saa_word_steps.specs.Needs.{needs_of};
 
 use crate::mark::Marks;
 use crate::table::{About, OneHistory, View};
+use crate::wakers::Wakers;
 use atomic_table::Table;
 use saa_word_steps::rules::Rules;
 use std::alloc::Global;
 
-/// A form of these rules, with so many places. Of each place it remembers whether it may be parked.
+/// A form of these rules, with so many places. Of each place it remembers whether it may be parked, and of the task that polls there its waker.
 #[derive(Drop)]
 pub struct Form {
     pub(crate) table: Table<(), View, About, OneHistory, Global>,
     pub(crate) rules: Rules,
     pub(crate) places: u16,
     pub(crate) marks: Marks,
+    pub(crate) wakers: Wakers,
     ghost words: { table.shared.table_id.words ≡ places + places + 1 },
     ghost key: { (table.shared.key.rules ≡ rules) × (table.shared.key.places ≡ places) },
     ghost slotless: { table.shared.table_id.slots ≡ 0 },

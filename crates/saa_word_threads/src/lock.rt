@@ -3,28 +3,36 @@
 //! Every call is one call of a place of the form (`call`), and is held to `specs/Locks.antt`, which says the same of a lock's places as
 //! `specs/Public.antt` of a semaphore's. Which owners may be there together is said by the steps (`saa_word_steps`), and nowhere here.
 
-ghost use Rattle.std.specs.Prelude.{◌≡◌, All, IfOk, map, vec_len};
+ghost use Rattle.std.specs.Prelude.{◌≡◌, ◌≢◌, All, Err, IfOk, map, vec_len};
 ghost use Rattle.saa_core_spec.specs.declared.lock.Mode.TheVariants.{Exclusive, Shared};
+ghost use Rattle.saa_core_spec.specs.declared.polling.Error.TheVariants.{NotReady};
 ghost use Rattle.saa_word_steps.specs.declared.call.Answer.{Answer};
+ghost use Rattle.saa_word_steps.specs.declared.call.Answer.TheVariants.{Taken};
 ghost use Rattle.saa_word_steps.specs.declared.call.WordCall.TheVariants.{TryLock, TryShare, RegisterMode, ReleaseLock, ReleaseShare, Downgrade, PoisonLock, ClearPoison, IsFree, IsLocked, IsShared, IsPoisoned, TryPoll, Poll, Cancel};
 ghost use Rattle.saa_word_steps.specs.declared.rules.Rules.TheVariants.{Modes};
 ghost use Rattle.saa_word_steps.specs.Readings.{mode_number};
 ghost use Rattle.saa_word_threads.specs.Dealt.{AreLedTo, IsLedTo, numbers};
 ghost use Rattle.saa_word_threads.specs.Patience.{none, waiting};
 ghost use Rattle.saa_word_threads.specs.Public.{is_yes, polled_lock, tried};
+ghost use Rattle.futures.specs.Task.{Hears, IsArmed, Keeps};
+ghost use Rattle.futures.specs.Poll.{IfReady, OnPending};
 
 use crate::answers::yes;
 use crate::form::Form;
+use crate::limit::{Limit, Until};
 use crate::looking::{NONE, Patience, WAITING};
 use crate::place::{Left as FormLeft, Place as FormPlace};
 use crate::watch::{Unwatched, Watch};
 pub use crate::words::Words;
+use futures::task::{self, Context};
+use saa_core_waits::Deadline;
 pub use saa_word_steps::call::{Error, Mode, TryLockError};
 use saa_word_steps::call::{Answer, WordCall};
 use saa_word_steps::place::Ask;
 use saa_word_steps::rules::Rules;
 use std::alloc::{AllocError, Global};
 use std::sync::Wait;
+use std::time::{Clock, Duration, Instant};
 
 // The numbers of what the tries and the releases ask and give back.
 pub(crate) const EXCLUSIVE: u16 = 0;
@@ -85,7 +93,7 @@ impl Left {
 }
 
 impl Lock {
-    ghost use Rattle.saa_word_threads.specs.Locks.{AreNew, HasLeft, IsDealtBy, IsLeftOf, IsMade, IsWaited, about_of, patience_of, table_of, view_left};
+    ghost use Rattle.saa_word_threads.specs.Locks.{AreNew, HasLeft, IsDealtBy, IsLeftOf, IsMade, IsWaited, about_of, patience_of, source_of, table_of, view_left};
 
     /// The most owners that share a lock.
     pub const MAX_SHARED_OWNERS: usize = 62;
@@ -316,7 +324,7 @@ impl Lock {
         requires { IsDealtBy self.now place.old }
         ensures called { (answer : Answer) × (result ≡ polled_lock answer) × IsMade TryPoll place.old answer place.new }
     {
-        polled(self.form.call_at_once(&mut place.inner, WordCall::TryPoll))
+        polled(self.form.try_poll(&mut place.inner))
     }
 
     /// Takes the answer of a registration, and waits for it where it must.
@@ -327,10 +335,96 @@ impl Lock {
         requires { IsDealtBy self.now place.old }
         ensures called { (answer : Answer) × (result ≡ polled_lock answer) × IsMade Poll place.old answer place.new }
     {
-        polled(
-            self.form
-                .call(rt, &Unwatched, &mut place.inner, WordCall::Poll),
-        )
+        polled(self.form.poll(rt, &Unwatched, &mut place.inner))
+    }
+
+    /// Takes the answer of a registration, and waits for it where it must, for so long at most.
+    ///
+    /// `NotReady` where the time is up: the place waits on, and is polled again or cancelled. Else it answers as [`Self::poll`]. Where the answer
+    /// isn't there and the clock can't be read, `NotReady` comes at once. It spins before it reads the clock again, so it may return some microseconds late.
+    pub fn poll_for<R: Wait + Clock>(
+        &self,
+        rt: &R,
+        place: &mut Place,
+        duration: Duration,
+    ) -> Result<bool, Error>
+        requires { IsDealtBy self.now place.old }
+        ensures called { (answer : Answer) × (result ≡ polled_lock answer) × IsMade TryPoll place.old answer place.new }
+    {
+        let deadline = Deadline::after(rt, duration);
+        self.poll_within(rt, &Unwatched, place, &Until::of(rt, deadline))
+    }
+
+    /// Takes the answer of a registration, and waits for it where it must, until this instant at the latest; else as [`Self::poll_for`].
+    pub fn poll_until<R: Wait + Clock>(
+        &self,
+        rt: &R,
+        place: &mut Place,
+        end: Instant,
+    ) -> Result<bool, Error>
+        requires { IsDealtBy self.now place.old }
+        ensures called { (answer : Answer) × (result ≡ polled_lock answer) × IsMade TryPoll place.old answer place.new }
+    {
+        self.poll_within(rt, &Unwatched, place, &Until::of(rt, Deadline::At(end)))
+    }
+
+    // Waits for the answer while the limit lets it, and then takes it if it is there.
+    pub(crate) fn poll_within<R: Wait, W: Watch, L: Limit>(
+        &self,
+        rt: &R,
+        watch: &W,
+        place: &mut Place,
+        limit: &L,
+    ) -> Result<bool, Error>
+        requires { IsDealtBy self.now place.old }
+        ensures called { (answer : Answer) × (result ≡ polled_lock answer) × IsMade TryPoll place.old answer place.new }
+    {
+        polled(self.form.poll_until(rt, watch, &mut place.inner, limit))
+    }
+
+    /// Takes the answer of a registration for a task, where it is there; never blocks.
+    ///
+    /// Where it isn't there yet the poll is pending, the place waits on, and the call that writes the answer wakes the task, behind that. Of several tasks
+    /// that polled the last is woken so, and the one that it replaces is woken for nothing. Where no waker can be kept (memory was refused, or a late wake
+    /// is about to take one out), the task is woken at once. `NotRegistered` where the place is registered as nothing. The waker goes as the answer is
+    /// taken, in whichever way, or the registration cancelled. A task may be woken for nothing. Costs one step at most, and a waker.
+    pub fn poll_task(
+        &self,
+        place: &mut Place,
+        cx: &mut Context<'_>,
+    ) -> task::Poll<Result<bool, Error>>
+        requires { IsDealtBy self.now place.old }
+        ensures ready { IfReady result (λ told. (answer : Answer) × (told ≡ polled_lock answer) × IsMade TryPoll place.old answer place.new) }
+        ensures waited { IfReady result (λ told. told ≢ Err NotReady) }
+        ensures pending { OnPending result (IsMade TryPoll place.old (Taken (Err NotReady)) place.new) }
+        ensures dealt { IsDealtBy self.now place.new }
+        ensures armed { OnPending result (IsArmed cx.new) }
+        ensures heard { OnPending result (Hears cx.new (source_of self.now)) }
+        ensures kept { Keeps cx.old cx.new }
+    {
+        self.poll_task_beside(&Unwatched, place, cx)
+    }
+
+    // Polls so beside a watch.
+    pub(crate) fn poll_task_beside<W: Watch>(
+        &self,
+        watch: &W,
+        place: &mut Place,
+        cx: &mut Context<'_>,
+    ) -> task::Poll<Result<bool, Error>>
+        requires { IsDealtBy self.now place.old }
+        ensures ready { IfReady result (λ told. (answer : Answer) × (told ≡ polled_lock answer) × IsMade TryPoll place.old answer place.new) }
+        ensures waited { IfReady result (λ told. told ≢ Err NotReady) }
+        ensures pending { OnPending result (IsMade TryPoll place.old (Taken (Err NotReady)) place.new) }
+        ensures dealt { IsDealtBy self.now place.new }
+        ensures armed { OnPending result (IsArmed cx.new) }
+        ensures heard { OnPending result (Hears cx.new (source_of self.now)) }
+        ensures kept { Keeps cx.old cx.new }
+    {
+        match self.form.poll_task(watch, &mut place.inner, cx) {
+            task::Poll::Ready(answer) => task::Poll::Ready(polled(answer)),
+            task::Poll::Pending => task::Poll::Pending,
+        }
     }
 
     /// Cancels a registration: the place leaves the waiters, or gives back what it was granted. Nothing, where it is registered as nothing.
@@ -340,8 +434,7 @@ impl Lock {
         requires { IsDealtBy self.now place.old }
         ensures called { (answer : Answer) × IsMade Cancel place.old answer place.new }
     {
-        self.form
-            .call(rt, &Unwatched, &mut place.inner, WordCall::Cancel);
+        self.form.cancel(rt, &Unwatched, &mut place.inner);
     }
 
     /// Whether the lock has no owner and isn't poisoned; never blocks. Costs one step.

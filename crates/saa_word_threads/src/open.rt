@@ -16,13 +16,14 @@ use crate::place::{Left, Place};
 use crate::straight::LastAsk;
 use crate::table::{About, Dealt, Gathered, Leaver, View};
 use crate::visitor::Visitor;
+use crate::wakers::Wakers;
 use crate::words::Words;
 use atomic_table::{Seat, Table};
 use saa_word_steps::place::{Back, Place as Position, Registration, Stage};
 use saa_word_steps::rules::Rules;
 use std::alloc::{AllocError, Global};
 use std::marker::Brand;
-use std::sync::atomic::AtomicBool;
+use std::sync::atomic::AtomicU8;
 
 impl Form {
     // A form of these rules of which so much is taken from the start, and its places.
@@ -39,6 +40,7 @@ impl Form {
     {
         let words = opening_words(alloc, withheld, places)?;
         let marks = Marks::of(opening_marks(alloc, places)?);
+        let wakers = Wakers::with_room(alloc, places)?;
         let about = About {
             rules,
             withheld,
@@ -50,6 +52,7 @@ impl Form {
             rules,
             places,
             marks,
+            wakers,
         };
         let room = Vec::with_capacity(alloc, usize::from(places))?;
         let dealt = form.deal(dealer, room);
@@ -107,6 +110,7 @@ impl Form {
             rules: _,
             places,
             marks: _,
+            wakers: _,
         } = self;
         let Left { seat, number: _ } = left;
         let closed = table.close_with(seat);
@@ -124,6 +128,7 @@ impl Form {
             rules: _,
             places,
             marks: _,
+            wakers: _,
         } = self;
         let Visitor { seat } = visitor;
         let closed = table.close_with(seat);
@@ -168,6 +173,7 @@ impl Form {
             rules: _,
             places,
             marks: _,
+            wakers: _,
         } = self;
         let Some(Left { seat, number: _ }) = witness else {
             let closed = table.close();
@@ -188,13 +194,13 @@ fn opening_words(alloc: Global, withheld: u16, places: u16) -> Result<Vec<u64>, 
     Ok(words)
 }
 
-// A mark for each place, that it isn't parked.
-fn opening_marks(alloc: Global, places: u16) -> Result<Vec<AtomicBool>, AllocError>
+// A mark for each place, that it isn't parked and no task polls there.
+fn opening_marks(alloc: Global, places: u16) -> Result<Vec<AtomicU8>, AllocError>
     ensures { IfOk result (λ marks. vec_len marks ≡ places) }
 {
     let mut marks = Vec::with_capacity(alloc, usize::from(places))?;
     for _place in 0..places {
-        marks.push_reserved(AtomicBool::new(false));
+        marks.push_reserved(AtomicU8::new(0));
     }
     Ok(marks)
 }

@@ -38,6 +38,13 @@ impl Place {
     {
         matches!(self.position.registration, Registration::Idle)
     }
+
+    // Whether it has joined the waiters, and has no answer that it has taken.
+    pub(crate) fn has_joined(&self) -> bool
+        ensures { result ≡ is_slot self.now.position.registration }
+    {
+        matches!(self.position.registration, Registration::Slot(_))
+    }
 }
 
 /// A place that has left the object that dealt it.

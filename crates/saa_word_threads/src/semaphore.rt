@@ -3,28 +3,35 @@
 //! Every call is one call of a place of the form (`call`), and is held to `specs/Public.antt`. The history of all calls is one: it leads to
 //! the words, begins with what each place has seen, and has of each place just its own events.
 
-ghost use Rattle.std.specs.Prelude.{◌≡◌, ◌<◌, All, IfOk, map, min, vec_len};
+ghost use Rattle.std.specs.Prelude.{◌≡◌, ◌≢◌, ◌<◌, All, Err, IfOk, map, min, vec_len};
 ghost use Rattle.saa_core_spec.specs.declared.polling.Error.{Error};
+ghost use Rattle.saa_core_spec.specs.declared.polling.Error.TheVariants.{NotReady};
 ghost use Rattle.saa_word_steps.specs.declared.call.Answer.{Answer};
-ghost use Rattle.saa_word_steps.specs.declared.call.Answer.TheVariants.{Number};
+ghost use Rattle.saa_word_steps.specs.declared.call.Answer.TheVariants.{Number, Taken};
 ghost use Rattle.saa_word_steps.specs.declared.call.WordCall.TheVariants.{Try, Register, Release, Available, TryPoll, Poll, Cancel};
 ghost use Rattle.saa_word_steps.specs.declared.rules.Rules.TheVariants.{Permits};
 ghost use Rattle.saa_word_threads.specs.Dealt.{AreLedTo, AreNew, IsLedTo, numbers};
 ghost use Rattle.saa_word_threads.specs.Patience.{none, waiting};
 ghost use Rattle.saa_word_threads.specs.Public.{is_yes, patience_of, polled, view_left};
+ghost use Rattle.futures.specs.Task.{Hears, IsArmed, Keeps};
+ghost use Rattle.futures.specs.Poll.{IfReady, OnPending};
 
 use crate::answers::yes;
 use crate::form::Form;
+use crate::limit::{Limit, Until};
 use crate::looking::{NONE, Patience, WAITING};
 pub use crate::place::{Left, Place};
 use crate::watch::{Unwatched, Watch};
 pub use crate::words::Words;
+use futures::task::{self, Context};
+use saa_core_waits::Deadline;
 pub use saa_word_steps::call::Error;
 use saa_word_steps::call::{Answer, WordCall};
 use saa_word_steps::place::Ask;
 use saa_word_steps::rules::Rules;
 use std::alloc::{AllocError, Global};
 use std::sync::Wait;
+use std::time::{Clock, Duration, Instant};
 
 /// Up to `MAX` permits, 1 to 65,535, in one atomic word.
 ///
@@ -44,7 +51,7 @@ pub struct SemaphoreOf<const MAX: usize> {
 pub type Semaphore = SemaphoreOf<63>;
 
 impl<const MAX: usize> SemaphoreOf<MAX> {
-    ghost use Rattle.saa_word_threads.specs.Semaphores.{HasLeft, IsDealtBy, IsLeftOf, IsMade, IsWaited, about_of, table_of};
+    ghost use Rattle.saa_word_threads.specs.Semaphores.{HasLeft, IsDealtBy, IsLeftOf, IsMade, IsWaited, about_of, source_of, table_of};
 
     /// The most permits of a semaphore.
     pub const MAX_PERMITS: usize = MAX;
@@ -180,7 +187,7 @@ impl<const MAX: usize> SemaphoreOf<MAX> {
         requires { IsDealtBy self.now place.old }
         ensures called { (answer : Answer) × (result ≡ polled answer) × IsMade self.now TryPoll place.old answer place.new }
     {
-        taken(self.form.call_at_once(place, WordCall::TryPoll))
+        taken(self.form.try_poll(place))
     }
 
     /// Takes the answer of a registration, and waits for it where it must.
@@ -190,7 +197,97 @@ impl<const MAX: usize> SemaphoreOf<MAX> {
         requires { IsDealtBy self.now place.old }
         ensures called { (answer : Answer) × (result ≡ polled answer) × IsMade self.now Poll place.old answer place.new }
     {
-        taken(self.form.call(rt, &Unwatched, place, WordCall::Poll))
+        taken(self.form.poll(rt, &Unwatched, place))
+    }
+
+    /// Takes the answer of a registration, and waits for it where it must, for so long at most.
+    ///
+    /// `NotReady` where the time is up: the place waits on, and is polled again or cancelled. `NotRegistered` where it is registered as nothing. Where
+    /// the answer isn't there and the clock can't be read, `NotReady` comes at once. It spins before it reads the clock again, so it may return some
+    /// microseconds late.
+    pub fn poll_for<R: Wait + Clock>(
+        &self,
+        rt: &R,
+        place: &mut Place,
+        duration: Duration,
+    ) -> Result<(), Error>
+        requires { IsDealtBy self.now place.old }
+        ensures called { (answer : Answer) × (result ≡ polled answer) × IsMade self.now TryPoll place.old answer place.new }
+    {
+        let deadline = Deadline::after(rt, duration);
+        self.poll_within(rt, &Unwatched, place, &Until::of(rt, deadline))
+    }
+
+    /// Takes the answer of a registration, and waits for it where it must, until this instant at the latest; else as [`Self::poll_for`].
+    pub fn poll_until<R: Wait + Clock>(
+        &self,
+        rt: &R,
+        place: &mut Place,
+        end: Instant,
+    ) -> Result<(), Error>
+        requires { IsDealtBy self.now place.old }
+        ensures called { (answer : Answer) × (result ≡ polled answer) × IsMade self.now TryPoll place.old answer place.new }
+    {
+        self.poll_within(rt, &Unwatched, place, &Until::of(rt, Deadline::At(end)))
+    }
+
+    // Waits for the answer while the limit lets it, and then takes it if it is there.
+    pub(crate) fn poll_within<R: Wait, W: Watch, L: Limit>(
+        &self,
+        rt: &R,
+        watch: &W,
+        place: &mut Place,
+        limit: &L,
+    ) -> Result<(), Error>
+        requires { IsDealtBy self.now place.old }
+        ensures called { (answer : Answer) × (result ≡ polled answer) × IsMade self.now TryPoll place.old answer place.new }
+    {
+        taken(self.form.poll_until(rt, watch, place, limit))
+    }
+
+    /// Takes the answer of a registration for a task, where it is there; never blocks.
+    ///
+    /// Where it isn't there yet the poll is pending, the place waits on, and the call that writes the answer wakes the task, behind that. Of several tasks
+    /// that polled the last is woken so, and the one that it replaces is woken for nothing. Where no waker can be kept (memory was refused, or a late wake
+    /// is about to take one out), the task is woken at once. `NotRegistered` where the place is registered as nothing. The waker goes as the answer is
+    /// taken, in whichever way, or the registration cancelled. A task may be woken for nothing. Costs one step at most, and a waker.
+    pub fn poll_task(
+        &self,
+        place: &mut Place,
+        cx: &mut Context<'_>,
+    ) -> task::Poll<Result<(), Error>>
+        requires { IsDealtBy self.now place.old }
+        ensures ready { IfReady result (λ told. (answer : Answer) × (told ≡ polled answer) × IsMade self.now TryPoll place.old answer place.new) }
+        ensures waited { IfReady result (λ told. told ≢ Err NotReady) }
+        ensures pending { OnPending result (IsMade self.now TryPoll place.old (Taken (Err NotReady)) place.new) }
+        ensures dealt { IsDealtBy self.now place.new }
+        ensures armed { OnPending result (IsArmed cx.new) }
+        ensures heard { OnPending result (Hears cx.new (source_of self.now)) }
+        ensures kept { Keeps cx.old cx.new }
+    {
+        self.poll_task_beside(&Unwatched, place, cx)
+    }
+
+    // Polls so beside a watch.
+    pub(crate) fn poll_task_beside<W: Watch>(
+        &self,
+        watch: &W,
+        place: &mut Place,
+        cx: &mut Context<'_>,
+    ) -> task::Poll<Result<(), Error>>
+        requires { IsDealtBy self.now place.old }
+        ensures ready { IfReady result (λ told. (answer : Answer) × (told ≡ polled answer) × IsMade self.now TryPoll place.old answer place.new) }
+        ensures waited { IfReady result (λ told. told ≢ Err NotReady) }
+        ensures pending { OnPending result (IsMade self.now TryPoll place.old (Taken (Err NotReady)) place.new) }
+        ensures dealt { IsDealtBy self.now place.new }
+        ensures armed { OnPending result (IsArmed cx.new) }
+        ensures heard { OnPending result (Hears cx.new (source_of self.now)) }
+        ensures kept { Keeps cx.old cx.new }
+    {
+        match self.form.poll_task(watch, place, cx) {
+            task::Poll::Ready(answer) => task::Poll::Ready(taken(answer)),
+            task::Poll::Pending => task::Poll::Pending,
+        }
     }
 
     /// Cancels a registration: the place leaves the waiters, or gives back what it was granted. Nothing, where it is registered as nothing.
@@ -200,7 +297,7 @@ impl<const MAX: usize> SemaphoreOf<MAX> {
         requires { IsDealtBy self.now place.old }
         ensures called { (answer : Answer) × IsMade self.now Cancel place.old answer place.new }
     {
-        self.form.call(rt, &Unwatched, place, WordCall::Cancel);
+        self.form.cancel(rt, &Unwatched, place);
     }
 
     /// How many permits are available; never blocks. Costs one step.

@@ -4,18 +4,22 @@
 
 ghost use Rattle.std.specs.Prelude.{◌≡◌};
 ghost use Rattle.saa_word_steps.specs.declared.call.Answer.{Answer};
-ghost use Rattle.saa_word_steps.specs.declared.call.WordCall.TheVariants.{Cancel, RegisterMode, Release, ReleaseShare, TryShare};
+ghost use Rattle.saa_word_steps.specs.declared.call.WordCall.TheVariants.{Cancel, RegisterMode, Release, ReleaseShare, TryPoll, TryShare};
 ghost use Rattle.saa_word_threads.specs.Locks.{IsDealtBy as IsDealtByLock, IsMade as IsMadeAtLock, IsWaited as IsWaitedAtLock};
-ghost use Rattle.saa_word_threads.specs.Public.{is_yes, tried};
+ghost use Rattle.saa_word_threads.specs.Public.{is_yes, polled_lock, tried};
 ghost use Rattle.saa_word_threads.specs.Semaphores.{IsDealtBy, IsMade, IsWaited};
+ghost use Rattle.futures.specs.Task.{IsArmed, Keeps};
+ghost use Rattle.futures.specs.Poll.{IfReady, OnPending};
 
 use crate::answers::yes;
-use crate::lock::{Lock, Mode, Place as LockPlace, SHARED, TryLockError, tried};
+pub use crate::limit::Limit;
+use crate::lock::{Error, Lock, Mode, Place as LockPlace, SHARED, TryLockError, tried};
 pub use crate::looking::{NONE, Patience, WAITING};
 pub use crate::mark::{is_parked, is_parked_at};
 use crate::place::Place;
 use crate::semaphore::SemaphoreOf;
 pub use crate::watch::{Made, Moment, Pause, Watch};
+use futures::task::{Context, Poll};
 use saa_core_words::word::Word;
 use saa_word_steps::call::WordCall;
 use saa_word_steps::place::{Ask, Stage};
@@ -49,7 +53,7 @@ pub fn cancel_watched<R: Wait, W: Watch, const MAX: usize>(
     requires { IsDealtBy semaphore.now place.old }
     ensures { (answer : Answer) × IsMade semaphore.now Cancel place.old answer place.new }
 {
-    semaphore.form.call(rt, watch, place, WordCall::Cancel);
+    semaphore.form.cancel(rt, watch, place);
 }
 
 /// Waits for permits as [`SemaphoreOf::acquire_many`] does, beside a watch, and joins the waiters once this patience is over.
@@ -129,6 +133,36 @@ pub fn wait_patiently<R: Wait, W: Watch>(
     ensures { IsWaitedAtLock mode place.old result place.new }
 {
     lock.wait_patiently(rt, watch, place, mode, patience)
+}
+
+/// Polls as [`Lock::poll_until`] does, beside a watch, while the limit lets it wait.
+pub fn poll_within<R: Wait, W: Watch, L: Limit>(
+    lock: &Lock,
+    rt: &R,
+    watch: &W,
+    place: &mut LockPlace,
+    limit: &L,
+) -> Result<bool, Error>
+    requires { IsDealtByLock lock.now place.old }
+    ensures { (answer : Answer) × (result ≡ polled_lock answer) × IsMadeAtLock TryPoll place.old answer place.new }
+{
+    lock.poll_within(rt, watch, place, limit)
+}
+
+/// Polls for a task as [`Lock::poll_task`] does, beside a watch.
+pub fn poll_task_watched<W: Watch>(
+    lock: &Lock,
+    watch: &W,
+    place: &mut LockPlace,
+    cx: &mut Context<'_>,
+) -> Poll<Result<bool, Error>>
+    requires { IsDealtByLock lock.now place.old }
+    ensures ready { IfReady result (λ told. (answer : Answer) × (told ≡ polled_lock answer) × IsMadeAtLock TryPoll place.old answer place.new) }
+    ensures dealt { IsDealtByLock lock.now place.new }
+    ensures armed { OnPending result (IsArmed cx.new) }
+    ensures kept { Keeps cx.old cx.new }
+{
+    lock.poll_task_beside(watch, place, cx)
 }
 
 /// Whether a place that asks for the lock, and is about to exchange a free word, would do so now. Another place may change that meanwhile.

@@ -1,8 +1,9 @@
 //! How a place waits for another one: it spins, yields, and then parks on its own answer word.
 
-ghost use Rattle.std.specs.Prelude.{◌<◌};
+ghost use Rattle.std.specs.Prelude.{◌<◌, ◌+◌};
 
 use crate::form::Form;
+use crate::limit::{Endless, Limit};
 use crate::watch::{Moment, Pause, Watch};
 use saa_word_steps::place::Stage;
 use std::sync::Wait;
@@ -18,37 +19,82 @@ impl Form {
         requires { me < self.now.places }
     {
         if let Stage::Take { .. } = stage {
-            self.await_answer(rt, watch, me);
+            self.await_answer(rt, watch, me, &Endless);
         } else {
             Pause::Defers.make(watch);
         }
     }
 
-    // Waits until the answer word of a place may have changed.
-    fn await_answer<R: Wait, W: Watch>(&self, rt: &R, watch: &W, me: u16)
+    // Waits until the answer word of a place has changed, or the time is up.
+    pub(crate) fn await_until<R: Wait, W: Watch, L: Limit>(
+        &self,
+        rt: &R,
+        watch: &W,
+        me: u16,
+        limit: &L,
+    )
+        requires { me < self.now.places }
+    {
+        for _ in rt.forever() {
+            if self.is_answered(me) || limit.left().is_none() {
+                return;
+            }
+            self.await_answer(rt, watch, me, limit);
+        }
+    }
+
+    // Waits until the answer word of a place may have changed, or the time is up.
+    fn await_answer<R: Wait, W: Watch, L: Limit>(&self, rt: &R, watch: &W, me: u16, limit: &L)
         requires { me < self.now.places }
     {
         let index = usize::from(self.places) + usize::from(me) + 1;
-        for _turn in 0..LOOKS {
-            watch.at(Moment::LooksForAnswer);
-            if self.table.shared.peek(index) != 0 {
-                return;
-            }
-            Pause::SpinsForAnswer.make(watch);
+        if self.spins_until_changed(watch, index)
+            || self.yields_until_changed(watch, index, limit)
+        {
+            return;
         }
-        for _turn in 0..YIELDS {
-            if self.table.shared.peek(index) != 0 {
-                return;
-            }
-            Pause::YieldsForAnswer.make(watch);
-        }
+        let Some(left) = limit.left() else {
+            return;
+        };
         // Why this order: the place that shows the answer looks at this mark once the answer is written, and parking looks at the word once the mark
         // is set. The other way round no wake would follow an answer between the two.
         let place = usize::from(me);
-        self.marks.set(place);
+        self.marks.set_parked(place);
         watch.at(Moment::Parks);
-        self.table.shared.park(rt, index, 0);
+        self.table.shared.park_timeout(rt, index, 0, left);
         watch.at(Moment::IsBack);
-        self.marks.clear(place);
+        self.marks.clear_parked(place);
+    }
+
+    // Spins until an answer word has changed, or so often that it is time to yield; whether it has changed.
+    #[inline(always)]
+    fn spins_until_changed<W: Watch>(&self, watch: &W, index: usize) -> bool
+        requires { index < self.now.places + self.now.places + 1 }
+    {
+        for _turn in 0..LOOKS {
+            watch.at(Moment::LooksForAnswer);
+            if self.table.shared.peek(index) != 0 {
+                return true;
+            }
+            Pause::SpinsForAnswer.make(watch);
+        }
+        false
+    }
+
+    // Yields until an answer word has changed, or so often that it is time to park, or the time is up; whether it has changed.
+    #[inline(always)]
+    fn yields_until_changed<W: Watch, L: Limit>(&self, watch: &W, index: usize, limit: &L) -> bool
+        requires { index < self.now.places + self.now.places + 1 }
+    {
+        for _turn in 0..YIELDS {
+            if self.table.shared.peek(index) != 0 {
+                return true;
+            }
+            if limit.left().is_none() {
+                return false;
+            }
+            Pause::YieldsForAnswer.make(watch);
+        }
+        false
     }
 }

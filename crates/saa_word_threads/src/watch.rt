@@ -27,11 +27,15 @@ pub enum Moment {
     Parks,
     /// A waiter has come back from parking.
     IsBack,
+    /// A task that polls has found no answer, and is about to leave its waker.
+    Keeps,
+    /// It has left its waker, or is woken at once, and is about to look for its answer.
+    Polls,
     /// An answer is about to be written for this place.
     Writes(u16),
     /// An answer was written for this place, which isn't woken yet.
     Answers(u16),
-    /// This place may be parked, and is about to be woken.
+    /// This place may be parked, or a task polls there, and is about to be woken.
     Wakes(u16),
 }
 

@@ -45,6 +45,10 @@ mod sleepers;
 #[cfg(test)]
 mod tally;
 #[cfg(test)]
+mod task_polls;
+#[cfg(test)]
+mod timed_polls;
+#[cfg(test)]
 mod visits;
 #[cfg(test)]
 mod worker;

@@ -111,7 +111,7 @@ impl Tally {
             Moment::IsBack => Some(&self.backs),
             Moment::Answers(_) => Some(&self.answers),
             Moment::Wakes(_) => Some(&self.wakes),
-            Moment::Publishes | Moment::Writes(_) => None,
+            Moment::Keeps | Moment::Polls | Moment::Publishes | Moment::Writes(_) => None,
         }
     }
 

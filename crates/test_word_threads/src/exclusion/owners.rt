@@ -1,6 +1,6 @@
 //! Threads with a place each at the word's lock: a writer is alone while sharers share, with cancels, tries and downgrades among their turns.
 
-ghost use Rattle.std.specs.Prelude.{All};
+ghost use Rattle.std.specs.Prelude.{All, IfSome};
 ghost use Rattle.saa_word_threads.specs.Locks.{IsDealtBy};
 
 use crate::exclusion::inside::Inside;
@@ -186,16 +186,27 @@ fn take_all_turns<R: Wait + Threads + Sync>(
     Ok(all)
 }
 
+// Takes the last of the places that a lock dealt.
+fn last_of(lock: &Lock, places: &mut Vec<Place>) -> Option<Place>
+    requires { All (IsDealtBy lock.now) places.old.items }
+    ensures rest { All (IsDealtBy lock.now) places.new.items }
+    ensures last { IfSome result (λ place. IsDealtBy lock.now place) }
+{
+    let _shared = lock;
+    places.pop()
+}
+
 // How a crowd ends: how much came of all turns, whether the lock was poisoned then, and the main word once all have left.
 fn end_of<R: Wait + Threads + Sync + AllocGlobal>(
     rt: &R,
     scene: &Scene,
 ) -> Result<(u64, bool, u64), AllocError> {
     let (lock, mut places) = Lock::new(rt.alloc(), scene.crowd.threads.saturating_add(1))?;
-    let Some(mut witness) = places.pop() else {
-        unreachable!()
-    };
+    let witness = last_of(&lock, &mut places);
     let all = take_all_turns(rt, &lock, places, scene)?;
+    let Some(mut witness) = witness else {
+        return Ok((0, false, u64::MAX));
+    };
     let was_poisoned = lock.clear_poison(rt, &mut witness);
     let left = lock.leave(rt, witness);
     Ok((all, was_poisoned, lock.close(left).main()))

@@ -1,0 +1,6 @@
+pub mod Totals
+pub mod Keeping
+pub mod Recording
+pub mod Stepping
+pub mod Opening
+pub mod Ending
