@@ -28,13 +28,23 @@ pub fn both<R: Wait + AllocGlobal + RandomSource>(
         |told| -> u64
             requires { ⊤ }
             ensures { ⊤ }
-        { read(told) },
+        {
+            match told {
+                Ok(guard) => *guard,
+                Err(_full) => 0,
+            }
+        },
     );
     let second = lock_async(other).map(
         |told| -> u64
             requires { ⊤ }
             ensures { ⊤ }
-        { read(told) },
+        {
+            match told {
+                Ok(guard) => *guard,
+                Err(_full) => 0,
+            }
+        },
     );
     block_on(rt, join(first, second))
 }

@@ -6,6 +6,7 @@ use crate::turns::PERMITS;
 use futures::Future;
 use futures::task::Context;
 use futures::test::MockTask;
+use saa_core::Primitive;
 use saa_core::semaphore::SemaphoreCore;
 use saa_core::ticket::{How, Ticket};
 use saa_sync::future::Acquire;

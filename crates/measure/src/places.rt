@@ -6,7 +6,7 @@ use crate::meeting::Meeting;
 use crate::takers::{At, AtPlace, Enter};
 use saa_sync::lock::Lock;
 use saa_sync::lock_api;
-use saa_sync::patience::{NONE, Patience, UNREGISTERED};
+use saa_sync::spin_policy::{DEFAULT, NONE, SpinPolicy};
 use saa_word_forms::mutex::Mutex as WordMutex;
 use saa_word_threads::lock::Lock as WordLock;
 use std::alloc::Global;
@@ -44,7 +44,7 @@ pub fn meet_at<R: Threads + Wait + Clock + Sync>(
     meeting: &Meeting,
 ) {
     match kind {
-        Kind::Lock => meet_at_lock(rt, alloc, meeting, UNREGISTERED),
+        Kind::Lock => meet_at_lock(rt, alloc, meeting, DEFAULT),
         Kind::StrictLock => meet_at_lock(rt, alloc, meeting, NONE),
         Kind::Mutex => meet_at_mutex(rt, alloc, meeting),
         Kind::WordLock => meet_at_word_lock(rt, alloc, meeting),
@@ -58,9 +58,9 @@ fn meet_at_lock<R: Threads + Wait + Clock + Sync>(
     rt: &R,
     alloc: Global,
     meeting: &Meeting,
-    patience: Patience,
+    patience: SpinPolicy,
 ) {
-    if let Ok(lock) = Lock::with_patience(rt, alloc, ROOM, patience) {
+    if let Ok(lock) = Lock::with_spin_policy(rt, alloc, ROOM, patience) {
         meet(rt, alloc, meeting, &lock);
     }
 }

@@ -14,5 +14,5 @@ pub use saa_sync::{
     Barrier, Full, Gate, Guard, Lock, Lowers, Mutex, MutexGuard, Pager, Permit, PermitOf, RwLock,
     RwLockReadGuard, RwLockWriteGuard, Semaphore, SemaphoreOf, TryLockError, Turn, ValueMut,
     ValueRef, Writing, barrier, form, future, gate, line, lock, lock_api, lock_async, pager,
-    patience, read_async, semaphore, ticket, timed, words, write_async,
+    read_async, semaphore, spin_policy, ticket, timed, waits, words, write_async,
 };

@@ -7,8 +7,8 @@ use Rattle.std.proofs.lemmas.Bool.Decides.{nat_tests}
 use Rattle.std.proofs.lemmas.List.{length-set, length_push, length-replicate}
 use Rattle.saa_core_spec.specs.declared.request.Request.{Request}
 use Rattle.saa_core_spec.specs.Object.{Waiter, one_if, times, without}
-use Rattle.saa_core.specs.Slots.{answer_in, answer_count, IsSound, answered_slots, count_of, owed_after}
-use Rattle.saa_core.specs.LineParts.{mark_of, IsLine, AreOwed}
+use Rattle.saa_core.specs.Slots.{answer_in, answer_count, IsSound, answered_slots, count_of, pending_after}
+use Rattle.saa_core.specs.LineParts.{mark_of, IsLine, ArePending}
 use Rattle.saa_core.proofs.WakesLemmas.{count_of-push, get_or-set_cases, mark_of-replicate}
 use Rattle.saa_core_spec.proofs.Counts.{one_if-le, one_if-same, times-push, without-absent, times-without_same, times-without_other, length-without}
 
@@ -68,9 +68,9 @@ answer_count-replicate zero = refl
 answer_count-replicate (suc room) = omega (arith, answer_count-replicate room)
 
 -- what users see of a line is sound
-pub IsSound-from_line : (line : List Waiter) (answers : List (Option ℕ)) (owed free : List ℕ) (waiting : List Bool) → IsLine line answers free waiting → AreOwed owed (length answers)
-    → IsSound (record { line = line; answers = answers; owed = owed })
-IsSound-from_line line answers owed free waiting h wakes = record { each = λ slot. omega (arith, h.each slot); owed_once = wakes.each; small = h.small }
+pub IsSound-from_line : (line : List Waiter) (answers : List (Option ℕ)) (pending_wakes free : List ℕ) (waiting : List Bool) → IsLine line answers free waiting → ArePending pending_wakes (length answers)
+    → IsSound (record { line = line; answers = answers; pending_wakes = pending_wakes })
+IsSound-from_line line answers pending_wakes free waiting h wakes = record { each = λ slot. omega (arith, h.each slot); pending_once = wakes.each; small = h.small }
 
 -- a slot that waits or has an answer or is free is below the room
 pub IsLine-within : (line : List Waiter) (answers : List (Option ℕ)) (free : List ℕ) (waiting : List Bool) (slot : ℕ) → IsLine line answers free waiting → 0 < times slot line + one_if (is_some (answer_in answers slot)) + count_of slot free → slot < length answers
@@ -263,12 +263,12 @@ IsLine-not_free line answers free waiting slot value there h =
     omega (arith, some, answer_count-set answers slot None within, h.total)
 
 -- to answer the oldest and then the j after it is to answer one more than j
-pub answered-step : (value j : ℕ) (line : List Waiter) (answers : List (Option ℕ)) (owed : List ℕ) → j < length line
+pub answered-step : (value j : ℕ) (line : List Waiter) (answers : List (Option ℕ)) (pending_wakes : List ℕ) → j < length line
     → (j ≤ length (drop 1 line)) × (drop j (drop 1 line) ≡ drop (suc j) line)
     × (answered_slots value (take j (drop 1 line)) (answered_slots value (take 1 line) answers) ≡ answered_slots value (take (suc j) line) answers)
-    × (owed_after (take j (drop 1 line)) (owed_after (take 1 line) owed) ≡ owed_after (take (suc j) line) owed)
-answered-step value j [] answers owed within = absurd (omega arith)
-answered-step value j (first ∷ rest) answers owed within = (omega arith, refl, refl, refl)
+    × (pending_after (take j (drop 1 line)) (pending_after (take 1 line) pending_wakes) ≡ pending_after (take (suc j) line) pending_wakes)
+answered-step value j [] answers pending_wakes within = absurd (omega arith)
+answered-step value j (first ∷ rest) answers pending_wakes within = (omega arith, refl, refl, refl)
 
 -- one more number is below the next bound
 pub one_if-nat_lt-next : (a b : ℕ) → one_if (nat_lt a (b + 1)) ≡ one_if (nat_lt a b) + one_if (b == a)

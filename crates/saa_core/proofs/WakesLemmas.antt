@@ -4,8 +4,8 @@ use Rattle.std.proofs.lemmas.Bool.{cases_Bool}
 use Rattle.std.proofs.lemmas.Bool.Decides.{nat_tests}
 use Rattle.std.proofs.lemmas.List.{get_or-set_same, get_or-set_other, length_push}
 use Rattle.saa_core_spec.specs.Object.{Waiter, one_if, times}
-use Rattle.saa_core.specs.Slots.{count_of, owing, owed_after}
-use Rattle.saa_core.specs.LineParts.{mark_of, mark_count, IsListed, AreOwed}
+use Rattle.saa_core.specs.Slots.{count_of, pending_with, pending_after}
+use Rattle.saa_core.specs.LineParts.{mark_of, mark_count, IsListed, ArePending}
 use Rattle.saa_core_spec.proofs.Counts.{one_if-le}
 
 -- the end of a list counts as its start does
@@ -147,24 +147,24 @@ replicate-pushed {X = X} xs ys room x was now =
 -- The wakes that are owed
 
 -- none are owed
-pub AreOwed-none : (room : ℕ) → AreOwed [] room
-AreOwed-none room = record { each = λ slot. omega arith }
+pub ArePending-none : (room : ℕ) → ArePending [] room
+ArePending-none room = record { each = λ slot. omega arith }
 
 -- one more is owed
-pub AreOwed-owing : (slot : ℕ) (owed : List ℕ) (room : ℕ) → slot < room → AreOwed owed room → AreOwed (owing slot owed) room
-AreOwed-owing slot owed room within h =
-    elim (cases_Bool (nat_lt 0 (count_of slot owed))) [
+pub ArePending-owing : (slot : ℕ) (pending_wakes : List ℕ) (room : ℕ) → slot < room → ArePending pending_wakes room → ArePending (pending_with slot pending_wakes) room
+ArePending-owing slot pending_wakes room within h =
+    elim (cases_Bool (nat_lt 0 (count_of slot pending_wakes))) [
       | inl listed ↦ rw listed h
       | inr absent ↦
           rw absent
           (record {
             each = λ other.
-                let push = count_of-push other owed slot in
+                let push = count_of-push other pending_wakes slot in
                 elim (cases_Bool (slot == other)) [
                   | inl same ↦
                       let e : slot ≡ other = grind (arith, nat_tests) in
-                      let none : count_of slot owed ≡ 0 = grind (arith, nat_tests) in
-                      let at_other : count_of other owed ≡ count_of slot owed = ap (λ (q : ℕ). count_of q owed) (sym e) in
+                      let none : count_of slot pending_wakes ≡ 0 = grind (arith, nat_tests) in
+                      let at_other : count_of other pending_wakes ≡ count_of slot pending_wakes = ap (λ (q : ℕ). count_of q pending_wakes) (sym e) in
                       let below : nat_lt other room ≡ true = grind (arith, nat_tests) in
                       omega (arith, push, at_other, none, ap one_if same, ap one_if below)
                   | inr apart ↦ omega (arith, push, ap one_if apart, h.each other)
@@ -173,13 +173,13 @@ AreOwed-owing slot owed room within h =
     ]
 
 -- the oldest was told
-pub AreOwed-told : (owed : List ℕ) (room : ℕ) → AreOwed owed room → AreOwed (drop 1 owed) room
-AreOwed-told [] room h = h
-AreOwed-told (first ∷ rest) room h = record { each = λ slot. omega (arith, h.each slot) }
+pub ArePending-told : (pending_wakes : List ℕ) (room : ℕ) → ArePending pending_wakes room → ArePending (drop 1 pending_wakes) room
+ArePending-told [] room h = h
+ArePending-told (first ∷ rest) room h = record { each = λ slot. omega (arith, h.each slot) }
 
 -- what is owed once is below the room
-pub AreOwed-below : (owed : List ℕ) (room slot : ℕ) → AreOwed owed room → 0 < count_of slot owed → slot < room
-AreOwed-below owed room slot h some =
+pub ArePending-below : (pending_wakes : List ℕ) (room slot : ℕ) → ArePending pending_wakes room → 0 < count_of slot pending_wakes → slot < room
+ArePending-below pending_wakes room slot h some =
     elim (cases_Bool (nat_lt slot room)) [
       | inl below ↦ grind (arith, nat_tests)
       | inr above ↦ absurd (omega (arith, h.each slot, ap one_if above))
@@ -188,37 +188,37 @@ AreOwed-below owed room slot h some =
 -- What was answered is told
 
 -- a wake that is owed stays owed as another is
-pub owing-kept : (slot other : ℕ) (owed : List ℕ) → count_of other owed ≤ count_of other (owing slot owed)
-owing-kept slot other owed =
-    elim (cases_Bool (nat_lt 0 (count_of slot owed))) [
+pub pending_with-kept : (slot other : ℕ) (pending_wakes : List ℕ) → count_of other pending_wakes ≤ count_of other (pending_with slot pending_wakes)
+pending_with-kept slot other pending_wakes =
+    elim (cases_Bool (nat_lt 0 (count_of slot pending_wakes))) [
       | inl listed ↦ rw listed (omega arith)
-      | inr absent ↦ rw absent (omega (arith, count_of-push other owed slot))
+      | inr absent ↦ rw absent (omega (arith, count_of-push other pending_wakes slot))
     ]
 
 -- the wake of the slot is owed then
-pub owing-there : (slot : ℕ) (owed : List ℕ) → 0 < count_of slot (owing slot owed)
-owing-there slot owed =
-    elim (cases_Bool (nat_lt 0 (count_of slot owed))) [
+pub pending_with-there : (slot : ℕ) (pending_wakes : List ℕ) → 0 < count_of slot (pending_with slot pending_wakes)
+pending_with-there slot pending_wakes =
+    elim (cases_Bool (nat_lt 0 (count_of slot pending_wakes))) [
       | inl listed ↦ rw listed (grind (arith, nat_tests))
       | inr absent ↦
           let same : slot == slot ≡ true = grind (arith, nat_tests) in
-          rw absent (omega (arith, count_of-push slot owed slot, ap one_if same))
+          rw absent (omega (arith, count_of-push slot pending_wakes slot, ap one_if same))
     ]
 
 -- none that was owed is lost as others are answered
-pub owed_after-kept : (waiters : List Waiter) (slot : ℕ) (owed : List ℕ) → count_of slot owed ≤ count_of slot (owed_after waiters owed)
-owed_after-kept [] slot owed = omega arith
-owed_after-kept (waiter ∷ waiters) slot owed =
-    omega (arith, owing-kept waiter.0 slot owed, owed_after-kept waiters slot (owing waiter.0 owed))
+pub pending_after-kept : (waiters : List Waiter) (slot : ℕ) (pending_wakes : List ℕ) → count_of slot pending_wakes ≤ count_of slot (pending_after waiters pending_wakes)
+pending_after-kept [] slot pending_wakes = omega arith
+pending_after-kept (waiter ∷ waiters) slot pending_wakes =
+    omega (arith, pending_with-kept waiter.0 slot pending_wakes, pending_after-kept waiters slot (pending_with waiter.0 pending_wakes))
 
 -- and each that was answered is owed one
-pub owed_after-there : (waiters : List Waiter) (slot : ℕ) (owed : List ℕ) → 0 < times slot waiters → 0 < count_of slot (owed_after waiters owed)
-owed_after-there [] slot owed some = absurd (omega arith)
-owed_after-there (waiter ∷ waiters) slot owed some =
+pub pending_after-there : (waiters : List Waiter) (slot : ℕ) (pending_wakes : List ℕ) → 0 < times slot waiters → 0 < count_of slot (pending_after waiters pending_wakes)
+pending_after-there [] slot pending_wakes some = absurd (omega arith)
+pending_after-there (waiter ∷ waiters) slot pending_wakes some =
     elim (cases_Bool (waiter.0 == slot)) [
       | inl same ↦
           let e : waiter.0 ≡ slot = grind (arith, nat_tests) in
-          let here : 0 < count_of slot (owing waiter.0 owed) = rw e (owing-there slot owed) in
-          omega (arith, here, owed_after-kept waiters slot (owing waiter.0 owed))
-      | inr apart ↦ owed_after-there waiters slot (owing waiter.0 owed) (omega (arith, ap one_if apart))
+          let here : 0 < count_of slot (pending_with waiter.0 pending_wakes) = rw e (pending_with-there slot pending_wakes) in
+          omega (arith, here, pending_after-kept waiters slot (pending_with waiter.0 pending_wakes))
+      | inr apart ↦ pending_after-there waiters slot (pending_with waiter.0 pending_wakes) (omega (arith, ap one_if apart))
     ]

@@ -14,7 +14,7 @@ use Rattle.saa_core.specs.declared.future.Progress.{Progress}
 use Rattle.saa_core.specs.declared.future.Progress.TheVariants.{Done, Joined, Waits, Refused}
 
 -- what contracts see of a future: what it asks, what it is registered as, and whether it has ended
-pub record AskingState : Type 0 where
+pub record PendingState : Type 0 where
   pub request : Request
   pub ticket : Registration
   pub has_ended : Bool

@@ -11,7 +11,7 @@ use Rattle.saa_core.specs.declared.ticket.Registration.{Registration}
 use Rattle.saa_core.specs.declared.ticket.Registration.TheVariants.{Unregistered, AtOnce, InSlot}
 use Rattle.saa_core.specs.Tickets.{Core, Polled, fault_of}
 
--- The answer was read off a number, or off the error of a poll for one. The ticket stands as that poll says, and where
+-- The answer was read off a number, or off the error of a poll for one. The ticket is as that poll says, and where
 -- it was an error nothing changed
 pub record GatePolled (old new : Core) (ticket_old ticket_new : Registration) (how : How) (result : Result State GateError) : Type 0 where
   pub number : Result ℕ Error

@@ -1,6 +1,6 @@
-pub mod BarrierStanding
+pub mod BarrierInvariant
 pub mod Futures
-pub mod GateStanding
+pub mod GateInvariant
 pub mod GatePolls
 pub mod GateParts
 pub mod Waiters
@@ -11,9 +11,10 @@ pub mod Slots
 pub mod LineParts
 pub mod LockCalls
 pub mod Owners
-pub mod SemaphoreStanding
+pub mod SemaphoreInvariant
 pub mod SlotStates
 pub mod Tickets
+pub mod Trying
 pub mod Beginning
 pub use Rattle.saa_core_spec.specs.Held
 pub use Rattle.saa_core_spec.specs.Object

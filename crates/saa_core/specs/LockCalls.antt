@@ -12,8 +12,8 @@ use Rattle.saa_core_spec.specs.Lock.{is_poisoned, try_answer}
 abbrev pub lock_tried : Object → Request → After (Result (Unit {0}) TryLockError)
 lock_tried s request = record { state = (tried s request).state; reply = try_answer (tried s request).reply (is_poisoned s.held) }
 
--- what always holds of a lock: it stands settled, nobody waits where it is poisoned, and 1 to 62 share it if it is shared
-pub record LockStands (s : Object) : Type 0 where
+-- what always holds of a lock: it is settled, nobody waits where it is poisoned, and 1 to 62 share it if it is shared
+pub record LockInvariant (s : Object) : Type 0 where
   pub settled : IsSettled s
   pub unpoisoned : s.held ≡ OfLock Poisoned → s.line ≡ []
   pub bounded : (lock : LockState) × (s.held ≡ OfLock lock) × IsLockState lock

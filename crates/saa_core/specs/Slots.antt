@@ -1,18 +1,18 @@
--- What contracts see of a `Line`: the slots that wait, with what each asks, the answers that are there, and the wakes
--- that are owed.
+-- What contracts see of a `Line`: the slots that wait, with what each asks, the answers that are there, and the pending
+-- wakes.
 use Rattle.std.specs.Prelude.{◌≡◌, ℕ, ◌+◌, ◌≤◌, ◌<◌, List, [], ◌∷◌, ◌++◌, length, Option, Some, None, is_some, nat_lt, ◌==◌, if◌then◌else◌, slice_index_or, slice_set, replicate, take, drop}
 use Rattle.saa_core_spec.specs.Object.{Waiter, one_if, times}
 
 -- The line, oldest first: a slot and what it asks. The answer of each slot, by its number, where one is there; there are
--- as many slots as there is room. The slots whose wake is owed, oldest first: they were answered, and nobody was told yet
+-- as many slots as there is room. The slots whose wake is pending, oldest first: they were answered, and no wake was handed out yet
 pub record Slots : Type 0 where
   pub line : List Waiter
   pub answers : List (Option ℕ)
-  pub owed : List ℕ
+  pub pending_wakes : List ℕ
 
 -- a line with so many slots, of which none is held
 abbrev pub empty_slots : ℕ → Slots
-empty_slots room = record { line = []; answers = replicate room None; owed = [] }
+empty_slots room = record { line = []; answers = replicate room None; pending_wakes = [] }
 
 -- how many slots there are
 abbrev pub room_of : Slots → ℕ
@@ -35,16 +35,16 @@ held_slots slots = length slots.line + answer_count slots.answers
 abbrev pub held_times : Slots → ℕ → ℕ
 held_times slots slot = times slot slots.line + one_if (is_some (answer_in slots.answers slot))
 
--- how often a slot stands in a list of slots
+-- how often a slot is in a list of slots
 abbrev pub count_of : ℕ → List ℕ → ℕ
 count_of slot [] = 0
 count_of slot (first ∷ rest) = one_if (first == slot) + count_of slot rest
 
--- each slot waits at most once, and doesn't wait where it has an answer; its wake is owed at most once; all are below the
+-- each slot waits at most once, and doesn't wait where it has an answer; its wake is pending at most once; all are below the
 -- room, which fits a u16
 pub record IsSound (slots : Slots) : Type 0 where
   pub each : (slot : ℕ) → held_times slots slot ≤ one_if (nat_lt slot (room_of slots))
-  pub owed_once : (slot : ℕ) → count_of slot slots.owed ≤ one_if (nat_lt slot (room_of slots))
+  pub pending_once : (slot : ℕ) → count_of slot slots.pending_wakes ≤ one_if (nat_lt slot (room_of slots))
   pub small : room_of slots < 65536
 
 -- the answers once these slots are answered with a value
@@ -53,21 +53,21 @@ answered_slots value [] answers = answers
 answered_slots value (waiter ∷ waiters) answers =
     answered_slots value waiters (slice_set answers waiter.0 (Some value))
 
--- a slot's wake is owed: it is last in the list, unless it stands there already
-abbrev pub owing : ℕ → List ℕ → List ℕ
-owing slot owed = if nat_lt 0 (count_of slot owed) then owed else owed ++ slot ∷ []
+-- a slot's wake is pending from now on: it is last in the list, unless it is there already
+abbrev pub pending_with : ℕ → List ℕ → List ℕ
+pending_with slot pending_wakes = if nat_lt 0 (count_of slot pending_wakes) then pending_wakes else pending_wakes ++ slot ∷ []
 
--- the wakes that are owed once these slots are answered
-abbrev pub owed_after : List Waiter → List ℕ → List ℕ
-owed_after [] owed = owed
-owed_after (waiter ∷ waiters) owed = owed_after waiters (owing waiter.0 owed)
+-- the pending wakes once these slots are answered
+abbrev pub pending_after : List Waiter → List ℕ → List ℕ
+pending_after [] pending_wakes = pending_wakes
+pending_after (waiter ∷ waiters) pending_wakes = pending_after waiters (pending_with waiter.0 pending_wakes)
 
--- the k oldest are answered with a value: they leave the line, hold their slots still, and their wakes are owed
+-- the k oldest are answered with a value: they leave the line, hold their slots still, and their wakes are pending
 abbrev pub slots_answered : ℕ → ℕ → Slots → Slots
 slots_answered value k slots = record {
   line = drop k slots.line;
   answers = answered_slots value (take k slots.line) slots.answers;
-  owed = owed_after (take k slots.line) slots.owed;
+  pending_wakes = pending_after (take k slots.line) slots.pending_wakes;
 }
 
 -- all waiters are answered with a value
@@ -75,12 +75,12 @@ abbrev pub all_slots_answered : ℕ → Slots → Slots
 all_slots_answered value slots = record {
   line = [];
   answers = answered_slots value slots.line slots.answers;
-  owed = owed_after slots.line slots.owed;
+  pending_wakes = pending_after slots.line slots.pending_wakes;
 }
 
--- the oldest wake that is owed was told
-abbrev pub wake_told : Slots → Slots
-wake_told slots = record slots { owed = drop 1 slots.owed }
+-- the oldest pending wake was taken out
+abbrev pub wake_taken : Slots → Slots
+wake_taken slots = record slots { pending_wakes = drop 1 slots.pending_wakes }
 
 -- those of a line who have an answer
 abbrev pub answered_of : List Waiter → List (Option ℕ) → List Waiter
@@ -88,7 +88,7 @@ answered_of [] answers = []
 answered_of (waiter ∷ waiters) answers =
     if is_some (answer_in answers waiter.0) then (waiter ∷ answered_of waiters answers) else answered_of waiters answers
 
--- What a call does to the pending wakes: a waiter before it that has an answer after it is owed one, in the
--- order of the line and behind those that were owed before; no other wake comes, and none goes
-pub record OwesAnswered (old new : Slots) : Type 0 where
-  pub exact : new.owed ≡ owed_after (answered_of old.line new.answers) old.owed
+-- What a call does to the pending wakes: a waiter before it that has an answer after it has one pending, in the
+-- order of the line and after those that were pending before; no other wake comes, and none goes
+pub record WakesAnswered (old new : Slots) : Type 0 where
+  pub exact : new.pending_wakes ≡ pending_after (answered_of old.line new.answers) old.pending_wakes

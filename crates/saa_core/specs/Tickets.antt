@@ -6,8 +6,9 @@ use Rattle.saa_core.specs.declared.ticket.Registration.{Registration}
 use Rattle.saa_core.specs.declared.ticket.Registration.TheVariants.{Unregistered, AtOnce, InSlot}
 use Rattle.saa_core_spec.specs.declared.request.Full.{Full}
 use Rattle.saa_core_spec.specs.declared.polling.Error.{Error}
-use Rattle.saa_core_spec.specs.declared.polling.Error.TheVariants.{NotRegistered, WrongMode, NotReady}
+use Rattle.saa_core_spec.specs.declared.polling.Error.TheVariants.{NotRegistered}
 use Rattle.saa_core_spec.specs.declared.polling.How.{How}
+use Rattle.saa_core_spec.specs.Errors.{is_not_ready, is_refusal, says_not_registered, says_wrong_mode}
 use Rattle.saa_core_spec.specs.Held.{Held, asks_too_much}
 use Rattle.saa_core_spec.specs.Object.{Object, After, Entry, Idle, Waiting, Answered, Waiter, one_if}
 use Rattle.saa_core_spec.specs.Settling.{fitting_front}
@@ -19,7 +20,7 @@ pub record Core : Type 0 where
   pub held : Held
   pub slots : Slots
 
--- a core stands settled where nobody in front fits
+-- a core is settled if nobody in front fits
 abbrev pub IsCoreSettled : Core → Type 0
 IsCoreSettled core = fitting_front core.held core.slots.line ≡ 0
 
@@ -98,9 +99,9 @@ pub record Belong (slots : Slots) (tickets : List Registration) : Type 0 where
   pub owned : (slot : ℕ) → owners tickets slot ≤ held_times slots slot
   pub few : slotted_count tickets ≤ held_slots slots
 
--- A call with a ticket is this step of the object, with any tickets that belong to the core, among which it stands
--- by any name; and they still belong to it
-pub record Acts {A : Type 0} (old new : Core) (ticket_old ticket_new : Registration) (step : Object → ℕ → After A) (reply : A) : Type 0 where
+-- A call with a ticket is this step of the object, with any tickets that belong to the core, of which it is
+-- one, under any name; and they still belong to it
+pub record StepsWithTicket {A : Type 0} (old new : Core) (ticket_old ticket_new : Registration) (step : Object → ℕ → After A) (reply : A) : Type 0 where
   pub acts : (tickets : List Registration) (name : ℕ) → slice_get tickets name ≡ Some ticket_old → Belong old.slots tickets
       → (◌≡◌ {A = After A} (step (object_of old tickets) name) (record { state = object_of new (slice_set tickets name ticket_new); reply = reply }))
       × Belong new.slots (slice_set tickets name ticket_new)
@@ -122,9 +123,9 @@ abbrev pub fault_of : {V : Type 0} → Result V Error → Option Error
 fault_of (Ok value) = None
 fault_of (Err error) = Some error
 
--- a request that no object which stands so refuses: it asks for no more than there ever is
+-- a request that no object of which this holds refuses: it asks for no more than there ever is
 abbrev pub IsNeverTooMuch : (Object → Type 0) → Request → Type 0
-IsNeverTooMuch stands request = (s : Object) → stands s → asks_too_much s.held request ≡ false
+IsNeverTooMuch Holds request = (s : Object) → Holds s → asks_too_much s.held request ≡ false
 
 -- whether a registration was answered true
 abbrev pub is_yes : Result Bool Full → Bool
@@ -136,34 +137,6 @@ abbrev pub is_wrong_mode : How → Registration → Bool
 is_wrong_mode how Unregistered = false
 is_wrong_mode how (AtOnce value request is_sync) = not (is_right_mode how is_sync)
 is_wrong_mode how (InSlot slot request is_sync) = not (is_right_mode how is_sync)
-
--- whether a poll's error says that the mode was wrong
-abbrev pub says_wrong_mode : Option Error → Bool
-says_wrong_mode None = false
-says_wrong_mode (Some NotRegistered) = false
-says_wrong_mode (Some WrongMode) = true
-says_wrong_mode (Some NotReady) = false
-
--- whether a poll's error says that the mode was wrong, or that the ticket isn't registered there
-abbrev pub is_refusal : Option Error → Bool
-is_refusal None = false
-is_refusal (Some NotRegistered) = true
-is_refusal (Some WrongMode) = true
-is_refusal (Some NotReady) = false
-
--- whether a poll's error says that the ticket isn't registered there
-abbrev pub says_not_registered : Option Error → Bool
-says_not_registered None = false
-says_not_registered (Some NotRegistered) = true
-says_not_registered (Some WrongMode) = false
-says_not_registered (Some NotReady) = false
-
--- whether a poll's error says that the answer isn't there yet
-abbrev pub is_not_ready : Option Error → Bool
-is_not_ready None = false
-is_not_ready (Some NotRegistered) = false
-is_not_ready (Some WrongMode) = false
-is_not_ready (Some NotReady) = true
 
 -- whether a ticket was answered as it was registered: it has its answer with it, and no slot
 abbrev pub is_at_once : Registration → Bool

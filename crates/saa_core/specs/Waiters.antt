@@ -5,7 +5,7 @@ use Rattle.saa_core.specs.Slots.{Slots}
 use Rattle.saa_core.specs.declared.ticket.Registration.{Registration}
 use Rattle.saa_core.specs.declared.ticket.Registration.TheVariants.{Unregistered, AtOnce, InSlot}
 
--- the ticket's slot stands in the line
+-- the ticket's slot is in the line
 abbrev pub IsWaiting : Slots → Registration → Type 0
 IsWaiting slots Unregistered = ⊥
 IsWaiting slots (AtOnce value request is_sync) = ⊥

@@ -1,10 +1,10 @@
 //! The barrier: as many tasks as its size wait for one another, and pass together.
 //!
 //! The core is held to `specs/Barrier.antt` of `saa_core_spec` by every call, with any tickets that are registered in it.
-//! The waiters stand in a line; the last arrival of a round never does. That a round stays incomplete while tasks
-//! wait is `specs/BarrierStanding.antt`.
+//! The waiters are in a line; the last arrival of a round never does. That a round stays incomplete while tasks
+//! wait is `specs/BarrierInvariant.antt`.
 
-ghost use Rattle.std.specs.Prelude.{true, false, ◌≡◌, ℕ, ◌+◌, ◌-◌, ◌<◌, ◌≤◌, ◌==◌, ◌||◌, length, min, replicate, slice_get, IsOk, IfOk, IfSome, OnErr, IsErr};
+ghost use Rattle.std.specs.Prelude.{true, false, ◌≡◌, ℕ, ◌+◌, ◌-◌, ◌≤◌, ◌==◌, ◌||◌, length, min, replicate, IsOk, IfOk, OnErr, IsErr};
 ghost use Rattle.saa_core_spec.specs.declared.request.Request.TheVariants.{Arrive};
 ghost use Rattle.saa_core_spec.specs.declared.polling.Error.TheVariants.{NotRegistered};
 ghost use Rattle.saa_core.specs.declared.ticket.Registration.TheVariants.{Unregistered, AtOnce};
@@ -13,9 +13,9 @@ ghost use Rattle.saa_core_spec.specs.Asking.{registered};
 ghost use Rattle.saa_core_spec.specs.Polling.{polled, read_as};
 ghost use Rattle.saa_core_spec.specs.Values.{barrier_value, leader_value, passed_value};
 ghost use Rattle.saa_core_spec.specs.Barrier.{size_of, barrier_step, new_barrier};
-ghost use Rattle.saa_core.specs.Slots.{OwesAnswered, empty_slots, held_slots, room_of, wake_told, all_slots_answered};
-ghost use Rattle.saa_core.specs.Tickets.{Acts, Calls, Belong, HasAnswer, Polled, IsForeign, dropping, fault_of, is_busy, is_yes, object_of};
-ghost use Rattle.saa_core.specs.BarrierStanding.{IsBarrierStanding};
+ghost use Rattle.saa_core.specs.Slots.{WakesAnswered, empty_slots, held_slots, room_of, all_slots_answered};
+ghost use Rattle.saa_core.specs.Tickets.{StepsWithTicket, Calls, Belong, Polled, IsForeign, dropping, fault_of, is_busy, is_yes, object_of};
+ghost use Rattle.saa_core.specs.BarrierInvariant.{IsBarrierInvariant};
 ghost use Rattle.saa_core.specs.Waiters.{IsWaiting, left_by};
 ghost use Rattle.saa_core.specs.GatheringParts.{vacated};
 
@@ -49,7 +49,7 @@ impl Model for BarrierCore {
     ghost use Rattle.saa_core_spec.specs.Held.{OfBarrier, max_tasks};
     ghost use Rattle.saa_core.specs.Slots.{IsSound};
     ghost use Rattle.saa_core.specs.Tickets.{Core};
-    ghost use Rattle.saa_core.specs.BarrierStanding.{IsBarrierOf};
+    ghost use Rattle.saa_core.specs.BarrierInvariant.{IsBarrierOf};
 
     ghost Value = { Core };
 
@@ -103,7 +103,7 @@ impl BarrierCore {
     /// `Ok(false)`: the ticket isn't idle; nothing changes. `Err(Full)`: it would have to wait, and as many slots are held
     /// as there is room; nothing changes. Costs O(how many are answered).
     pub fn arrive(&mut self, ticket: &mut Ticket, is_sync: bool) -> Result<bool, Full>
-        ensures acts { Acts self.old self.new ticket.old ticket.new (λ s name. registered s name Arrive is_sync) result }
+        ensures acts { StepsWithTicket self.old self.new ticket.old ticket.new (λ s name. registered s name Arrive is_sync) result }
         ensures ticket { is_busy ticket.new ≡ (is_busy ticket.old || is_yes result) }
         ensures busy { is_busy ticket.old ≡ true
             → (result ≡ Ok false) × (self.new ≡ self.old) × (ticket.new ≡ ticket.old) }
@@ -112,11 +112,11 @@ impl BarrierCore {
             × (ticket.new ≡ AtOnce leader_value Arrive is_sync) }
         ensures full { IsErr result → held_slots self.old.slots ≡ room_of self.old.slots }
         ensures nobody { ¬ (length self.old.slots.line + 1 ≡ size_of self.old.held)
-            → self.new.slots.owed ≡ self.old.slots.owed }
+            → self.new.slots.pending_wakes ≡ self.old.slots.pending_wakes }
         ensures refused { is_yes result ≡ false → (self.new ≡ self.old) × (ticket.new ≡ ticket.old) }
         ensures size { self.new.held ≡ self.old.held }
-        ensures wakes { OwesAnswered self.old.slots self.new.slots }
-        ensures standing { IsBarrierStanding self.new }
+        ensures wakes { WakesAnswered self.old.slots self.new.slots }
+        ensures invariant { IsBarrierInvariant self.new }
     {
         if ticket.is_registered() {
             let _opened = &self.line;
@@ -140,71 +140,17 @@ impl BarrierCore {
     /// async and is polled as sync, or the other way round. `NotReady`: its round isn't complete. None of these changes
     /// anything. `Ok`: its slot is free again, and the ticket is idle.
     pub fn poll(&mut self, ticket: &mut Ticket, how: How) -> Result<bool, Error>
-        ensures acts { Acts self.old self.new ticket.old ticket.new (λ s name. read_as barrier_value (polled s name how)) result }
+        ensures acts { StepsWithTicket self.old self.new ticket.old ticket.new (λ s name. read_as barrier_value (polled s name how)) result }
         ensures ticket { Polled ticket.old ticket.new how (fault_of result) }
         ensures foreign { IsForeign self.old.slots ticket.old
             → (result ≡ Err NotRegistered) × (self.new ≡ self.old) × (ticket.new ≡ ticket.old) }
         ensures unchanged { OnErr result (self.new ≡ self.old) }
         ensures size { self.new.held ≡ self.old.held }
-        ensures owed { self.new.slots.owed ≡ self.old.slots.owed }
-        ensures standing { IsBarrierStanding self.new }
+        ensures pending_wakes { self.new.slots.pending_wakes ≡ self.old.slots.pending_wakes }
+        ensures invariant { IsBarrierInvariant self.new }
     {
         let answer = self.poll_number(ticket, how);
         read_answer(answer)
-    }
-
-    /// Polls a ticket for the number of its answer, as [`Self::poll`] does: 1 for the leader, and 0 for all others.
-    pub fn poll_number(&mut self, ticket: &mut Ticket, how: How) -> Result<u8, Error>
-        ensures acts { Acts self.old self.new ticket.old ticket.new (λ s name. polled s name how) result }
-        ensures ticket { Polled ticket.old ticket.new how (fault_of result) }
-        ensures kept { HasAnswer ticket.old result }
-        ensures foreign { IsForeign self.old.slots ticket.old
-            → (result ≡ Err NotRegistered) × (self.new ≡ self.old) × (ticket.new ≡ ticket.old) }
-        ensures unchanged { OnErr result (self.new ≡ self.old) }
-        ensures size { self.new.held ≡ self.old.held }
-        ensures owed { self.new.slots.owed ≡ self.old.slots.owed }
-        ensures standing { IsBarrierStanding self.new }
-    {
-        ticket.poll_in(&mut self.line, how)
-    }
-
-    /// Drops what a ticket is registered for: it is idle afterwards in every case, and nobody is answered.
-    ///
-    /// A waiter leaves the line, so the round waits for one arrival more. An answer that wasn't consumed is only consumed.
-    /// A ticket whose slot isn't held in this core changes nothing here. Costs O(how many wait) for a waiter, and else
-    /// O(1).
-    pub fn cancel(&mut self, ticket: &mut Ticket)
-        ensures acts { Acts self.old self.new ticket.old ticket.new dropping result }
-        ensures idle { ticket.new ≡ Unregistered }
-        ensures unregistered { ticket.old ≡ Unregistered → self.new ≡ self.old }
-        ensures taken_back { IsWaiting self.old.slots ticket.old
-            → self.new ≡ record self.old { slots = left_by ticket.old self.old.slots } }
-        ensures consumed { ¬ IsWaiting self.old.slots ticket.old → self.new.slots.line ≡ self.old.slots.line }
-        ensures foreign { IsForeign self.old.slots ticket.old → self.new ≡ self.old }
-        ensures nobody { self.new.slots.owed ≡ self.old.slots.owed }
-        ensures size { self.new.held ≡ self.old.held }
-        ensures wakes { OwesAnswered self.old.slots self.new.slots }
-        ensures standing { IsBarrierStanding self.new }
-    {
-        let _opened = &self.line;
-        let registration = ticket.registration();
-        ticket.set(Registration::Unregistered);
-        match registration {
-            Registration::Unregistered => {}
-            Registration::AtOnce(_value, _request, _is_sync) => {}
-            Registration::InSlot(slot, _request, _is_sync) => self.vacate(slot),
-        }
-    }
-
-    /// Reports the oldest pending wake and takes it out: of the slots that weren't reported yet, the one that was answered
-    /// first. `None` exactly where none is pending. A slot comes once however often it was answered in between. Costs O(1).
-    pub fn next_answered(&mut self) -> Option<u16>
-        ensures oldest { result ≡ slice_get self.old.slots.owed 0 }
-        ensures told { self.new ≡ record self.old { slots = wake_told self.old.slots } }
-        ensures within { IfSome result (λ slot. slot < room_of self.old.slots) }
-        ensures standing { IsBarrierStanding self.new }
-    {
-        self.line.next_answered()
     }
 
     // Whether all others of the round wait, so that one more arrival completes it.
@@ -217,9 +163,9 @@ impl BarrierCore {
     // Frees a slot of this core: its answer is consumed, or it leaves the line; a slot that isn't held is nothing.
     fn vacate(&mut self, slot: u16)
         ensures vacated { self.new ≡ record self.old { slots = vacated (λ s. s) self.old.slots slot } }
-        ensures nobody { self.new.slots.owed ≡ self.old.slots.owed }
-        ensures wakes { OwesAnswered self.old.slots self.new.slots }
-        ensures standing { IsBarrierStanding self.new }
+        ensures nobody { self.new.slots.pending_wakes ≡ self.old.slots.pending_wakes }
+        ensures wakes { WakesAnswered self.old.slots self.new.slots }
+        ensures invariant { IsBarrierInvariant self.new }
     {
         if self.line.take(slot).is_none() {
             let _left = self.line.leave(slot);
@@ -240,7 +186,8 @@ fn read_answer(answer: Result<u8, Error>) -> Result<bool, Error>
 impl Primitive for BarrierCore {
     ghost use Rattle.saa_core_spec.specs.Barrier.{arrive_request, barrier_step};
     ghost use Rattle.saa_core_spec.specs.Values.{barrier_value};
-    ghost use Rattle.saa_core.specs.BarrierStanding.{BarrierStands};
+    ghost use Rattle.saa_core.specs.BarrierInvariant.{BarrierInvariant};
+    ghost use Rattle.saa_core.specs.Trying.{never_tried};
 
     type Call = BarrierCall;
 
@@ -258,38 +205,71 @@ impl Primitive for BarrierCore {
 
     ghost value = { barrier_value };
 
-    ghost stands = { BarrierStands };
+    ghost tried = { never_tried };
 
-    fn stands(&self) {
+    ghost core_invariant = { IsBarrierInvariant };
+
+    ghost object_invariant = { BarrierInvariant };
+
+    fn object_invariant(&self) {
         let _opened = &self.line;
     }
 
     fn call(&mut self, call: BarrierCall) -> BarrierAnswer {
-        // The proof learns that a call which only reads owes nobody a wake.
+        // The proof learns that a call which only reads leaves the pending wakes as they are.
         let _opened = &self.line;
         match call {
             BarrierCall::Count => BarrierAnswer::Count(self.count()),
         }
     }
 
+    fn try_now(&mut self, _ask: ()) -> Option<u8> {
+        None
+    }
+
     fn register(&mut self, ticket: &mut Ticket, _ask: (), is_sync: bool) -> Result<bool, Full> {
         self.arrive(ticket, is_sync)
     }
 
+    /// Polls a ticket for the number of its answer, as [`Self::poll`] does: 1 for the leader, and 0 for all others.
     fn poll_number(&mut self, ticket: &mut Ticket, how: How) -> Result<u8, Error> {
-        BarrierCore::poll_number(self, ticket, how)
+        ticket.poll_in(&mut self.line, how)
     }
 
     fn value_of(answer: Result<u8, Error>) -> Result<bool, Error> {
         read_answer(answer)
     }
 
-    fn cancel(&mut self, ticket: &mut Ticket) {
-        BarrierCore::cancel(self, ticket);
+    /// Drops what a ticket is registered for: it is idle afterwards in every case, and nobody is answered.
+    ///
+    /// A waiter leaves the line, so the round waits for one arrival more. An answer that wasn't consumed is only consumed.
+    /// A ticket whose slot isn't held in this core changes nothing here. Costs O(how many wait) for a waiter, and else
+    /// O(1).
+    fn cancel(&mut self, ticket: &mut Ticket)
+        ensures acts { StepsWithTicket self.old self.new ticket.old ticket.new dropping result }
+        ensures idle { ticket.new ≡ Unregistered }
+        ensures unregistered { ticket.old ≡ Unregistered → self.new ≡ self.old }
+        ensures taken_back { IsWaiting self.old.slots ticket.old
+            → self.new ≡ record self.old { slots = left_by ticket.old self.old.slots } }
+        ensures consumed { ¬ IsWaiting self.old.slots ticket.old → self.new.slots.line ≡ self.old.slots.line }
+        ensures foreign { IsForeign self.old.slots ticket.old → self.new ≡ self.old }
+        ensures nobody { self.new.slots.pending_wakes ≡ self.old.slots.pending_wakes }
+        ensures size { self.new.held ≡ self.old.held }
+        ensures wakes { WakesAnswered self.old.slots self.new.slots }
+        ensures invariant { IsBarrierInvariant self.new }
+    {
+        let _opened = &self.line;
+        let registration = ticket.registration();
+        ticket.set(Registration::Unregistered);
+        match registration {
+            Registration::Unregistered => {}
+            Registration::AtOnce(_value, _request, _is_sync) => {}
+            Registration::InSlot(slot, _request, _is_sync) => self.vacate(slot),
+        }
     }
 
     fn next_answered(&mut self) -> Option<u16> {
-        BarrierCore::next_answered(self)
+        self.line.next_answered()
     }
 }
 

@@ -1,14 +1,14 @@
 //! A registration that a task makes at its first poll, and polls for its answer from then on.
 //!
-//! What each poll does to the core and says stands in `specs/Futures.antt`, and the contract of every call here is said
+//! What each poll does to the core and says is in `specs/Futures.antt`, and the contract of every call here is said
 //! over it.
 
 ghost use Rattle.std.specs.Prelude.{◌≡◌, ◌&&◌, not, true, false, Some, is_some};
 ghost use Rattle.saa_core.specs.declared.ticket.Registration.TheVariants.{Unregistered};
 ghost use Rattle.saa_core_spec.specs.Asking.{registered};
-ghost use Rattle.saa_core.specs.Slots.{OwesAnswered};
-ghost use Rattle.saa_core.specs.Tickets.{Acts, dropping, is_busy, slot_of};
-ghost use Rattle.saa_core.specs.Beginning.{BeginOwes, alone, mode_of};
+ghost use Rattle.saa_core.specs.Slots.{WakesAnswered};
+ghost use Rattle.saa_core.specs.Tickets.{StepsWithTicket, dropping, is_busy, slot_of};
+ghost use Rattle.saa_core.specs.Beginning.{BeginWakes, alone, mode_of};
 ghost use Rattle.saa_core.specs.Futures.{IfDone, IsRead, asked, has_joined, is_end, is_waiting, registration_of, waited};
 
 use crate::primitive::Primitive;
@@ -56,33 +56,40 @@ impl<T> Progress<T> {
 /// cancel, take that core. Dropping it while it is registered leaves its slot held, so cancel it first. After
 /// its end it isn't polled. Contracts see what it asks, its ticket, and whether it has ended.
 #[derive(Drop)]
-pub struct Asking<P: Primitive> {
+pub struct PendingRegistration<P: Primitive> {
     ask: P::Ask,
     // Registered as async, if at all; idle once the future has ended.
     ticket: Ticket,
     has_ended: bool,
 }
 
-impl<P: Primitive> Model for Asking<P> {
-    ghost use Rattle.saa_core.specs.Futures.{AskingState, IsKept};
+impl<P: Primitive> Model for PendingRegistration<P> {
+    ghost use Rattle.saa_core.specs.Futures.{PendingState, IsKept};
 
-    ghost Value = { AskingState };
+    ghost Value = { PendingState };
 
     ghost view = { λ asking. record { request = P.request asking.ask; ticket = asking.ticket; has_ended = asking.has_ended } };
 
     ghost invariant = { λ asking. IsKept asking.ticket asking.has_ended };
 }
 
-impl<P: Primitive> Asking<P> {
+impl<P: Primitive> PendingRegistration<P> {
     /// A future that asks this, and isn't registered yet. Takes no memory.
     pub fn new(ask: P::Ask) -> Self
         ensures { result ≡ record { request = P.request ask; ticket = Unregistered; has_ended = false } }
     {
-        Asking {
+        PendingRegistration {
             ask,
             ticket: Ticket::new(),
             has_ended: false,
         }
+    }
+
+    /// What it asks.
+    pub fn ask(&self) -> P::Ask
+        ensures { P.request result ≡ self.now.request }
+    {
+        self.ask
     }
 
     /// Whether it has ended: by a poll that said so, or by a cancel. Then nothing of it is registered.
@@ -118,9 +125,9 @@ impl<P: Primitive> Asking<P> {
     /// a ticket costs in the core, and takes no memory.
     pub fn poll_on(&mut self, core: &mut P) -> Progress<Option<u8>>
         requires { self.old.has_ended ≡ false }
-        ensures first { is_busy self.old.ticket ≡ false → Acts (P.core core.old) (P.core core.new) self.old.ticket self.new.ticket
+        ensures first { is_busy self.old.ticket ≡ false → StepsWithTicket (P.core core.old) (P.core core.new) self.old.ticket self.new.ticket
             (λ s name. asked s name self.old.request) result }
-        ensures later { is_busy self.old.ticket ≡ true → Acts (P.core core.old) (P.core core.new) self.old.ticket self.new.ticket
+        ensures later { is_busy self.old.ticket ≡ true → StepsWithTicket (P.core core.old) (P.core core.new) self.old.ticket self.new.ticket
             (λ s name. waited s name) result }
         ensures state { self.new ≡ record { request = self.old.request; ticket = self.new.ticket; has_ended = is_end result } }
         ensures ticket { is_busy self.new.ticket ≡ not (is_end result) }
@@ -129,8 +136,8 @@ impl<P: Primitive> Asking<P> {
         ensures joined { has_joined result ≡ (not (is_busy self.old.ticket) && is_busy self.new.ticket) }
         ensures waits { is_waiting result ≡ true → self.new.ticket ≡ self.old.ticket }
         ensures registration { is_busy self.old.ticket ≡ false → registration_of result ≡ (registered (alone (P.core core.old)) 0 self.old.request false).reply }
-        ensures begins { is_busy self.old.ticket ≡ false → BeginOwes (P.core core.old) (P.core core.new) self.old.ticket self.old.request false (registration_of result) }
-        ensures owed { is_busy self.old.ticket ≡ true → (P.core core.new).slots.owed ≡ (P.core core.old).slots.owed }
+        ensures begins { is_busy self.old.ticket ≡ false → BeginWakes (P.core core.old) (P.core core.new) self.old.ticket self.old.request false (registration_of result) }
+        ensures pending_wakes { is_busy self.old.ticket ≡ true → (P.core core.new).slots.pending_wakes ≡ (P.core core.old).slots.pending_wakes }
     {
         let progress = if self.ticket.is_registered() {
             wait_on(&mut self.ticket, core)
@@ -147,10 +154,10 @@ impl<P: Primitive> Asking<P> {
     /// pending wake. Where it isn't registered, nothing is done to the core. Costs what the cancel of a ticket costs in the core,
     /// and takes no memory.
     pub fn cancel_on(&mut self, core: &mut P)
-        ensures acts { Acts (P.core core.old) (P.core core.new) self.old.ticket self.new.ticket dropping result }
+        ensures acts { StepsWithTicket (P.core core.old) (P.core core.new) self.old.ticket self.new.ticket dropping result }
         ensures state { self.new ≡ record { request = self.old.request; ticket = Unregistered; has_ended = true } }
         ensures idle { is_busy self.old.ticket ≡ false → core.new ≡ core.old }
-        ensures wakes { is_busy self.old.ticket ≡ true → OwesAnswered (P.core core.old).slots (P.core core.new).slots }
+        ensures wakes { is_busy self.old.ticket ≡ true → WakesAnswered (P.core core.old).slots (P.core core.new).slots }
     {
         if self.ticket.is_registered() {
             core.cancel(&mut self.ticket);
@@ -162,13 +169,13 @@ impl<P: Primitive> Asking<P> {
 // The first poll: registers an idle ticket as async, and consumes the answer where it is there at once.
 fn ask_on<P: Primitive>(ticket: &mut Ticket, core: &mut P, ask: P::Ask) -> Progress<Option<u8>>
     requires { ticket.old ≡ Unregistered }
-    ensures acts { Acts (P.core core.old) (P.core core.new) ticket.old ticket.new (λ s name. asked s name (P.request ask)) result }
+    ensures acts { StepsWithTicket (P.core core.old) (P.core core.new) ticket.old ticket.new (λ s name. asked s name (P.request ask)) result }
     ensures ticket { is_busy ticket.new ≡ has_joined result }
     ensures end { is_end result ≡ not (has_joined result) }
     ensures mode { has_joined result ≡ true → mode_of ticket.new ≡ Some false }
     ensures slot { has_joined result ≡ true → is_some (slot_of ticket.new) ≡ true }
     ensures registration { registration_of result ≡ (registered (alone (P.core core.old)) 0 (P.request ask) false).reply }
-    ensures wakes { BeginOwes (P.core core.old) (P.core core.new) ticket.old (P.request ask) false (registration_of result) }
+    ensures wakes { BeginWakes (P.core core.old) (P.core core.new) ticket.old (P.request ask) false (registration_of result) }
 {
     match core.register(ticket, ask, false) {
         Err(full) => Progress::Refused(full),
@@ -183,11 +190,11 @@ fn ask_on<P: Primitive>(ticket: &mut Ticket, core: &mut P, ask: P::Ask) -> Progr
 // A further poll: consumes the answer where it is there.
 fn wait_on<P: Primitive>(ticket: &mut Ticket, core: &mut P) -> Progress<Option<u8>>
     requires { is_busy ticket.old ≡ true }
-    ensures acts { Acts (P.core core.old) (P.core core.new) ticket.old ticket.new (λ s name. waited s name) result }
+    ensures acts { StepsWithTicket (P.core core.old) (P.core core.new) ticket.old ticket.new (λ s name. waited s name) result }
     ensures ticket { is_busy ticket.new ≡ is_waiting result }
     ensures end { is_end result ≡ not (is_waiting result) }
     ensures same { is_waiting result ≡ true → ticket.new ≡ ticket.old }
-    ensures owed { (P.core core.new).slots.owed ≡ (P.core core.old).slots.owed }
+    ensures pending_wakes { (P.core core.new).slots.pending_wakes ≡ (P.core core.old).slots.pending_wakes }
 {
     match core.poll_number(ticket, How::Async) {
         Ok(value) => Progress::Done(Some(value)),

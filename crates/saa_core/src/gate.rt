@@ -2,9 +2,9 @@
 //!
 //! The core is held to `specs/Gate.antt` of `saa_core_spec` by every call, with any tickets that are registered in it.
 //! Tasks that enter a controlled gate wait in a line until one call answers them all. A sealed or an open gate has no
-//! waiters, which is `specs/GateStanding.antt`.
+//! waiters, which is `specs/GateInvariant.antt`.
 
-ghost use Rattle.std.specs.Prelude.{true, false, ◌≡◌, ℕ, ◌<◌, ◌↔◌, ◌||◌, length, replicate, slice_get, IfOk, IfErr, IfSome, IsOk, IsErr, IsNone, OnErr};
+ghost use Rattle.std.specs.Prelude.{true, false, ◌≡◌, ℕ, ◌↔◌, ◌||◌, length, replicate, IfOk, IfErr, IfSome, IsOk, IsErr, IsNone, OnErr};
 ghost use Rattle.saa_core_spec.specs.declared.request.Request.TheVariants.{Enter};
 ghost use Rattle.saa_core_spec.specs.declared.polling.Error.TheVariants.{NotRegistered};
 ghost use Rattle.saa_core_spec.specs.declared.gate.State.TheVariants.{Controlled, Sealed, Open};
@@ -14,9 +14,9 @@ ghost use Rattle.saa_core_spec.specs.Asking.{registered};
 ghost use Rattle.saa_core_spec.specs.Polling.{polled, read_as};
 ghost use Rattle.saa_core_spec.specs.Values.{gate_value, gate_error, permitted_value, rejected_value, opened_value, sealed_value, spurious_value};
 ghost use Rattle.saa_core_spec.specs.Gate.{gate_state, gate_step, let_through, moved, new_gate};
-ghost use Rattle.saa_core.specs.Slots.{OwesAnswered, empty_slots, held_slots, room_of, wake_told, all_slots_answered};
-ghost use Rattle.saa_core.specs.Tickets.{Acts, Calls, Belong, HasAnswer, Polled, IsForeign, dropping, fault_of, is_busy, is_yes, object_of};
-ghost use Rattle.saa_core.specs.GateStanding.{IsGateStanding};
+ghost use Rattle.saa_core.specs.Slots.{WakesAnswered, empty_slots, held_slots, room_of, all_slots_answered};
+ghost use Rattle.saa_core.specs.Tickets.{StepsWithTicket, Calls, Belong, HasAnswer, Polled, IsForeign, dropping, fault_of, is_busy, is_yes, object_of};
+ghost use Rattle.saa_core.specs.GateInvariant.{IsGateInvariant};
 ghost use Rattle.saa_core.specs.GatePolls.{GatePolled, IsGateTicket, is_answer, is_gate_number, is_gate_result};
 ghost use Rattle.saa_core.specs.Waiters.{IsWaiting, left_by};
 ghost use Rattle.saa_core.specs.GatheringParts.{vacated};
@@ -63,7 +63,7 @@ impl Model for GateCore {
     ghost use Rattle.saa_core.specs.Slots.{IsSound};
     ghost use Rattle.saa_core.specs.Tickets.{Core};
     ghost use Rattle.saa_core.specs.GatePolls.{AreGateAnswers};
-    ghost use Rattle.saa_core.specs.GateStanding.{IsGateOf};
+    ghost use Rattle.saa_core.specs.GateInvariant.{IsGateOf};
 
     ghost Value = { Core };
 
@@ -72,7 +72,7 @@ impl Model for GateCore {
     ghost invariant = { λ gate. record {
       sound : IsSound gate.line;
       answers : AreGateAnswers gate.line.answers;
-      standing : IsGateOf (OfGate gate.state) gate.line.line;
+      waits : IsGateOf (OfGate gate.state) gate.line.line;
     } };
 }
 
@@ -111,8 +111,8 @@ impl GateCore {
         ensures answer { IsNone result ↔ (gate_state self.old.held ≡ Controlled) }
         ensures before { IfSome result (λ before. before ≡ gate_state self.old.held) }
         ensures controlled { self.new ≡ record self.old { held = OfGate Controlled } }
-        ensures wakes { OwesAnswered self.old.slots self.new.slots }
-        ensures standing { IsGateStanding self.new }
+        ensures wakes { WakesAnswered self.old.slots self.new.slots }
+        ensures invariant { IsGateInvariant self.new }
     {
         match self.state {
             State::Controlled => None,
@@ -132,8 +132,8 @@ impl GateCore {
         ensures permitted { IfOk result (λ count. (count ≡ length self.old.slots.line)
             × (self.new ≡ record self.old { slots = all_slots_answered permitted_value self.old.slots })) }
         ensures refused { IfErr result (λ state. (state ≡ gate_state self.old.held) × (self.new ≡ self.old)) }
-        ensures wakes { OwesAnswered self.old.slots self.new.slots }
-        ensures standing { IsGateStanding self.new }
+        ensures wakes { WakesAnswered self.old.slots self.new.slots }
+        ensures invariant { IsGateInvariant self.new }
     {
         self.let_through(PERMITTED)
     }
@@ -147,8 +147,8 @@ impl GateCore {
         ensures rejected { IfOk result (λ count. (count ≡ length self.old.slots.line)
             × (self.new ≡ record self.old { slots = all_slots_answered rejected_value self.old.slots })) }
         ensures refused { IfErr result (λ state. (state ≡ gate_state self.old.held) × (self.new ≡ self.old)) }
-        ensures wakes { OwesAnswered self.old.slots self.new.slots }
-        ensures standing { IsGateStanding self.new }
+        ensures wakes { WakesAnswered self.old.slots self.new.slots }
+        ensures invariant { IsGateInvariant self.new }
     {
         self.let_through(REJECTED)
     }
@@ -160,8 +160,8 @@ impl GateCore {
         ensures before { result.0 ≡ gate_state self.old.held }
         ensures count { result.1 ≡ length self.old.slots.line }
         ensures opened { self.new ≡ record { held = OfGate Open; slots = all_slots_answered opened_value self.old.slots } }
-        ensures wakes { OwesAnswered self.old.slots self.new.slots }
-        ensures standing { IsGateStanding self.new }
+        ensures wakes { WakesAnswered self.old.slots self.new.slots }
+        ensures invariant { IsGateInvariant self.new }
     {
         self.move_to(State::Open, OPENED)
     }
@@ -173,8 +173,8 @@ impl GateCore {
         ensures before { result.0 ≡ gate_state self.old.held }
         ensures count { result.1 ≡ length self.old.slots.line }
         ensures sealed { self.new ≡ record { held = OfGate Sealed; slots = all_slots_answered sealed_value self.old.slots } }
-        ensures wakes { OwesAnswered self.old.slots self.new.slots }
-        ensures standing { IsGateStanding self.new }
+        ensures wakes { WakesAnswered self.old.slots self.new.slots }
+        ensures invariant { IsGateInvariant self.new }
     {
         self.move_to(State::Sealed, SEALED)
     }
@@ -185,7 +185,7 @@ impl GateCore {
     /// controlled gate it waits, last in the line, in a slot. `Ok(false)`: the ticket isn't idle; nothing changes.
     /// `Err(Full)`: it would have to wait, and as many slots are held as there is room; nothing changes. Costs O(1).
     pub fn register(&mut self, ticket: &mut Ticket, is_sync: bool) -> Result<bool, Full>
-        ensures acts { Acts self.old self.new ticket.old ticket.new (λ s name. registered s name Enter is_sync) result }
+        ensures acts { StepsWithTicket self.old self.new ticket.old ticket.new (λ s name. registered s name Enter is_sync) result }
         ensures ticket { is_busy ticket.new ≡ (is_busy ticket.old || is_yes result) }
         ensures busy { is_busy ticket.old ≡ true
             → (result ≡ Ok false) × (self.new ≡ self.old) × (ticket.new ≡ ticket.old) }
@@ -194,11 +194,11 @@ impl GateCore {
         ensures opened { is_busy ticket.old ≡ false → gate_state self.old.held ≡ Open
             → (result ≡ Ok true) × (self.new ≡ self.old) × (ticket.new ≡ AtOnce opened_value Enter is_sync) }
         ensures full { IsErr result → held_slots self.old.slots ≡ room_of self.old.slots }
-        ensures nobody { self.new.slots.owed ≡ self.old.slots.owed }
+        ensures nobody { self.new.slots.pending_wakes ≡ self.old.slots.pending_wakes }
         ensures refused { is_yes result ≡ false → (self.new ≡ self.old) × (ticket.new ≡ ticket.old) }
         ensures state { self.new.held ≡ self.old.held }
-        ensures wakes { OwesAnswered self.old.slots self.new.slots }
-        ensures standing { IsGateStanding self.new }
+        ensures wakes { WakesAnswered self.old.slots self.new.slots }
+        ensures invariant { IsGateInvariant self.new }
     {
         if ticket.is_registered() {
             let _opened = &self.line;
@@ -222,7 +222,7 @@ impl GateCore {
     /// `Rejected`, `Sealed` and `SpuriousFailure`, that another waiter cancelled, are answers as `Ok` is: the slot is free
     /// again, and the ticket is idle.
     pub fn poll(&mut self, ticket: &mut Ticket, how: How) -> Result<State, Error>
-        ensures acts { Acts self.old self.new ticket.old ticket.new (λ s name. read_as gate_value (polled s name how)) result }
+        ensures acts { StepsWithTicket self.old self.new ticket.old ticket.new (λ s name. read_as gate_value (polled s name how)) result }
         ensures ticket { GatePolled self.old self.new ticket.old ticket.new how result }
         ensures answered { is_answer result ≡ true → (is_busy ticket.old ≡ true) × (ticket.new ≡ Unregistered) }
         ensures value { IsGateTicket ticket.old → is_gate_result result ≡ true }
@@ -231,67 +231,11 @@ impl GateCore {
         ensures foreign { IsForeign self.old.slots ticket.old
             → (result ≡ Err Error.NotRegistered) × (self.new ≡ self.old) × (ticket.new ≡ ticket.old) }
         ensures state { self.new.held ≡ self.old.held }
-        ensures owed { self.new.slots.owed ≡ self.old.slots.owed }
-        ensures standing { IsGateStanding self.new }
+        ensures pending_wakes { self.new.slots.pending_wakes ≡ self.old.slots.pending_wakes }
+        ensures invariant { IsGateInvariant self.new }
     {
         let answer = self.poll_number(ticket, how);
         read_answer(answer)
-    }
-
-    /// Polls a ticket for the number of its answer, as [`Self::poll`] does: 0 permitted, 2 passed an open gate,
-    /// 4 rejected, 9 sealed, 12 another waiter cancelled.
-    pub fn poll_number(&mut self, ticket: &mut Ticket, how: How) -> Result<u8, polling::Error>
-        ensures acts { Acts self.old self.new ticket.old ticket.new (λ s name. polled s name how) result }
-        ensures ticket { Polled ticket.old ticket.new how (fault_of result) }
-        ensures kept { HasAnswer ticket.old result }
-        ensures foreign { IsForeign self.old.slots ticket.old
-            → (result ≡ Err NotRegistered) × (self.new ≡ self.old) × (ticket.new ≡ ticket.old) }
-        ensures number { IsGateTicket ticket.old → IfOk result (λ number. is_gate_number number ≡ true) }
-        ensures unchanged { OnErr result (self.new ≡ self.old) }
-        ensures state { self.new.held ≡ self.old.held }
-        ensures owed { self.new.slots.owed ≡ self.old.slots.owed }
-        ensures standing { IsGateStanding self.new }
-    {
-        ticket.poll_in(&mut self.line, how)
-    }
-
-    /// Drops what a ticket is registered for: it is idle afterwards in every case.
-    ///
-    /// A waiter leaves the line, and all other waiters are answered that one cancelled (`SpuriousFailure`). An answer
-    /// that wasn't consumed is only consumed. A ticket whose slot isn't held in this core changes nothing here.
-    /// Costs O(how many wait) for a waiter, and else O(1).
-    pub fn cancel(&mut self, ticket: &mut Ticket)
-        ensures acts { Acts self.old self.new ticket.old ticket.new dropping result }
-        ensures idle { ticket.new ≡ Unregistered }
-        ensures unregistered { ticket.old ≡ Unregistered → self.new ≡ self.old }
-        ensures others { IsWaiting self.old.slots ticket.old
-            → self.new ≡ record self.old { slots = all_slots_answered spurious_value (left_by ticket.old self.old.slots) } }
-        ensures consumed { ¬ IsWaiting self.old.slots ticket.old
-            → (self.new.slots.line ≡ self.old.slots.line) × (self.new.slots.owed ≡ self.old.slots.owed) }
-        ensures foreign { IsForeign self.old.slots ticket.old → self.new ≡ self.old }
-        ensures state { self.new.held ≡ self.old.held }
-        ensures wakes { OwesAnswered self.old.slots self.new.slots }
-        ensures standing { IsGateStanding self.new }
-    {
-        let _opened = &self.line;
-        let registration = ticket.registration();
-        ticket.set(Registration::Unregistered);
-        match registration {
-            Registration::Unregistered => {}
-            Registration::AtOnce(_value, _request, _is_sync) => {}
-            Registration::InSlot(slot, _request, _is_sync) => self.vacate(slot),
-        }
-    }
-
-    /// Reports the oldest pending wake and takes it out: of the slots that weren't reported yet, the one that was answered
-    /// first. `None` exactly where none is pending. A slot comes once however often it was answered in between. Costs O(1).
-    pub fn next_answered(&mut self) -> Option<u16>
-        ensures oldest { result ≡ slice_get self.old.slots.owed 0 }
-        ensures told { self.new ≡ record self.old { slots = wake_told self.old.slots } }
-        ensures within { IfSome result (λ slot. slot < room_of self.old.slots) }
-        ensures standing { IsGateStanding self.new }
-    {
-        self.line.next_answered()
     }
 
     // Answers all waiters of a controlled gate with a value; at another gate only its state is told.
@@ -302,8 +246,8 @@ impl GateCore {
         ensures answered { IfOk result (λ count. (count ≡ length self.old.slots.line)
             × (self.new ≡ record self.old { slots = all_slots_answered value self.old.slots })) }
         ensures refused { IfErr result (λ state. (state ≡ gate_state self.old.held) × (self.new ≡ self.old)) }
-        ensures wakes { OwesAnswered self.old.slots self.new.slots }
-        ensures standing { IsGateStanding self.new }
+        ensures wakes { WakesAnswered self.old.slots self.new.slots }
+        ensures invariant { IsGateInvariant self.new }
     {
         match self.state {
             State::Controlled => Ok(self.answer_all(value)),
@@ -318,8 +262,8 @@ impl GateCore {
         ensures before { result.0 ≡ gate_state self.old.held }
         ensures count { result.1 ≡ length self.old.slots.line }
         ensures moved { self.new ≡ record { held = OfGate state; slots = all_slots_answered value self.old.slots } }
-        ensures wakes { OwesAnswered self.old.slots self.new.slots }
-        ensures standing { IsGateStanding self.new }
+        ensures wakes { WakesAnswered self.old.slots self.new.slots }
+        ensures invariant { IsGateInvariant self.new }
     {
         let before = self.state;
         let answered = self.answer_all(value);
@@ -332,8 +276,8 @@ impl GateCore {
         requires { is_gate_number value ≡ true }
         ensures count { result ≡ length self.old.slots.line }
         ensures answered { self.new ≡ record self.old { slots = all_slots_answered value self.old.slots } }
-        ensures wakes { OwesAnswered self.old.slots self.new.slots }
-        ensures standing { IsGateStanding self.new }
+        ensures wakes { WakesAnswered self.old.slots self.new.slots }
+        ensures invariant { IsGateInvariant self.new }
     {
         let waiting = usize::from(self.line.waiting());
         self.line.answer_all(value);
@@ -355,8 +299,8 @@ impl GateCore {
     // gave up; a slot that isn't held is nothing.
     fn vacate(&mut self, slot: u16)
         ensures vacated { self.new ≡ record self.old { slots = vacated (all_slots_answered spurious_value) self.old.slots slot } }
-        ensures wakes { OwesAnswered self.old.slots self.new.slots }
-        ensures standing { IsGateStanding self.new }
+        ensures wakes { WakesAnswered self.old.slots self.new.slots }
+        ensures invariant { IsGateInvariant self.new }
     {
         if self.line.take(slot).is_some() {
             return;
@@ -398,7 +342,8 @@ fn error_of(error: polling::Error) -> Error
 impl Primitive for GateCore {
     ghost use Rattle.saa_core_spec.specs.Gate.{enter_request, gate_step};
     ghost use Rattle.saa_core_spec.specs.Values.{gate_value};
-    ghost use Rattle.saa_core.specs.GateStanding.{GateStands};
+    ghost use Rattle.saa_core.specs.GateInvariant.{GateInvariant};
+    ghost use Rattle.saa_core.specs.Trying.{never_tried};
 
     type Call = GateCall;
 
@@ -416,14 +361,18 @@ impl Primitive for GateCore {
 
     ghost value = { gate_value };
 
-    ghost stands = { GateStands };
+    ghost tried = { never_tried };
 
-    fn stands(&self) {
+    ghost core_invariant = { IsGateInvariant };
+
+    ghost object_invariant = { GateInvariant };
+
+    fn object_invariant(&self) {
         let _opened = &self.line;
     }
 
     fn call(&mut self, call: GateCall) -> GateAnswer {
-        // The proof learns that a call which only reads owes nobody a wake.
+        // The proof learns that a call which only reads leaves the pending wakes as they are.
         let _opened = &self.line;
         match call {
             GateCall::State => GateAnswer::State(self.state()),
@@ -441,24 +390,65 @@ impl Primitive for GateCore {
         }
     }
 
+    fn try_now(&mut self, _ask: ()) -> Option<u8> {
+        None
+    }
+
     fn register(&mut self, ticket: &mut Ticket, _ask: (), is_sync: bool) -> Result<bool, Full> {
         GateCore::register(self, ticket, is_sync)
     }
 
-    fn poll_number(&mut self, ticket: &mut Ticket, how: How) -> Result<u8, polling::Error> {
-        GateCore::poll_number(self, ticket, how)
+    /// Polls a ticket for the number of its answer, as [`Self::poll`] does: 0 permitted, 2 passed an open gate,
+    /// 4 rejected, 9 sealed, 12 another waiter cancelled.
+    fn poll_number(&mut self, ticket: &mut Ticket, how: How) -> Result<u8, polling::Error>
+        ensures acts { StepsWithTicket self.old self.new ticket.old ticket.new (λ s name. polled s name how) result }
+        ensures ticket { Polled ticket.old ticket.new how (fault_of result) }
+        ensures kept { HasAnswer ticket.old result }
+        ensures foreign { IsForeign self.old.slots ticket.old
+            → (result ≡ Err NotRegistered) × (self.new ≡ self.old) × (ticket.new ≡ ticket.old) }
+        ensures number { IsGateTicket ticket.old → IfOk result (λ number. is_gate_number number ≡ true) }
+        ensures unchanged { OnErr result (self.new ≡ self.old) }
+        ensures held { self.new.held ≡ self.old.held }
+        ensures pending_wakes { self.new.slots.pending_wakes ≡ self.old.slots.pending_wakes }
+        ensures invariant { IsGateInvariant self.new }
+    {
+        ticket.poll_in(&mut self.line, how)
     }
 
     fn value_of(answer: Result<u8, polling::Error>) -> Result<State, Error> {
         read_answer(answer)
     }
 
-    fn cancel(&mut self, ticket: &mut Ticket) {
-        GateCore::cancel(self, ticket);
+    /// Drops what a ticket is registered for: it is idle afterwards in every case.
+    ///
+    /// A waiter leaves the line, and all other waiters are answered that one cancelled (`SpuriousFailure`). An answer
+    /// that wasn't consumed is only consumed. A ticket whose slot isn't held in this core changes nothing here.
+    /// Costs O(how many wait) for a waiter, and else O(1).
+    fn cancel(&mut self, ticket: &mut Ticket)
+        ensures acts { StepsWithTicket self.old self.new ticket.old ticket.new dropping result }
+        ensures idle { ticket.new ≡ Unregistered }
+        ensures unregistered { ticket.old ≡ Unregistered → self.new ≡ self.old }
+        ensures others { IsWaiting self.old.slots ticket.old
+            → self.new ≡ record self.old { slots = all_slots_answered spurious_value (left_by ticket.old self.old.slots) } }
+        ensures consumed { ¬ IsWaiting self.old.slots ticket.old
+            → (self.new.slots.line ≡ self.old.slots.line) × (self.new.slots.pending_wakes ≡ self.old.slots.pending_wakes) }
+        ensures foreign { IsForeign self.old.slots ticket.old → self.new ≡ self.old }
+        ensures state { self.new.held ≡ self.old.held }
+        ensures wakes { WakesAnswered self.old.slots self.new.slots }
+        ensures invariant { IsGateInvariant self.new }
+    {
+        let _opened = &self.line;
+        let registration = ticket.registration();
+        ticket.set(Registration::Unregistered);
+        match registration {
+            Registration::Unregistered => {}
+            Registration::AtOnce(_value, _request, _is_sync) => {}
+            Registration::InSlot(slot, _request, _is_sync) => self.vacate(slot),
+        }
     }
 
     fn next_answered(&mut self) -> Option<u16> {
-        GateCore::next_answered(self)
+        self.line.next_answered()
     }
 }
 

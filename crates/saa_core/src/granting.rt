@@ -2,17 +2,18 @@
 //!
 //! The two differ in which request fits, what it takes, and what giving back leaves: that is `Needs`. All else is said
 //! and proved here once: taking at once, registering, settling, giving back, undoing and dropping, each held to the
-//! steps of the object with any tickets registered in the core. The cores above are thin, and keep their own names.
+//! steps of the object with any tickets registered in the core. The cores of the semaphore and the lock are its names at what each
+//! needs, and have their own calls beside these.
 
-ghost use Rattle.std.specs.Prelude.{true, false, ◌≡◌, ◌<◌, ◌||◌, [], IsErr, IsTrue, OnErr, IfSome, length, slice_get, Some, None, if◌then◌else◌, Option};
+ghost use Rattle.std.specs.Prelude.{true, false, ◌≡◌, ◌<◌, ◌||◌, [], IsErr, OnErr, IfSome, length, slice_get, Some, None, if◌then◌else◌, Option};
 ghost use Rattle.std.specs.Bool.{OnFalse};
 ghost use Rattle.saa_core_spec.specs.declared.polling.Error.TheVariants.{NotRegistered};
 ghost use Rattle.saa_core_spec.specs.Held.{Held, OfLock, Poisoned, fits, plus, less, asks_too_much};
 ghost use Rattle.saa_core_spec.specs.Asking.{tried, registered};
 ghost use Rattle.saa_core_spec.specs.Polling.{polled, given_back, is_for_nothing};
-ghost use Rattle.saa_core.specs.Slots.{OwesAnswered, IsSound, held_slots, room_of, wake_told, all_slots_answered};
+ghost use Rattle.saa_core.specs.Slots.{WakesAnswered, IsSound, held_slots, room_of, wake_taken, all_slots_answered};
 ghost use Rattle.saa_core.specs.declared.ticket.Registration.TheVariants.{Unregistered};
-ghost use Rattle.saa_core.specs.Tickets.{Core, Acts, Calls, IsCoreSettled, HasAnswer, Polled, IsForeign, dropping, fault_of, is_busy, is_yes};
+ghost use Rattle.saa_core.specs.Tickets.{Core, StepsWithTicket, Calls, IsCoreSettled, HasAnswer, Polled, IsForeign, dropping, fault_of, is_busy, is_yes};
 ghost use Rattle.saa_core.specs.CoreParts.{core_settled, core_given, core_undone, core_vacated, takes_now, oldest_fitting, IsGranting, answer_to_all};
 
 use crate::line::LineOf;
@@ -77,7 +78,7 @@ impl<N: Needs> Model for Granting<N> {
 
 impl<N: Needs> Granting<N> {
     /// A line at which nobody waits, and what is held.
-    pub fn new(needs: N, line: LineOf<N::Order>) -> Self
+    pub fn from_parts(needs: N, line: LineOf<N::Order>) -> Self
         requires sound { IsSound line }
         requires nobody { line.line ≡ [] }
         ensures { result ≡ record { held = N.held needs; slots = line } }
@@ -88,7 +89,7 @@ impl<N: Needs> Granting<N> {
     /// What is held.
     pub fn needs(&self) -> &N
         ensures held { self.now.held ≡ N.held result.now }
-        ensures quiet { OwesAnswered self.now.slots self.now.slots }
+        ensures quiet { WakesAnswered self.now.slots self.now.slots }
         ensures settled { IsCoreSettled self.now }
     {
         &self.needs
@@ -98,7 +99,7 @@ impl<N: Needs> Granting<N> {
     pub fn waiting(&self) -> u16
         ensures waiting { result ≡ length self.now.slots.line }
         ensures sound { IsSound self.now.slots }
-        ensures quiet { OwesAnswered self.now.slots self.now.slots }
+        ensures quiet { WakesAnswered self.now.slots self.now.slots }
         ensures settled { IsCoreSettled self.now }
         ensures unpoisoned { self.now.held ≡ OfLock Poisoned → self.now.slots.line ≡ [] }
     {
@@ -118,7 +119,7 @@ impl<N: Needs> Granting<N> {
         ensures answer { result ≡ takes_now self.old request }
         ensures refused { OnFalse result (self.new ≡ self.old) }
         ensures taken { result ≡ true → self.new ≡ record self.old { held = plus self.old.held request } }
-        ensures wakes { OwesAnswered self.old.slots self.new.slots }
+        ensures wakes { WakesAnswered self.old.slots self.new.slots }
         ensures settled { IsCoreSettled self.new }
     {
         if !self.takes_now(request) {
@@ -136,7 +137,7 @@ impl<N: Needs> Granting<N> {
         ensures calls { Calls self.old self.new (λ s. given_back s request) result }
         ensures given { self.new ≡ core_given self.old request }
         ensures refused { OnFalse result (self.new ≡ self.old) }
-        ensures wakes { OwesAnswered self.old.slots self.new.slots }
+        ensures wakes { WakesAnswered self.old.slots self.new.slots }
         ensures settled { IsCoreSettled self.new }
     {
         if is_for_nothing(request) {
@@ -155,7 +156,7 @@ impl<N: Needs> Granting<N> {
     /// `Ok(true)`: it is answered at once, as everybody is, or granted where there is no waiter and it fits; or it waits, last
     /// in the line. `Ok(false)`: the ticket isn't idle. `Err(Full)`: it would have to wait, and as many slots are held as
     /// there is room. The last two change nothing.
-    pub fn register(
+    pub fn register_request(
         &mut self,
         ticket: &mut Ticket,
         request: Request,
@@ -163,13 +164,13 @@ impl<N: Needs> Granting<N> {
     ) -> Result<bool, Full>
         requires small { asks_too_much self.old.held request ≡ false }
         requires kept { N.Order.keeps request }
-        ensures acts { Acts self.old self.new ticket.old ticket.new (λ s name. registered s name request is_sync) result }
+        ensures acts { StepsWithTicket self.old self.new ticket.old ticket.new (λ s name. registered s name request is_sync) result }
         ensures ticket { is_busy ticket.new ≡ (is_busy ticket.old || is_yes result) }
         ensures busy { is_busy ticket.old ≡ true
             → (result ≡ Ok false) × (self.new ≡ self.old) × (ticket.new ≡ ticket.old) }
         ensures full { IsErr result → held_slots self.old.slots ≡ room_of self.old.slots }
         ensures refused { is_yes result ≡ false → (self.new ≡ self.old) × (ticket.new ≡ ticket.old) }
-        ensures wakes { OwesAnswered self.old.slots self.new.slots }
+        ensures wakes { WakesAnswered self.old.slots self.new.slots }
         ensures settled { IsCoreSettled self.new }
     {
         if ticket.is_registered() {
@@ -194,13 +195,14 @@ impl<N: Needs> Granting<N> {
 
     /// Polls a ticket for the number of its answer; a core never waits. Costs O(1).
     pub fn poll_number(&mut self, ticket: &mut Ticket, how: How) -> Result<u8, Error>
-        ensures acts { Acts self.old self.new ticket.old ticket.new (λ s name. polled s name how) result }
+        ensures acts { StepsWithTicket self.old self.new ticket.old ticket.new (λ s name. polled s name how) result }
         ensures ticket { Polled ticket.old ticket.new how (fault_of result) }
         ensures kept { HasAnswer ticket.old result }
         ensures foreign { IsForeign self.old.slots ticket.old
             → (result ≡ Err NotRegistered) × (self.new ≡ self.old) × (ticket.new ≡ ticket.old) }
         ensures unchanged { OnErr result (self.new ≡ self.old) }
-        ensures owed { self.new.slots.owed ≡ self.old.slots.owed }
+        ensures held { self.new.held ≡ self.old.held }
+        ensures pending_wakes { self.new.slots.pending_wakes ≡ self.old.slots.pending_wakes }
         ensures settled { IsCoreSettled self.new }
     {
         ticket.poll_in(&mut self.line, how)
@@ -212,11 +214,11 @@ impl<N: Needs> Granting<N> {
     /// back. A ticket whose slot isn't held here changes nothing. Costs O(how many are granted), and for a waiter what it
     /// costs the line to let one leave.
     pub fn cancel(&mut self, ticket: &mut Ticket)
-        ensures acts { Acts self.old self.new ticket.old ticket.new dropping result }
+        ensures acts { StepsWithTicket self.old self.new ticket.old ticket.new dropping result }
         ensures idle { ticket.new ≡ Unregistered }
         ensures unregistered { ticket.old ≡ Unregistered → self.new ≡ self.old }
         ensures foreign { IsForeign self.old.slots ticket.old → self.new ≡ self.old }
-        ensures wakes { OwesAnswered self.old.slots self.new.slots }
+        ensures wakes { WakesAnswered self.old.slots self.new.slots }
         ensures settled { IsCoreSettled self.new }
     {
         let _opened = &self.line;
@@ -231,8 +233,8 @@ impl<N: Needs> Granting<N> {
 
     /// Takes out the oldest pending wake, and reports its slot; `None` exactly where none is pending. Costs O(1).
     pub fn next_answered(&mut self) -> Option<u16>
-        ensures oldest { result ≡ slice_get self.old.slots.owed 0 }
-        ensures told { self.new ≡ record self.old { slots = wake_told self.old.slots } }
+        ensures oldest { result ≡ slice_get self.old.slots.pending_wakes 0 }
+        ensures told { self.new ≡ record self.old { slots = wake_taken self.old.slots } }
         ensures within { IfSome result (λ slot. slot < room_of self.old.slots) }
         ensures settled { IsCoreSettled self.new }
     {
@@ -242,10 +244,10 @@ impl<N: Needs> Granting<N> {
     /// This is held from now on, and the oldest waiters are granted while they fit. It isn't a poisoned lock.
     ///
     /// Costs O(how many are granted).
-    pub fn settle_with(&mut self, needs: N)
+    pub(crate) fn settle_with(&mut self, needs: N)
         requires unpoisoned { ¬ (N.held needs ≡ OfLock Poisoned) }
         ensures granted { self.new ≡ core_settled (record self.old { held = N.held needs }) }
-        ensures wakes { OwesAnswered self.old.slots self.new.slots }
+        ensures wakes { WakesAnswered self.old.slots self.new.slots }
         ensures settled { IsCoreSettled self.new }
     {
         self.needs = needs;
@@ -253,9 +255,9 @@ impl<N: Needs> Granting<N> {
     }
 
     /// All waiters are answered with a value, and this is held from now on. Costs O(how many wait).
-    pub fn answer_all(&mut self, needs: N, value: u8)
+    pub(crate) fn answer_all(&mut self, needs: N, value: u8)
         ensures answered { self.new ≡ record { held = N.held needs; slots = all_slots_answered value self.old.slots } }
-        ensures wakes { OwesAnswered self.old.slots self.new.slots }
+        ensures wakes { WakesAnswered self.old.slots self.new.slots }
         ensures settled { IsCoreSettled self.new }
     {
         self.needs = needs;
@@ -263,10 +265,10 @@ impl<N: Needs> Granting<N> {
     }
 
     /// This is held from now on; nobody waits.
-    pub fn replace(&mut self, needs: N)
+    pub(crate) fn replace(&mut self, needs: N)
         requires { self.old.slots.line ≡ [] }
         ensures replaced { self.new ≡ record self.old { held = N.held needs } }
-        ensures wakes { OwesAnswered self.old.slots self.new.slots }
+        ensures wakes { WakesAnswered self.old.slots self.new.slots }
         ensures settled { IsCoreSettled self.new }
     {
         self.needs = needs;
@@ -285,7 +287,7 @@ impl<N: Needs> Granting<N> {
     // Undoes an answer that isn't consumed: what was granted is given back.
     fn undo(&mut self, value: u8, request: Request)
         ensures undone { self.new ≡ core_undone self.old value request }
-        ensures wakes { OwesAnswered self.old.slots self.new.slots }
+        ensures wakes { WakesAnswered self.old.slots self.new.slots }
         ensures settled { IsCoreSettled self.new }
     {
         let _opened = &self.line;
@@ -298,7 +300,7 @@ impl<N: Needs> Granting<N> {
     // Frees a slot of this core: its answer is undone, or it leaves the line; a slot that isn't held is nothing.
     fn vacate(&mut self, slot: u16, request: Request)
         ensures vacated { self.new ≡ core_vacated self.old slot request }
-        ensures wakes { OwesAnswered self.old.slots self.new.slots }
+        ensures wakes { WakesAnswered self.old.slots self.new.slots }
         ensures settled { IsCoreSettled self.new }
     {
         if let Some(value) = self.line.take(slot) {
@@ -318,7 +320,7 @@ fn is_for_nothing(request: Request) -> bool
     matches!(request, Request::Permits(0))
 }
 
-// Grants the oldest waiters while they fit. The look at the line is all that most calls need of it, so it stands apart from the loop.
+// Grants the oldest waiters while they fit. The look at the line is all that most calls need of it, so it is apart from the loop.
 fn settle<N: Needs>(needs: &mut N, line: &mut LineOf<N::Order>)
     requires { IsSound line.old }
     ensures settled { record { held = N.held needs.new; slots = line.new }

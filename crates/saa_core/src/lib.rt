@@ -16,3 +16,5 @@ pub mod primitive;
 pub mod semaphore;
 pub mod ticket;
 pub mod words;
+
+pub use primitive::Primitive;

@@ -12,8 +12,8 @@ mod wakes;
 ghost use Rattle.std.specs.Prelude.{◌≡◌, ℕ, ◌<◌, ◌≤◌, ◌↔◌, [], ◌∷◌, ◌++◌, false, None, length, replicate, nat_lt, vec_capacity, IsTrue, IsNone, IsOk, IfOk, IfSome, IfNone, slice_get, slice_set};
 ghost use Rattle.std.specs.Bool.{OnTrue, OnFalse};
 ghost use Rattle.saa_core_spec.specs.Object.{one_if, times, without};
-ghost use Rattle.saa_core.specs.Slots.{count_of, room_of, answer_in, held_slots, held_times, IsSound, empty_slots, slots_answered, all_slots_answered, wake_told};
-ghost use Rattle.saa_core.specs.LineParts.{with_owed};
+ghost use Rattle.saa_core.specs.Slots.{count_of, room_of, answer_in, held_slots, held_times, IsSound, empty_slots, slots_answered, all_slots_answered, wake_taken};
+ghost use Rattle.saa_core.specs.LineParts.{with_pending};
 
 use crate::line::order::{Order, Queue};
 use crate::line::wakes::Wakes;
@@ -45,18 +45,18 @@ pub struct LineOf<O: Order> {
 impl<O: Order> Model for LineOf<O> {
     ghost use Rattle.std.specs.Prelude.{◌≡◌, ◌≤◌, length, vec_capacity};
     ghost use Rattle.saa_core.specs.Slots.{Slots};
-    ghost use Rattle.saa_core.specs.LineParts.{IsLine, AreOwed};
+    ghost use Rattle.saa_core.specs.LineParts.{IsLine, ArePending};
 
     ghost Value = { Slots };
 
-    ghost view = { λ l. record { line = (O.waiters l.order).line; answers = l.answers.items; owed = l.wakes.slots } };
+    ghost view = { λ l. record { line = (O.waiters l.order).line; answers = l.answers.items; pending_wakes = l.wakes.slots } };
 
     ghost invariant = { λ l. record {
       agrees : IsLine (O.waiters l.order).line l.answers.items l.free.items l.waiting.items;
       order_room : (O.waiters l.order).room ≡ length l.answers.items;
       free_reserved : length l.answers.items ≤ vec_capacity l.free;
       wakes_room : l.wakes.room ≡ length l.answers.items;
-      owed : AreOwed l.wakes.slots (length l.answers.items);
+      pending_wakes : ArePending l.wakes.slots (length l.answers.items);
     } };
 }
 
@@ -111,7 +111,7 @@ impl<O: Order> LineOf<O> {
         self.order.oldest()
     }
 
-    /// Answers the `k` oldest with 0: they leave the line, hold their slots still, and are owed a wake. Costs O(`k`).
+    /// Answers the `k` oldest with 0: they leave the line, hold their slots still, and have a wake pending. Costs O(`k`).
     ///
     /// At least `k` wait, as [`Line::waiting`] says.
     pub fn grant_front(&mut self, k: u16)
@@ -122,7 +122,7 @@ impl<O: Order> LineOf<O> {
         self.answer_front(k, 0);
     }
 
-    /// Answers all waiters with `value`: the line is empty, and they hold their slots still, and are owed a wake.
+    /// Answers all waiters with `value`: the line is empty, and they hold their slots still, and have a wake pending.
     /// Costs O(how many wait).
     pub fn answer_all(&mut self, value: u8)
         ensures answered { self.new ≡ all_slots_answered value self.old }
@@ -131,7 +131,7 @@ impl<O: Order> LineOf<O> {
         self.answer_front(self.waiting(), value);
     }
 
-    /// Takes a slot that waits out of the line and frees it. The wakes that are owed stay so. Costs what it costs the order:
+    /// Takes a slot that waits out of the line and frees it. Pending wakes stay so. Costs what it costs the order:
     /// O(1) by links, O(how many wait) in a list.
     ///
     /// `false` comes exactly where the slot doesn't wait, and changes nothing.
@@ -150,7 +150,7 @@ impl<O: Order> LineOf<O> {
         true
     }
 
-    /// Takes the answer of a slot and frees it. The wakes that are owed stay so, its own among them. Costs O(1).
+    /// Takes the answer of a slot and frees it. Pending wakes stay so, its own among them. Costs O(1).
     ///
     /// `None` comes where the slot has no answer, and changes nothing.
     pub fn take(&mut self, slot: u16) -> Option<u8>
@@ -216,8 +216,8 @@ impl<O: Order> LineOf<O> {
     /// A slot that was answered more than once in between comes once, and one whose answer is taken already still
     /// comes.
     pub fn next_answered(&mut self) -> Option<u16>
-        ensures oldest { result ≡ slice_get self.old.owed 0 }
-        ensures told { self.new ≡ wake_told self.old }
+        ensures oldest { result ≡ slice_get self.old.pending_wakes 0 }
+        ensures told { self.new ≡ wake_taken self.old }
         ensures within { IfSome result (λ slot. slot < room_of self.old) }
         ensures sound { IsSound self.new }
     {
@@ -291,13 +291,13 @@ fn free_slots(alloc: Global, room: u16) -> Result<Vec<u16>, AllocError>
     Ok(free)
 }
 
-// Writes the answer of a slot, whose wake is then owed: no answer is written without.
+// Writes the answer of a slot, whose wake is pending from then on: no answer is written without.
 fn give(answers: &mut Vec<AnswerWord>, wakes: &mut Wakes, slot: u16, value: u8)
     requires within { slot < length answers.old.items }
     requires within_wakes { slot < wakes.old.room }
     ensures given { answers.new.items ≡ slice_set answers.old.items slot (Some value) }
-    ensures owed { wakes.new ≡ with_owed slot wakes.old }
+    ensures pending_wakes { wakes.new ≡ with_pending slot wakes.old }
 {
     answers[usize::from(slot)] = AnswerWord::new(Some(value));
-    wakes.owe(slot);
+    wakes.push(slot);
 }

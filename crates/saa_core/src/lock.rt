@@ -1,23 +1,24 @@
 //! The lock: one owner alone, or several that share it, whose waiters are FIFO; and poison.
 //!
 //! The core is held to `specs/Lock.antt` of `saa_core_spec` by every call, with any tickets that are registered in it. It is
-//! thin: asking, settling and dropping stand in `granting`; who has the lock, and poison, stand here.
+//! thin: asking, settling and dropping are `granting`'s, of which the core is a name; the owners of the lock, and poison, are here.
 
-ghost use Rattle.std.specs.Prelude.{true, false, ◌≡◌, ℕ, ◌-◌, ◌<◌, ◌≤◌, ◌↔◌, ◌==◌, ◌||◌, [], if◌then◌else◌, replicate, slice_get, IsOk, IfOk, IfSome, IfNone, OnErr, IsErr, Ok, Err, Some, None};
+ghost use Rattle.std.specs.Prelude.{true, false, ◌≡◌, ℕ, ◌-◌, ◌<◌, ◌≤◌, ◌↔◌, ◌==◌, [], if◌then◌else◌, replicate, IsTrue, IsOk, IfOk, IfSome, IfNone, OnErr, Ok, Err, Some, None};
 ghost use Rattle.std.specs.Bool.{OnFalse};
 ghost use Rattle.saa_core_spec.specs.declared.request.Request.TheVariants.{Exclusive as AskExclusive, Shared as AskShared};
 ghost use Rattle.saa_core_spec.specs.declared.polling.Error.TheVariants.{NotRegistered};
 ghost use Rattle.saa_core_spec.specs.Held.{OfLock, Free, Shared, Poisoned, IsLockState, lock_fits, lock_plus, lock_less};
 ghost use Rattle.saa_core.specs.Owners.{lock_state};
-ghost use Rattle.saa_core_spec.specs.Asking.{tried, registered};
+ghost use Rattle.saa_core_spec.specs.Asking.{tried};
 ghost use Rattle.saa_core_spec.specs.Polling.{polled, given_back, read_as};
 ghost use Rattle.saa_core_spec.specs.Values.{lock_value, poisoned_value};
 ghost use Rattle.saa_core_spec.specs.Lock.{mode_request, is_free, is_locked, is_shared, is_poisoned, downgraded_of, poisoned_of, cleared_of, try_error, new_lock};
-ghost use Rattle.saa_core.specs.Slots.{OwesAnswered, empty_slots, held_slots, room_of, wake_told, all_slots_answered};
+ghost use Rattle.saa_core.specs.Slots.{WakesAnswered, empty_slots, room_of, all_slots_answered};
 ghost use Rattle.saa_core.specs.declared.ticket.Registration.TheVariants.{Unregistered};
 ghost use Rattle.saa_core_words.specs.Words.{count_bits, lock_count, word_number, word_of};
 ghost use Rattle.saa_core.specs.MainWord.{core_word};
-ghost use Rattle.saa_core.specs.Tickets.{Acts, Calls, Belong, IsCoreSettled, HasAnswer, Polled, IsForeign, dropping, fault_of, is_busy, is_yes, object_of};
+ghost use Rattle.saa_core.specs.Trying.{mode_fits};
+ghost use Rattle.saa_core.specs.Tickets.{StepsWithTicket, Calls, Belong, IsCoreSettled, Polled, IsForeign, fault_of, object_of};
 ghost use Rattle.saa_core.specs.CoreParts.{takes_now};
 ghost use Rattle.saa_core.specs.LockCalls.{lock_tried};
 
@@ -37,23 +38,15 @@ use std::marker::Model;
 // The answer of a waiter that finds the lock poisoned.
 const POISONED: u8 = 2;
 
+// How many owners a lock is shared by at most, as a word counts them.
+const ALL_OWNERS: u16 = 62;
+
 /// The core of a lock.
 ///
 /// It is used by one task at a time; a threaded form keeps it under a mutex. Each ticket is used with the core that
 /// it was registered in. Only making takes memory, and nothing is refused for want of it afterwards. The core doesn't
 /// know its owners: any caller may release.
-#[derive(Drop)]
-pub struct LockCore {
-    core: Granting<Owners>,
-}
-
-impl Model for LockCore {
-    ghost use Rattle.saa_core.specs.Tickets.{Core};
-
-    ghost Value = { Core };
-
-    ghost view = { λ core. core.core };
-}
+pub type LockCore = Granting<Owners>;
 
 impl LockCore {
     /// The most owners that share a lock.
@@ -72,56 +65,35 @@ impl LockCore {
     {
         let line = LinkedLine::<ForModes>::with_room(alloc, room)?;
         let needs = Owners::new(Owner::Free);
-        Ok(LockCore {
-            core: Granting::new(needs, line),
-        })
+        Ok(Granting::from_parts(needs, line))
     }
 
     /// Whether nobody has the lock and it isn't poisoned. Costs O(1).
     pub fn is_free(&self) -> bool
         ensures { result ≡ is_free self.now.held }
     {
-        matches!(self.core.needs().owner(), Owner::Free)
+        matches!(self.needs().owner(), Owner::Free)
     }
 
     /// Whether one owner has the lock alone. Costs O(1).
     pub fn is_locked(&self) -> bool
         ensures { result ≡ is_locked self.now.held }
     {
-        matches!(self.core.needs().owner(), Owner::Exclusive)
+        matches!(self.needs().owner(), Owner::Exclusive)
     }
 
     /// Whether the lock is shared. Costs O(1).
     pub fn is_shared(&self) -> bool
         ensures { result ≡ is_shared self.now.held }
     {
-        matches!(self.core.needs().owner(), Owner::Shared(_))
+        matches!(self.needs().owner(), Owner::Shared(_))
     }
 
     /// Whether the lock is poisoned. Costs O(1).
     pub fn is_poisoned(&self) -> bool
         ensures { result ≡ is_poisoned self.now.held }
     {
-        matches!(self.core.needs().owner(), Owner::Poisoned)
-    }
-
-    /// The lock in one number, laid out as `docs/LAYOUT.md` draws it: from bit 0 how many share it, in 16 bits, or 63 for one
-    /// owner alone; bit 16 clear; bit 17 set exactly where it is poisoned; from bit 18 the newest waiter, by its slot
-    /// plus 1, and 0 where there is no waiter. Costs O(1).
-    pub fn word(&self) -> u64
-        ensures number { result ≡ word_number count_bits (core_word self.now) }
-        ensures read { word_of count_bits result ≡ core_word self.now }
-        ensures nobody { ((word_of count_bits result).tail ≡ 0) ↔ (self.now.slots.line ≡ []) }
-        ensures within { (word_of count_bits result).tail ≤ room_of self.now.slots }
-    {
-        let owner = self.core.needs().owner();
-        let word = Word {
-            count: count_of(owner),
-            is_flagged: false,
-            is_poisoned: matches!(owner, Owner::Poisoned),
-            tail: self.core.waiters().tail(),
-        };
-        word.pack()
+        matches!(self.needs().owner(), Owner::Poisoned)
     }
 
     /// Takes the lock for one owner alone if there is no waiter and it is free; never waits itself. Costs O(1).
@@ -133,10 +105,10 @@ impl LockCore {
         ensures granted { takes_now self.old AskExclusive ≡ true → result ≡ Ok tt }
         ensures refusal { takes_now self.old AskExclusive ≡ false → result ≡ Err (try_error (is_poisoned self.old.held)) }
         ensures refused { OnErr result (self.new ≡ self.old) }
-        ensures wakes { OwesAnswered self.old.slots self.new.slots }
+        ensures wakes { WakesAnswered self.old.slots self.new.slots }
         ensures settled { IsCoreSettled self.new }
     {
-        self.try_take(Request::Exclusive)
+        self.try_request(Request::Exclusive)
     }
 
     /// Takes a share of the lock if there is no waiter and one is left; never waits itself. Costs O(1).
@@ -148,10 +120,10 @@ impl LockCore {
         ensures granted { takes_now self.old AskShared ≡ true → result ≡ Ok tt }
         ensures refusal { takes_now self.old AskShared ≡ false → result ≡ Err (try_error (is_poisoned self.old.held)) }
         ensures refused { OnErr result (self.new ≡ self.old) }
-        ensures wakes { OwesAnswered self.old.slots self.new.slots }
+        ensures wakes { WakesAnswered self.old.slots self.new.slots }
         ensures settled { IsCoreSettled self.new }
     {
-        self.try_take(Request::Shared)
+        self.try_request(Request::Shared)
     }
 
     /// Gives the lock of one owner back, and grants the oldest waiters while they fit.
@@ -162,11 +134,11 @@ impl LockCore {
         ensures calls { Calls self.old self.new (λ s. given_back s AskExclusive) result }
         ensures answer { result ≡ is_locked self.old.held }
         ensures refused { OnFalse result (self.new ≡ self.old) }
-        ensures wakes { OwesAnswered self.old.slots self.new.slots }
+        ensures wakes { WakesAnswered self.old.slots self.new.slots }
         ensures settled { IsCoreSettled self.new }
     {
         let _locked = self.is_locked();
-        self.core.take_back(Request::Exclusive)
+        self.take_back(Request::Exclusive)
     }
 
     /// Gives one share back, and grants the oldest waiters while they fit.
@@ -177,11 +149,11 @@ impl LockCore {
         ensures calls { Calls self.old self.new (λ s. given_back s AskShared) result }
         ensures answer { result ≡ is_shared self.old.held }
         ensures refused { OnFalse result (self.new ≡ self.old) }
-        ensures wakes { OwesAnswered self.old.slots self.new.slots }
+        ensures wakes { WakesAnswered self.old.slots self.new.slots }
         ensures settled { IsCoreSettled self.new }
     {
         let _shared = self.is_shared();
-        self.core.take_back(Request::Shared)
+        self.take_back(Request::Shared)
     }
 
     /// Makes the one owner a sharer, and grants the oldest waiters while they fit beside it.
@@ -192,13 +164,13 @@ impl LockCore {
         ensures calls { Calls self.old self.new (λ s. downgraded_of s (is_locked s.held)) result }
         ensures answer { result ≡ is_locked self.old.held }
         ensures refused { OnFalse result (self.new ≡ self.old) }
-        ensures wakes { OwesAnswered self.old.slots self.new.slots }
+        ensures wakes { WakesAnswered self.old.slots self.new.slots }
         ensures settled { IsCoreSettled self.new }
     {
         // The proof learns that the line is settled, and that nobody waits at a poisoned lock.
-        let _waiting = self.core.waiting();
+        let _waiting = self.waiting();
         if self.is_locked() {
-            self.core.settle_with(Owners::new(Owner::Shared(1)));
+            self.settle_with(Owners::new(Owner::Shared(1)));
             return true;
         }
         false
@@ -214,15 +186,15 @@ impl LockCore {
         ensures poisoned { result ≡ true
             → self.new ≡ record { held = OfLock Poisoned; slots = all_slots_answered poisoned_value self.old.slots } }
         ensures refused { OnFalse result (self.new ≡ self.old) }
-        ensures wakes { OwesAnswered self.old.slots self.new.slots }
+        ensures wakes { WakesAnswered self.old.slots self.new.slots }
         ensures settled { IsCoreSettled self.new }
     {
         // The proof learns that the line is settled, and that nobody waits at a poisoned lock.
-        let _waiting = self.core.waiting();
+        let _waiting = self.waiting();
         if !self.is_locked() {
             return false;
         }
-        self.core.answer_all(Owners::new(Owner::Poisoned), POISONED);
+        self.answer_all(Owners::new(Owner::Poisoned), POISONED);
         true
     }
 
@@ -234,36 +206,16 @@ impl LockCore {
         ensures answer { result ≡ is_poisoned self.old.held }
         ensures cleared { result ≡ true → self.new ≡ record self.old { held = OfLock Free } }
         ensures refused { OnFalse result (self.new ≡ self.old) }
-        ensures wakes { OwesAnswered self.old.slots self.new.slots }
+        ensures wakes { WakesAnswered self.old.slots self.new.slots }
         ensures settled { IsCoreSettled self.new }
     {
         // The proof learns that the line is settled, and that nobody waits at a poisoned lock.
-        let _waiting = self.core.waiting();
+        let _waiting = self.waiting();
         if !self.is_poisoned() {
             return false;
         }
-        self.core.replace(Owners::new(Owner::Free));
+        self.replace(Owners::new(Owner::Free));
         true
-    }
-
-    /// Registers an idle ticket in a mode, as sync or as async.
-    ///
-    /// `Ok(true)`: it is answered at once, Poisoned at a poisoned lock, or granted where there is no waiter and it fits; or it
-    /// waits, last in the line, in a slot. `Ok(false)`: the ticket isn't idle; nothing changes. `Err(Full)`: it would have
-    /// to wait, and as many slots are held as there is room; nothing changes. Costs O(1).
-    /// Rule: docs/DEFINITIONS.md, "Asking".
-    pub fn register(&mut self, ticket: &mut Ticket, mode: Mode, is_sync: bool) -> Result<bool, Full>
-        ensures acts { Acts self.old self.new ticket.old ticket.new (λ s name. registered s name (mode_request mode) is_sync) result }
-        ensures ticket { is_busy ticket.new ≡ (is_busy ticket.old || is_yes result) }
-        ensures busy { is_busy ticket.old ≡ true
-            → (result ≡ Ok false) × (self.new ≡ self.old) × (ticket.new ≡ ticket.old) }
-        ensures full { IsErr result → held_slots self.old.slots ≡ room_of self.old.slots }
-        ensures refused { is_yes result ≡ false → (self.new ≡ self.old) × (ticket.new ≡ ticket.old) }
-        ensures wakes { OwesAnswered self.old.slots self.new.slots }
-        ensures settled { IsCoreSettled self.new }
-    {
-        let _owner = self.core.needs().owner();
-        self.core.register(ticket, request_of(mode), is_sync)
     }
 
     /// Polls a ticket for its answer; a core never waits. Costs O(1).
@@ -272,12 +224,12 @@ impl LockCore {
     /// async and is polled as sync, or the other way round. `NotReady`: it waits. None of these changes anything.
     /// `Ok(true)`: it was granted; `Ok(false)`: the lock was poisoned. Then its slot is free again, and the ticket is idle.
     pub fn poll(&mut self, ticket: &mut Ticket, how: How) -> Result<bool, Error>
-        ensures acts { Acts self.old self.new ticket.old ticket.new (λ s name. read_as lock_value (polled s name how)) result }
+        ensures acts { StepsWithTicket self.old self.new ticket.old ticket.new (λ s name. read_as lock_value (polled s name how)) result }
         ensures ticket { Polled ticket.old ticket.new how (fault_of result) }
         ensures foreign { IsForeign self.old.slots ticket.old
             → (result ≡ Err NotRegistered) × (self.new ≡ self.old) × (ticket.new ≡ ticket.old) }
         ensures unchanged { OnErr result (self.new ≡ self.old) }
-        ensures owed { self.new.slots.owed ≡ self.old.slots.owed }
+        ensures pending_wakes { self.new.slots.pending_wakes ≡ self.old.slots.pending_wakes }
         ensures settled { IsCoreSettled self.new }
     {
         match self.poll_number(ticket, how) {
@@ -286,59 +238,17 @@ impl LockCore {
         }
     }
 
-    /// Polls a ticket for the number of its answer, as [`Self::poll`] does: 0 granted, 2 poisoned.
-    pub fn poll_number(&mut self, ticket: &mut Ticket, how: How) -> Result<u8, Error>
-        ensures acts { Acts self.old self.new ticket.old ticket.new (λ s name. polled s name how) result }
-        ensures ticket { Polled ticket.old ticket.new how (fault_of result) }
-        ensures kept { HasAnswer ticket.old result }
-        ensures foreign { IsForeign self.old.slots ticket.old
-            → (result ≡ Err NotRegistered) × (self.new ≡ self.old) × (ticket.new ≡ ticket.old) }
-        ensures unchanged { OnErr result (self.new ≡ self.old) }
-        ensures owed { self.new.slots.owed ≡ self.old.slots.owed }
-        ensures settled { IsCoreSettled self.new }
-    {
-        self.core.poll_number(ticket, how)
-    }
-
-    /// Drops what a ticket is registered for: it is idle afterwards in every case.
-    ///
-    /// A waiter leaves the line, and those behind it are granted while they fit. A grant that wasn't consumed is given
-    /// back as by the release of its mode, which changes nothing where the lock is poisoned by then; a granted wait mode
-    /// and a Poisoned answer give nothing back. A ticket whose slot isn't held in this core changes nothing here.
-    /// Costs O(how many are granted) at any position.
-    pub fn cancel(&mut self, ticket: &mut Ticket)
-        ensures acts { Acts self.old self.new ticket.old ticket.new dropping result }
-        ensures idle { ticket.new ≡ Unregistered }
-        ensures unregistered { ticket.old ≡ Unregistered → self.new ≡ self.old }
-        ensures foreign { IsForeign self.old.slots ticket.old → self.new ≡ self.old }
-        ensures wakes { OwesAnswered self.old.slots self.new.slots }
-        ensures settled { IsCoreSettled self.new }
-    {
-        self.core.cancel(ticket);
-    }
-
-    /// Reports the oldest pending wake and takes it out: of the slots that weren't reported yet, the one that was answered
-    /// first. `None` exactly where none is pending. A slot comes once however often it was answered in between. Costs O(1).
-    pub fn next_answered(&mut self) -> Option<u16>
-        ensures oldest { result ≡ slice_get self.old.slots.owed 0 }
-        ensures told { self.new ≡ record self.old { slots = wake_told self.old.slots } }
-        ensures within { IfSome result (λ slot. slot < room_of self.old.slots) }
-        ensures settled { IsCoreSettled self.new }
-    {
-        self.core.next_answered()
-    }
-
     // A try of either kind.
-    fn try_take(&mut self, request: Request) -> Result<(), TryLockError>
+    fn try_request(&mut self, request: Request) -> Result<(), TryLockError>
         ensures calls { Calls self.old self.new (λ s. lock_tried s request) result }
         ensures granted { takes_now self.old request ≡ true → result ≡ Ok tt }
         ensures refusal { takes_now self.old request ≡ false → result ≡ Err (try_error (is_poisoned self.old.held)) }
         ensures refused { OnErr result (self.new ≡ self.old) }
-        ensures wakes { OwesAnswered self.old.slots self.new.slots }
+        ensures wakes { WakesAnswered self.old.slots self.new.slots }
         ensures settled { IsCoreSettled self.new }
     {
         let is_poisoned = self.is_poisoned();
-        if self.core.try_take(request) {
+        if self.try_take(request) {
             return Ok(());
         }
         if is_poisoned {
@@ -373,9 +283,9 @@ enum Owner {
     Poisoned,
 }
 
-// Who has the lock, as a state that a lock can be in.
+/// The owners of a lock, as a state that it can be in.
 #[derive(Drop)]
-struct Owners {
+pub struct Owners {
     owner: Owner,
 }
 
@@ -540,7 +450,8 @@ fn one_less(owners: u8) -> Owner
 impl Primitive for LockCore {
     ghost use Rattle.saa_core_spec.specs.Lock.{mode_request, lock_step};
     ghost use Rattle.saa_core_spec.specs.Values.{lock_value};
-    ghost use Rattle.saa_core.specs.LockCalls.{LockStands};
+    ghost use Rattle.saa_core.specs.LockCalls.{LockInvariant};
+    ghost use Rattle.saa_core.specs.Trying.{mode_tried};
 
     type Call = LockCall;
 
@@ -558,17 +469,21 @@ impl Primitive for LockCore {
 
     ghost value = { lock_value };
 
-    ghost stands = { LockStands };
+    ghost tried = { mode_tried };
 
-    fn stands(&self) {
+    ghost core_invariant = { IsCoreSettled };
+
+    ghost object_invariant = { LockInvariant };
+
+    fn object_invariant(&self) {
         // The proof learns that the line is settled, and that nobody waits at a poisoned lock.
-        let _waiting = self.core.waiting();
-        let _owner = self.core.needs().owner();
+        let _waiting = self.waiting();
+        let _owner = self.needs().owner();
     }
 
     fn call(&mut self, call: LockCall) -> LockAnswer {
-        // The proof learns that a call which only reads owes nobody a wake.
-        let _waiting = self.core.waiting();
+        // The proof learns that a call which only reads leaves the pending wakes as they are.
+        let _waiting = self.waiting();
         match call {
             LockCall::TryLock => LockAnswer::Tried(self.try_lock()),
             LockCall::TryShare => LockAnswer::Tried(self.try_share()),
@@ -584,12 +499,64 @@ impl Primitive for LockCore {
         }
     }
 
-    fn register(&mut self, ticket: &mut Ticket, mode: Mode, is_sync: bool) -> Result<bool, Full> {
-        LockCore::register(self, ticket, mode, is_sync)
+    /// The lock in one number, laid out as the main word of a word's lock is: from bit 0 how many share it, in 16 bits, or 63 for one
+    /// owner alone; bit 16 clear; bit 17 set exactly where it is poisoned; from bit 18 the newest waiter, by its slot
+    /// plus 1, and 0 where there is no waiter. Costs O(1).
+    fn word(&self) -> u64
+        ensures number { result ≡ word_number count_bits (core_word self.now) }
+        ensures read { word_of count_bits result ≡ core_word self.now }
+        ensures nobody { ((word_of count_bits result).tail ≡ 0) ↔ (self.now.slots.line ≡ []) }
+        ensures within { (word_of count_bits result).tail ≤ room_of self.now.slots }
+    {
+        let owner = self.needs().owner();
+        let word = Word {
+            count: count_of(owner),
+            is_flagged: false,
+            is_poisoned: matches!(owner, Owner::Poisoned),
+            tail: self.waiters().tail(),
+        };
+        word.pack()
     }
 
+    fn may_succeed(mode: Mode, word: u64) -> bool
+        ensures { IsTrue result ↔ mode_fits mode (word_of count_bits word) }
+    {
+        let word = Word::unpack(word);
+        let most = match mode {
+            Mode::Exclusive => 1,
+            Mode::Shared => ALL_OWNERS,
+            Mode::WaitExclusive | Mode::WaitShared => 0,
+        };
+        word.tail == 0 && word.count < most
+    }
+
+    fn try_now(&mut self, mode: Mode) -> Option<u8> {
+        let answer = match mode {
+            Mode::Exclusive => self.try_lock(),
+            Mode::Shared => self.try_share(),
+            Mode::WaitExclusive | Mode::WaitShared => return None,
+        };
+        match answer {
+            Ok(()) => Some(0),
+            Err(TryLockError::Poisoned) => Some(POISONED),
+            Err(TryLockError::WouldBlock) => None,
+        }
+    }
+
+    /// Registers an idle ticket in a mode, as sync or as async.
+    ///
+    /// `Ok(true)`: it is answered at once, Poisoned at a poisoned lock, or granted where there is no waiter and it fits; or it
+    /// waits, last in the line, in a slot. `Ok(false)`: the ticket isn't idle; nothing changes. `Err(Full)`: it would have
+    /// to wait, and as many slots are held as there is room; nothing changes. Costs O(1).
+    /// Rule: docs/DEFINITIONS.md, "Asking".
+    fn register(&mut self, ticket: &mut Ticket, mode: Mode, is_sync: bool) -> Result<bool, Full> {
+        let _owner = self.needs().owner();
+        self.register_request(ticket, request_of(mode), is_sync)
+    }
+
+    /// Polls a ticket for the number of its answer, as [`Self::poll`] does: 0 granted, 2 poisoned.
     fn poll_number(&mut self, ticket: &mut Ticket, how: How) -> Result<u8, Error> {
-        LockCore::poll_number(self, ticket, how)
+        Granting::poll_number(self, ticket, how)
     }
 
     fn value_of(answer: Result<u8, Error>) -> Result<bool, Error> {
@@ -599,24 +566,30 @@ impl Primitive for LockCore {
         }
     }
 
+    /// Drops what a ticket is registered for: it is idle afterwards in every case.
+    ///
+    /// A waiter leaves the line, and those behind it are granted while they fit. A grant that wasn't consumed is given
+    /// back as by the release of its mode, which changes nothing where the lock is poisoned by then; a granted wait mode
+    /// and a Poisoned answer give nothing back. A ticket whose slot isn't held in this core changes nothing here.
+    /// Costs O(how many are granted) at any position.
     fn cancel(&mut self, ticket: &mut Ticket) {
-        LockCore::cancel(self, ticket);
+        Granting::cancel(self, ticket);
     }
 
     fn next_answered(&mut self) -> Option<u16> {
-        LockCore::next_answered(self)
+        Granting::next_answered(self)
     }
 }
 
 impl fmt::Debug for LockCore {
     fn fmt<W: fmt::Write>(&self, f: &mut fmt::Formatter<W>) -> fmt::Result {
         let locked = self.is_locked();
-        let share_count = match self.core.needs().owner() {
+        let share_count = match self.needs().owner() {
             Owner::Shared(owners) => owners,
             Owner::Free | Owner::Exclusive | Owner::Poisoned => 0,
         };
         let poisoned = self.is_poisoned();
-        let waiting = self.core.waiting();
+        let waiting = self.waiting();
         write!(
             f,
             "LockCore {{ locked: {locked}, share_count: {share_count}, poisoned: {poisoned}, waiting: {waiting} }}"

@@ -1,9 +1,9 @@
 //! The semaphore: permits that are taken and given back, whose waiters are FIFO.
 //!
 //! The core is held to `specs/Semaphore.antt` of `saa_core_spec` by every call, with any tickets that are registered in it.
-//! It is thin: asking, settling and dropping stand in `granting`, and here what is out, and which counts there are.
+//! It is thin: asking, settling and dropping are `granting`'s, of which the core is a name; what is out, and which counts there are, is here.
 
-ghost use Rattle.std.specs.Prelude.{true, false, ◌≡◌, ℕ, ◌+◌, ◌-◌, ◌<◌, ◌≤◌, ◌↔◌, ◌==◌, ◌||◌, [], if◌then◌else◌, min, nat_lt, replicate, slice_get, IsTrue, IsNone, IsOk, IfOk, IfSome, OnErr, IsErr};
+ghost use Rattle.std.specs.Prelude.{true, false, ◌≡◌, ℕ, ◌+◌, ◌-◌, ◌<◌, ◌≤◌, ◌↔◌, ◌==◌, ◌||◌, [], if◌then◌else◌, min, nat_lt, replicate, IsTrue, IsNone, IsOk, IfOk, OnErr, IsErr};
 ghost use Rattle.std.specs.Bool.{OnTrue, OnFalse};
 ghost use Rattle.saa_core_spec.specs.declared.request.Request.TheVariants.{Permits};
 ghost use Rattle.saa_core_spec.specs.declared.polling.Error.TheVariants.{NotRegistered};
@@ -13,10 +13,11 @@ ghost use Rattle.saa_core_spec.specs.Asking.{tried, registered};
 ghost use Rattle.saa_core_spec.specs.Polling.{polled, given_back, read_as};
 ghost use Rattle.saa_core_spec.specs.Values.{semaphore_value};
 ghost use Rattle.saa_core_spec.specs.Semaphore.{bound_of, out_of, available, new_semaphore};
-ghost use Rattle.saa_core.specs.Slots.{OwesAnswered, empty_slots, held_slots, room_of, wake_told};
+ghost use Rattle.saa_core.specs.Slots.{WakesAnswered, empty_slots, held_slots, room_of};
 ghost use Rattle.saa_core_words.specs.Words.{count_bits, word_number, word_of};
 ghost use Rattle.saa_core.specs.MainWord.{core_word};
-ghost use Rattle.saa_core.specs.Tickets.{Acts, Calls, Belong, IsCoreSettled, HasAnswer, Polled, IsForeign, dropping, fault_of, is_busy, is_yes, object_of};
+ghost use Rattle.saa_core.specs.Trying.{permits_fit};
+ghost use Rattle.saa_core.specs.Tickets.{StepsWithTicket, Calls, Belong, IsCoreSettled, Polled, IsForeign, fault_of, is_busy, is_yes, object_of};
 
 use crate::granting::{Granting, Needs};
 use crate::line::LinkedLine;
@@ -29,32 +30,28 @@ use saa_core_words::requests::ForPermits;
 use saa_core_words::word::Word;
 use std::alloc::{AllocError, Global};
 use std::fmt;
-use std::marker::Model;
-
-/// The core of a semaphore of 63 permits.
-pub type SemaphoreCore = SemaphoreCoreOf<63>;
 
 /// The core of a semaphore of at most `MAX` permits, 1 to 65,535.
 ///
 /// It is used by one task at a time; a threaded form puts a lock round it. Each ticket is used with the core that
 /// it was registered in. Only making takes memory, and nothing is refused for want of it afterwards.
-#[derive(Drop)]
-pub struct SemaphoreCoreOf<const MAX: usize> {
-    core: Granting<PermitsOut<MAX>>,
+pub type SemaphoreCoreOf<const MAX: usize> = Granting<PermitsOut<MAX>>;
+
+/// The core of a semaphore of 63 permits.
+pub type SemaphoreCore = SemaphoreCoreOf<63>;
+
+/// Permits that are out, whose type says how many there are at most.
+pub trait CountsPermits: Needs {
+    /// The most permits.
+    const MAX_PERMITS: usize;
 }
 
-impl<const MAX: usize> Model for SemaphoreCoreOf<MAX> {
-    ghost use Rattle.saa_core.specs.Tickets.{Core};
-
-    ghost Value = { Core };
-
-    ghost view = { λ core. core.core };
+impl<N: CountsPermits> Granting<N> {
+    /// The most permits of a semaphore.
+    pub const MAX_PERMITS: usize = N::MAX_PERMITS;
 }
 
 impl<const MAX: usize> SemaphoreCoreOf<MAX> {
-    /// The most permits of a semaphore.
-    pub const MAX_PERMITS: usize = MAX;
-
     /// A semaphore with all its permits available, and room for so many waiters. Costs O(`room`).
     ///
     /// Reserves all the memory that it will ever need; the error comes only where that was refused, and so never for
@@ -90,26 +87,7 @@ impl<const MAX: usize> SemaphoreCoreOf<MAX> {
         let needs = PermitsOut {
             out: MAX - permits.min(MAX),
         };
-        Ok(SemaphoreCoreOf {
-            core: Granting::new(needs, line),
-        })
-    }
-
-    /// The semaphore in one number, laid out as `docs/LAYOUT.md` draws it: from bit 0 the permits that are out, in 16
-    /// bits; bits 16 and 17 clear; from bit 18 the newest waiter, by its slot plus 1, and 0 where there is no waiter. Costs O(1).
-    pub fn word(&self) -> u64
-        ensures number { result ≡ word_number count_bits (core_word self.now) }
-        ensures read { word_of count_bits result ≡ core_word self.now }
-        ensures nobody { ((word_of count_bits result).tail ≡ 0) ↔ (self.now.slots.line ≡ []) }
-        ensures within { (word_of count_bits result).tail ≤ room_of self.now.slots }
-    {
-        let word = Word {
-            count: self.core.needs().out as u16,
-            is_flagged: false,
-            is_poisoned: false,
-            tail: self.core.waiters().tail(),
-        };
-        word.pack()
+        Ok(Granting::from_parts(needs, line))
     }
 
     /// How many permits are available. Costs O(1).
@@ -117,21 +95,21 @@ impl<const MAX: usize> SemaphoreCoreOf<MAX> {
         ensures answer { result ≡ available self.now.held }
         ensures within { result ≤ MAX }
     {
-        MAX - self.core.needs().out
+        MAX - self.needs().out
     }
 
     /// Whether a permit is available. Costs O(1).
     pub fn is_open(&self) -> bool
         ensures { result ≡ nat_lt (out_of self.now.held) (bound_of self.now.held) }
     {
-        self.core.needs().out < MAX
+        self.needs().out < MAX
     }
 
     /// Whether no permit is available. Costs O(1).
     pub fn is_closed(&self) -> bool
         ensures { result ≡ (out_of self.now.held == bound_of self.now.held) }
     {
-        self.core.needs().out == MAX
+        self.needs().out == MAX
     }
 
     /// Takes one permit if there is no waiter and one is available; see [`Self::try_acquire_many`].
@@ -139,7 +117,7 @@ impl<const MAX: usize> SemaphoreCoreOf<MAX> {
         ensures calls { Calls self.old self.new (λ s. tried s (Permits 1)) result }
         ensures answer { IsTrue result ↔ ((self.old.slots.line ≡ []) × (1 ≤ available self.old.held)) }
         ensures refused { OnFalse result (self.new ≡ self.old) }
-        ensures wakes { OwesAnswered self.old.slots self.new.slots }
+        ensures wakes { WakesAnswered self.old.slots self.new.slots }
         ensures settled { IsCoreSettled self.new }
     {
         self.try_acquire_many(1)
@@ -155,13 +133,13 @@ impl<const MAX: usize> SemaphoreCoreOf<MAX> {
         ensures too_many { MAX < count → result ≡ false }
         ensures taken { OnTrue result (available self.new.held + count ≡ available self.old.held) }
         ensures refused { OnFalse result (self.new ≡ self.old) }
-        ensures wakes { OwesAnswered self.old.slots self.new.slots }
+        ensures wakes { WakesAnswered self.old.slots self.new.slots }
         ensures settled { IsCoreSettled self.new }
     {
         let Some(request) = self.request_of(count) else {
             return false;
         };
-        self.core.try_take(request)
+        self.try_take(request)
     }
 
     /// Gives one permit back; see [`Self::release_many`].
@@ -169,7 +147,7 @@ impl<const MAX: usize> SemaphoreCoreOf<MAX> {
         ensures calls { Calls self.old self.new (λ s. given_back s (Permits 1)) result }
         ensures answer { IsTrue result ↔ (1 ≤ out_of self.old.held) }
         ensures refused { OnFalse result (self.new ≡ self.old) }
-        ensures wakes { OwesAnswered self.old.slots self.new.slots }
+        ensures wakes { WakesAnswered self.old.slots self.new.slots }
         ensures settled { IsCoreSettled self.new }
     {
         self.release_many(1)
@@ -184,42 +162,13 @@ impl<const MAX: usize> SemaphoreCoreOf<MAX> {
         ensures answer { IsTrue result ↔ (count ≤ out_of self.old.held) }
         ensures too_many { MAX < count → result ≡ false }
         ensures refused { OnFalse result (self.new ≡ self.old) }
-        ensures wakes { OwesAnswered self.old.slots self.new.slots }
+        ensures wakes { WakesAnswered self.old.slots self.new.slots }
         ensures settled { IsCoreSettled self.new }
     {
         let Some(request) = self.request_of(count) else {
             return false;
         };
-        self.core.take_back(request)
-    }
-
-    /// Registers an idle ticket for `count` permits, as sync or as async.
-    ///
-    /// `Ok(true)`: it is answered at once, where there is no waiter and the permits are available; or it waits, last in the
-    /// line, in a slot. `Ok(false)`: the ticket isn't idle, or the count is above the bound; nothing changes.
-    /// `Err(Full)`: it would have to wait, and as many slots are held as there is room; nothing changes.
-    /// Costs O(1). Rule: docs/DEFINITIONS.md, "Asking".
-    pub fn register(
-        &mut self,
-        ticket: &mut Ticket,
-        count: usize,
-        is_sync: bool,
-    ) -> Result<bool, Full>
-        ensures acts { Acts self.old self.new ticket.old ticket.new (λ s name. registered s name (Permits count) is_sync) result }
-        ensures ticket { is_busy ticket.new ≡ (is_busy ticket.old || is_yes result) }
-        ensures busy { is_busy ticket.old ≡ true
-            → (result ≡ Ok false) × (self.new ≡ self.old) × (ticket.new ≡ ticket.old) }
-        ensures too_many { MAX < count
-            → (result ≡ Ok false) × (self.new ≡ self.old) × (ticket.new ≡ ticket.old) }
-        ensures full { IsErr result → held_slots self.old.slots ≡ room_of self.old.slots }
-        ensures refused { is_yes result ≡ false → (self.new ≡ self.old) × (ticket.new ≡ ticket.old) }
-        ensures wakes { OwesAnswered self.old.slots self.new.slots }
-        ensures settled { IsCoreSettled self.new }
-    {
-        let Some(request) = self.request_of(count) else {
-            return Ok(false);
-        };
-        self.core.register(ticket, request, is_sync)
+        self.take_back(request)
     }
 
     /// Polls a ticket for its grant; a core never waits. Costs O(1).
@@ -228,12 +177,12 @@ impl<const MAX: usize> SemaphoreCoreOf<MAX> {
     /// async and is polled as sync, or the other way round. `NotReady`: it waits. None of these changes anything.
     /// `Ok(())`: it was granted, its slot is free again, and the ticket is idle.
     pub fn poll(&mut self, ticket: &mut Ticket, how: How) -> Result<(), Error>
-        ensures acts { Acts self.old self.new ticket.old ticket.new (λ s name. read_as semaphore_value (polled s name how)) result }
+        ensures acts { StepsWithTicket self.old self.new ticket.old ticket.new (λ s name. read_as semaphore_value (polled s name how)) result }
         ensures ticket { Polled ticket.old ticket.new how (fault_of result) }
         ensures foreign { IsForeign self.old.slots ticket.old
             → (result ≡ Err NotRegistered) × (self.new ≡ self.old) × (ticket.new ≡ ticket.old) }
         ensures unchanged { OnErr result (self.new ≡ self.old) }
-        ensures owed { self.new.slots.owed ≡ self.old.slots.owed }
+        ensures pending_wakes { self.new.slots.pending_wakes ≡ self.old.slots.pending_wakes }
         ensures settled { IsCoreSettled self.new }
     {
         match self.poll_number(ticket, how) {
@@ -242,57 +191,16 @@ impl<const MAX: usize> SemaphoreCoreOf<MAX> {
         }
     }
 
-    /// Polls a ticket for the number of its answer, as [`Self::poll`] does.
-    pub fn poll_number(&mut self, ticket: &mut Ticket, how: How) -> Result<u8, Error>
-        ensures acts { Acts self.old self.new ticket.old ticket.new (λ s name. polled s name how) result }
-        ensures ticket { Polled ticket.old ticket.new how (fault_of result) }
-        ensures kept { HasAnswer ticket.old result }
-        ensures foreign { IsForeign self.old.slots ticket.old
-            → (result ≡ Err NotRegistered) × (self.new ≡ self.old) × (ticket.new ≡ ticket.old) }
-        ensures unchanged { OnErr result (self.new ≡ self.old) }
-        ensures owed { self.new.slots.owed ≡ self.old.slots.owed }
-        ensures settled { IsCoreSettled self.new }
-    {
-        self.core.poll_number(ticket, how)
-    }
-
-    /// Drops what a ticket is registered for: it is idle afterwards in every case.
-    ///
-    /// A waiter leaves the line, and those behind it are granted while they fit. A grant that wasn't consumed is given
-    /// back as [`Self::release_many`] would. A ticket whose slot isn't held in this core changes nothing here.
-    /// Costs O(how many are granted) at any position.
-    pub fn cancel(&mut self, ticket: &mut Ticket)
-        ensures acts { Acts self.old self.new ticket.old ticket.new dropping result }
-        ensures idle { ticket.new ≡ Unregistered }
-        ensures unregistered { ticket.old ≡ Unregistered → self.new ≡ self.old }
-        ensures foreign { IsForeign self.old.slots ticket.old → self.new ≡ self.old }
-        ensures wakes { OwesAnswered self.old.slots self.new.slots }
-        ensures settled { IsCoreSettled self.new }
-    {
-        self.core.cancel(ticket);
-    }
-
-    /// Reports the oldest pending wake and takes it out: of the slots that weren't reported yet, the one that was answered
-    /// first. `None` exactly where none is pending. A slot comes once however often it was answered in between. Costs O(1).
-    pub fn next_answered(&mut self) -> Option<u16>
-        ensures oldest { result ≡ slice_get self.old.slots.owed 0 }
-        ensures told { self.new ≡ record self.old { slots = wake_told self.old.slots } }
-        ensures within { IfSome result (λ slot. slot < room_of self.old.slots) }
-        ensures settled { IsCoreSettled self.new }
-    {
-        self.core.next_answered()
-    }
-
     // The request for so many permits; `None` where that is more than there ever are.
     fn request_of(&self, count: usize) -> Option<Request>
         ensures request { result ≡ (if nat_lt MAX count then None else Some (Permits count)) }
         ensures too_many { IsNone result ↔ (MAX < count) }
         ensures held { self.now.held ≡ OfSemaphore MAX (out_of self.now.held) }
         ensures bounded { out_of self.now.held ≤ MAX }
-        ensures quiet { OwesAnswered self.now.slots self.now.slots }
+        ensures quiet { WakesAnswered self.now.slots self.now.slots }
         ensures settled { IsCoreSettled self.now }
     {
-        let _permits = self.core.needs().out;
+        let _permits = self.needs().out;
         if count > MAX {
             return None;
         }
@@ -300,9 +208,9 @@ impl<const MAX: usize> SemaphoreCoreOf<MAX> {
     }
 }
 
-// The permits that are out.
+/// The permits of a semaphore that are out.
 #[derive(Drop)]
-struct PermitsOut<const MAX: usize> {
+pub struct PermitsOut<const MAX: usize> {
     out: usize,
     ghost bounded: { out ≤ MAX },
     ghost narrow: { MAX < 65536 },
@@ -347,11 +255,16 @@ impl<const MAX: usize> Needs for PermitsOut<MAX> {
     }
 }
 
+impl<const MAX: usize> CountsPermits for PermitsOut<MAX> {
+    const MAX_PERMITS: usize = MAX;
+}
+
 impl<const MAX: usize> Primitive for SemaphoreCoreOf<MAX> {
     ghost use Rattle.saa_core_spec.specs.declared.request.Request.TheVariants.{Permits};
     ghost use Rattle.saa_core_spec.specs.Semaphore.{semaphore_step};
     ghost use Rattle.saa_core_spec.specs.Values.{semaphore_value};
-    ghost use Rattle.saa_core.specs.SemaphoreStanding.{SemaphoreStands};
+    ghost use Rattle.saa_core.specs.SemaphoreInvariant.{SemaphoreInvariant};
+    ghost use Rattle.saa_core.specs.Trying.{permits_tried};
 
     type Call = SemaphoreCall;
 
@@ -369,15 +282,19 @@ impl<const MAX: usize> Primitive for SemaphoreCoreOf<MAX> {
 
     ghost value = { semaphore_value };
 
-    ghost stands = { SemaphoreStands MAX };
+    ghost tried = { permits_tried };
 
-    fn stands(&self) {
+    ghost core_invariant = { IsCoreSettled };
+
+    ghost object_invariant = { SemaphoreInvariant MAX };
+
+    fn object_invariant(&self) {
         let _request = self.request_of(0);
     }
 
     fn call(&mut self, call: SemaphoreCall) -> SemaphoreAnswer {
-        // The proof learns that a call which only reads owes nobody a wake.
-        let _waiting = self.core.waiting();
+        // The proof learns that a call which only reads leaves the pending wakes as they are.
+        let _waiting = self.waiting();
         match call {
             SemaphoreCall::TryAcquireMany(count) => SemaphoreAnswer::Bool(self.try_acquire_many(
                 count,
@@ -389,12 +306,64 @@ impl<const MAX: usize> Primitive for SemaphoreCoreOf<MAX> {
         }
     }
 
-    fn register(&mut self, ticket: &mut Ticket, count: usize, is_sync: bool) -> Result<bool, Full> {
-        SemaphoreCoreOf::register(self, ticket, count, is_sync)
+    /// The semaphore in one number, laid out as the main word of a word's semaphore is: from bit 0 the permits that are out, in 16
+    /// bits; bits 16 and 17 clear; from bit 18 the newest waiter, by its slot plus 1, and 0 where there is no waiter. Costs O(1).
+    fn word(&self) -> u64
+        ensures number { result ≡ word_number count_bits (core_word self.now) }
+        ensures read { word_of count_bits result ≡ core_word self.now }
+        ensures nobody { ((word_of count_bits result).tail ≡ 0) ↔ (self.now.slots.line ≡ []) }
+        ensures within { (word_of count_bits result).tail ≤ room_of self.now.slots }
+    {
+        let word = Word {
+            count: self.needs().out as u16,
+            is_flagged: false,
+            is_poisoned: false,
+            tail: self.waiters().tail(),
+        };
+        word.pack()
+    }
+
+    fn may_succeed(count: usize, word: u64) -> bool
+        ensures { IsTrue result ↔ permits_fit MAX count (word_of count_bits word) }
+    {
+        let word = Word::unpack(word);
+        word.tail == 0 && count <= MAX.saturating_sub(usize::from(word.count))
+    }
+
+    fn try_now(&mut self, count: usize) -> Option<u8> {
+        if self.try_acquire_many(count) {
+            Some(0)
+        } else {
+            None
+        }
+    }
+
+    /// Registers an idle ticket for `count` permits, as sync or as async.
+    ///
+    /// `Ok(true)`: it is answered at once, where there is no waiter and the permits are available; or it waits, last in the
+    /// line, in a slot. `Ok(false)`: the ticket isn't idle, or the count is above the bound; nothing changes.
+    /// `Err(Full)`: it would have to wait, and as many slots are held as there is room; nothing changes.
+    /// Costs O(1). Rule: docs/DEFINITIONS.md, "Asking".
+    fn register(&mut self, ticket: &mut Ticket, count: usize, is_sync: bool) -> Result<bool, Full>
+        ensures acts { StepsWithTicket self.old self.new ticket.old ticket.new (λ s name. registered s name (Permits count) is_sync) result }
+        ensures ticket { is_busy ticket.new ≡ (is_busy ticket.old || is_yes result) }
+        ensures busy { is_busy ticket.old ≡ true
+            → (result ≡ Ok false) × (self.new ≡ self.old) × (ticket.new ≡ ticket.old) }
+        ensures too_many { MAX < count
+            → (result ≡ Ok false) × (self.new ≡ self.old) × (ticket.new ≡ ticket.old) }
+        ensures full { IsErr result → held_slots self.old.slots ≡ room_of self.old.slots }
+        ensures refused { is_yes result ≡ false → (self.new ≡ self.old) × (ticket.new ≡ ticket.old) }
+        ensures wakes { WakesAnswered self.old.slots self.new.slots }
+        ensures invariant { IsCoreSettled self.new }
+    {
+        let Some(request) = self.request_of(count) else {
+            return Ok(false);
+        };
+        self.register_request(ticket, request, is_sync)
     }
 
     fn poll_number(&mut self, ticket: &mut Ticket, how: How) -> Result<u8, Error> {
-        SemaphoreCoreOf::poll_number(self, ticket, how)
+        Granting::poll_number(self, ticket, how)
     }
 
     fn value_of(answer: Result<u8, Error>) -> Result<(), Error> {
@@ -404,19 +373,24 @@ impl<const MAX: usize> Primitive for SemaphoreCoreOf<MAX> {
         }
     }
 
+    /// Drops what a ticket is registered for: it is idle afterwards in every case.
+    ///
+    /// A waiter leaves the line, and those behind it are granted while they fit. A grant that wasn't consumed is given
+    /// back as [`Self::release_many`] would. A ticket whose slot isn't held in this core changes nothing here.
+    /// Costs O(how many are granted) at any position.
     fn cancel(&mut self, ticket: &mut Ticket) {
-        SemaphoreCoreOf::cancel(self, ticket);
+        Granting::cancel(self, ticket);
     }
 
     fn next_answered(&mut self) -> Option<u16> {
-        SemaphoreCoreOf::next_answered(self)
+        Granting::next_answered(self)
     }
 }
 
 impl<const MAX: usize> fmt::Debug for SemaphoreCoreOf<MAX> {
     fn fmt<W: fmt::Write>(&self, f: &mut fmt::Formatter<W>) -> fmt::Result {
         let available = self.available_permits();
-        let waiting = self.core.waiting();
+        let waiting = self.waiting();
         write!(
             f,
             "SemaphoreCore {{ available_permits: {available}, waiting: {waiting} }}"

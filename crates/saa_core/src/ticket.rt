@@ -1,7 +1,7 @@
 //! A ticket: what a task keeps of its registration, and the poll that all primitives share.
 //!
 //! A ticket belongs to the core that it was registered in. The core knows its slot, the ticket what was asked and how.
-//! How tickets and a core are one object stands in `specs/Tickets.antt`.
+//! How tickets and a core are one object is said in `specs/Tickets.antt`.
 
 ghost use Rattle.std.specs.Prelude.{◌≡◌, IfOk, OnErr, IfErr};
 ghost use Rattle.saa_core_spec.specs.declared.polling.Error.TheVariants.{NotRegistered};
@@ -10,7 +10,7 @@ ghost use Rattle.saa_core_spec.specs.Held.{Held};
 ghost use Rattle.saa_core_spec.specs.Polling.{is_right_mode, polled};
 ghost use Rattle.saa_core.specs.Slots.{IsSound};
 ghost use Rattle.saa_core.specs.SlotStates.{IsSlotState, IsTakenFrom};
-ghost use Rattle.saa_core.specs.Tickets.{Acts, HasAnswer, IsForeign, Polled, fault_of, is_busy, slot_of};
+ghost use Rattle.saa_core.specs.Tickets.{StepsWithTicket, HasAnswer, IsForeign, Polled, fault_of, is_busy, slot_of};
 
 use crate::line::LineOf;
 use crate::line::order::Order;
@@ -64,7 +64,7 @@ impl Ticket {
         !matches!(self.registration, Registration::Unregistered)
     }
 
-    /// The slot in which it waits, or its answer stands. `None` where it is idle or was answered at once.
+    /// The slot in which it waits, or its answer is kept. `None` where it is idle or was answered at once.
     pub fn slot(&self) -> Option<u16>
         ensures { result ≡ slot_of self.now }
     {
@@ -91,7 +91,7 @@ impl Ticket {
     // The poll of every core: of this ticket in a line, whatever is held. O(1).
     pub(crate) fn poll_in<O: Order>(&mut self, line: &mut LineOf<O>, how: How) -> Result<u8, Error>
         requires { IsSound line.old }
-        ensures acts { (held : Held) → Acts (record { held = held; slots = line.old }) (record { held = held; slots = line.new })
+        ensures acts { (held : Held) → StepsWithTicket (record { held = held; slots = line.old }) (record { held = held; slots = line.new })
             self.old self.new (λ s name. polled s name how) result }
         ensures ticket { Polled self.old self.new how (fault_of result) }
         ensures kept { HasAnswer self.old result }
@@ -100,7 +100,7 @@ impl Ticket {
         ensures taken { IfOk result (λ value. IsTakenFrom self.old line.old line.new value) }
         ensures unchanged { OnErr result (line.new ≡ line.old) }
         ensures line { line.new.line ≡ line.old.line }
-        ensures owed { line.new.owed ≡ line.old.owed }
+        ensures pending_wakes { line.new.pending_wakes ≡ line.old.pending_wakes }
         ensures sound { IsSound line.new }
     {
         match self.registration() {
@@ -129,7 +129,7 @@ impl Ticket {
     ) -> Result<u8, Error>
         requires sound { IsSound line.old }
         requires registered { self.old ≡ InSlot slot _request is_sync }
-        ensures acts { (held : Held) → Acts (record { held = held; slots = line.old }) (record { held = held; slots = line.new })
+        ensures acts { (held : Held) → StepsWithTicket (record { held = held; slots = line.old }) (record { held = held; slots = line.new })
             self.old self.new (λ s name. polled s name how) result }
         ensures ticket { Polled self.old self.new how (fault_of result) }
         ensures kept { HasAnswer self.old result }
@@ -138,7 +138,7 @@ impl Ticket {
         ensures taken { IfOk result (λ value. IsTakenFrom self.old line.old line.new value) }
         ensures unchanged { OnErr result (line.new ≡ line.old) }
         ensures line { line.new.line ≡ line.old.line }
-        ensures owed { line.new.owed ≡ line.old.owed }
+        ensures pending_wakes { line.new.pending_wakes ≡ line.old.pending_wakes }
         ensures sound { IsSound line.new }
     {
         match slot_state(line, slot) {

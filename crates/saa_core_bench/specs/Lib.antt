@@ -13,9 +13,9 @@ pub use Rattle.saa_core_spec.specs.Barrier
 pub use Rattle.saa_core_spec.specs.Run
 pub use Rattle.saa_core_words.specs.Words
 pub use Rattle.saa_core_words.specs.Links
-pub use Rattle.saa_core.specs.BarrierStanding
+pub use Rattle.saa_core.specs.BarrierInvariant
 pub use Rattle.saa_core.specs.Futures
-pub use Rattle.saa_core.specs.GateStanding
+pub use Rattle.saa_core.specs.GateInvariant
 pub use Rattle.saa_core.specs.GatePolls
 pub use Rattle.saa_core.specs.GateParts
 pub use Rattle.saa_core.specs.Waiters
@@ -24,6 +24,6 @@ pub use Rattle.saa_core.specs.CoreParts
 pub use Rattle.saa_core.specs.MainWord
 pub use Rattle.saa_core.specs.Slots
 pub use Rattle.saa_core.specs.LockCalls
-pub use Rattle.saa_core.specs.SemaphoreStanding
+pub use Rattle.saa_core.specs.SemaphoreInvariant
 pub use Rattle.saa_core.specs.Tickets
 pub use Rattle.saa_core.specs.Beginning

@@ -77,10 +77,10 @@ impl<P: Primitive> Bench<P> {
     ///
     /// A semaphore and a lock are settled; a gate has waiters only while it is controlled; a barrier's round is
     /// incomplete.
-    pub fn stands(&self)
-        ensures { P.stands self.now }
+    pub fn object_invariant(&self)
+        ensures { P.object_invariant self.now }
     {
-        self.core.stands();
+        self.core.object_invariant();
     }
 
     /// Does one command, and replies. Costs what the core's call costs; takes no memory.
@@ -113,12 +113,12 @@ impl<P: Primitive> Bench<P> {
         ensures told { out.new ≡ replies P.request P.step P.value commands.now self.old }
         ensures left { self.new ≡ state_after P.request P.step P.value commands.now self.old }
         ensures pagers { length self.new.book ≡ length self.old.book }
-        ensures stands { P.stands self.new }
+        ensures object_invariant { P.object_invariant self.new }
     {
         for i in 0..commands.len() {
             out[i] = self.do_one(&commands[i]);
         }
-        self.stands();
+        self.object_invariant();
     }
 
     // A call that needs no pager.

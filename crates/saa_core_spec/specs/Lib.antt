@@ -4,6 +4,7 @@ pub mod Values
 pub mod Settling
 pub mod Asking
 pub mod Polling
+pub mod Errors
 pub mod Semaphore
 pub mod Lock
 pub mod Gate

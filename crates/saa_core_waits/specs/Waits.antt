@@ -1,22 +1,12 @@
 -- What calls that wait do to a registration, by what a form's own calls do to it.
-use Rattle.std.specs.Prelude.{◌≡◌, ℕ, Bool, true, false, Option, Some, None, Result, Ok, Err}
+use Rattle.std.specs.Prelude.{◌≡◌, ◌&&◌, ℕ, Bool, true, false, Option, Some, is_some, Result, Ok, Err, IfSome, IfOk}
 use Rattle.saa_core_spec.specs.declared.polling.Error.{Error}
-use Rattle.saa_core_spec.specs.declared.polling.Error.TheVariants.{NotReady, NotRegistered, WrongMode}
+use Rattle.saa_core_spec.specs.declared.polling.Error.TheVariants.{NotRegistered}
+use Rattle.saa_core_spec.specs.declared.polling.How.{How}
 use Rattle.saa_core_spec.specs.declared.request.Full.{Full}
+use Rattle.saa_core_spec.specs.Errors.{error_of, is_not_ready, is_refusal, says_not_registered, says_wrong_mode}
 use Rattle.saa_core_waits.specs.declared.waitable.CallStart.{CallStart}
 use Rattle.saa_core_waits.specs.declared.waitable.CallStart.TheVariants.{Refused, Answered, Joined}
-
--- the error of a poll's answer, if it is one
-abbrev pub error_of : Result ℕ Error → Option Error
-error_of (Ok value) = None
-error_of (Err error) = Some error
-
--- whether a poll's error says that the answer isn't there yet
-abbrev pub is_not_ready : Option Error → Bool
-is_not_ready None = false
-is_not_ready (Some NotReady) = true
-is_not_ready (Some NotRegistered) = false
-is_not_ready (Some WrongMode) = false
 
 -- how a call begins whose first poll says this
 abbrev pub start_of : Result ℕ Error → CallStart
@@ -62,9 +52,24 @@ module _ {Registration : Type 0} where
     pub started : HasStarted Registers Polls old between start
     pub ended : EndsAs Polls Cancels start between new answer
 
-  -- A poll is told what its form's poll answered, as the form reads it; an error of the poll reads as one
-  pub record IsTold {A : Type 0} (Polls : Registration → Registration → Result ℕ Error → Type 0) (reading : Result ℕ Error → A) (fault : A → Option Error) (old new : Registration) (answer : A) : Type 0 where
-    pub number : Result ℕ Error
-    pub polled : Polls old new number
-    pub reads : answer ≡ reading number
-    pub error : fault answer ≡ error_of number
+  -- A poll in this way that answered with this error, or with none, in the registration's own terms: whether it is registered, whether
+  -- the way is that of the other mode, and the number that it was answered at once, if it was. It is registered
+  -- afterwards exactly where it was before and the poll had an error; then it is unchanged. An idle one isn't
+  -- registered. In the wrong mode there is no answer, and the error says so, or that it isn't registered there;
+  -- in the right mode no error speaks of the mode. One that was answered at once is registered wherever it is
+  -- polled, and has its answer: so its one error is that of the mode
+  pub record HasPolled (is_busy : Registration → Bool) (is_wrong_mode : How → Registration → Bool) (at_once : Registration → Option ℕ) (how : How) (old new : Registration) (fault : Option Error) : Type 0 where
+    pub registered : is_busy new ≡ (is_busy old && is_some fault)
+    pub idle : is_busy old ≡ false → fault ≡ Some NotRegistered
+    pub same : is_some fault ≡ true → new ≡ old
+    pub wrong : is_wrong_mode how old ≡ true → is_refusal fault ≡ true
+    pub right : is_wrong_mode how old ≡ false → says_wrong_mode fault ≡ false
+    pub known : is_some (at_once old) ≡ true → says_not_registered fault ≡ false
+    pub there : is_some (at_once old) ≡ true → is_not_ready fault ≡ false
+
+-- A poll is told what a number reads as, or why there is none; one that was answered at once is told its own number
+pub record IsTold {A : Type 0} (at_once : Option ℕ) (reading : Result ℕ Error → A) (fault : A → Option Error) (answer : A) : Type 0 where
+  pub number : Result ℕ Error
+  pub own : IfSome at_once (λ kept. IfOk number (λ value. value ≡ kept))
+  pub reads : answer ≡ reading number
+  pub error : fault answer ≡ error_of number

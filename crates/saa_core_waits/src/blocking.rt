@@ -5,10 +5,11 @@
 
 ghost use Rattle.std.specs.Prelude.{◌≡◌, true, false, IfOk};
 ghost use Rattle.saa_core_spec.specs.declared.polling.How.TheVariants.{Sync};
-ghost use Rattle.saa_core_waits.specs.Waits.{IsAcquired, error_of, is_not_ready};
+ghost use Rattle.saa_core_spec.specs.Errors.{error_of, is_not_ready};
+ghost use Rattle.saa_core_waits.specs.Waits.{IsAcquired};
 
 use crate::deadline::Deadline;
-use crate::waitable::{CallStart, Timed, Waitable};
+use crate::waitable::{CallStart, Waitable, WaitableUntil};
 use saa_core_spec::polling::Error;
 use saa_core_spec::request::Full;
 
@@ -54,7 +55,7 @@ pub fn acquire_with<S: Waitable, F: FnOnce() + Drop>(
 }
 
 /// As [`acquire`], and waits until the deadline. `NotReady`: time is up.
-pub fn acquire_until<S: Timed>(
+pub fn acquire_until<S: WaitableUntil>(
     form: &S,
     registration: &mut S::Registration,
     ask: S::Ask,

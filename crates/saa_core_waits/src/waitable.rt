@@ -12,13 +12,13 @@ ghost use Rattle.saa_core_spec.specs.declared.polling.How.{How};
 ghost use Rattle.saa_core_spec.specs.declared.polling.How.TheVariants.{Async, Sync};
 ghost use Rattle.saa_core_spec.specs.declared.request.Full.{Full};
 ghost use Rattle.saa_core_spec.specs.declared.request.Request.{Request};
-ghost use Rattle.saa_core_waits.specs.Waits.{HasEnded, HasStarted, error_of, is_not_ready};
+ghost use Rattle.saa_core_spec.specs.Errors.{error_of, is_not_ready};
+ghost use Rattle.saa_core_waits.specs.Waits.{HasEnded, HasStarted};
 
 use crate::deadline::Deadline;
 use futures::task::{Context, Poll};
 use saa_core_spec::polling::{Error, How};
 use saa_core_spec::request::Full;
-use std::time::Duration;
 
 /// How a call that may block began.
 #[derive(Drop)]
@@ -94,17 +94,14 @@ pub trait Waitable: Sized {
         ensures admitted { admits self.now registration.new };
 
     /// Drops what it is registered for, and wakes each waiter that this answers. Where it isn't registered, it only stays so.
-    fn cancel(&self, registration: &mut Self::Registration)
+    fn cancel_registration(&self, registration: &mut Self::Registration)
         requires { admits self.now registration.old }
         ensures cancelled { cancels registration.old registration.new }
         ensures admitted { admits self.now registration.new };
 }
 
 /// A form that was made with a clock, at which waits end in time.
-pub trait Timed: Waitable {
-    /// So long from now, by its clock. A clock that can't be read gives a deadline that has passed.
-    fn after(&self, duration: Duration) -> Deadline;
-
+pub trait WaitableUntil: Waitable {
     /// Polls a registration as sync, and waits for its answer until the deadline. `NotReady`: time is up, and the registration is as it was.
     fn poll_until(
         &self,
@@ -149,7 +146,7 @@ pub trait Pends: Waitable {
     fn has_ended(pending: &Self::Pending) -> bool
         ensures { result ≡ has_ended pending.now };
 
-    /// One with nothing pending, to lie in the place of one that is lent.
+    /// One with nothing pending, which takes the place of one while that is polled.
     fn vacant(pending: &Self::Pending) -> Self::Pending
         ensures { (form : Self) → admits_pending form result };
 
@@ -191,7 +188,7 @@ pub trait Pends: Waitable {
         ensures kept { Keeps cx.old cx.new }
         ensures admitted { Self.admits self.now registration.new };
 
-    /// Drops what is pending: what it is registered for is cancelled, as by [`Waitable::cancel`].
+    /// Drops what is pending: what it is registered for is cancelled, as by [`Waitable::cancel_registration`].
     fn give_up(&self, pending: &mut Self::Pending)
         requires { admits_pending self.now pending.old }
         ensures { is_registered pending.new ≡ false };

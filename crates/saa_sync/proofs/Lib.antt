@@ -1,1 +1,1 @@
-pub mod ShellFollows
+pub mod MutexSteps

@@ -1,24 +1,23 @@
-//! The barrier that threads share: a `BarrierCore` in a shell.
+//! The barrier that threads share: a `BarrierCore` in a form.
 //!
-//! Each call is one lock round the core, one step of it, and the wakes that it owes. What reads the core is lent it at
-//! the end of this file, and an arrival is the shell's registration; both are held to `specs/Barrier.antt` and
-//! `specs/Asking.antt` of `saa_core_spec` through the core's calls.
+//! Each call locks the mutex around the core once, makes one step of it, and wakes what is pending. What the step does is the contract
+//! of the core's method, held to `specs/Barrier.antt` and, for an arrival, `specs/Asking.antt` of `saa_core_spec`.
 
-ghost use Rattle.std.specs.Prelude.{◌≡◌, ◌-◌, ◌≤◌, ◌||◌, ◌==◌, true, false, length, IfOk, IsOk, Ok, Some};
-ghost use Rattle.saa_core_spec.specs.Barrier.{size_of};
+ghost use Rattle.std.specs.Prelude.{◌≡◌, ◌-◌, ◌≤◌, ◌||◌, ◌==◌, true, false, IfOk, IsOk, Ok, Some};
 ghost use Rattle.saa_core_spec.specs.Held.{max_tasks};
 ghost use Rattle.saa_core_spec.specs.declared.request.Request.TheVariants.{Arrive as AskArrive};
 ghost use Rattle.saa_core.specs.declared.ticket.Registration.TheVariants.{Unregistered};
 ghost use Rattle.saa_core.specs.Tickets.{is_busy, is_yes};
 ghost use Rattle.saa_core.specs.Beginning.{mode_of};
-ghost use Rattle.saa_sync.specs.Forms.{patience_of, waiter_patience_of};
+ghost use Rattle.saa_sync.specs.Forms.{spin_policy_of, waiter_policy_of};
 
 use crate::form::{Form, PagerCore};
-use crate::future::barrier::{ArriveFuture, ArriveFutureWith, Asked, AskedWith};
+use crate::future::barrier::{Acquiring, AcquiringWith, ArriveFuture, ArriveFutureWith};
 use crate::pager::Pager;
-use crate::patience::NONE;
-use crate::seat::PATIENCE;
+use crate::parker::WAITER;
+use crate::spin_policy::NONE;
 pub use saa_core::barrier::{BarrierAnswer, BarrierCall, BarrierCore};
+use saa_core::future::PendingRegistration;
 use saa_core::primitive::Primitive;
 use saa_core::ticket::{Error, Full};
 use std::alloc::{AllocError, Global};
@@ -61,11 +60,11 @@ impl<R: Wait + Drop> Form<R, BarrierCore> {
     /// the error comes only where that was refused, and so never for room 0, which takes none.
     pub fn with_count(rt: R, alloc: Global, count: usize, room: u16) -> Result<Self, AllocError>
         ensures no_room { room ≡ 0 → IsOk result }
-        ensures patience { IfOk result (λ barrier. patience_of barrier ≡ NONE) }
-        ensures waiter { IfOk result (λ barrier. waiter_patience_of barrier ≡ PATIENCE) }
+        ensures spin_policy { IfOk result (λ barrier. spin_policy_of barrier ≡ NONE) }
+        ensures waiter { IfOk result (λ barrier. waiter_policy_of barrier ≡ WAITER) }
     {
         let core = BarrierCore::with_count(alloc, count, room)?;
-        Self::of_core(rt, alloc, core, room, NONE)
+        Self::of_core(rt, alloc, core, room, NONE, WAITER)
     }
 
     /// How many arrivals the round still waits for: the size less the waiters, and 0 at a barrier of size 0. Every
@@ -73,7 +72,7 @@ impl<R: Wait + Drop> Form<R, BarrierCore> {
     pub fn count(&self, _mo: Ordering) -> usize
         ensures { result ≤ max_tasks }
     {
-        count_missing(&self.shell.lock().core)
+        self.lock().core.count()
     }
 
     /// Arrives, and waits in the line until the round is complete.
@@ -83,49 +82,49 @@ impl<R: Wait + Drop> Form<R, BarrierCore> {
     /// there is room; nothing is changed. Nothing stays registered in any case. At a barrier of size 0 this waits for
     /// ever, and at one of size 1 never.
     pub fn wait_sync(&self) -> Result<bool, Full> {
-        let value = self.shell.acquire(())?;
+        let value = self.acquire(())?;
         Ok(is_leader(value))
     }
 
-    /// Arrives as [`Self::wait_sync`] does, and calls `begin_wait` where it joins the line.
+    /// Arrives as [`Self::wait_sync`] does, and calls `begin_wait` where it joins the queue.
     ///
     /// The callback runs once, after the join and before the wait, with the mutex free; it may use this
     /// barrier. It doesn't run for the last arrival of a round, nor where the room is full.
     pub fn wait_sync_with<F: FnOnce() + Drop>(&self, begin_wait: F) -> Result<bool, Full>
         requires { F.pre begin_wait }
     {
-        let value = self.shell.acquire_with((), begin_wait)?;
+        let value = self.acquire_with((), begin_wait)?;
         Ok(is_leader(value))
     }
 
     /// The future of an arrival: its output is that of [`Self::wait_sync`].
     ///
-    /// Nothing is asked before its first poll. See [`Asked`](crate::future::asked::Asked).
+    /// Nothing is asked before its first poll. See [`Acquiring`](crate::future::Acquiring).
     pub fn wait_async(&self) -> ArriveFuture<'_, R>
         ensures request { result.asking.request ≡ AskArrive }
         ensures idle { result.asking.ticket ≡ Unregistered }
         ensures fresh { result.asking.has_ended ≡ false }
     {
-        Asked::new(&self.shell, ())
+        Acquiring::new(self, PendingRegistration::new(()))
     }
 
-    /// The future of [`Self::wait_async`], which calls `begin_wait` where it joins the line.
+    /// The future of [`Self::wait_async`], which calls `begin_wait` where it joins the queue.
     ///
     /// The callback runs once, in the poll that joined, after the join and with the mutex free; it may use
     /// this barrier. It doesn't run where the answer is there at once, nor where the room is full.
     pub fn wait_async_with<F: FnOnce() + Drop>(&self, begin_wait: F) -> ArriveFutureWith<'_, R, F>
-        ensures request { result.asked.asking.request ≡ AskArrive }
-        ensures idle { result.asked.asking.ticket ≡ Unregistered }
-        ensures fresh { result.asked.asking.has_ended ≡ false }
+        ensures request { result.acquiring.asking.request ≡ AskArrive }
+        ensures idle { result.acquiring.asking.ticket ≡ Unregistered }
+        ensures fresh { result.acquiring.asking.has_ended ≡ false }
         ensures callback { result.begin_wait ≡ Some begin_wait }
     {
-        AskedWith::new(self.wait_async(), begin_wait)
+        AcquiringWith::new(self.wait_async(), begin_wait)
     }
 
     /// Registers a pager as an arrival, to be polled as sync or as async.
     ///
     /// `Ok(true)`: it was the last arrival of its round, and all others of the round are answered and woken; or it waits,
-    /// last in the line. `Ok(false)`: the pager is registered already, here or elsewhere. `Full`: it would have to wait,
+    /// last in the queue. `Ok(false)`: the pager is registered already, here or elsewhere. `Full`: it would have to wait,
     /// and as many slots are held as there is room. All but `Ok(true)` change nothing.
     ///
     /// Where the pager is cancelled, a waiter's arrival is taken back, so the round waits for one more, and no waiter is answered. An
@@ -141,7 +140,7 @@ impl<R: Wait + Drop> Form<R, BarrierCore> {
         ensures mode { is_yes result ≡ true → mode_of pager.new ≡ Some is_sync }
         ensures idle { is_busy pager.old ≡ false → IfOk result (λ is_registered. is_registered ≡ true) }
     {
-        self.register(pager, (), is_sync)
+        self.page(pager, (), is_sync)
     }
 }
 
@@ -178,12 +177,4 @@ pub(crate) fn is_leader(value: u8) -> bool
     ensures { result ≡ (value == 1) }
 {
     value == LEADER
-}
-
-// How many arrivals are missing, of the core under the mutex.
-fn count_missing(core: &BarrierCore) -> usize
-    ensures number { result ≡ size_of core.now.held - length core.now.slots.line }
-    ensures within { result ≤ max_tasks }
-{
-    core.count()
 }

@@ -1,28 +1,24 @@
-//! The gate that threads share: a `GateCore` in a shell.
+//! The gate that threads share: a `GateCore` in a form.
 //!
-//! Each call locks the mutex around the core once, makes one step of it, and wakes what is pending. The steps are functions of
-//! the core at the end of this file, held to `specs/Gate.antt` of `saa_core_spec` through its calls.
+//! Each call locks the mutex around the core once, makes one step of it, and wakes what is pending. What the step does is the contract
+//! of the core's method, held to `specs/Gate.antt` of `saa_core_spec`.
 
-ghost use Rattle.std.specs.Prelude.{◌≡◌, ◌↔◌, ◌||◌, true, false, length, None, Ok, Some, IfErr, IfOk, IfSome, IsNone, IsOk};
-ghost use Rattle.saa_core_spec.specs.declared.gate.GateAnswer.{GateAnswer};
-ghost use Rattle.saa_core_spec.specs.declared.gate.GateCall.{GateCall};
-ghost use Rattle.saa_core_spec.specs.declared.gate.State.TheVariants.{Controlled, Sealed, Open};
-ghost use Rattle.saa_core_spec.specs.Gate.{gate_state, gate_step};
-ghost use Rattle.saa_core_spec.specs.Held.{OfGate};
-ghost use Rattle.saa_core_spec.specs.Values.{gate_value, permitted_value, rejected_value, opened_value, sealed_value};
-ghost use Rattle.saa_core.specs.Slots.{all_slots_answered};
+ghost use Rattle.std.specs.Prelude.{◌≡◌, ◌||◌, true, false, None, Ok, Some, IfErr, IfOk, IfSome, IsOk};
+ghost use Rattle.saa_core_spec.specs.declared.gate.State.TheVariants.{Controlled};
+ghost use Rattle.saa_core_spec.specs.Values.{gate_value};
 ghost use Rattle.saa_core_spec.specs.declared.request.Request.TheVariants.{Enter as AskEnter};
 ghost use Rattle.saa_core.specs.declared.ticket.Registration.TheVariants.{Unregistered};
-ghost use Rattle.saa_core.specs.Tickets.{Calls, is_busy, is_yes};
+ghost use Rattle.saa_core.specs.Tickets.{is_busy, is_yes};
 ghost use Rattle.saa_core.specs.Beginning.{mode_of};
-ghost use Rattle.saa_sync.specs.Forms.{patience_of, waiter_patience_of};
+ghost use Rattle.saa_sync.specs.Forms.{spin_policy_of, waiter_policy_of};
 ghost use Rattle.saa_sync.specs.GateAnswers.{gate_fault, gate_reading};
 
 use crate::form::{Form, PagerCore};
-use crate::future::gate::{Asked, AskedWith, Enter, EnterWith};
+use crate::future::gate::{Acquiring, AcquiringWith, Enter, EnterWith};
 use crate::pager::Pager;
-use crate::patience::NONE;
-use crate::seat::PATIENCE;
+use crate::parker::WAITER;
+use crate::spin_policy::NONE;
+use saa_core::future::PendingRegistration;
 pub use saa_core::gate::{Error, GateAnswer, GateCall, GateCore, State};
 use saa_core::primitive::Primitive;
 use saa_core::ticket::Full;
@@ -47,16 +43,16 @@ impl<R: Wait + Drop> Form<R, GateCore> {
     /// room 0, which takes none.
     pub fn new(rt: R, alloc: Global, room: u16) -> Result<Self, AllocError>
         ensures no_room { room ≡ 0 → IsOk result }
-        ensures patience { IfOk result (λ gate. patience_of gate ≡ NONE) }
-        ensures waiter { IfOk result (λ gate. waiter_patience_of gate ≡ PATIENCE) }
+        ensures spin_policy { IfOk result (λ gate. spin_policy_of gate ≡ NONE) }
+        ensures waiter { IfOk result (λ gate. waiter_policy_of gate ≡ WAITER) }
     {
         let core = GateCore::new(alloc, room)?;
-        Self::of_core(rt, alloc, core, room, NONE)
+        Self::of_core(rt, alloc, core, room, NONE, WAITER)
     }
 
     /// How the gate treats a call that enters. Every ordering acts as the sequentially consistent one; none panics.
     pub fn state(&self, _mo: Ordering) -> State {
-        tell_state(&self.shell.lock().core)
+        self.lock().core.state()
     }
 
     /// Makes a sealed or open gate controlled, and answers the state that it was in. Nobody waits at one; wakes no waiter.
@@ -65,7 +61,7 @@ impl<R: Wait + Drop> Form<R, GateCore> {
     pub fn reset(&self) -> Option<State>
         ensures { IfSome result (λ before. ¬ (before ≡ Controlled)) }
     {
-        control(&mut self.shell.lock().core)
+        self.lock().core.reset()
     }
 
     /// Lets all waiters of a controlled gate pass, wakes exactly those, and answers how many they were.
@@ -75,7 +71,11 @@ impl<R: Wait + Drop> Form<R, GateCore> {
     pub fn permit(&self) -> Result<usize, State>
         ensures { IfErr result (λ state. ¬ (state ≡ Controlled)) }
     {
-        self.shell.step(let_pass)
+        self.step(
+            |core| -> Result<usize, State>
+                ensures { IfErr result (λ state. ¬ (state ≡ Controlled)) }
+            { core.permit() },
+        )
     }
 
     /// Rejects all waiters of a controlled gate, wakes exactly those, and answers how many they were.
@@ -84,21 +84,25 @@ impl<R: Wait + Drop> Form<R, GateCore> {
     pub fn reject(&self) -> Result<usize, State>
         ensures { IfErr result (λ state. ¬ (state ≡ Controlled)) }
     {
-        self.shell.step(turn_away)
+        self.step(
+            |core| -> Result<usize, State>
+                ensures { IfErr result (λ state. ¬ (state ≡ Controlled)) }
+            { core.reject() },
+        )
     }
 
     /// Opens the gate, from every state, lets all waiters pass, and wakes exactly those.
     ///
     /// Answers the state before, and how many waited. Costs what [`Self::permit`] does.
     pub fn open(&self) -> (State, usize) {
-        self.shell.step(open_up)
+        self.step(GateCore::open)
     }
 
     /// Seals the gate, from every state, refuses all waiters, and wakes exactly those.
     ///
     /// Answers the state before, and how many waited. Costs what [`Self::permit`] does.
     pub fn seal(&self) -> (State, usize) {
-        self.shell.step(seal_up)
+        self.step(GateCore::seal)
     }
 
     /// Passes the gate, and waits in the line where it is controlled.
@@ -110,11 +114,11 @@ impl<R: Wait + Drop> Form<R, GateCore> {
     pub fn enter_sync(&self) -> Result<Result<State, Error>, Full>
         ensures { IfOk result (λ answer. gate_fault answer ≡ None) }
     {
-        let value = self.shell.acquire(())?;
+        let value = self.acquire(())?;
         Ok(read_value(value))
     }
 
-    /// Passes the gate as [`Self::enter_sync`] does, and calls `begin_wait` where it joins the line.
+    /// Passes the gate as [`Self::enter_sync`] does, and calls `begin_wait` where it joins the queue.
     ///
     /// The callback runs once, after the join and before the wait, with the mutex free; it may use this
     /// gate. It doesn't run where the answer is there at once, nor where the room is full.
@@ -125,37 +129,37 @@ impl<R: Wait + Drop> Form<R, GateCore> {
         requires { F.pre begin_wait }
         ensures { IfOk result (λ answer. gate_fault answer ≡ None) }
     {
-        let value = self.shell.acquire_with((), begin_wait)?;
+        let value = self.acquire_with((), begin_wait)?;
         Ok(read_value(value))
     }
 
     /// The future of passing the gate: its output is that of [`Self::enter_sync`].
     ///
-    /// Nothing is asked before its first poll. See [`Asked`](crate::future::asked::Asked).
+    /// Nothing is asked before its first poll. See [`Acquiring`](crate::future::Acquiring).
     pub fn enter_async(&self) -> Enter<'_, R>
         ensures request { result.asking.request ≡ AskEnter }
         ensures idle { result.asking.ticket ≡ Unregistered }
         ensures fresh { result.asking.has_ended ≡ false }
     {
-        Asked::new(&self.shell, ())
+        Acquiring::new(self, PendingRegistration::new(()))
     }
 
-    /// The future of [`Self::enter_async`], which calls `begin_wait` where it joins the line.
+    /// The future of [`Self::enter_async`], which calls `begin_wait` where it joins the queue.
     ///
     /// The callback runs once, in the poll that joined, after the join and with the mutex free; it may use
     /// this gate. It doesn't run where the answer is there at once, nor where the room is full.
     pub fn enter_async_with<F: FnOnce() + Drop>(&self, begin_wait: F) -> EnterWith<'_, R, F>
-        ensures request { result.asked.asking.request ≡ AskEnter }
-        ensures idle { result.asked.asking.ticket ≡ Unregistered }
-        ensures fresh { result.asked.asking.has_ended ≡ false }
+        ensures request { result.acquiring.asking.request ≡ AskEnter }
+        ensures idle { result.acquiring.asking.ticket ≡ Unregistered }
+        ensures fresh { result.acquiring.asking.has_ended ≡ false }
         ensures callback { result.begin_wait ≡ Some begin_wait }
     {
-        AskedWith::new(self.enter_async(), begin_wait)
+        AcquiringWith::new(self.enter_async(), begin_wait)
     }
 
     /// Registers a pager to pass the gate, to be polled as sync or as async.
     ///
-    /// `Ok(true)`: it was answered at once, at a sealed or an open gate, or waits, last in the line. `Ok(false)`: the
+    /// `Ok(true)`: it was answered at once, at a sealed or an open gate, or waits, last in the queue. `Ok(false)`: the
     /// pager is registered already, here or elsewhere. `Full`: it would have to wait, and as many slots are held as there
     /// is room. All but `Ok(true)` change nothing.
     ///
@@ -172,7 +176,7 @@ impl<R: Wait + Drop> Form<R, GateCore> {
         ensures mode { is_yes result ≡ true → mode_of pager.new ≡ Some is_sync }
         ensures idle { is_busy pager.old ≡ false → IfOk result (λ is_registered. is_registered ≡ true) }
     {
-        self.register(pager, (), is_sync)
+        self.page(pager, (), is_sync)
     }
 }
 
@@ -224,65 +228,4 @@ pub(crate) fn read_value(value: u8) -> Result<State, Error>
         }
         answer => answer,
     }
-}
-
-// The state, of the core under the mutex.
-fn tell_state(core: &GateCore) -> State
-    ensures { result ≡ gate_state core.now.held }
-{
-    core.state()
-}
-
-// The reset of the core under the mutex.
-fn control(core: &mut GateCore) -> Option<State>
-    ensures calls { Calls core.old core.new (gate_step GateCall.Reset) (GateAnswer.Reset result) }
-    ensures answer { IsNone result ↔ (gate_state core.old.held ≡ Controlled) }
-    ensures before { IfSome result (λ before. before ≡ gate_state core.old.held) }
-    ensures controlled { core.new ≡ record core.old { held = OfGate Controlled } }
-{
-    core.reset()
-}
-
-// The permit, on the core under the mutex.
-fn let_pass(core: &mut GateCore) -> Result<usize, State>
-    ensures calls { Calls core.old core.new (gate_step GateCall.Permit) (GateAnswer.Answered result) }
-    ensures answer { IsOk result ↔ (gate_state core.old.held ≡ Controlled) }
-    ensures permitted { IfOk result (λ count. (count ≡ length core.old.slots.line)
-        × (core.new ≡ record core.old { slots = all_slots_answered permitted_value core.old.slots })) }
-    ensures refused { IfErr result (λ state. (state ≡ gate_state core.old.held) × (core.new ≡ core.old)) }
-    ensures told { IfErr result (λ state. ¬ (state ≡ Controlled)) }
-{
-    core.permit()
-}
-
-// The rejection, on the core under the mutex.
-fn turn_away(core: &mut GateCore) -> Result<usize, State>
-    ensures calls { Calls core.old core.new (gate_step GateCall.Reject) (GateAnswer.Answered result) }
-    ensures answer { IsOk result ↔ (gate_state core.old.held ≡ Controlled) }
-    ensures rejected { IfOk result (λ count. (count ≡ length core.old.slots.line)
-        × (core.new ≡ record core.old { slots = all_slots_answered rejected_value core.old.slots })) }
-    ensures refused { IfErr result (λ state. (state ≡ gate_state core.old.held) × (core.new ≡ core.old)) }
-    ensures told { IfErr result (λ state. ¬ (state ≡ Controlled)) }
-{
-    core.reject()
-}
-
-// The opening of the core under the mutex.
-fn open_up(core: &mut GateCore) -> (State, usize)
-    ensures calls { Calls core.old core.new (gate_step GateCall.Open) (GateAnswer.Moved result.0 result.1) }
-    ensures before { result.0 ≡ gate_state core.old.held }
-    ensures count { result.1 ≡ length core.old.slots.line }
-    ensures opened { core.new ≡ record { held = OfGate Open; slots = all_slots_answered opened_value core.old.slots } }
-{
-    core.open()
-}
-
-// The sealing of the core under the mutex.
-fn seal_up(core: &mut GateCore) -> (State, usize)
-    ensures calls { Calls core.old core.new (gate_step GateCall.Seal) (GateAnswer.Moved result.0 result.1) }
-    ensures before { result.0 ≡ gate_state core.old.held }
-    ensures count { result.1 ≡ length core.old.slots.line }
-    ensures sealed { core.new ≡ record { held = OfGate Sealed; slots = all_slots_answered sealed_value core.old.slots } }
-{
-    core.seal()
 }

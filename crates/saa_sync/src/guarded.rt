@@ -4,21 +4,36 @@
 //! the turn is passed on, so that lock should never be contended. No clause says so.
 
 ghost use Rattle.std.specs.Prelude.{◌≡◌, IfOk, IfSome, IsOk};
-ghost use Rattle.saa_sync.specs.Forms.{patience_of, waiter_patience_of};
+ghost use Rattle.saa_sync.specs.Forms.{spin_policy_of, waiter_policy_of};
 
-use crate::patience::Patience;
-use crate::seat::PATIENCE;
+use crate::parker::WAITER;
+use crate::spin_policy::SpinPolicy;
 use crate::timed::Deadline;
-use crate::turn::{Alone, Shared, Turns};
+use crate::turn::{Alone, Granted, Shared, Turns};
 use saa_core::ticket::Full;
 use saa_core_guards::turn::Writing;
 use std::alloc::{AllocError, Global};
 use std::sync::{RwLock, RwLockReadGuard, RwLockWriteGuard, Wait};
 use std::time::Clock;
 
+/// A guard: of which turn it is, and how it takes the value.
+pub trait GuardOf<'a, R: Wait + Drop, T>: Sized {
+    ghost use Rattle.saa_sync.specs.Forms.{TurnLock};
+
+    /// Its turn, once it is granted.
+    type Granted: Granted<'a, R>;
+
+    // Whose turn it is.
+    ghost lock: { Self → TurnLock R };
+
+    /// The guard of a turn that was granted, with the value.
+    fn of(guarded: &'a Guarded<R, T>, turn: Self::Granted) -> Self
+        ensures { lock result ≡ Self.Granted.lock turn };
+}
+
 /// A value, and the lock whose turns it is used in.
 #[derive(Drop)]
-pub(crate) struct Guarded<R: Wait + Drop, T> {
+pub struct Guarded<R: Wait + Drop, T> {
     /// Whose turn it is.
     pub(crate) turn: Turns<R>,
     value: RwLock<T>,
@@ -31,15 +46,15 @@ impl<R: Wait + Drop, T> Guarded<R, T> {
         alloc: Global,
         value: T,
         room: u16,
-        patience: Patience,
+        spin_policy: SpinPolicy,
     ) -> Result<Self, AllocError>
     where
         T: Drop,
         ensures no_room { room ≡ 0 → IsOk result }
-        ensures patience { IfOk result (λ guarded. patience_of guarded.turn ≡ patience) }
-        ensures waiter { IfOk result (λ guarded. waiter_patience_of guarded.turn ≡ PATIENCE) }
+        ensures spin_policy { IfOk result (λ guarded. spin_policy_of guarded.turn ≡ spin_policy) }
+        ensures waiter { IfOk result (λ guarded. waiter_policy_of guarded.turn ≡ WAITER) }
     {
-        Ok(Guarded::of(Turns::new(rt, alloc, room, patience)?, value))
+        Ok(Guarded::of(Turns::new(rt, alloc, room, spin_policy)?, value))
     }
 
     // A value that nobody uses yet, and the turns that it is used in.
@@ -63,60 +78,17 @@ impl<R: Wait + Drop, T> Guarded<R, T> {
         value.into_inner()
     }
 
-    // Takes the turn alone, and the value to write, if that needs no wait.
-    pub(crate) fn try_write(&self) -> Option<(Alone<'_, R>, RwLockWriteGuard<'_, T>)>
-        ensures { IfSome result (λ taken. taken.0.now ≡ self.now.turn) }
-    {
-        Some(self.write_in(Alone::try_take(&self.turn)?))
-    }
-
-    // Waits for the turn alone, and takes the value to write.
-    pub(crate) fn write(&self) -> Result<(Alone<'_, R>, RwLockWriteGuard<'_, T>), Full>
-        ensures { IfOk result (λ taken. taken.0.now ≡ self.now.turn) }
-    {
-        Ok(self.write_in(Alone::take(&self.turn)?))
-    }
-
-    // Takes a share of the turn, and the value to read, if that needs no wait.
-    pub(crate) fn try_read(&self) -> Option<(Shared<'_, R>, RwLockReadGuard<'_, T>)>
-        ensures { IfSome result (λ taken. taken.0.now ≡ self.now.turn) }
-    {
-        Some(self.read_in(Shared::try_take(&self.turn)?))
-    }
-
-    // Waits for a share of the turn, and takes the value to read.
-    pub(crate) fn read(&self) -> Result<(Shared<'_, R>, RwLockReadGuard<'_, T>), Full>
-        ensures { IfOk result (λ taken. taken.0.now ≡ self.now.turn) }
-    {
-        Ok(self.read_in(Shared::take(&self.turn)?))
-    }
-
-    // Waits for the turn alone until the deadline, and takes the value to write. `None`: time is up.
-    pub(crate) fn write_by(
-        &self,
+    // Waits for the turn of a guard until the deadline, and takes the value. `None`: time is up.
+    pub(crate) fn guard_by<'a, G: GuardOf<'a, R, T>>(
+        &'a self,
         deadline: Deadline,
-    ) -> Result<Option<(Alone<'_, R>, RwLockWriteGuard<'_, T>)>, Full>
+    ) -> Result<Option<G>, Full>
     where
         R: Clock,
-        ensures { IfOk result (λ told. IfSome told (λ taken. taken.0.now ≡ self.now.turn)) }
+        ensures { IfOk result (λ told. IfSome told (λ guard. G.lock guard ≡ self.now.turn)) }
     {
-        match Alone::take_by(&self.turn, deadline)? {
-            Some(turn) => Ok(Some(self.write_in(turn))),
-            None => Ok(None),
-        }
-    }
-
-    // Waits for a share of the turn until the deadline, and takes the value to read. `None`: time is up.
-    pub(crate) fn read_by(
-        &self,
-        deadline: Deadline,
-    ) -> Result<Option<(Shared<'_, R>, RwLockReadGuard<'_, T>)>, Full>
-    where
-        R: Clock,
-        ensures { IfOk result (λ told. IfSome told (λ taken. taken.0.now ≡ self.now.turn)) }
-    {
-        match Shared::take_by(&self.turn, deadline)? {
-            Some(turn) => Ok(Some(self.read_in(turn))),
+        match self.turn.take_by(deadline)? {
+            Some(turn) => Ok(Some(G::of(self, turn))),
             None => Ok(None),
         }
     }

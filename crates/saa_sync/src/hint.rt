@@ -1,13 +1,13 @@
 //! What a thread may see of a core without its mutex, while a call looks.
 //!
 //! A call looks before it registers. As long as one does, whatever may let it in shows the core's main word here as it leaves the
-//! mutex of a shell (`Shell::leave`); where no call looks that costs one load. Calls that only take or only read show nothing: one
+//! mutex of a form (`Form::leave`); where no call looks that costs one load. Calls that only take or only read show nothing: one
 //! that looks is misled by that to try once in vain, and shows the word itself.
 //!
 //! Nothing rests on a hint: a call that finds that it may have what it asks for tries, through the core and under the mutex.
 
-use crate::patience::Spent;
-use crate::tries::Tries;
+use crate::rest::Spent;
+use saa_core::primitive::Primitive;
 use std::sync::atomic::{AtomicU64, Ordering};
 
 // The parts of the counts: how many calls look, in the low bits, and above them how often those looked that no longer look. They stand
@@ -92,7 +92,7 @@ impl Hint {
     /// Shows the main word of a core, which only the owner of the mutex can hand in: of two words that were shown without it the older
     /// one could stay.
     #[inline(always)]
-    pub(crate) fn show(&self, core: &impl Tries) {
+    pub(crate) fn show(&self, core: &impl Primitive) {
         self.word.store(core.word(), Ordering::SeqCst);
     }
 

@@ -2,10 +2,10 @@
 //!
 //! A program that takes no word form may name this crate alone: it has all of `saa` but the word forms and the laws, under the same names.
 //!
-//! `shell` is the mutex round any core, `seat` where a thread parks, `wakers` what tasks are woken by. `form` is the one type of the
-//! four forms, over a `Shell`; `semaphore`, `lock`, `gate` and `barrier` have the calls of each. `future` has the futures that they hand
-//! out, `permit` a semaphore's permits as values, `pager` waits that are kept outside a call, and `lock_api` mutexes and reader-writer
-//! locks. `testing` has what tests alone may see.
+//! `form` is the one type of the four forms: one mutex around a core, with what is under it in `locked`, where a thread parks in `parker`,
+//! and what tasks are woken by in `wakers`; it offers what `saa_core_waits` builds on, the waits of every kind. `semaphore`, `lock`, `gate` and
+//! `barrier` have the calls of each. `future` has the futures that they hand out, `permit` a semaphore's permits as values, `pager` waits that
+//! are kept outside a call, and `lock_api` mutexes and reader-writer locks. `testing` has what tests alone may see.
 #![tactic(auto)]
 
 pub mod barrier;
@@ -16,16 +16,15 @@ mod guarded;
 mod hint;
 pub mod lock;
 pub mod lock_api;
+mod locked;
 pub mod pager;
-pub mod patience;
+mod parker;
 pub mod permit;
 mod rest;
-mod seat;
 pub mod semaphore;
-mod shell;
+pub mod spin_policy;
 pub mod testing;
 pub mod timed;
-pub mod tries;
 mod turn;
 mod wakers;
 
@@ -40,4 +39,6 @@ pub use pager::Pager;
 pub use permit::{Permit, PermitOf};
 pub use saa_core::ticket::Full;
 pub use saa_core::{line, ticket, words};
+pub use saa_core_waits as waits;
+pub use saa_core_waits::Waitable;
 pub use semaphore::{Semaphore, SemaphoreOf};

@@ -1,27 +1,23 @@
-//! The lock that threads share: a `LockCore` in a shell.
+//! The lock that threads share: a `LockCore` in a form.
 //!
-//! Each call locks the mutex around the core once, makes one step of it, and wakes what is pending. The steps are functions of
-//! the core at the end of this file, held to `specs/Lock.antt` of `saa_core_spec` through its calls.
+//! Each call locks the mutex around the core once, makes one step of it, and wakes what is pending. What the step does is the contract
+//! of the core's method, held to `specs/Lock.antt` of `saa_core_spec`.
 
-ghost use Rattle.std.specs.Prelude.{◌≡◌, ◌⊎◌, ◌||◌, ◌==◌, true, false, IfOk, IsOk, Ok, Some};
-ghost use Rattle.std.specs.Bool.{OnFalse};
+ghost use Rattle.std.specs.Prelude.{◌≡◌, ◌||◌, ◌==◌, true, false, IfOk, IsOk, Ok, Some};
 ghost use Rattle.saa_core_spec.specs.declared.request.Request.TheVariants.{Exclusive as AskExclusive, Shared as AskShared};
-ghost use Rattle.saa_core_spec.specs.Polling.{given_back};
-ghost use Rattle.saa_core_spec.specs.Lock.{is_free, is_locked, is_shared, is_poisoned, downgraded_of, poisoned_of, cleared_of};
-ghost use Rattle.saa_core.specs.Slots.{OwesAnswered};
 ghost use Rattle.saa_core.specs.declared.ticket.Registration.TheVariants.{Unregistered};
-ghost use Rattle.saa_core.specs.Tickets.{Calls, is_busy, is_yes};
-ghost use Rattle.saa_core.specs.LockCalls.{lock_tried};
+ghost use Rattle.saa_core.specs.Tickets.{is_busy, is_yes};
 ghost use Rattle.saa_core.specs.Beginning.{mode_of};
-ghost use Rattle.saa_sync.specs.Forms.{patience_of, waiter_patience_of};
+ghost use Rattle.saa_sync.specs.Forms.{spin_policy_of, waiter_policy_of};
 
 use crate::form::{Form, PagerCore};
 use crate::future::lock::{
-    Asked, AskedWith, LockFuture, LockFutureWith, ShareFuture, ShareFutureWith,
+    Acquiring, AcquiringWith, LockFuture, LockFutureWith, ShareFuture, ShareFutureWith,
 };
 use crate::pager::Pager;
-use crate::patience::{Patience, UNREGISTERED};
-use crate::seat::PATIENCE;
+use crate::parker::WAITER;
+use crate::spin_policy::{DEFAULT, SpinPolicy};
+use saa_core::future::PendingRegistration;
 pub use saa_core::lock::{LockAnswer, LockCall, LockCore, Mode, TryLockError};
 use saa_core::primitive::Primitive;
 use saa_core::ticket::{Error, Full};
@@ -32,7 +28,7 @@ use std::sync::atomic::Ordering;
 /// A lock that threads share, of one owner alone or of up to 62 that share it.
 ///
 /// Waiters are granted in FIFO order of joining the queue: no later request passes a waiter, a reader beside readers included. A call
-/// that may block, and isn't timed, first tries and spins for a bounded number of times ([`Patience`]); until it joins it is no
+/// that may block, and isn't timed, first tries and spins for a bounded number of times ([`SpinPolicy`]); until it joins it is no
 /// waiter, and nothing orders it. The lock doesn't know its owners: any caller may release, so keep the call with the owner. `R` is
 /// the permission to block, as a reference to the runtime. Every call may wait for the mutex around the core, which is held for one
 /// short step at a time. No call but making takes memory.
@@ -62,54 +58,54 @@ impl<R: Wait + Drop> Form<R, LockCore> {
     /// room 0, which takes none.
     pub fn new(rt: R, alloc: Global, room: u16) -> Result<Self, AllocError>
         ensures no_room { room ≡ 0 → IsOk result }
-        ensures patience { IfOk result (λ lock. patience_of lock ≡ UNREGISTERED) }
-        ensures waiter { IfOk result (λ lock. waiter_patience_of lock ≡ PATIENCE) }
+        ensures spin_policy { IfOk result (λ lock. spin_policy_of lock ≡ DEFAULT) }
+        ensures waiter { IfOk result (λ lock. waiter_policy_of lock ≡ WAITER) }
     {
-        Self::with_patience(rt, alloc, room, UNREGISTERED)
+        Self::with_spin_policy(rt, alloc, room, DEFAULT)
     }
 
-    /// As [`Self::new`], with a patience of its own for calls that aren't registered yet; [`NONE`](crate::patience::NONE) has each
+    /// As [`Self::new`], with a spin policy of its own for calls that aren't registered yet; [`NONE`](crate::spin_policy::NONE) has each
     /// call register at its first turn at the mutex, so that grants come in the order of these turns.
-    pub fn with_patience(
+    pub fn with_spin_policy(
         rt: R,
         alloc: Global,
         room: u16,
-        patience: Patience,
+        spin_policy: SpinPolicy,
     ) -> Result<Self, AllocError>
         ensures no_room { room ≡ 0 → IsOk result }
-        ensures patience { IfOk result (λ lock. patience_of lock ≡ patience) }
-        ensures waiter { IfOk result (λ lock. waiter_patience_of lock ≡ PATIENCE) }
+        ensures spin_policy { IfOk result (λ lock. spin_policy_of lock ≡ spin_policy) }
+        ensures waiter { IfOk result (λ lock. waiter_policy_of lock ≡ WAITER) }
     {
         let core = LockCore::new(alloc, room)?;
-        Self::of_core(rt, alloc, core, room, patience)
+        Self::of_core(rt, alloc, core, room, spin_policy, WAITER)
     }
 
     /// Whether nobody has the lock and it isn't poisoned. Every ordering acts as the sequentially consistent one; none
     /// panics.
     pub fn is_free(&self, _mo: Ordering) -> bool {
-        tell_free(&self.shell.lock().core)
+        self.lock().core.is_free()
     }
 
     /// Whether one owner has the lock alone. Every ordering acts as the sequentially consistent one; none panics.
     pub fn is_locked(&self, _mo: Ordering) -> bool {
-        tell_locked(&self.shell.lock().core)
+        self.lock().core.is_locked()
     }
 
     /// Whether the lock is shared. Every ordering acts as the sequentially consistent one; none panics.
     pub fn is_shared(&self, _mo: Ordering) -> bool {
-        tell_shared(&self.shell.lock().core)
+        self.lock().core.is_shared()
     }
 
     /// Whether the lock is poisoned. Every ordering acts as the sequentially consistent one; none panics.
     pub fn is_poisoned(&self, _mo: Ordering) -> bool {
-        tell_poisoned(&self.shell.lock().core)
+        self.lock().core.is_poisoned()
     }
 
     /// Takes the lock for one owner alone if there is no waiter and it is free; never waits for it. Wakes no waiter.
     ///
     /// `Poisoned`: the lock is poisoned. `WouldBlock`: somebody has it, or there is a waiter. Both change nothing.
     pub fn try_lock(&self) -> Result<(), TryLockError> {
-        lock_now(&mut self.shell.lock().core)
+        self.lock().core.try_lock()
     }
 
     /// Takes a share of the lock if there is no waiter and one is left; never waits for it. Wakes no waiter.
@@ -117,7 +113,7 @@ impl<R: Wait + Drop> Form<R, LockCore> {
     /// `Poisoned`: the lock is poisoned. `WouldBlock`: one owner has it alone, or 62 share it, or there is a waiter. Both
     /// change nothing.
     pub fn try_share(&self) -> Result<(), TryLockError> {
-        share_now(&mut self.shell.lock().core)
+        self.lock().core.try_share()
     }
 
     /// Gives the lock of one owner back, grants the oldest waiters while they fit, and wakes exactly those.
@@ -126,7 +122,7 @@ impl<R: Wait + Drop> Form<R, LockCore> {
     /// Each waiter that is granted costs an unpark of its seat, and each second one of them the mutex once more.
     #[inline(always)]
     pub fn release_lock(&self) -> bool {
-        self.shell.step(end_lock)
+        self.step(LockCore::release_lock)
     }
 
     /// Gives one share back, grants the oldest waiters while they fit, and wakes exactly those.
@@ -134,7 +130,7 @@ impl<R: Wait + Drop> Form<R, LockCore> {
     /// `false` comes exactly where the lock isn't shared, and changes nothing. The caller needn't be a sharer.
     #[inline(always)]
     pub fn release_share(&self) -> bool {
-        self.shell.step(end_share)
+        self.step(LockCore::release_share)
     }
 
     /// Makes the one owner a sharer, grants the oldest waiters while they fit beside it, and wakes exactly those.
@@ -142,7 +138,7 @@ impl<R: Wait + Drop> Form<R, LockCore> {
     /// The lock has no other owner in between. `false` comes exactly where it has no exclusive owner, and changes
     /// nothing. The caller needn't be that owner.
     pub fn downgrade(&self) -> bool {
-        self.shell.step(lower)
+        self.step(LockCore::downgrade)
     }
 
     /// Poisons the lock that one owner has alone: all waiters are answered that it is poisoned, and woken. A call that hasn't joined the
@@ -151,105 +147,105 @@ impl<R: Wait + Drop> Form<R, LockCore> {
     /// `false` comes exactly where the lock isn't one owner's alone, and changes nothing. Answers that were there before
     /// stay as they are.
     pub fn poison_lock(&self) -> bool {
-        self.shell.step(poison)
+        self.step(LockCore::poison_lock)
     }
 
     /// Makes a poisoned lock free; it has no waiters. Wakes no waiter.
     ///
     /// `false` comes exactly where the lock isn't poisoned, and changes nothing.
     pub fn clear_poison(&self) -> bool {
-        self.shell.step(clear)
+        self.step(LockCore::clear_poison)
     }
 
-    /// Takes the lock for one owner alone. It spins for its patience first, and then waits in the queue where it must.
+    /// Takes the lock for one owner alone. It spins first, as its spin policy says, and then waits in the queue where it must.
     ///
     /// `Ok(true)`: it is granted. `Ok(false)`: it found the lock poisoned, or the lock was poisoned while it was in the queue; of poison
-    /// that is set and cleared again between two of its tries it is never told. `Full`: its patience is over, it would have to wait, and as
+    /// that is set and cleared again between two of its tries it is never told. `Full`: its spins are over, it would have to wait, and as
     /// many slots are held as there is room; nothing is changed. Nothing stays registered in any case.
     #[inline(always)]
     pub fn lock_sync(&self) -> Result<bool, Full> {
-        let value = self.shell.acquire(Mode::Exclusive)?;
+        let value = self.acquire(Mode::Exclusive)?;
         Ok(is_granted(value))
     }
 
     /// Takes a share of the lock; waits and answers as [`Self::lock_sync`] does.
     #[inline(always)]
     pub fn share_sync(&self) -> Result<bool, Full> {
-        let value = self.shell.acquire(Mode::Shared)?;
+        let value = self.acquire(Mode::Shared)?;
         Ok(is_granted(value))
     }
 
-    /// Takes the lock as [`Self::lock_sync`] does, and calls `begin_wait` where it joins the line.
+    /// Takes the lock as [`Self::lock_sync`] does, and calls `begin_wait` where it joins the queue.
     ///
     /// The callback runs once, after the join and before the wait, with the mutex free; it may use this
     /// lock. It doesn't run where the call is answered before it joins, nor where the room is full.
     pub fn lock_sync_with<F: FnOnce() + Drop>(&self, begin_wait: F) -> Result<bool, Full>
         requires { F.pre begin_wait }
     {
-        let value = self.shell.acquire_with(Mode::Exclusive, begin_wait)?;
+        let value = self.acquire_with(Mode::Exclusive, begin_wait)?;
         Ok(is_granted(value))
     }
 
-    /// Takes a share as [`Self::share_sync`] does, and calls `begin_wait` where it joins the line, as
+    /// Takes a share as [`Self::share_sync`] does, and calls `begin_wait` where it joins the queue, as
     /// [`Self::lock_sync_with`] does.
     pub fn share_sync_with<F: FnOnce() + Drop>(&self, begin_wait: F) -> Result<bool, Full>
         requires { F.pre begin_wait }
     {
-        let value = self.shell.acquire_with(Mode::Shared, begin_wait)?;
+        let value = self.acquire_with(Mode::Shared, begin_wait)?;
         Ok(is_granted(value))
     }
 
     /// The future of the lock for one owner alone: its output is that of [`Self::lock_sync`].
     ///
-    /// Nothing is asked before its first poll. See [`Asked`](crate::future::asked::Asked).
+    /// Nothing is asked before its first poll. See [`Acquiring`](crate::future::Acquiring).
     pub fn lock_async(&self) -> LockFuture<'_, R>
         ensures request { result.asking.request ≡ AskExclusive }
         ensures idle { result.asking.ticket ≡ Unregistered }
         ensures fresh { result.asking.has_ended ≡ false }
     {
-        Asked::new(&self.shell, Mode::Exclusive)
+        Acquiring::new(self, PendingRegistration::new(Mode::Exclusive))
     }
 
-    /// The future of [`Self::lock_async`], which calls `begin_wait` where it joins the line.
+    /// The future of [`Self::lock_async`], which calls `begin_wait` where it joins the queue.
     ///
     /// The callback runs once, in the poll that joined, after the join and with the mutex free; it may use
     /// this lock. It doesn't run where the answer is there at once, nor where the room is full.
     pub fn lock_async_with<F: FnOnce() + Drop>(&self, begin_wait: F) -> LockFutureWith<'_, R, F>
-        ensures request { result.asked.asking.request ≡ AskExclusive }
-        ensures idle { result.asked.asking.ticket ≡ Unregistered }
-        ensures fresh { result.asked.asking.has_ended ≡ false }
+        ensures request { result.acquiring.asking.request ≡ AskExclusive }
+        ensures idle { result.acquiring.asking.ticket ≡ Unregistered }
+        ensures fresh { result.acquiring.asking.has_ended ≡ false }
         ensures callback { result.begin_wait ≡ Some begin_wait }
     {
-        AskedWith::new(self.lock_async(), begin_wait)
+        AcquiringWith::new(self.lock_async(), begin_wait)
     }
 
     /// The future of a share of the lock: its output is that of [`Self::share_sync`].
     ///
-    /// Nothing is asked before its first poll. See [`Asked`](crate::future::asked::Asked).
+    /// Nothing is asked before its first poll. See [`Acquiring`](crate::future::Acquiring).
     pub fn share_async(&self) -> ShareFuture<'_, R>
         ensures request { result.asking.request ≡ AskShared }
         ensures idle { result.asking.ticket ≡ Unregistered }
         ensures fresh { result.asking.has_ended ≡ false }
     {
-        Asked::new(&self.shell, Mode::Shared)
+        Acquiring::new(self, PendingRegistration::new(Mode::Shared))
     }
 
-    /// The future of [`Self::share_async`], which calls `begin_wait` where it joins the line.
+    /// The future of [`Self::share_async`], which calls `begin_wait` where it joins the queue.
     ///
     /// The callback runs once, in the poll that joined, after the join and with the mutex free; it may use
     /// this lock. It doesn't run where the answer is there at once, nor where the room is full.
     pub fn share_async_with<F: FnOnce() + Drop>(&self, begin_wait: F) -> ShareFutureWith<'_, R, F>
-        ensures request { result.asked.asking.request ≡ AskShared }
-        ensures idle { result.asked.asking.ticket ≡ Unregistered }
-        ensures fresh { result.asked.asking.has_ended ≡ false }
+        ensures request { result.acquiring.asking.request ≡ AskShared }
+        ensures idle { result.acquiring.asking.ticket ≡ Unregistered }
+        ensures fresh { result.acquiring.asking.has_ended ≡ false }
         ensures callback { result.begin_wait ≡ Some begin_wait }
     {
-        AskedWith::new(self.share_async(), begin_wait)
+        AcquiringWith::new(self.share_async(), begin_wait)
     }
 
     /// Registers a pager in a mode, to be polled as sync or as async.
     ///
-    /// `Ok(true)`: it was answered at once, granted or poisoned, or waits, last in the line. `Ok(false)`: the pager is
+    /// `Ok(true)`: it was answered at once, granted or poisoned, or waits, last in the queue. `Ok(false)`: the pager is
     /// registered already, here or elsewhere. `Full`: it would have to wait, and as many slots are held as there is room.
     /// All but `Ok(true)` change nothing.
     ///
@@ -268,7 +264,7 @@ impl<R: Wait + Drop> Form<R, LockCore> {
         ensures mode { is_yes result ≡ true → mode_of pager.new ≡ Some is_sync }
         ensures idle { is_busy pager.old ≡ false → IfOk result (λ is_registered. is_registered ≡ true) }
     {
-        self.register(pager, mode, is_sync)
+        self.page(pager, mode, is_sync)
     }
 }
 
@@ -306,98 +302,4 @@ pub(crate) fn is_granted(value: u8) -> bool
     ensures { result ≡ (value == 0) }
 {
     value == 0
-}
-
-// Whether the lock is free, of the core under the mutex.
-fn tell_free(core: &LockCore) -> bool
-    ensures { result ≡ is_free core.now.held }
-{
-    core.is_free()
-}
-
-// Whether one owner has the lock alone, of the core under the mutex.
-fn tell_locked(core: &LockCore) -> bool
-    ensures { result ≡ is_locked core.now.held }
-{
-    core.is_locked()
-}
-
-// Whether the lock is shared, of the core under the mutex.
-fn tell_shared(core: &LockCore) -> bool
-    ensures { result ≡ is_shared core.now.held }
-{
-    core.is_shared()
-}
-
-// Whether the lock is poisoned, of the core under the mutex.
-fn tell_poisoned(core: &LockCore) -> bool
-    ensures { result ≡ is_poisoned core.now.held }
-{
-    core.is_poisoned()
-}
-
-// A try for one owner alone, on the core under the mutex.
-fn lock_now(core: &mut LockCore) -> Result<(), TryLockError>
-    ensures calls { Calls core.old core.new (λ s. lock_tried s AskExclusive) result }
-    ensures wakes { OwesAnswered core.old.slots core.new.slots }
-{
-    core.try_lock()
-}
-
-// A try for a share, on the core under the mutex.
-fn share_now(core: &mut LockCore) -> Result<(), TryLockError>
-    ensures calls { Calls core.old core.new (λ s. lock_tried s AskShared) result }
-    ensures wakes { OwesAnswered core.old.slots core.new.slots }
-{
-    core.try_share()
-}
-
-// The release of one owner, on the core under the mutex.
-fn end_lock(core: &mut LockCore) -> bool
-    ensures calls { Calls core.old core.new (λ s. given_back s AskExclusive) result }
-    ensures answer { result ≡ is_locked core.old.held }
-    ensures refused { OnFalse result (core.new ≡ core.old) }
-    ensures wakes { OwesAnswered core.old.slots core.new.slots }
-{
-    core.release_lock()
-}
-
-// The release of a share, on the core under the mutex.
-fn end_share(core: &mut LockCore) -> bool
-    ensures calls { Calls core.old core.new (λ s. given_back s AskShared) result }
-    ensures answer { result ≡ is_shared core.old.held }
-    ensures refused { OnFalse result (core.new ≡ core.old) }
-    ensures wakes { OwesAnswered core.old.slots core.new.slots }
-{
-    core.release_share()
-}
-
-// A downgrade, on the core under the mutex.
-fn lower(core: &mut LockCore) -> bool
-    ensures calls { Calls core.old core.new (λ s. downgraded_of s (is_locked s.held)) result }
-    ensures answer { result ≡ is_locked core.old.held }
-    ensures refused { OnFalse result (core.new ≡ core.old) }
-    ensures wakes { OwesAnswered core.old.slots core.new.slots }
-{
-    core.downgrade()
-}
-
-// Poison, on the core under the mutex.
-fn poison(core: &mut LockCore) -> bool
-    ensures calls { Calls core.old core.new (λ s. poisoned_of s (is_locked s.held)) result }
-    ensures answer { result ≡ is_locked core.old.held }
-    ensures refused { OnFalse result (core.new ≡ core.old) }
-    ensures wakes { OwesAnswered core.old.slots core.new.slots }
-{
-    core.poison_lock()
-}
-
-// The end of poison, on the core under the mutex.
-fn clear(core: &mut LockCore) -> bool
-    ensures calls { Calls core.old core.new (λ s. cleared_of s (is_poisoned s.held)) result }
-    ensures answer { result ≡ is_poisoned core.old.held }
-    ensures refused { OnFalse result (core.new ≡ core.old) }
-    ensures wakes { OwesAnswered core.old.slots core.new.slots }
-{
-    core.clear_poison()
 }

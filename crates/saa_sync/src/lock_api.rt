@@ -8,7 +8,11 @@ mod future;
 mod mutex;
 mod rwlock;
 
-pub use future::{MutexFuture, ReadFuture, WriteFuture, lock_async, read_async, write_async};
+pub use crate::guarded::GuardOf;
+pub use future::{
+    GuardFuture, GuardKind, MutexFuture, OfMutex, OfReader, OfWriter, ReadFuture, WriteFuture,
+    lock_async, read_async, write_async,
+};
 pub use mutex::{Mutex, MutexGuard};
 pub use rwlock::{RwLock, RwLockReadGuard, RwLockWriteGuard};
 pub use saa_core_guards::{Guard, Lowers, Turn, ValueMut, ValueRef, Writing};

@@ -65,7 +65,7 @@ impl<R: Wait + Drop, const MAX: usize> TakesBack for Form<R, SemaphoreCoreOf<MAX
 impl<R: Wait + Drop, const MAX: usize> Form<R, SemaphoreCoreOf<MAX>> {
     /// Takes one permit as [`Self::acquire_sync`] does, and gives it back when what is returned goes.
     ///
-    /// `Full`: its patience is over, it would have to wait, and as many slots are held as there is room; nothing is changed.
+    /// `Full`: its spins are over, it would have to wait, and as many slots are held as there is room; nothing is changed.
     pub fn acquire_permit(&self) -> Result<PermitOf<'_, R, MAX>, Full>
         ensures { IfOk result (λ permit. permit.now ≡ self.now) }
     {

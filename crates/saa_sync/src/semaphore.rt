@@ -1,28 +1,24 @@
-//! The semaphore that threads share: a `SemaphoreCore` in a shell.
+//! The semaphore that threads share: a `SemaphoreCore` in a form.
 //!
-//! Each call locks the mutex around the core once, makes one step of it, and wakes what is pending. The steps are functions of
-//! the core at the end of this file, held to `specs/Semaphore.antt` of `saa_core_spec` through its calls.
+//! Each call locks the mutex around the core once, makes one step of it, and wakes what is pending. What the step does is the contract
+//! of the core's method, held to `specs/Semaphore.antt` of `saa_core_spec`.
 
-ghost use Rattle.std.specs.Prelude.{◌≡◌, ◌↔◌, ◌≤◌, ◌<◌, ◌||◌, ◌==◌, true, false, [], nat_lt, IfOk, IsOk, IsTrue, Ok, Some};
-ghost use Rattle.std.specs.Bool.{OnFalse};
+ghost use Rattle.std.specs.Prelude.{◌≡◌, ◌↔◌, ◌≤◌, ◌<◌, ◌||◌, true, false, IfOk, IsOk, IsTrue, Ok, Some};
 ghost use Rattle.saa_core_spec.specs.declared.request.Request.TheVariants.{Permits};
-ghost use Rattle.saa_core_spec.specs.Asking.{tried};
-ghost use Rattle.saa_core_spec.specs.Polling.{given_back};
-ghost use Rattle.saa_core_spec.specs.Semaphore.{available, bound_of, out_of};
-ghost use Rattle.saa_core.specs.Slots.{OwesAnswered};
 ghost use Rattle.saa_core.specs.declared.ticket.Registration.TheVariants.{Unregistered};
-ghost use Rattle.saa_core.specs.Tickets.{Calls, is_busy, is_yes};
+ghost use Rattle.saa_core.specs.Tickets.{is_busy, is_yes};
 ghost use Rattle.saa_core.specs.Beginning.{mode_of};
-ghost use Rattle.saa_sync.specs.Forms.{patience_of, waiter_patience_of};
+ghost use Rattle.saa_sync.specs.Forms.{spin_policy_of, waiter_policy_of};
 
 use crate::form::{Form, PagerCore};
 use crate::future::semaphore::{
-    AcquireManyOf, AcquireManyWithOf, AcquireOf, AcquireWithOf, Asked, AskedWith,
+    AcquireManyOf, AcquireManyWithOf, AcquireOf, AcquireWithOf, Acquiring, AcquiringWith,
 };
 use crate::pager::Pager;
-use crate::patience::{Patience, UNREGISTERED};
+use crate::parker::WAITER;
 pub use crate::permit::{Permit, PermitFrom, PermitOf, TakesBack};
-use crate::seat::PATIENCE;
+use crate::spin_policy::{DEFAULT, SpinPolicy};
+use saa_core::future::PendingRegistration;
 use saa_core::primitive::Primitive;
 pub use saa_core::semaphore::{SemaphoreAnswer, SemaphoreCall, SemaphoreCore, SemaphoreCoreOf};
 use saa_core::ticket::{Error, Full};
@@ -33,7 +29,7 @@ use std::sync::atomic::Ordering;
 /// Up to `MAX` permits that threads share, 1 to 65,535.
 ///
 /// Waiters are granted in FIFO order of joining the queue: no later request passes a waiter, a request for 0 permits included. A call
-/// that may block, and isn't timed, first tries and spins for a bounded number of times ([`Patience`]); until it joins it is no
+/// that may block, and isn't timed, first tries and spins for a bounded number of times ([`SpinPolicy`]); until it joins it is no
 /// waiter, and nothing orders it. `R` is the permission to block, as a reference to the runtime. Every call may wait for the mutex,
 /// which is held for one short step of the core at a time. No call but making takes memory.
 ///
@@ -67,8 +63,8 @@ impl<R: Wait + Drop, const MAX: usize> Form<R, SemaphoreCoreOf<MAX>> {
         requires bound { 0 < MAX }
         requires narrow { MAX < 65536 }
         ensures no_room { room ≡ 0 → IsOk result }
-        ensures patience { IfOk result (λ semaphore. patience_of semaphore ≡ UNREGISTERED) }
-        ensures waiter { IfOk result (λ semaphore. waiter_patience_of semaphore ≡ PATIENCE) }
+        ensures spin_policy { IfOk result (λ semaphore. spin_policy_of semaphore ≡ DEFAULT) }
+        ensures waiter { IfOk result (λ semaphore. waiter_policy_of semaphore ≡ WAITER) }
     {
         Self::with_permits(rt, alloc, MAX, room)
     }
@@ -82,46 +78,46 @@ impl<R: Wait + Drop, const MAX: usize> Form<R, SemaphoreCoreOf<MAX>> {
         requires bound { 0 < MAX }
         requires narrow { MAX < 65536 }
         ensures no_room { room ≡ 0 → IsOk result }
-        ensures patience { IfOk result (λ semaphore. patience_of semaphore ≡ UNREGISTERED) }
-        ensures waiter { IfOk result (λ semaphore. waiter_patience_of semaphore ≡ PATIENCE) }
+        ensures spin_policy { IfOk result (λ semaphore. spin_policy_of semaphore ≡ DEFAULT) }
+        ensures waiter { IfOk result (λ semaphore. waiter_policy_of semaphore ≡ WAITER) }
     {
-        Self::with_patience(rt, alloc, permits, room, UNREGISTERED)
+        Self::with_spin_policy(rt, alloc, permits, room, DEFAULT)
     }
 
-    /// As [`Self::with_permits`], with a patience of its own for calls that aren't registered yet; [`NONE`](crate::patience::NONE) has each
+    /// As [`Self::with_permits`], with a spin policy of its own for calls that aren't registered yet; [`NONE`](crate::spin_policy::NONE) has each
     /// call register at its first turn at the mutex, so that grants come in the order of these turns.
-    pub fn with_patience(
+    pub fn with_spin_policy(
         rt: R,
         alloc: Global,
         permits: usize,
         room: u16,
-        patience: Patience,
+        spin_policy: SpinPolicy,
     ) -> Result<Self, AllocError>
         requires bound { 0 < MAX }
         requires narrow { MAX < 65536 }
         ensures no_room { room ≡ 0 → IsOk result }
-        ensures patience { IfOk result (λ semaphore. patience_of semaphore ≡ patience) }
-        ensures waiter { IfOk result (λ semaphore. waiter_patience_of semaphore ≡ PATIENCE) }
+        ensures spin_policy { IfOk result (λ semaphore. spin_policy_of semaphore ≡ spin_policy) }
+        ensures waiter { IfOk result (λ semaphore. waiter_policy_of semaphore ≡ WAITER) }
     {
         let core = SemaphoreCoreOf::with_permits(alloc, permits, room)?;
-        Self::of_core(rt, alloc, core, room, patience)
+        Self::of_core(rt, alloc, core, room, spin_policy, WAITER)
     }
 
     /// Whether a permit is available. Every ordering acts as the sequentially consistent one; none panics.
     pub fn is_open(&self, _mo: Ordering) -> bool {
-        tell_open(&self.shell.lock().core)
+        self.lock().core.is_open()
     }
 
     /// Whether no permit is available. Every ordering acts as the sequentially consistent one; none panics.
     pub fn is_closed(&self, _mo: Ordering) -> bool {
-        tell_closed(&self.shell.lock().core)
+        self.lock().core.is_closed()
     }
 
     /// How many permits are available, 0 to `MAX`. Every ordering acts as the sequentially consistent one; none panics.
     pub fn available_permits(&self, _mo: Ordering) -> usize
         ensures { result ≤ MAX }
     {
-        count_available(&self.shell.lock().core)
+        self.lock().core.available_permits()
     }
 
     /// Takes one permit if there is no waiter and one is available; see [`Self::try_acquire_many`].
@@ -136,7 +132,7 @@ impl<R: Wait + Drop, const MAX: usize> Form<R, SemaphoreCoreOf<MAX>> {
     pub fn try_acquire_many(&self, count: usize) -> bool
         ensures too_many { MAX < count → result ≡ false }
     {
-        take_now(&mut self.shell.lock().core, count)
+        self.lock().core.try_acquire_many(count)
     }
 
     /// Gives one permit back; see [`Self::release_many`].
@@ -154,28 +150,28 @@ impl<R: Wait + Drop, const MAX: usize> Form<R, SemaphoreCoreOf<MAX>> {
         ensures none { count ≡ 0 → result ≡ true }
         ensures too_many { MAX < count → result ≡ false }
     {
-        self.shell.step(
+        self.step(
             |core| -> bool
                 ensures none { count ≡ 0 → result ≡ true }
                 ensures too_many { MAX < count → result ≡ false }
-            { give_back(core, count) },
+            { core.release_many(count) },
         )
     }
 
-    /// Takes one permit. It spins for its patience first, and then waits in the queue where it must.
+    /// Takes one permit. It spins first, as its spin policy says, and then waits in the queue where it must.
     ///
-    /// `Ok`: the core answered that it is granted. `Full`: its patience is over, it would have to wait, and as many slots are held as
+    /// `Ok`: the core answered that it is granted. `Full`: its spins are over, it would have to wait, and as many slots are held as
     /// there is room; nothing is changed. Nothing stays registered either way. No core refuses to register one permit, or
     /// forgets a ticket that waits; one that did would be asked again.
     pub fn acquire_sync(&self) -> Result<(), Full> {
-        let _granted = self.shell.acquire(1)?;
+        let _granted = self.acquire(1)?;
         Ok(())
     }
 
-    /// Takes `count` permits, all at once. It spins for its patience first, and then waits in the queue where it must.
+    /// Takes `count` permits, all at once. It spins first, as its spin policy says, and then waits in the queue where it must.
     ///
     /// `Ok(true)`: the core answered that they are granted. `Ok(false)` comes at once, exactly where the count is above
-    /// [`Self::MAX_PERMITS`]. `Full`: its patience is over, it would have to wait, and as many slots are held as there is room. The
+    /// [`Self::MAX_PERMITS`]. `Full`: its spins are over, it would have to wait, and as many slots are held as there is room. The
     /// last two change nothing. Nothing stays registered in any case.
     #[inline(always)]
     pub fn acquire_many_sync(&self, count: usize) -> Result<bool, Full>
@@ -185,22 +181,22 @@ impl<R: Wait + Drop, const MAX: usize> Form<R, SemaphoreCoreOf<MAX>> {
         if is_too_many::<MAX>(count) {
             return Ok(false);
         }
-        let _granted = self.shell.acquire(count)?;
+        let _granted = self.acquire(count)?;
         Ok(true)
     }
 
-    /// Takes one permit as [`Self::acquire_sync`] does, and calls `begin_wait` where it joins the line.
+    /// Takes one permit as [`Self::acquire_sync`] does, and calls `begin_wait` where it joins the queue.
     ///
     /// The callback runs once, after the join and before the wait, with the mutex free; it may use this semaphore. It
     /// doesn't run where the call is answered before it joins, nor where the room is full.
     pub fn acquire_sync_with<F: FnOnce() + Drop>(&self, begin_wait: F) -> Result<(), Full>
         requires { F.pre begin_wait }
     {
-        let _granted = self.shell.acquire_with(1, begin_wait)?;
+        let _granted = self.acquire_with(1, begin_wait)?;
         Ok(())
     }
 
-    /// Takes `count` permits as [`Self::acquire_many_sync`] does, and calls `begin_wait` where it joins the line.
+    /// Takes `count` permits as [`Self::acquire_many_sync`] does, and calls `begin_wait` where it joins the queue.
     ///
     /// The callback runs once, after the join and before the wait, with the mutex free; it may use this semaphore. It
     /// doesn't run where the call is answered before it joins, `Ok(false)` among them, nor where the room is full.
@@ -216,22 +212,22 @@ impl<R: Wait + Drop, const MAX: usize> Form<R, SemaphoreCoreOf<MAX>> {
         if is_too_many::<MAX>(count) {
             return Ok(false);
         }
-        let _granted = self.shell.acquire_with(count, begin_wait)?;
+        let _granted = self.acquire_with(count, begin_wait)?;
         Ok(true)
     }
 
     /// The future of one permit: its output is that of [`Self::acquire_sync`].
     ///
-    /// Nothing is asked before its first poll. See [`Asked`](crate::future::asked::Asked).
+    /// Nothing is asked before its first poll. See [`Acquiring`](crate::future::Acquiring).
     pub fn acquire_async(&self) -> AcquireOf<'_, R, MAX>
         ensures request { result.asking.request ≡ Permits 1 }
         ensures idle { result.asking.ticket ≡ Unregistered }
         ensures fresh { result.asking.has_ended ≡ false }
     {
-        Asked::new(&self.shell, 1)
+        Acquiring::new(self, PendingRegistration::new(1))
     }
 
-    /// The future of [`Self::acquire_async`], which calls `begin_wait` where it joins the line.
+    /// The future of [`Self::acquire_async`], which calls `begin_wait` where it joins the queue.
     ///
     /// The callback runs once, in the poll that joined, after the join and with the mutex free; it may use
     /// this semaphore. It doesn't run where the answer is there at once, nor where the room is full.
@@ -239,26 +235,26 @@ impl<R: Wait + Drop, const MAX: usize> Form<R, SemaphoreCoreOf<MAX>> {
         &self,
         begin_wait: F,
     ) -> AcquireWithOf<'_, R, F, MAX>
-        ensures request { result.asked.asking.request ≡ Permits 1 }
-        ensures idle { result.asked.asking.ticket ≡ Unregistered }
-        ensures fresh { result.asked.asking.has_ended ≡ false }
+        ensures request { result.acquiring.asking.request ≡ Permits 1 }
+        ensures idle { result.acquiring.asking.ticket ≡ Unregistered }
+        ensures fresh { result.acquiring.asking.has_ended ≡ false }
         ensures callback { result.begin_wait ≡ Some begin_wait }
     {
-        AskedWith::new(self.acquire_async(), begin_wait)
+        AcquiringWith::new(self.acquire_async(), begin_wait)
     }
 
     /// The future of `count` permits, all at once: its output is that of [`Self::acquire_many_sync`].
     ///
-    /// Nothing is asked before its first poll. See [`Asked`](crate::future::asked::Asked).
+    /// Nothing is asked before its first poll. See [`Acquiring`](crate::future::Acquiring).
     pub fn acquire_many_async(&self, count: usize) -> AcquireManyOf<'_, R, MAX>
         ensures request { result.asking.request ≡ Permits count }
         ensures idle { result.asking.ticket ≡ Unregistered }
         ensures fresh { result.asking.has_ended ≡ false }
     {
-        Asked::new(&self.shell, count)
+        Acquiring::new(self, PendingRegistration::new(count))
     }
 
-    /// The future of [`Self::acquire_many_async`], which calls `begin_wait` where it joins the line.
+    /// The future of [`Self::acquire_many_async`], which calls `begin_wait` where it joins the queue.
     ///
     /// The callback runs once, in the poll that joined, after the join and with the mutex free; it may use
     /// this semaphore. It doesn't run where the answer is there at once, nor where the room is full.
@@ -267,17 +263,17 @@ impl<R: Wait + Drop, const MAX: usize> Form<R, SemaphoreCoreOf<MAX>> {
         count: usize,
         begin_wait: F,
     ) -> AcquireManyWithOf<'_, R, F, MAX>
-        ensures request { result.asked.asking.request ≡ Permits count }
-        ensures idle { result.asked.asking.ticket ≡ Unregistered }
-        ensures fresh { result.asked.asking.has_ended ≡ false }
+        ensures request { result.acquiring.asking.request ≡ Permits count }
+        ensures idle { result.acquiring.asking.ticket ≡ Unregistered }
+        ensures fresh { result.acquiring.asking.has_ended ≡ false }
         ensures callback { result.begin_wait ≡ Some begin_wait }
     {
-        AskedWith::new(self.acquire_many_async(count), begin_wait)
+        AcquiringWith::new(self.acquire_many_async(count), begin_wait)
     }
 
     /// Registers a pager for `count` permits, to be polled as sync or as async.
     ///
-    /// `Ok(true)`: it was granted at once, or waits, last in the line. `Ok(false)`: the pager is registered already,
+    /// `Ok(true)`: it was granted at once, or waits, last in the queue. `Ok(false)`: the pager is registered already,
     /// here or elsewhere, or the count is above [`Self::MAX_PERMITS`]. `Full`: it would have to wait, and as many
     /// slots are held as there is room. All but `Ok(true)` change nothing.
     ///
@@ -299,7 +295,7 @@ impl<R: Wait + Drop, const MAX: usize> Form<R, SemaphoreCoreOf<MAX>> {
         if is_too_many::<MAX>(count) {
             return Ok(false);
         }
-        self.register(pager, count, is_sync)
+        self.page(pager, count, is_sync)
     }
 }
 
@@ -336,49 +332,4 @@ pub(crate) fn is_too_many<const MAX: usize>(count: usize) -> bool
     ensures { IsTrue result ↔ (MAX < count) }
 {
     count > MAX
-}
-
-// Whether a permit is available, of the core under the mutex.
-fn tell_open<const MAX: usize>(core: &SemaphoreCoreOf<MAX>) -> bool
-    ensures { result ≡ nat_lt (out_of core.now.held) (bound_of core.now.held) }
-{
-    core.is_open()
-}
-
-// Whether no permit is available, of the core under the mutex.
-fn tell_closed<const MAX: usize>(core: &SemaphoreCoreOf<MAX>) -> bool
-    ensures { result ≡ (out_of core.now.held == bound_of core.now.held) }
-{
-    core.is_closed()
-}
-
-// How many permits are available, of the core under the mutex.
-fn count_available<const MAX: usize>(core: &SemaphoreCoreOf<MAX>) -> usize
-    ensures number { result ≡ available core.now.held }
-    ensures within { result ≤ MAX }
-{
-    core.available_permits()
-}
-
-// A try on the core under the mutex.
-fn take_now<const MAX: usize>(core: &mut SemaphoreCoreOf<MAX>, count: usize) -> bool
-    ensures calls { Calls core.old core.new (λ s. tried s (Permits count)) result }
-    ensures answer { IsTrue result ↔ ((core.old.slots.line ≡ []) × (count ≤ available core.old.held)) }
-    ensures too_many { MAX < count → result ≡ false }
-    ensures refused { OnFalse result (core.new ≡ core.old) }
-    ensures wakes { OwesAnswered core.old.slots core.new.slots }
-{
-    core.try_acquire_many(count)
-}
-
-// A release on the core under the mutex.
-fn give_back<const MAX: usize>(core: &mut SemaphoreCoreOf<MAX>, count: usize) -> bool
-    ensures calls { Calls core.old core.new (λ s. given_back s (Permits count)) result }
-    ensures answer { IsTrue result ↔ (count ≤ out_of core.old.held) }
-    ensures none { count ≡ 0 → result ≡ true }
-    ensures too_many { MAX < count → result ≡ false }
-    ensures refused { OnFalse result (core.new ≡ core.old) }
-    ensures wakes { OwesAnswered core.old.slots core.new.slots }
-{
-    core.release_many(count)
 }

@@ -10,12 +10,9 @@
 //! of no time it is one poll. A clock that can't be read ends a wait at once, as if the time were up.
 
 mod barrier;
-mod deadline;
 mod gate;
 mod guards;
 mod lock;
-mod pager;
 mod semaphore;
 
-pub use deadline::Deadline;
-pub use pager::Timed;
+pub use saa_core_waits::{Deadline, Timed};

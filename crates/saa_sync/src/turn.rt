@@ -2,24 +2,24 @@
 //!
 //! A turn can be neither dropped nor forgotten, so the code here passes each on; a guard's holder may leak the guard, and its turn with
 //! it (`mem::forget`). Only this module makes a turn, and only it reaches the lock: code beside it tries for a turn, waits for one or polls
-//! for one, and a test reads counts (`TurnCounts`). That the bodies here make a turn of a grant alone, and give it back to the lock, is shown by
+//! for one, and a test reads counts (`Counts`). That the bodies here make a turn of a grant alone, and give it back to the lock, is shown by
 //! tests: no clause can follow the calls of a lock with a mutex, so a turn has nothing to say of what was granted.
 
 ghost use Rattle.std.specs.Prelude.{◌≡◌, false, IfOk, IfSome, IsOk};
 ghost use Rattle.futures.specs.Task.{Covers, Keeps};
 ghost use Rattle.futures.specs.Poll.{IfReady, OnPending};
-ghost use Rattle.saa_core_spec.specs.declared.request.Request.TheVariants.{Exclusive as AskExclusive, Shared as AskShared};
 ghost use Rattle.saa_core.specs.declared.ticket.Registration.TheVariants.{Unregistered};
-ghost use Rattle.saa_sync.specs.Forms.{patience_of, waiter_patience_of};
+ghost use Rattle.saa_sync.specs.Forms.{spin_policy_of, waiter_policy_of};
 
-use crate::future::lock::{LockFuture, ShareFuture};
-use crate::lock::{Lock, Mode};
-use crate::patience::Patience;
-use crate::seat::PATIENCE;
-use crate::shell::Shell;
+use crate::form::Counts;
+use crate::future::lock::{Acquiring, LockFuture};
+use crate::lock::{Lock, Mode, is_granted};
+use crate::parker::WAITER;
+use crate::spin_policy::SpinPolicy;
 use crate::timed::Deadline;
 use futures::task::{Context, Poll};
 use futures::{Future, ready};
+use saa_core::future::PendingRegistration;
 use saa_core::lock::LockCore;
 use saa_core::ticket::Full;
 use saa_core_guards::turn::{Lowers, Turn};
@@ -49,13 +49,13 @@ impl<R: Wait + Drop> Turns<R> {
         rt: R,
         alloc: Global,
         room: u16,
-        patience: Patience,
+        spin_policy: SpinPolicy,
     ) -> Result<Self, AllocError>
         ensures no_room { room ≡ 0 → IsOk result }
-        ensures patience { IfOk result (λ turns. patience_of turns ≡ patience) }
-        ensures waiter { IfOk result (λ turns. waiter_patience_of turns ≡ PATIENCE) }
+        ensures spin_policy { IfOk result (λ turns. spin_policy_of turns ≡ spin_policy) }
+        ensures waiter { IfOk result (λ turns. waiter_policy_of turns ≡ WAITER) }
     {
-        Ok(Turns::of(Lock::with_patience(rt, alloc, room, patience)?))
+        Ok(Turns::of(Lock::with_spin_policy(rt, alloc, room, spin_policy)?))
     }
 
     // The turns of a lock that is handed in.
@@ -70,82 +70,92 @@ impl<R: Wait + Drop> Turns<R> {
         self.lock.rt()
     }
 
-    // The future of the turn alone.
-    pub(crate) fn lock_async(&self) -> AwaitAlone<'_, R>
-        ensures lock { result.lock ≡ self.now }
-        ensures request { result.asked.asking.request ≡ AskExclusive }
-        ensures idle { result.asked.asking.ticket ≡ Unregistered }
-        ensures fresh { result.asked.asking.has_ended ≡ false }
+    // Takes a turn if the lock is free for it and nobody waits.
+    pub(crate) fn try_take<'a, U: Granted<'a, R>>(&'a self) -> Option<U>
+        ensures { IfSome result (λ turn. U.lock turn ≡ self.now) }
     {
-        AwaitAlone {
-            turns: self,
-            asked: self.lock.lock_async(),
+        if !U::try_take_at(&self.lock) {
+            return None;
         }
+        Some(U::of(self))
     }
 
-    // The future of a share of the turn.
-    pub(crate) fn share_async(&self) -> AwaitShared<'_, R>
-        ensures lock { result.lock ≡ self.now }
-        ensures request { result.asked.asking.request ≡ AskShared }
-        ensures idle { result.asked.asking.ticket ≡ Unregistered }
-        ensures fresh { result.asked.asking.has_ended ≡ false }
+    // Waits for a turn. A lock that says it is poisoned, as none here ever is, is cleared and asked again.
+    pub(crate) fn take<'a, U: Granted<'a, R>>(&'a self) -> Result<U, Full>
+        ensures { IfOk result (λ turn. U.lock turn ≡ self.now) }
     {
-        AwaitShared {
+        for _ in self.rt().forever() {
+            if is_granted(self.lock.acquire(U::mode())?) {
+                return Ok(U::of(self));
+            }
+            self.lock.clear_poison();
+        }
+        unreachable!()
+    }
+
+    // Waits for a turn as `take` does, until the deadline. `None`: time is up.
+    pub(crate) fn take_by<'a, U: Granted<'a, R>>(
+        &'a self,
+        deadline: Deadline,
+    ) -> Result<Option<U>, Full>
+    where
+        R: Clock,
+        ensures { IfOk result (λ told. IfSome told (λ turn. U.lock turn ≡ self.now)) }
+    {
+        for _ in self.rt().forever() {
+            match self.lock.take_by(U::mode(), deadline)? {
+                Some(true) => return Ok(Some(U::of(self))),
+                Some(false) => {
+                    self.lock.clear_poison();
+                }
+                None => return Ok(None),
+            }
+        }
+        unreachable!()
+    }
+
+    // The future of a turn.
+    pub(crate) fn take_async<'a, U: Granted<'a, R>>(&'a self) -> TurnFuture<'a, R>
+        ensures lock { result.lock ≡ self.now }
+        ensures request { result.acquiring.asking.request ≡ U.request }
+        ensures idle { result.acquiring.asking.ticket ≡ Unregistered }
+        ensures fresh { result.acquiring.asking.has_ended ≡ false }
+    {
+        TurnFuture {
             turns: self,
-            asked: self.lock.share_async(),
+            acquiring: Acquiring::new(&self.lock, PendingRegistration::new(U::mode())),
         }
     }
 
     // What tests may see of the lock.
-    pub(crate) fn counts(&self) -> TurnCounts<'_, R>
+    pub(crate) fn counts(&self) -> Counts<'_, R, LockCore>
         ensures { result.now ≡ self.now }
     {
-        TurnCounts {
-            shell: &self.lock.shell,
-        }
+        Counts::of(&self.lock)
     }
 }
 
-/// What tests may see of the lock that gives turns: counts of its shell, and no call of its core. Contracts see the lock.
-#[derive(Drop)]
-pub struct TurnCounts<'a, R: Wait + Drop> {
-    shell: &'a Shell<R, LockCore>,
-}
-
-impl<'a, R: Wait + Drop> Model for TurnCounts<'a, R> {
-    ghost use Rattle.std.specs.Borrow.{Bor};
+/// A turn at a lock: how it is asked for, and made of a grant. Only this module makes one.
+pub trait Granted<'a, R: Wait + Drop>: Sized {
+    ghost use Rattle.saa_core_spec.specs.declared.request.Request.{Request};
+    ghost use Rattle.saa_core_spec.specs.Lock.{mode_request};
     ghost use Rattle.saa_sync.specs.Forms.{TurnLock};
 
-    ghost Value = { Bor (TurnLock R) };
+    // Whose turn it is, and what is asked of the lock for it.
+    ghost lock: { Self → TurnLock R };
 
-    ghost view = { λ counts. counts.shell };
-}
+    ghost request: { Request };
 
-impl<R: Wait + Drop> TurnCounts<'_, R> {
-    /// How often calls locked the mutex around the core, these for tests aside.
-    pub fn turns(&self) -> u64 {
-        self.shell.turns()
-    }
+    /// How the lock is taken for it.
+    fn mode() -> Mode
+        ensures { mode_request result ≡ request };
 
-    /// How many waiters sleep; all those have let go of the mutex.
-    pub fn asleep(&self) -> usize {
-        self.shell.asleep()
-    }
+    /// Takes it at a lock that is free for it, if nobody waits there. Says whether it did.
+    fn try_take_at(lock: &Lock<R>) -> bool;
 
-    /// How many calls look, of those that haven't registered.
-    pub fn lookers(&self) -> u64 {
-        self.shell.lookers()
-    }
-
-    /// How often calls looked, of those that found nothing at once and no longer look.
-    pub fn looked(&self) -> u64 {
-        self.shell.looked()
-    }
-
-    /// How many spin hints these calls gave, and how often they yielded.
-    pub fn rested(&self) -> (u64, u64) {
-        self.shell.rested()
-    }
+    /// The turn that was granted.
+    fn of(turns: &'a Turns<R>) -> Self
+        ensures { lock result ≡ turns.now };
 }
 
 /// The turn of one owner alone. Contracts see whose turn it is.
@@ -163,46 +173,23 @@ impl<'a, R: Wait + Drop> Model for Alone<'a, R> {
     ghost view = { λ turn. turn.turns };
 }
 
-impl<'a, R: Wait + Drop> Alone<'a, R> {
-    // Takes the turn if it is free and nobody waits for it.
-    pub(crate) fn try_take(turns: &'a Turns<R>) -> Option<Self>
-        ensures { IfSome result (λ turn. turn ≡ turns.entry) }
-    {
-        match turns.lock.try_lock() {
-            Ok(()) => Some(Alone { turns }),
-            Err(_taken) => None,
-        }
+impl<'a, R: Wait + Drop> Granted<'a, R> for Alone<'a, R> {
+    ghost use Rattle.saa_core_spec.specs.declared.request.Request.TheVariants.{Exclusive as AskExclusive};
+
+    ghost lock = { λ turn. turn.now };
+
+    ghost request = { AskExclusive };
+
+    fn mode() -> Mode {
+        Mode::Exclusive
     }
 
-    // Waits for the turn. A lock that says it is poisoned, as none here ever is, is cleared and asked again.
-    pub(crate) fn take(turns: &'a Turns<R>) -> Result<Self, Full>
-        ensures { IfOk result (λ turn. turn ≡ turns.entry) }
-    {
-        for _ in turns.rt().forever() {
-            if turns.lock.lock_sync()? {
-                return Ok(Alone { turns });
-            }
-            turns.lock.clear_poison();
-        }
-        unreachable!()
+    fn try_take_at(lock: &Lock<R>) -> bool {
+        lock.try_lock().is_ok()
     }
 
-    // Waits for the turn as `take` does, until the deadline. `None`: time is up.
-    pub(crate) fn take_by(turns: &'a Turns<R>, deadline: Deadline) -> Result<Option<Self>, Full>
-    where
-        R: Clock,
-        ensures { IfOk result (λ told. IfSome told (λ turn. turn ≡ turns.entry)) }
-    {
-        for _ in turns.rt().forever() {
-            match turns.lock.take_by(Mode::Exclusive, deadline)? {
-                Some(true) => return Ok(Some(Alone { turns })),
-                Some(false) => {
-                    turns.lock.clear_poison();
-                }
-                None => return Ok(None),
-            }
-        }
-        unreachable!()
+    fn of(turns: &'a Turns<R>) -> Self {
+        Alone { turns }
     }
 }
 
@@ -249,46 +236,23 @@ impl<'a, R: Wait + Drop> Model for Shared<'a, R> {
     ghost view = { λ turn. turn.turns };
 }
 
-impl<'a, R: Wait + Drop> Shared<'a, R> {
-    // Takes a share of the turn if one is left and nobody waits.
-    pub(crate) fn try_take(turns: &'a Turns<R>) -> Option<Self>
-        ensures { IfSome result (λ turn. turn ≡ turns.entry) }
-    {
-        match turns.lock.try_share() {
-            Ok(()) => Some(Shared { turns }),
-            Err(_taken) => None,
-        }
+impl<'a, R: Wait + Drop> Granted<'a, R> for Shared<'a, R> {
+    ghost use Rattle.saa_core_spec.specs.declared.request.Request.TheVariants.{Shared as AskShared};
+
+    ghost lock = { λ turn. turn.now };
+
+    ghost request = { AskShared };
+
+    fn mode() -> Mode {
+        Mode::Shared
     }
 
-    // Waits for a share of the turn, as `Alone::take` does for all of it.
-    pub(crate) fn take(turns: &'a Turns<R>) -> Result<Self, Full>
-        ensures { IfOk result (λ turn. turn ≡ turns.entry) }
-    {
-        for _ in turns.rt().forever() {
-            if turns.lock.share_sync()? {
-                return Ok(Shared { turns });
-            }
-            turns.lock.clear_poison();
-        }
-        unreachable!()
+    fn try_take_at(lock: &Lock<R>) -> bool {
+        lock.try_share().is_ok()
     }
 
-    // Waits for the turn as `take` does, until the deadline. `None`: time is up.
-    pub(crate) fn take_by(turns: &'a Turns<R>, deadline: Deadline) -> Result<Option<Self>, Full>
-    where
-        R: Clock,
-        ensures { IfOk result (λ told. IfSome told (λ turn. turn ≡ turns.entry)) }
-    {
-        for _ in turns.rt().forever() {
-            match turns.lock.take_by(Mode::Shared, deadline)? {
-                Some(true) => return Ok(Some(Shared { turns })),
-                Some(false) => {
-                    turns.lock.clear_poison();
-                }
-                None => return Ok(None),
-            }
-        }
-        unreachable!()
+    fn of(turns: &'a Turns<R>) -> Self {
+        Shared { turns }
     }
 }
 
@@ -302,61 +266,34 @@ impl<R: Wait + Drop> Turn for Shared<'_, R> {
     }
 }
 
-/// The future of the turn alone. Contracts see the lock whose turn it waits for, and the future of that turn.
+/// The future of a turn, alone or shared. Contracts see the lock whose turn it waits for, and the future of that turn.
 #[derive(Drop)]
-pub struct AwaitAlone<'a, R: Wait + Drop> {
+pub struct TurnFuture<'a, R: Wait + Drop> {
     turns: &'a Turns<R>,
-    asked: LockFuture<'a, R>,
+    acquiring: LockFuture<'a, R>,
 }
 
-impl<'a, R: Wait + Drop> Model for AwaitAlone<'a, R> {
+impl<'a, R: Wait + Drop> Model for TurnFuture<'a, R> {
     ghost use Rattle.saa_sync.specs.Forms.{GuardFutureState};
 
     ghost Value = { GuardFutureState R };
 
-    ghost view = { λ future. record { lock = future.turns.now; asked = future.asked } };
+    ghost view = { λ future. record { lock = future.turns.now; acquiring = future.acquiring } };
 }
 
-impl<'a, R: Wait + Drop> AwaitAlone<'a, R> {
+impl<'a, R: Wait + Drop> TurnFuture<'a, R> {
     // Polls for the turn: the only way to it beside a try and a wait.
-    pub(crate) fn poll_turn(&mut self, cx: &mut Context<'_>) -> Poll<Result<Alone<'a, R>, Full>>
-        ensures turn { IfReady result (λ answer. IfOk answer (λ turn. turn.now ≡ self.old.lock)) }
+    pub(crate) fn poll_turn<U: Granted<'a, R>>(
+        &mut self,
+        cx: &mut Context<'_>,
+    ) -> Poll<Result<U, Full>>
+        ensures turn { IfReady result (λ answer. IfOk answer (λ turn. U.lock turn ≡ self.old.lock)) }
         ensures lock { self.new.lock ≡ self.old.lock }
-        ensures heard { OnPending result (Covers cx.new (λ source. source ≡ self.new.asked.source)) }
+        ensures heard { OnPending result (Covers cx.new (λ source. source ≡ self.new.acquiring.source)) }
         ensures kept { Keeps cx.old cx.new }
     {
-        match ready!(poll_grant(&mut self.asked, cx)) {
-            Ok(()) => Poll::Ready(Ok(Alone { turns: self.turns })),
-            Err(full) => Poll::Ready(Err(full)),
-        }
-    }
-}
-
-/// The future of a share of the turn. Contracts see the lock whose turn it waits for, and the future of that turn.
-#[derive(Drop)]
-pub struct AwaitShared<'a, R: Wait + Drop> {
-    turns: &'a Turns<R>,
-    asked: ShareFuture<'a, R>,
-}
-
-impl<'a, R: Wait + Drop> Model for AwaitShared<'a, R> {
-    ghost use Rattle.saa_sync.specs.Forms.{GuardFutureState};
-
-    ghost Value = { GuardFutureState R };
-
-    ghost view = { λ future. record { lock = future.turns.now; asked = future.asked } };
-}
-
-impl<'a, R: Wait + Drop> AwaitShared<'a, R> {
-    // Polls for the share, as `AwaitAlone::poll_turn` does for all of the turn.
-    pub(crate) fn poll_turn(&mut self, cx: &mut Context<'_>) -> Poll<Result<Shared<'a, R>, Full>>
-        ensures turn { IfReady result (λ answer. IfOk answer (λ turn. turn.now ≡ self.old.lock)) }
-        ensures lock { self.new.lock ≡ self.old.lock }
-        ensures heard { OnPending result (Covers cx.new (λ source. source ≡ self.new.asked.source)) }
-        ensures kept { Keeps cx.old cx.new }
-    {
-        match ready!(poll_grant(&mut self.asked, cx)) {
-            Ok(()) => Poll::Ready(Ok(Shared { turns: self.turns })),
+        match ready!(poll_grant(&mut self.acquiring, cx)) {
+            Ok(()) => Poll::Ready(Ok(U::of(self.turns))),
             Err(full) => Poll::Ready(Err(full)),
         }
     }
@@ -364,13 +301,13 @@ impl<'a, R: Wait + Drop> AwaitShared<'a, R> {
 
 // Polls a future of the lock, for all of it or a share. A turn that is poisoned, as none here ever is, never comes.
 fn poll_grant<'a, R: Wait + Drop>(
-    asked: &mut LockFuture<'a, R>,
+    acquiring: &mut LockFuture<'a, R>,
     cx: &mut Context<'_>,
 ) -> Poll<Result<(), Full>>
-    ensures heard { OnPending result (Covers cx.new (λ source. source ≡ asked.new.source)) }
+    ensures heard { OnPending result (Covers cx.new (λ source. source ≡ acquiring.new.source)) }
     ensures kept { Keeps cx.old cx.new }
 {
-    match asked.poll(cx) {
+    match acquiring.poll(cx) {
         Poll::Ready(Ok(true)) => Poll::Ready(Ok(())),
         Poll::Ready(Ok(false)) => cx.yield_now(),
         Poll::Ready(Err(full)) => Poll::Ready(Err(full)),

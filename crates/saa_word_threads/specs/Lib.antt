@@ -9,4 +9,4 @@ pub mod Semaphores
 pub mod Locks
 pub mod Pending
 pub mod Straight
-pub mod Patience
+pub mod SpinPolicies

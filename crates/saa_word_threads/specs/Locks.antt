@@ -9,13 +9,13 @@ use Rattle.saa_word_steps.specs.Needs.{lock_needs}
 use Rattle.saa_word_threads.specs.declared.lock.Lock.{Lock}
 use Rattle.saa_word_threads.specs.declared.lock.Place.{Place}
 use Rattle.saa_word_threads.specs.declared.lock.Left.{Left}
-use Rattle.saa_word_threads.specs.declared.looking.Patience.{Patience}
+use Rattle.saa_core_waits.specs.declared.spin_policy.SpinPolicy.{SpinPolicy}
 use Rattle.saa_word_threads.specs.declared.place.Place.{Place as FormPlace}
 use Rattle.saa_word_threads.specs.declared.table.About.{About}
 use Rattle.saa_word_threads.specs.declared.table.View.{View}
 use Rattle.saa_word_threads.specs.declared.visitor.Visitor.{Visitor}
 use Rattle.saa_word_threads.specs.Dealt.{AreNew as FormAreNew}
-use Rattle.saa_word_threads.specs.Public.{HasLeft as FormHasLeft, IsMade as FormIsMade, IsWaited as FormIsWaited, patience_of as form_patience_of, view_left as form_view_left}
+use Rattle.saa_word_threads.specs.Public.{HasLeft as FormHasLeft, IsMade as FormIsMade, IsWaited as FormIsWaited, spin_policy_of as form_spin_policy_of, view_left as form_view_left}
 use Rattle.saa_word_threads.specs.Visits.{IsVisited as FormIsVisited, IsVisitedOnce as FormIsVisitedOnce}
 
 -- its rules, that nothing is held as it is made, and how many places it has
@@ -73,6 +73,6 @@ IsVisitedOnce lock call answer new = FormIsVisitedOnce (table_of lock) (about_of
 abbrev pub view_left : Left → View
 view_left left = form_view_left left.inner
 
--- the patience of the last call that asked at a place, or tried
-abbrev pub patience_of : Place → Patience
-patience_of place = form_patience_of place.inner
+-- the spin policy of the last call that asked at a place, or tried
+abbrev pub spin_policy_of : Place → SpinPolicy
+spin_policy_of place = form_spin_policy_of place.inner

@@ -9,7 +9,7 @@ use Rattle.saa_word_steps.specs.Needs.{Needs}
 use Rattle.saa_core_spec.specs.declared.lock.TryLockError.{TryLockError}
 use Rattle.saa_core_spec.specs.declared.lock.TryLockError.TheVariants.{WouldBlock}
 use Rattle.saa_core_spec.specs.declared.polling.Error.{Error}
-use Rattle.saa_word_threads.specs.declared.looking.Patience.{Patience}
+use Rattle.saa_core_waits.specs.declared.spin_policy.SpinPolicy.{SpinPolicy}
 use Rattle.saa_word_threads.specs.declared.place.Place.{Place}
 use Rattle.saa_word_threads.specs.declared.place.Left.{Left}
 use Rattle.saa_word_threads.specs.declared.table.View.{View}
@@ -25,9 +25,9 @@ view_of place = place.seat.me.0
 abbrev pub view_left : Left → View
 view_left left = left.seat.me.0
 
--- the patience of the last call that asked at a place, or tried
-abbrev pub patience_of : Place → Patience
-patience_of place = place.last_ask.patience
+-- the spin policy of the last call that asked at a place, or tried
+abbrev pub spin_policy_of : Place → SpinPolicy
+spin_policy_of place = place.last_ask.spin_policy
 
 -- a place is another moment of a place: it has its number, and is of its table
 abbrev pub IsSamePlace : Place → Place → Type 0

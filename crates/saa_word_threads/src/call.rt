@@ -3,7 +3,7 @@
 ghost use Rattle.std.specs.Prelude.{◌≡◌, true};
 ghost use Rattle.saa_word_threads.specs.Called.{is_single};
 ghost use Rattle.saa_word_threads.specs.Pending.{BeganAt, HasEnded, IsAt, IsCalledAt, IsPending, IsSameSeat, Takes, needs, withheld};
-ghost use Rattle.saa_word_threads.specs.Public.{HasLeft, IsSamePlace, patience_of};
+ghost use Rattle.saa_word_threads.specs.Public.{HasLeft, IsSamePlace, spin_policy_of};
 
 use crate::form::Form;
 use crate::place::{Left, Place};
@@ -52,7 +52,7 @@ impl Form {
         requires dealt { IsAt self.now place.old.seat }
         requires takes { Takes self.now call }
         ensures same { IsSamePlace place.old place.new }
-        ensures patience { patience_of place.new ≡ patience_of place.old }
+        ensures spin_policy { spin_policy_of place.new ≡ spin_policy_of place.old }
         ensures called { IsCalledAt self.now call place.old result place.new }
     {
         match place.position.start(self.rules, call) {

@@ -11,10 +11,11 @@ ghost use Rattle.saa_word_threads.specs.Pending.{HasEnded, HasFound, IsSameSeat,
 
 use crate::call::Pending;
 use crate::form::Form;
-use crate::looking::{NONE, Patience, unless_joining};
+use crate::looking::unless_joining;
 use crate::table::View;
 use crate::watch::Watch;
 use atomic_table::Seat;
+use saa_core_waits::spin_policy::{NONE, SpinPolicy};
 use saa_core_words::word::Word;
 use saa_word_steps::call::Answer;
 use saa_word_steps::place::{Ask, Given, Next, Place as Position, Stage};
@@ -31,7 +32,7 @@ impl Form {
         position: &mut Position,
         ask: Ask,
         found: u64,
-        patience: Patience,
+        spin_policy: SpinPolicy,
         pending: Pending,
     ) -> Answer
         requires found { HasFound self.now pending (record position.old { stage = AskLoad ask }) found seat.old }
@@ -39,7 +40,16 @@ impl Form {
         ensures ended { HasEnded self.now pending position.new result seat.new }
     {
         let stage = Stage::AskLoad { ask };
-        self.follow(rt, watch, seat, position, stage, found, patience, pending)
+        self.follow(
+            rt,
+            watch,
+            seat,
+            position,
+            stage,
+            found,
+            spin_policy,
+            pending,
+        )
     }
 
     // Goes on with an ask whose exchange of the first word failed.
@@ -53,7 +63,7 @@ impl Form {
         ask: Ask,
         first: u64,
         found: u64,
-        patience: Patience,
+        spin_policy: SpinPolicy,
         pending: Pending,
     ) -> Answer
         requires ranged { IsRanged (needs self.now) (AskExchange ask (word_of count_bits first)) }
@@ -63,7 +73,16 @@ impl Form {
     {
         let seen = Word::unpack(first);
         let stage = Stage::AskExchange { ask, seen };
-        self.follow(rt, watch, seat, position, stage, found, patience, pending)
+        self.follow(
+            rt,
+            watch,
+            seat,
+            position,
+            stage,
+            found,
+            spin_policy,
+            pending,
+        )
     }
 
     // Goes on with a release that has found a word which it can't lower by an exchange.
@@ -110,7 +129,7 @@ impl Form {
         self.follow(rt, watch, seat, position, stage, found, NONE, pending)
     }
 
-    // Goes on with a call whose place has just found this number at this stage: it looks on while its patience lasts, and then goes step by step.
+    // Goes on with a call whose place has just found this number at this stage: it looks on while its spins last, and then goes step by step.
     fn follow<R: Wait, W: Watch>(
         &self,
         rt: &R,
@@ -119,7 +138,7 @@ impl Form {
         position: &mut Position,
         stage: Stage,
         found: u64,
-        patience: Patience,
+        spin_policy: SpinPolicy,
         pending: Pending,
     ) -> Answer
         requires ranged { IsRanged (needs self.now) stage }
@@ -130,7 +149,7 @@ impl Form {
         let place = Position { stage, ..*position };
         match unless_joining(place, place.resume(self.rules, pending.me, found)) {
             Next::Going(next) => {
-                let (behind, answer) = self.look_on(rt, watch, seat, next, patience, pending);
+                let (behind, answer) = self.look_on(rt, watch, seat, next, spin_policy, pending);
                 *position = behind;
                 answer
             }

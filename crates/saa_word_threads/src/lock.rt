@@ -12,7 +12,7 @@ ghost use Rattle.saa_word_steps.specs.declared.call.WordCall.TheVariants.{TryLoc
 ghost use Rattle.saa_word_steps.specs.declared.rules.Rules.TheVariants.{Modes};
 ghost use Rattle.saa_word_steps.specs.Readings.{mode_number};
 ghost use Rattle.saa_word_threads.specs.Dealt.{AreLedTo, IsLedTo, numbers};
-ghost use Rattle.saa_word_threads.specs.Patience.{none, waiting};
+ghost use Rattle.saa_word_threads.specs.SpinPolicies.{none, waiting};
 ghost use Rattle.saa_word_threads.specs.Public.{is_yes, polled_lock, tried};
 ghost use Rattle.futures.specs.Task.{Hears, IsArmed, Keeps};
 ghost use Rattle.futures.specs.Poll.{IfReady, OnPending};
@@ -20,12 +20,12 @@ ghost use Rattle.futures.specs.Poll.{IfReady, OnPending};
 use crate::answers::yes;
 use crate::form::Form;
 use crate::limit::{Limit, Until};
-use crate::looking::{NONE, Patience, WAITING};
 use crate::place::{Left as FormLeft, Place as FormPlace};
 use crate::watch::{Unwatched, Watch};
 pub use crate::words::Words;
 use futures::task::{self, Context};
 use saa_core_waits::Deadline;
+use saa_core_waits::spin_policy::{DEFAULT, NONE, SpinPolicy};
 pub use saa_word_steps::call::{Error, Mode, TryLockError};
 use saa_word_steps::call::{Answer, WordCall};
 use saa_word_steps::place::Ask;
@@ -93,7 +93,7 @@ impl Left {
 }
 
 impl Lock {
-    ghost use Rattle.saa_word_threads.specs.Locks.{AreNew, HasLeft, IsDealtBy, IsLeftOf, IsMade, IsWaited, about_of, patience_of, source_of, table_of, view_left};
+    ghost use Rattle.saa_word_threads.specs.Locks.{AreNew, HasLeft, IsDealtBy, IsLeftOf, IsMade, IsWaited, about_of, spin_policy_of, source_of, table_of, view_left};
 
     /// The most owners that share a lock.
     pub const MAX_SHARED_OWNERS: usize = 62;
@@ -118,7 +118,7 @@ impl Lock {
     pub fn try_lock<R: Wait>(&self, rt: &R, place: &mut Place) -> Result<(), TryLockError>
         requires { IsDealtBy self.now place.old }
         ensures called { (answer : Answer) × (result ≡ tried answer) × IsMade TryLock place.old answer place.new }
-        ensures patience { patience_of place.new ≡ none }
+        ensures spin_policy { spin_policy_of place.new ≡ none }
     {
         let ask = Ask {
             request: EXCLUSIVE,
@@ -143,7 +143,7 @@ impl Lock {
     pub fn try_share<R: Wait>(&self, rt: &R, place: &mut Place) -> Result<(), TryLockError>
         requires { IsDealtBy self.now place.old }
         ensures called { (answer : Answer) × (result ≡ tried answer) × IsMade TryShare place.old answer place.new }
-        ensures patience { patience_of place.new ≡ none }
+        ensures spin_policy { spin_policy_of place.new ≡ none }
     {
         let ask = Ask {
             request: SHARED,
@@ -171,9 +171,9 @@ impl Lock {
     pub fn lock<R: Wait>(&self, rt: &R, place: &mut Place) -> bool
         requires { IsDealtBy self.now place.old }
         ensures waited { IsWaited Exclusive place.old result place.new }
-        ensures patience { patience_of place.new ≡ waiting }
+        ensures spin_policy { spin_policy_of place.new ≡ waiting }
     {
-        self.wait_patiently(rt, &Unwatched, place, Mode::Exclusive, WAITING)
+        self.wait_with_policy(rt, &Unwatched, place, Mode::Exclusive, DEFAULT)
     }
 
     /// Takes a share of the lock, and waits for it where it must.
@@ -182,26 +182,26 @@ impl Lock {
     pub fn share<R: Wait>(&self, rt: &R, place: &mut Place) -> bool
         requires { IsDealtBy self.now place.old }
         ensures waited { IsWaited Shared place.old result place.new }
-        ensures patience { patience_of place.new ≡ waiting }
+        ensures spin_policy { spin_policy_of place.new ≡ waiting }
     {
-        self.wait_patiently(rt, &Unwatched, place, Mode::Shared, WAITING)
+        self.wait_with_policy(rt, &Unwatched, place, Mode::Shared, DEFAULT)
     }
 
-    // Waits as `lock` and `share` do, in this mode, and joins the waiters once its patience is over.
+    // Waits as `lock` and `share` do, in this mode, and joins the waiters once its spins are over.
     #[inline(always)]
-    pub(crate) fn wait_patiently<R: Wait, W: Watch>(
+    pub(crate) fn wait_with_policy<R: Wait, W: Watch>(
         &self,
         rt: &R,
         watch: &W,
         place: &mut Place,
         mode: Mode,
-        patience: Patience,
+        spin_policy: SpinPolicy,
     ) -> bool
         requires { IsDealtBy self.now place.old }
         ensures waited { IsWaited mode place.old result place.new }
-        ensures patience { patience_of place.new ≡ patience }
+        ensures spin_policy { spin_policy_of place.new ≡ spin_policy }
     {
-        if !self.register_patiently(rt, watch, place, mode, patience) {
+        if !self.register_with_policy(rt, watch, place, mode, spin_policy) {
             return false;
         }
         self.form.await_grant(rt, watch, &mut place.inner)
@@ -280,30 +280,30 @@ impl Lock {
     pub fn register<R: Wait>(&self, rt: &R, place: &mut Place, mode: Mode) -> bool
         requires { IsDealtBy self.now place.old }
         ensures called { (answer : Answer) × (result ≡ is_yes answer) × IsMade (RegisterMode mode) place.old answer place.new }
-        ensures patience { patience_of place.new ≡ none }
+        ensures spin_policy { spin_policy_of place.new ≡ none }
     {
-        self.register_patiently(rt, &Unwatched, place, mode, NONE)
+        self.register_with_policy(rt, &Unwatched, place, mode, NONE)
     }
 
-    // Registers as `register` does, and joins the waiters once its patience is over.
+    // Registers as `register` does, and joins the waiters once its spins are over.
     #[inline(always)]
-    pub(crate) fn register_patiently<R: Wait, W: Watch>(
+    pub(crate) fn register_with_policy<R: Wait, W: Watch>(
         &self,
         rt: &R,
         watch: &W,
         place: &mut Place,
         mode: Mode,
-        patience: Patience,
+        spin_policy: SpinPolicy,
     ) -> bool
         requires { IsDealtBy self.now place.old }
         ensures called { (answer : Answer) × (result ≡ is_yes answer) × IsMade (RegisterMode mode) place.old answer place.new }
-        ensures patience { patience_of place.new ≡ patience }
+        ensures spin_policy { spin_policy_of place.new ≡ spin_policy }
     {
         let call = WordCall::RegisterMode(mode);
         if !place.inner.is_idle() {
             return yes(
                 self.form
-                    .refuse(rt, watch, &mut place.inner, call, patience),
+                    .refuse(rt, watch, &mut place.inner, call, spin_policy),
             );
         }
         let ask = Ask {
@@ -312,7 +312,7 @@ impl Lock {
         };
         yes(
             self.form
-                .ask(rt, watch, &mut place.inner, call, ask, patience),
+                .ask(rt, watch, &mut place.inner, call, ask, spin_policy),
         )
     }
 

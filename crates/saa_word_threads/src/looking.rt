@@ -1,7 +1,7 @@
 //! A place that asks looks for a while before it joins the waiters.
 //!
 //! What it asks for may be there in a moment, and joining costs more than that: once one place waits, each turn is handed on to one that waits. So
-//! `acquire_many`, `lock` and `share` look at the main word, take what they ask for where the word grants it, and join once their patience is over. Their order
+//! `acquire_many`, `lock` and `share` look at the main word, take what they ask for where the word grants it, and join once their spins are over. Their order
 //! begins as they join.
 //!
 //! A look that finds that the place would have to join is no step of it: nothing has happened, and its place is at the stage where it was.
@@ -17,6 +17,7 @@ use crate::form::Form;
 use crate::table::{LookOnly, Mover, View};
 use crate::watch::{Moment, Pause, Watch};
 use atomic_table::Seat;
+use saa_core_waits::SpinPolicy;
 use saa_core_words::word::Word;
 use saa_word_steps::call::Answer;
 use saa_word_steps::place::{Next, Place as Position, Stage};
@@ -24,61 +25,15 @@ use std::marker::Brand;
 use std::snapshot::Snapshot;
 use std::sync::Wait;
 
-/// How often a call looks, and then yields, before it joins the waiters.
-#[derive(Clone, Copy)]
-pub struct Patience {
-    /// How often it looks, with longer and longer rests.
-    pub looks: u32,
-    /// How often it yields then, and looks.
-    pub yields: u32,
-}
-
-/// The patience of a call that may wait. The rests of the looks are 10,232 spin hints, 50 to 60 microseconds on the machines where that was
-/// measured; a yield lasts as long as the scheduler makes it. Where turns take a microsecond or less, mostly no place joins.
-pub const WAITING: Patience = Patience {
-    looks: 16,
-    yields: 100,
-};
-
-/// Joins at once.
-pub const NONE: Patience = Patience {
-    looks: 0,
-    yields: 0,
-};
-
-// The turns of the first rest, and how often the rest before a look is doubled: to 1,024 turns.
-const FIRST_REST: u32 = 8;
-
-const DOUBLINGS: u32 = 7;
-
-impl Patience {
-    // How often a call looks in all.
-    fn turns(self) -> u32 {
-        self.looks.saturating_add(self.yields)
-    }
-
-    // Rests before a look, by its number from 0, and yields before the last ones.
-    //
-    // Each rest is longer than the one before, since each look takes the main word's cache line from the place that has its turn.
-    fn rest<W: Watch>(self, watch: &W, turn: u32) {
-        if turn >= self.looks {
-            Pause::Yields.make(watch);
-            return;
-        }
-        let spins = FIRST_REST.saturating_mul(2u32.saturating_pow(turn.min(DOUBLINGS)));
-        Pause::Rests(spins).make(watch);
-    }
-}
-
 impl Form {
-    // Goes on with an ask to its end: it looks for as long as its patience lasts and never joins meanwhile, and then goes step by step.
+    // Goes on with an ask to its end: it looks for as long as its spins last and never joins meanwhile, and then goes step by step.
     pub(crate) fn look_on<R: Wait, W: Watch>(
         &self,
         rt: &R,
         watch: &W,
         seat: &mut Seat<(), View>,
         first: Position,
-        patience: Patience,
+        spin_policy: SpinPolicy,
         pending: Pending,
     ) -> (Position, Answer)
         requires { IsPending self.now pending first seat.old }
@@ -86,8 +41,8 @@ impl Form {
         ensures ended { HasEnded self.now pending result.0 result.1 seat.new }
     {
         let mut place = first;
-        for turn in 0..patience.turns() {
-            patience.rest(watch, turn);
+        for turn in 0..spin_policy.turns() {
+            Pause::of(spin_policy.rest(turn)).make(watch);
             watch.at(Moment::Looks);
             if !self.may_get_on(place.stage) {
                 continue;

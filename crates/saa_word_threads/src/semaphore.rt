@@ -11,20 +11,20 @@ ghost use Rattle.saa_word_steps.specs.declared.call.Answer.TheVariants.{Number, 
 ghost use Rattle.saa_word_steps.specs.declared.call.WordCall.TheVariants.{Try, Register, Release, Available, TryPoll, Poll, Cancel};
 ghost use Rattle.saa_word_steps.specs.declared.rules.Rules.TheVariants.{Permits};
 ghost use Rattle.saa_word_threads.specs.Dealt.{AreLedTo, AreNew, IsLedTo, numbers};
-ghost use Rattle.saa_word_threads.specs.Patience.{none, waiting};
-ghost use Rattle.saa_word_threads.specs.Public.{is_yes, patience_of, polled, view_left};
+ghost use Rattle.saa_word_threads.specs.SpinPolicies.{none, waiting};
+ghost use Rattle.saa_word_threads.specs.Public.{is_yes, spin_policy_of, polled, view_left};
 ghost use Rattle.futures.specs.Task.{Hears, IsArmed, Keeps};
 ghost use Rattle.futures.specs.Poll.{IfReady, OnPending};
 
 use crate::answers::yes;
 use crate::form::Form;
 use crate::limit::{Limit, Until};
-use crate::looking::{NONE, Patience, WAITING};
 pub use crate::place::{Left, Place};
 use crate::watch::{Unwatched, Watch};
 pub use crate::words::Words;
 use futures::task::{self, Context};
 use saa_core_waits::Deadline;
+use saa_core_waits::spin_policy::{DEFAULT, NONE, SpinPolicy};
 pub use saa_word_steps::call::Error;
 use saa_word_steps::call::{Answer, WordCall};
 use saa_word_steps::place::Ask;
@@ -83,7 +83,7 @@ impl<const MAX: usize> SemaphoreOf<MAX> {
     pub fn try_acquire_many<R: Wait>(&self, rt: &R, place: &mut Place, count: usize) -> bool
         requires { IsDealtBy self.now place.old }
         ensures called { (answer : Answer) × (result ≡ is_yes answer) × IsMade self.now (Try count) place.old answer place.new }
-        ensures patience { patience_of place.new ≡ none }
+        ensures spin_policy { spin_policy_of place.new ≡ none }
     {
         let call = WordCall::Try(count);
         if count > MAX {
@@ -104,26 +104,26 @@ impl<const MAX: usize> SemaphoreOf<MAX> {
     pub fn acquire_many<R: Wait>(&self, rt: &R, place: &mut Place, count: usize) -> bool
         requires { IsDealtBy self.now place.old }
         ensures waited { IsWaited self.now count place.old result place.new }
-        ensures patience { patience_of place.new ≡ waiting }
+        ensures spin_policy { spin_policy_of place.new ≡ waiting }
     {
-        self.wait_patiently(rt, &Unwatched, place, count, WAITING)
+        self.wait_with_policy(rt, &Unwatched, place, count, DEFAULT)
     }
 
-    // Waits as `acquire_many` does, and joins the waiters once its patience is over.
+    // Waits as `acquire_many` does, and joins the waiters once its spins are over.
     #[inline(always)]
-    pub(crate) fn wait_patiently<R: Wait, W: Watch>(
+    pub(crate) fn wait_with_policy<R: Wait, W: Watch>(
         &self,
         rt: &R,
         watch: &W,
         place: &mut Place,
         count: usize,
-        patience: Patience,
+        spin_policy: SpinPolicy,
     ) -> bool
         requires { IsDealtBy self.now place.old }
         ensures waited { IsWaited self.now count place.old result place.new }
-        ensures patience { patience_of place.new ≡ patience }
+        ensures spin_policy { spin_policy_of place.new ≡ spin_policy }
     {
-        if !self.register_patiently(rt, watch, place, count, patience) {
+        if !self.register_with_policy(rt, watch, place, count, spin_policy) {
             return false;
         }
         self.form.await_grant(rt, watch, place)
@@ -150,34 +150,34 @@ impl<const MAX: usize> SemaphoreOf<MAX> {
     pub fn register<R: Wait>(&self, rt: &R, place: &mut Place, count: usize) -> bool
         requires { IsDealtBy self.now place.old }
         ensures called { (answer : Answer) × (result ≡ is_yes answer) × IsMade self.now (Register count) place.old answer place.new }
-        ensures patience { patience_of place.new ≡ none }
+        ensures spin_policy { spin_policy_of place.new ≡ none }
     {
-        self.register_patiently(rt, &Unwatched, place, count, NONE)
+        self.register_with_policy(rt, &Unwatched, place, count, NONE)
     }
 
-    // Registers as `register` does, and joins the waiters once its patience is over.
+    // Registers as `register` does, and joins the waiters once its spins are over.
     #[inline(always)]
-    pub(crate) fn register_patiently<R: Wait, W: Watch>(
+    pub(crate) fn register_with_policy<R: Wait, W: Watch>(
         &self,
         rt: &R,
         watch: &W,
         place: &mut Place,
         count: usize,
-        patience: Patience,
+        spin_policy: SpinPolicy,
     ) -> bool
         requires { IsDealtBy self.now place.old }
         ensures called { (answer : Answer) × (result ≡ is_yes answer) × IsMade self.now (Register count) place.old answer place.new }
-        ensures patience { patience_of place.new ≡ patience }
+        ensures spin_policy { spin_policy_of place.new ≡ spin_policy }
     {
         let call = WordCall::Register(count);
         if count > MAX || !place.is_idle() {
-            return yes(self.form.refuse(rt, watch, place, call, patience));
+            return yes(self.form.refuse(rt, watch, place, call, spin_policy));
         }
         let ask = Ask {
             request: count as u16,
             joins: true,
         };
-        yes(self.form.ask(rt, watch, place, call, ask, patience))
+        yes(self.form.ask(rt, watch, place, call, ask, spin_policy))
     }
 
     /// Takes the answer of a registration where it is there; never blocks.

@@ -11,19 +11,19 @@ ghost use Rattle.saa_word_steps.specs.declared.place.Next.TheVariants.{Done};
 ghost use Rattle.saa_word_steps.specs.declared.place.Stage.TheVariants.{AskLoad};
 ghost use Rattle.saa_word_steps.specs.declared.place.Given.TheVariants.{Asked};
 ghost use Rattle.saa_word_steps.specs.Steps.{going, released_as, started};
-ghost use Rattle.saa_word_threads.specs.Patience.{none};
+ghost use Rattle.saa_word_threads.specs.SpinPolicies.{none};
 ghost use Rattle.saa_word_threads.specs.Pending.{IsAt, IsCalledAt, Takes, needs};
-ghost use Rattle.saa_word_threads.specs.Public.{IsSamePlace, is_granted, is_yes, patience_of};
+ghost use Rattle.saa_word_threads.specs.Public.{IsSamePlace, is_granted, is_yes, spin_policy_of};
 
 use crate::answers::{granted, yes};
 use crate::call::Pending;
 use crate::form::Form;
-use crate::looking::{NONE, Patience};
 use crate::main_word::lowered;
 use crate::place::Place;
 use crate::table::View;
 use crate::watch::{Moment, Watch};
 use atomic_table::Seat;
+use saa_core_waits::spin_policy::{NONE, SpinPolicy};
 use saa_core_words::word::Word;
 use saa_word_steps::call::{Answer, WordCall};
 use saa_word_steps::place::{Ask, Back, Given, Place as Position, Registration, Stage};
@@ -34,43 +34,43 @@ use std::sync::Wait;
 // The value of the answer that grants.
 const GRANTED: u8 = 0;
 
-/// The patience of the last call that asked at a place, or tried.
+/// The spin policy of the last call that asked at a place, or tried.
 ///
-/// Other modules make one only for a seat that they own, never for a place that they borrowed. So a call says a patience only by an ask that has it
+/// Other modules make one only for a seat that they own, never for a place that they borrowed. So a call says a spin policy only by an ask that has it
 /// (`ask`), or by one that is refused before it would look (`refuse`).
 #[derive(Drop)]
 pub struct LastAsk {
-    patience: Patience,
+    spin_policy: SpinPolicy,
 }
 
 impl LastAsk {
     // None yet, at this seat.
     pub(crate) fn none(seat: Seat<(), View>) -> (Seat<(), View>, LastAsk)
         ensures seat { result.0 ≡ seat }
-        ensures patience { result.1.patience ≡ none }
+        ensures spin_policy { result.1.spin_policy ≡ none }
     {
-        (seat, LastAsk { patience: NONE })
+        (seat, LastAsk { spin_policy: NONE })
     }
 }
 
 impl Form {
-    // Asks for something that is refused at its start, whatever the patience.
+    // Asks for something that is refused at its start, whatever the spin policy.
     pub(crate) fn refuse<R: Wait, W: Watch>(
         &self,
         rt: &R,
         watch: &W,
         place: &mut Place,
         call: WordCall,
-        patience: Patience,
+        spin_policy: SpinPolicy,
     ) -> Answer
         requires dealt { IsAt self.now place.old.seat }
         requires takes { Takes self.now call }
         requires refused { started (needs self.now) place.old.position call ≡ Done place.old.position (Says false) }
         ensures same { IsSamePlace place.old place.new }
-        ensures patience { patience_of place.new ≡ patience }
+        ensures spin_policy { spin_policy_of place.new ≡ spin_policy }
         ensures called { IsCalledAt self.now call place.old result place.new }
     {
-        place.last_ask = LastAsk { patience };
+        place.last_ask = LastAsk { spin_policy };
         self.call(rt, watch, place, call)
     }
 
@@ -83,16 +83,16 @@ impl Form {
         place: &mut Place,
         call: WordCall,
         ask: Ask,
-        patience: Patience,
+        spin_policy: SpinPolicy,
     ) -> Answer
         requires dealt { IsAt self.now place.old.seat }
         requires takes { Takes self.now call }
         requires starts { started (needs self.now) place.old.position call ≡ going place.old.position (AskLoad ask) }
         ensures same { IsSamePlace place.old place.new }
-        ensures patience { patience_of place.new ≡ patience }
+        ensures spin_policy { spin_policy_of place.new ≡ spin_policy }
         ensures called { IsCalledAt self.now call place.old result place.new }
     {
-        place.last_ask = LastAsk { patience };
+        place.last_ask = LastAsk { spin_policy };
         let pending = Pending::of(call, place);
         let looking = Snapshot::of(&Position {
             stage: Stage::AskLoad { ask },
@@ -103,7 +103,7 @@ impl Form {
         let seen = Word::unpack(found);
         if !self.grants(seen, ask) {
             let (seat, position) = (&mut place.seat, &mut place.position);
-            return self.ask_on(rt, watch, seat, position, ask, found, patience, pending);
+            return self.ask_on(rt, watch, seat, position, ask, found, spin_policy, pending);
         }
         let changing = Snapshot::of(&Position {
             stage: Stage::AskExchange { ask, seen },
@@ -119,7 +119,15 @@ impl Form {
         if other != old {
             let (seat, position) = (&mut place.seat, &mut place.position);
             return self.ask_anew(
-                rt, watch, seat, position, ask, found, other, patience, pending,
+                rt,
+                watch,
+                seat,
+                position,
+                ask,
+                found,
+                other,
+                spin_policy,
+                pending,
             );
         }
         if ask.joins {
@@ -139,7 +147,7 @@ impl Form {
     ) -> bool
         requires dealt { IsAt self.now place.old.seat }
         ensures same { IsSamePlace place.old place.new }
-        ensures patience { patience_of place.new ≡ patience_of place.old }
+        ensures spin_policy { spin_policy_of place.new ≡ spin_policy_of place.old }
         ensures called { (answer : Answer) × (result ≡ is_granted answer) × IsCalledAt self.now Poll place.old answer place.new }
     {
         if let Registration::Once(value, _request) = place.position.registration {

@@ -1,4 +1,4 @@
-//! For tests alone: calls beside a watch, or with another patience, and what can be seen of a form beside its calls.
+//! For tests alone: calls beside a watch, or with another spin policy, and what can be seen of a form beside its calls.
 //!
 //! A program has no use for this. Each call here is a public one of a semaphore or a lock, and is held to the same contract.
 
@@ -14,12 +14,12 @@ ghost use Rattle.futures.specs.Poll.{IfReady, OnPending};
 use crate::answers::yes;
 pub use crate::limit::Limit;
 use crate::lock::{Error, Lock, Mode, Place as LockPlace, SHARED, TryLockError, tried};
-pub use crate::looking::{NONE, Patience, WAITING};
 pub use crate::mark::{is_parked, is_parked_at};
 use crate::place::Place;
 use crate::semaphore::SemaphoreOf;
 pub use crate::watch::{Made, Moment, Pause, Watch};
 use futures::task::{Context, Poll};
+pub use saa_core_waits::spin_policy::{DEFAULT, NONE, SpinPolicy};
 use saa_core_words::word::Word;
 use saa_word_steps::call::WordCall;
 use saa_word_steps::place::{Ask, Stage};
@@ -56,19 +56,19 @@ pub fn cancel_watched<R: Wait, W: Watch, const MAX: usize>(
     semaphore.form.cancel(rt, watch, place);
 }
 
-/// Waits for permits as [`SemaphoreOf::acquire_many`] does, beside a watch, and joins the waiters once this patience is over.
-pub fn acquire_patiently<R: Wait, W: Watch, const MAX: usize>(
+/// Waits for permits as [`SemaphoreOf::acquire_many`] does, beside a watch, and joins the waiters once this spins are over.
+pub fn acquire_with_policy<R: Wait, W: Watch, const MAX: usize>(
     semaphore: &SemaphoreOf<MAX>,
     rt: &R,
     watch: &W,
     place: &mut Place,
     count: usize,
-    patience: Patience,
+    spin_policy: SpinPolicy,
 ) -> bool
     requires { IsDealtBy semaphore.now place.old }
     ensures { IsWaited semaphore.now count place.old result place.new }
 {
-    semaphore.wait_patiently(rt, watch, place, count, patience)
+    semaphore.wait_with_policy(rt, watch, place, count, spin_policy)
 }
 
 /// Gives a share back as [`Lock::release_share`] does, step by step, beside a watch.
@@ -105,34 +105,34 @@ pub fn try_share_watched<R: Wait, W: Watch>(
     tried(lock.form.ask(rt, watch, &mut place.inner, call, ask, NONE))
 }
 
-/// Registers as [`Lock::register`] does, beside a watch, and joins the waiters once this patience is over.
-pub fn register_patiently<R: Wait, W: Watch>(
+/// Registers as [`Lock::register`] does, beside a watch, and joins the waiters once this spins are over.
+pub fn register_with_policy<R: Wait, W: Watch>(
     lock: &Lock,
     rt: &R,
     watch: &W,
     place: &mut LockPlace,
     mode: Mode,
-    patience: Patience,
+    spin_policy: SpinPolicy,
 ) -> bool
     requires { IsDealtByLock lock.now place.old }
     ensures { (answer : Answer) × (result ≡ is_yes answer) × IsMadeAtLock (RegisterMode mode) place.old answer place.new }
 {
-    lock.register_patiently(rt, watch, place, mode, patience)
+    lock.register_with_policy(rt, watch, place, mode, spin_policy)
 }
 
-/// Waits as [`Lock::lock`] and [`Lock::share`] do, in this mode, beside a watch, and joins the waiters once this patience is over.
-pub fn wait_patiently<R: Wait, W: Watch>(
+/// Waits as [`Lock::lock`] and [`Lock::share`] do, in this mode, beside a watch, and joins the waiters once this spins are over.
+pub fn wait_with_policy<R: Wait, W: Watch>(
     lock: &Lock,
     rt: &R,
     watch: &W,
     place: &mut LockPlace,
     mode: Mode,
-    patience: Patience,
+    spin_policy: SpinPolicy,
 ) -> bool
     requires { IsDealtByLock lock.now place.old }
     ensures { IsWaitedAtLock mode place.old result place.new }
 {
-    lock.wait_patiently(rt, watch, place, mode, patience)
+    lock.wait_with_policy(rt, watch, place, mode, spin_policy)
 }
 
 /// Polls as [`Lock::poll_until`] does, beside a watch, while the limit lets it wait.

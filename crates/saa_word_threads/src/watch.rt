@@ -7,6 +7,7 @@
 //! that it leaves out, no watch can leave one out, and what a test counts is what a call rests with no watch. That a pause which is made lasts is
 //! read off the body of `make`.
 
+use saa_core_waits::spin_policy::Rest;
 use std::hint::spin_loop;
 use std::thread::yield_now;
 
@@ -69,6 +70,14 @@ impl Made {
 }
 
 impl Pause {
+    // The pause of a call between two looks.
+    pub(crate) fn of(rest: Rest) -> Pause {
+        match rest {
+            Rest::Spins(hints) => Pause::Rests(hints),
+            Rest::Yields => Pause::Yields,
+        }
+    }
+
     /// Makes it, and then tells it.
     #[inline(always)]
     pub fn make<W: Watch>(self, watch: &W) {

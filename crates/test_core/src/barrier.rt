@@ -1,6 +1,7 @@
 //! Worked rows of the barrier.
 
 use crate::stories::{Answer, Told, prints, tell};
+use saa_core::Primitive;
 use saa_core::barrier::{BarrierAnswer, BarrierCall, BarrierCore};
 use saa_core::ticket::{Error, Full, How, Ticket};
 use saa_core_bench::bench::{Bench, Command, CommandOf, Reply, ReplyOf};

@@ -2,6 +2,7 @@
 
 ghost use Rattle.std.specs.Prelude.{◌≡◌, length};
 
+use saa_core::Primitive;
 use saa_core::semaphore::{SemaphoreAnswer, SemaphoreCall, SemaphoreCore};
 use saa_core::ticket::{Error, Full, Ticket};
 use saa_core_bench::bench::{Bench, Command, CommandOf, Reply, ReplyOf};

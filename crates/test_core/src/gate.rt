@@ -1,6 +1,7 @@
 //! Worked rows of the gate.
 
 use crate::stories::{Answer, Told, prints, tell};
+use saa_core::Primitive;
 use saa_core::gate::{Error, GateAnswer, GateCall, GateCore, State};
 use saa_core::ticket::{Full, How, Ticket};
 use saa_core_bench::bench::{Bench, Command, CommandOf, Reply, ReplyOf};

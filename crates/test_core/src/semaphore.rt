@@ -2,6 +2,7 @@
 
 use crate::stories::{Answer, Told, prints, tell};
 use crate::widths::{fewest, most};
+use saa_core::Primitive;
 use saa_core::semaphore::{SemaphoreCore, SemaphoreCoreOf};
 use saa_core::ticket::{Error, Full, How, Ticket};
 use std::alloc::{AllocError, AllocGlobal, Global};

@@ -2,9 +2,11 @@
 
 use saa_core::lock::{LockAnswer, LockCall, LockCore};
 use saa_core::ticket::{Full, Ticket};
+use saa_sync::Waitable;
 use saa_sync::lock::{Lock, Mode};
 use saa_sync::pager::{Error, Pager};
-use saa_sync::testing::{OnShell, PATIENCE, Patience, Shell, hold, register};
+use saa_sync::spin_policy::{NONE, SpinPolicy};
+use saa_sync::testing::{Counted, WAITER, form_of};
 use std::alloc::{AllocError, AllocGlobal, Global};
 use std::sync::Wait;
 use std::sync::atomic::{AtomicU64, Ordering};
@@ -24,7 +26,7 @@ struct Tried<R: Wait + Drop> {
 }
 
 // A call that finds the room full looks before that, and there are many of these in all lists of moves.
-const LITTLE: Patience = Patience {
+const LITTLE: SpinPolicy = SpinPolicy {
     looks: 2,
     yields: 0,
 };
@@ -38,7 +40,7 @@ impl<R: Wait + Drop + Copy> Form for Tried<R> {
     type Lent = R;
 
     fn make(rt: R, alloc: Global, size: usize, room: u16) -> Result<Self, AllocError> {
-        let lock = Lock::with_patience(rt, alloc, room, LITTLE)?;
+        let lock = Lock::with_spin_policy(rt, alloc, room, LITTLE)?;
         let is_owned = size == 0;
         if is_owned {
             let _locked = lock.try_lock();
@@ -55,7 +57,7 @@ impl<R: Wait + Drop + Copy> Form for Tried<R> {
     }
 
     fn is_rung(&self, slot: u16) -> bool {
-        self.lock.shell().is_rung(slot)
+        self.lock.counts().is_notified(slot)
     }
 
     fn call(&self, call: LockCall, _is_short: bool) -> LockAnswer {
@@ -219,23 +221,25 @@ impl<R: Wait + Drop + Copy + Sync> Made for Tried<R> {
         alloc: Global,
         size: usize,
         room: u16,
-        patience: Patience,
+        patience: SpinPolicy,
     ) -> Result<Self, AllocError> {
         let core = LockCore::new(alloc, room)?;
-        let shell = Shell::new(rt, alloc, core, room, patience)?;
-        Ok(Tried::had(Lock::on_shell(shell), size == 0))
+        let lock = form_of(rt, alloc, core, room, NONE, patience)?;
+        Ok(Tried::had(lock, size == 0))
     }
 }
 
 impl<R: Wait + Drop + Sync> Sleepers for Tried<R> {
     fn register_at(&self, ticket: &mut Ticket, place: Place) -> bool {
-        let shell = self.lock.shell();
-        matches!(register(shell, ticket, self.mode_at(place), true), Ok(true))
+        matches!(
+            self.lock.register(ticket, self.mode_at(place), true),
+            Ok(true)
+        )
     }
 
     fn give_up(&self, ticket: Ticket, is_cancelled: bool) {
         let mut pager = Pager::new();
-        hold(&mut pager, ticket, &self.lock);
+        pager.hold(ticket, &self.lock);
         if is_cancelled {
             pager.cancel();
         }
@@ -264,8 +268,8 @@ impl<R: Wait + Drop + Sync> Sleepers for Tried<R> {
     }
 
     fn seats(&self) -> (usize, usize) {
-        let shell = self.lock.shell();
-        (shell.asleep(), shell.rung())
+        let counts = self.lock.counts();
+        (counts.parked(), counts.notified())
     }
 }
 
@@ -323,7 +327,7 @@ impl<R: Wait + Drop> Tried<R> {
 }
 
 // Every wait goes to sleep.
-const NO_PATIENCE: Patience = Patience {
+const NO_PATIENCE: SpinPolicy = SpinPolicy {
     looks: 0,
     yields: 0,
 };
@@ -376,11 +380,11 @@ static CASES: [Case; 11] = [
         ..IN_TURN
     },
     Case {
-        patience: PATIENCE,
+        patience: WAITER,
         ..AT_ONCE
     },
     Case {
-        patience: PATIENCE,
+        patience: WAITER,
         ..IN_TURN
     },
     OWNED,

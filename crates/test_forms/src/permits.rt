@@ -12,7 +12,7 @@ use saa_core::ticket::Full;
 use saa_sync::pager::{Error, Pager};
 use saa_sync::permit::Permit;
 use saa_sync::semaphore::{Semaphore, SemaphoreOf};
-use saa_sync::testing::OnShell;
+use saa_sync::testing::Counted;
 use std::alloc::{AllocError, AllocGlobal, Global};
 use std::sync::Wait;
 use std::sync::atomic::{AtomicBool, Ordering};
@@ -270,7 +270,7 @@ pub fn somebody_sleeps<R: Wait + Drop, const MAX: usize>(
     has_ended: &AtomicBool,
 ) -> bool {
     for _ in rt.forever() {
-        if semaphore.shell().asleep() == 1 || has_ended.load(Ordering::SeqCst) {
+        if semaphore.counts().parked() == 1 || has_ended.load(Ordering::SeqCst) {
             break;
         }
         yield_now();

@@ -4,9 +4,11 @@ ghost use Rattle.std.specs.Prelude.{◌<◌};
 
 use saa_core::semaphore::{SemaphoreAnswer, SemaphoreCall, SemaphoreCore, SemaphoreCoreOf};
 use saa_core::ticket::{Full, Ticket};
+use saa_sync::Waitable;
 use saa_sync::pager::{Error, Pager};
 use saa_sync::semaphore::{Semaphore, SemaphoreOf};
-use saa_sync::testing::{OnShell, PATIENCE, Patience, Shell, hold, register};
+use saa_sync::spin_policy::{NONE, SpinPolicy};
+use saa_sync::testing::{Counted, WAITER, form_of};
 use std::alloc::{AllocError, AllocGlobal, Global};
 use std::hint::spin_loop;
 use std::sync::Wait;
@@ -25,7 +27,7 @@ struct Tried<R: Wait + Drop> {
 }
 
 // A call that finds the room full looks before that, and there are many of these in all lists of moves.
-const LITTLE: Patience = Patience {
+const LITTLE: SpinPolicy = SpinPolicy {
     looks: 2,
     yields: 0,
 };
@@ -36,13 +38,13 @@ pub fn with_patience<R: Wait + Drop, const MAX: usize>(
     alloc: Global,
     permits: usize,
     room: u16,
-    patience: Patience,
+    patience: SpinPolicy,
 ) -> Result<SemaphoreOf<R, MAX>, AllocError>
     requires bound { 0 < MAX }
     requires narrow { MAX < 65536 }
 {
     let core = SemaphoreCoreOf::<MAX>::with_permits(alloc, permits, room)?;
-    Ok(SemaphoreOf::on_shell(Shell::new(rt, alloc, core, room, patience)?))
+    Ok(form_of(rt, alloc, core, room, NONE, patience)?)
 }
 
 impl<R: Wait + Drop + Copy> Form for Tried<R> {
@@ -53,7 +55,7 @@ impl<R: Wait + Drop + Copy> Form for Tried<R> {
     type Lent = R;
 
     fn make(rt: R, alloc: Global, size: usize, room: u16) -> Result<Self, AllocError> {
-        let semaphore = Semaphore::with_patience(rt, alloc, size, room, LITTLE)?;
+        let semaphore = Semaphore::with_spin_policy(rt, alloc, size, room, LITTLE)?;
         Ok(Tried { semaphore })
     }
 
@@ -62,7 +64,7 @@ impl<R: Wait + Drop + Copy> Form for Tried<R> {
     }
 
     fn is_rung(&self, slot: u16) -> bool {
-        self.semaphore.shell().is_rung(slot)
+        self.semaphore.counts().is_notified(slot)
     }
 
     fn call(&self, call: SemaphoreCall, is_short: bool) -> SemaphoreAnswer {
@@ -148,13 +150,15 @@ fn permits_at(place: Place) -> usize {
 
 impl<R: Wait + Drop + Sync> Sleepers for Tried<R> {
     fn register_at(&self, ticket: &mut Ticket, place: Place) -> bool {
-        let shell = self.semaphore.shell();
-        matches!(register(shell, ticket, permits_at(place), true), Ok(true))
+        matches!(
+            self.semaphore.register(ticket, permits_at(place), true),
+            Ok(true)
+        )
     }
 
     fn give_up(&self, ticket: Ticket, is_cancelled: bool) {
         let mut pager = Pager::new();
-        hold(&mut pager, ticket, &self.semaphore);
+        pager.hold(ticket, &self.semaphore);
         if is_cancelled {
             pager.cancel();
         }
@@ -199,8 +203,8 @@ impl<R: Wait + Drop + Sync> Sleepers for Tried<R> {
     }
 
     fn seats(&self) -> (usize, usize) {
-        let shell = self.semaphore.shell();
-        (shell.asleep(), shell.rung())
+        let counts = self.semaphore.counts();
+        (counts.parked(), counts.notified())
     }
 }
 
@@ -341,7 +345,7 @@ impl<R: Wait + Drop + Copy + Sync> Made for Tried<R> {
         alloc: Global,
         size: usize,
         room: u16,
-        patience: Patience,
+        patience: SpinPolicy,
     ) -> Result<Self, AllocError> {
         let semaphore = with_patience(rt, alloc, size, room, patience)?;
         Ok(Tried { semaphore })
@@ -349,7 +353,7 @@ impl<R: Wait + Drop + Copy + Sync> Made for Tried<R> {
 }
 
 /// Every wait goes to sleep.
-pub const NO_PATIENCE: Patience = Patience {
+pub const NO_PATIENCE: SpinPolicy = SpinPolicy {
     looks: 0,
     yields: 0,
 };
@@ -397,20 +401,20 @@ static CASES: [Case; 10] = [
         ..IN_TURN
     },
     Case {
-        patience: PATIENCE,
+        patience: WAITER,
         ..AT_ONCE
     },
     Case {
-        patience: PATIENCE,
+        patience: WAITER,
         ..IN_TURN
     },
     Case {
-        patience: PATIENCE,
+        patience: WAITER,
         by: By::Poll,
         ..AT_ONCE
     },
     Case {
-        patience: PATIENCE,
+        patience: WAITER,
         by: By::Poll,
         ..IN_TURN
     },
@@ -432,10 +436,10 @@ fn sleepers_wake(rt: HostRuntime) {
 // many as are rung behind it.
 fn release_within<R: Wait + Drop>(semaphore: &Semaphore<R>, rung: &AtomicU64) -> Result<(), Full> {
     semaphore.acquire_sync_with(|| {
-        rung.fetch_add(semaphore.shell().rung() as u64, Ordering::SeqCst);
+        rung.fetch_add(semaphore.counts().notified() as u64, Ordering::SeqCst);
         semaphore.release();
         rung.fetch_add(
-            (semaphore.shell().rung() as u64).saturating_mul(100),
+            (semaphore.counts().notified() as u64).saturating_mul(100),
             Ordering::SeqCst,
         );
     })
@@ -448,9 +452,9 @@ type Released = (Result<bool, Full>, usize, bool, usize, Result<(), Error>);
 fn release_for_pager<R: Wait + Drop>(semaphore: &Semaphore<R>, is_sync: bool) -> Released {
     let mut pager = Pager::new();
     let registered = semaphore.register_pager(&mut pager, 1, is_sync);
-    let before = semaphore.shell().rung();
+    let before = semaphore.counts().notified();
     let is_released = semaphore.release();
-    let after = semaphore.shell().rung();
+    let after = semaphore.counts().notified();
     (registered, before, is_released, after, pager.try_poll())
 }
 
@@ -534,7 +538,7 @@ fn missing_turns<R: Wait + Threads + Sync>(
 }
 
 // Who waits doesn't go to sleep before its minutes are over.
-const MUCH_PATIENCE: Patience = Patience {
+const MUCH_PATIENCE: SpinPolicy = SpinPolicy {
     looks: u32::MAX,
     yields: u32::MAX,
 };

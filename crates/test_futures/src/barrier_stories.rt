@@ -12,7 +12,7 @@ use crate::{drops, faults, pagers, ready, values, wakes};
 use futures::test::MockTask;
 use saa_sync::barrier::Barrier;
 use saa_sync::future::Arrival;
-use saa_sync::testing::OnShell;
+use saa_sync::testing::Counted;
 use std::alloc::AllocGlobal;
 use std::io;
 use std::random::RandomSource;
@@ -104,7 +104,7 @@ impl<'s, H: Wait + RandomSource + AllocGlobal, R: Wait + Drop> Desk for BarrierD
     fn answer(&mut self, call: BarrierCall) -> Told {
         match call {
             Missing => Count(self.barrier.count(Ordering::SeqCst)),
-            Rung => Count(self.barrier.shell().rung()),
+            Rung => Count(self.barrier.counts().notified()),
             Ask(who) => self.ask(who),
             Poll(task, who) => self.poll(task, who),
             LetGo(who) => self.futures.let_go(who),

@@ -11,6 +11,7 @@ use crate::stories::Told::{
 };
 use crate::stories::Who::{First, Second, Third};
 use crate::stories::{Desk, Futures, Story, Told, Who, played_at};
+use saa_core::Primitive;
 use saa_core::barrier::BarrierCore;
 use saa_core::gate::{Error, GateCore, State};
 use saa_core::lock::LockCore;

@@ -16,7 +16,7 @@ use futures::test::MockTask;
 use saa_sync::future::{ManyPermits, OnePermit};
 use saa_sync::pager::Pager;
 use saa_sync::semaphore::Semaphore;
-use saa_sync::testing::OnShell;
+use saa_sync::testing::Counted;
 use std::alloc::{AllocError, AllocGlobal, Global};
 use std::io;
 use std::random::RandomSource;
@@ -178,7 +178,7 @@ fn at_a_semaphore<H: Wait + RandomSource + AllocGlobal, R: Wait + Drop>(
         Release => Is(semaphore.release()),
         ReleaseMany(count) => Is(semaphore.release_many(count)),
         AnswerUntold => Is(answer_untold(semaphore)),
-        Rung => Count(semaphore.shell().rung()),
+        Rung => Count(semaphore.counts().notified()),
         MakeTwo => make_two(semaphore),
         AwaitOne => await_one(rt, semaphore),
         AwaitMany(count) => await_many(rt, semaphore, count),

@@ -5,14 +5,21 @@
 use crate::{barrier_stories, gate_stories, lent, lock_stories, ready, semaphore_stories};
 use futures::executor::block_on;
 use futures::test::MockTask;
+use saa_core::barrier::BarrierCore;
+use saa_core::gate::GateCore;
+use saa_core::lock::LockCore;
+use saa_core::primitive::Primitive;
+use saa_core::semaphore::SemaphoreCore;
 use saa_core::ticket::{Error, Full, How};
 use saa_sync::barrier::Barrier;
-use saa_sync::future::{Asked, Progress, Question};
+use saa_sync::form::Form as FormOf;
+use saa_sync::future::{
+    Acquiring, AnswerReader, Arrival, ManyPermits, OnePermit, Passing, PollOn, Progress, Turn,
+};
 use saa_sync::gate::{Error as GateError, Gate, State};
 use saa_sync::lock::{Lock, TryLockError};
-use saa_sync::pager::{Pager, SyncResult};
+use saa_sync::pager::{Pager, SyncResult, Ticket};
 use saa_sync::semaphore::Semaphore;
-use saa_sync::testing::poll_as;
 use std::alloc::AllocGlobal;
 use std::io;
 use std::random::RandomSource;
@@ -111,15 +118,41 @@ impl Tasks {
     }
 }
 
-// The futures of a story that ask one kind of question.
-#[derive(Drop)]
-pub(crate) struct Futures<'s, R: Wait + Drop, Q: Question> {
-    first: Option<Asked<'s, R, Q>>,
-    second: Option<Asked<'s, R, Q>>,
-    third: Option<Asked<'s, R, Q>>,
+// How a story's answers read, and the core that gives them.
+pub(crate) trait Reader: AnswerReader {
+    // The core.
+    type Core: Primitive;
 }
 
-impl<'s, R: Wait + Drop, Q: Question> Futures<'s, R, Q> {
+impl Reader for OnePermit {
+    type Core = SemaphoreCore;
+}
+
+impl Reader for ManyPermits {
+    type Core = SemaphoreCore;
+}
+
+impl Reader for Turn {
+    type Core = LockCore;
+}
+
+impl Reader for Passing {
+    type Core = GateCore;
+}
+
+impl Reader for Arrival {
+    type Core = BarrierCore;
+}
+
+// The futures of a story whose answers read in one way.
+#[derive(Drop)]
+pub(crate) struct Futures<'s, R: Wait + Drop, Q: Reader> {
+    first: Option<Acquiring<'s, FormOf<R, Q::Core>, Q>>,
+    second: Option<Acquiring<'s, FormOf<R, Q::Core>, Q>>,
+    third: Option<Acquiring<'s, FormOf<R, Q::Core>, Q>>,
+}
+
+impl<'s, R: Wait + Drop, Q: Reader> Futures<'s, R, Q> {
     pub(crate) fn new() -> Self {
         Futures {
             first: None,
@@ -129,7 +162,7 @@ impl<'s, R: Wait + Drop, Q: Question> Futures<'s, R, Q> {
     }
 
     // This future.
-    pub(crate) fn get(&mut self, who: Who) -> &mut Option<Asked<'s, R, Q>> {
+    pub(crate) fn get(&mut self, who: Who) -> &mut Option<Acquiring<'s, FormOf<R, Q::Core>, Q>> {
         match who {
             Who::First => &mut self.first,
             Who::Second => &mut self.second,
@@ -138,7 +171,7 @@ impl<'s, R: Wait + Drop, Q: Question> Futures<'s, R, Q> {
     }
 
     // Has this future in the place of the one that was there.
-    pub(crate) fn put(&mut self, who: Who, future: Asked<'s, R, Q>) -> Told {
+    pub(crate) fn put(&mut self, who: Who, future: Acquiring<'s, FormOf<R, Q::Core>, Q>) -> Told {
         *self.get(who) = Some(future);
         Told::Nothing
     }
@@ -187,8 +220,8 @@ impl<'s, R: Wait + Drop, Q: Question> Futures<'s, R, Q> {
 }
 
 // Polls a future that hasn't ended on a core; `None` for one that has.
-fn poll_on<R: Wait + Drop, Q: Question>(
-    future: &mut Asked<'_, R, Q>,
+fn poll_on<R: Wait + Drop, Q: Reader>(
+    future: &mut Acquiring<'_, FormOf<R, Q::Core>, Q>,
     core: &mut Q::Core,
 ) -> Option<Progress<Q::Output>> {
     if future.has_ended() {
@@ -198,7 +231,7 @@ fn poll_on<R: Wait + Drop, Q: Question>(
 }
 
 // A form whose pagers stories speak of.
-pub(crate) trait Form: SyncResult {
+pub(crate) trait Form: SyncResult<Ticket> {
     // What a poll of its pager tells.
     fn told(answer: Option<Self::Result>) -> Told;
 }
@@ -294,7 +327,7 @@ impl<'s, S: Form> Pagers<'s, S> {
             PagerCall::IsRegistered => Told::Is(self.get(who).is_registered()),
             PagerCall::TryPoll => S::told(Some(self.get(who).try_poll())),
             PagerCall::PollSync => S::told(Some(self.get(who).poll_sync())),
-            PagerCall::PollAsync => S::told(Some(poll_as(self.get(who), How::Async))),
+            PagerCall::PollAsync => S::told(Some(self.get(who).poll(How::Async))),
             PagerCall::Poll(task) => S::told(polled(tasks.get(task), self.get(who))),
             PagerCall::Await => awaited(rt, self.get(who)),
             PagerCall::Cancel => self.cancel(who),
@@ -304,7 +337,7 @@ impl<'s, S: Form> Pagers<'s, S> {
 }
 
 // One poll of a pager in a task, by a future that is made for it; what it gave, if it was ready.
-fn polled<S: SyncResult>(task: &MockTask, pager: &mut Pager<'_, S>) -> Option<S::Result> {
+fn polled<S: SyncResult<Ticket>>(task: &MockTask, pager: &mut Pager<'_, S>) -> Option<S::Result> {
     ready(task.poll(&mut pager.poll_async()))
 }
 

@@ -7,12 +7,12 @@ pub(crate) mod slots;
 pub(crate) mod wakers;
 
 use saa_sync::semaphore::Semaphore;
-use saa_sync::testing::{OnShell, call_untold};
+use saa_sync::testing::{Counted, call_untold};
 use std::sync::Wait;
 
 // Answers the waiter, and takes the wake that is pending for that, but wakes nobody: the waker stays where it is.
 pub(crate) fn answer_untold<R: Wait + Drop>(semaphore: &Semaphore<R>) -> bool {
-    call_untold(semaphore.shell(), |core| {
+    call_untold(&semaphore, |core| {
         core.release_many(1) && core.next_answered().is_some()
     })
 }

@@ -10,7 +10,8 @@ use saa_sync::lock_api::{
     Guard, Mutex, MutexFuture, MutexGuard, ReadFuture, RwLock, RwLockReadGuard, RwLockWriteGuard,
     WriteFuture, lock_async, read_async, write_async,
 };
-use saa_sync::testing::{PATIENCE, Shell, mutex_on, rwlock_on};
+use saa_sync::spin_policy::NONE;
+use saa_sync::testing::{Form, WAITER, form_of, mutex_on, rwlock_on};
 use std::alloc::{AllocError, AllocGlobal};
 use std::random::RandomSource;
 use std::sync::Wait;
@@ -51,11 +52,11 @@ pub(crate) fn locks_of<H: Wait + AllocGlobal>(
 }
 
 // What a lock of this room stands on that is poisoned, as no lock of a mutex is but in these tests.
-fn poisoned<H: Wait + AllocGlobal>(rt: &H, room: u16) -> Result<Shell<&H, LockCore>, AllocError> {
+fn poisoned<H: Wait + AllocGlobal>(rt: &H, room: u16) -> Result<Form<&H, LockCore>, AllocError> {
     let mut core = LockCore::new(rt.alloc(), room)?;
     let _is_owned = core.try_lock();
     core.poison_lock();
-    Shell::new(rt, rt.alloc(), core, room, PATIENCE)
+    form_of(rt, rt.alloc(), core, room, NONE, WAITER)
 }
 
 // As `locks_of`, with locks that are poisoned.

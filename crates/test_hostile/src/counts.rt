@@ -5,6 +5,7 @@ ghost use Rattle.std.specs.Prelude.{◌<◌};
 
 use futures::executor::block_on;
 use saa::barrier::{Barrier, BarrierCore};
+use saa::bench::Primitive;
 use saa::gate::Gate;
 use saa::lock::{Lock, Mode};
 use saa::pager::Pager;

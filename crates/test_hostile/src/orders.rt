@@ -4,6 +4,7 @@
 use crate::crowd::Crowd;
 use rand_core::utils::NextWord;
 use rand_pcg::Pcg32;
+use saa::bench::Primitive;
 use saa::semaphore::{SemaphoreCore, SemaphoreCoreOf};
 use saa::ticket::{How, Ticket};
 use std::alloc::{AllocError, Global};

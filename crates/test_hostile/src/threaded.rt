@@ -14,7 +14,7 @@ use saa::barrier::{Barrier, BarrierAnswer, BarrierCall, BarrierCore};
 use saa::bench::{Command, CommandOf, Primitive, Reply, ReplyOf};
 use saa::gate::{self, Gate, GateAnswer, GateCall, GateCore, State};
 use saa::lock::{Lock, LockAnswer, LockCall, LockCore, Mode};
-use saa::pager::{Pager, SyncResult};
+use saa::pager::{Pager, SyncResult, Ticket};
 use saa::semaphore::{SemaphoreAnswer, SemaphoreCall, SemaphoreCoreOf, SemaphoreOf};
 use saa::ticket::{Error, Full};
 use std::alloc::{AllocError, Global};
@@ -23,12 +23,12 @@ use std::sync::atomic::Ordering;
 use test_asserts::same;
 
 // A threaded form, and the core whose commands it does.
-trait Form: SyncResult + Drop {
+trait Form: SyncResult<Ticket> + Drop {
     type Core: Modelled;
 
     fn call(&self, call: <Self::Core as Primitive>::Call) -> <Self::Core as Primitive>::Answer;
 
-    fn register<'s>(
+    fn page<'s>(
         &'s self,
         pager: &mut Pager<'s, Self>,
         ask: <Self::Core as Primitive>::Ask,
@@ -90,7 +90,7 @@ where
         match *command {
             CommandOf::Call(call) => Some(ReplyOf::Answered(self.form.call(call))),
             CommandOf::Register(_, ask, is_sync) => {
-                Some(ReplyOf::Registered(self.form.register(pager, ask, is_sync)))
+                Some(ReplyOf::Registered(self.form.page(pager, ask, is_sync)))
             }
             CommandOf::TryPoll(_) => Some(ReplyOf::Polled(F::value(pager.try_poll()))),
             CommandOf::PollSync(_) => Some(ReplyOf::Polled(F::value(pager.poll_sync()))),
@@ -157,7 +157,7 @@ impl<R: Wait + Drop, const MAX: usize> Form for SemaphoreOf<R, MAX> {
         }
     }
 
-    fn register<'s>(
+    fn page<'s>(
         &'s self,
         pager: &mut Pager<'s, Self>,
         ask: usize,
@@ -190,7 +190,7 @@ impl<R: Wait + Drop> Form for Lock<R> {
         }
     }
 
-    fn register<'s>(
+    fn page<'s>(
         &'s self,
         pager: &mut Pager<'s, Self>,
         ask: Mode,
@@ -224,7 +224,7 @@ impl<R: Wait + Drop> Form for Gate<R> {
         }
     }
 
-    fn register<'s>(
+    fn page<'s>(
         &'s self,
         pager: &mut Pager<'s, Self>,
         _ask: (),
@@ -245,7 +245,7 @@ impl<R: Wait + Drop> Form for Barrier<R> {
         BarrierAnswer::Count(self.count(Ordering::Relaxed))
     }
 
-    fn register<'s>(
+    fn page<'s>(
         &'s self,
         pager: &mut Pager<'s, Self>,
         _ask: (),

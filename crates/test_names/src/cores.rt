@@ -2,7 +2,7 @@
 
 use saa::barrier::{BarrierAnswer, BarrierCall, BarrierCore};
 use saa::bench::{Bench, Command, CommandOf, Primitive, Reply, ReplyOf};
-use saa::future::{Asking, Progress};
+use saa::future::{PendingRegistration, Progress};
 use saa::gate::{GateAnswer, GateCall, GateCore, State};
 use saa::journal::{Journal, JournalMemory, Journalled, Share};
 use saa::lock::{LockAnswer, LockCall, LockCore, Mode};
@@ -101,7 +101,7 @@ fn have_names() -> bool {
 
 // A pure future is done at its first poll.
 fn is_done(core: &mut SemaphoreCore) -> bool {
-    let mut asking: Asking<SemaphoreCore> = Asking::new(1);
+    let mut asking: PendingRegistration<SemaphoreCore> = PendingRegistration::new(1);
     let polled = asking.poll_on(core);
     polled == Progress::Done(Some(0)) && asking.has_ended()
 }

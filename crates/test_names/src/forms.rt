@@ -12,7 +12,7 @@ use saa::ticket::Full;
 use saa::timed::{Deadline, Timed};
 use saa::{
     Guard, Lowers, Mutex, MutexGuard, RwLock, RwLockReadGuard, RwLockWriteGuard, Turn, ValueMut,
-    ValueRef, Writing, lock_api, lock_async, patience, read_async, write_async,
+    ValueRef, Writing, lock_api, lock_async, read_async, spin_policy, write_async,
 };
 use std::alloc::{AllocError, AllocGlobal};
 use std::sync::Wait;
@@ -109,7 +109,7 @@ fn is_lowered<R: Wait + Drop>(lock: &Lock<R>) -> bool {
 }
 
 fn a_lock<H: Wait + AllocGlobal>(rt: &H) -> Result<bool, AllocError> {
-    Ok(is_lowered(&Lock::with_patience(rt, rt.alloc(), 0, patience::NONE)?))
+    Ok(is_lowered(&Lock::with_spin_policy(rt, rt.alloc(), 0, spin_policy::NONE)?))
 }
 
 fn refuses<R: Wait + Drop>(task: &MockTask, gate: &Gate<R>) -> bool {
@@ -131,7 +131,7 @@ fn a_barrier<H: Wait + AllocGlobal>(rt: &H, task: &MockTask) -> Result<bool, All
 }
 
 // What a pager is told whose time is up, and whether its deadline is an instant.
-fn told_in_time<S: Timed>(pager: &mut Pager<'_, S>, primitive: &S) -> [bool; 2] {
+fn told_in_time<S: Timed<Ticket>>(pager: &mut Pager<'_, S>, primitive: &S) -> [bool; 2] {
     let deadline = primitive.after(Duration::ZERO);
     let told = pager.poll_sync_for(Duration::ZERO);
     [told.is_none(), matches!(deadline, Deadline::At(_))]
@@ -152,7 +152,7 @@ fn a_pager_in_time<H: Wait + Clock + AllocGlobal>(rt: &H) -> Result<bool, AllocE
 }
 
 // What a pager is told that isn't registered.
-fn told<S: SyncResult>(pager: &mut Pager<'_, S>) -> S::Result {
+fn told<S: SyncResult<Ticket>>(pager: &mut Pager<'_, S>) -> S::Result {
     pager.try_poll()
 }
 

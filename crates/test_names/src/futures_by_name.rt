@@ -6,16 +6,16 @@ use futures::test::MockTask;
 use saa::barrier::Barrier;
 use saa::future::{
     Acquire, AcquireMany, AcquireManyOf, AcquireManyWith, AcquireManyWithOf, AcquireOf,
-    AcquireWith, AcquireWithOf, Arrival, ArriveFuture, ArriveFutureWith, Asked, AskedWith, Enter,
-    EnterWith, LockFuture, LockFutureWith, ManyPermits, ManyPermitsOf, MutexFuture, OnePermit,
-    OnePermitOf, Passing, PollPager, Question, ReadFuture, ShareFuture, ShareFutureWith, Turn,
-    WriteFuture,
+    AcquireWith, AcquireWithOf, Acquiring, AcquiringWith, AnswerReader, Arrival, ArriveFuture,
+    ArriveFutureWith, Enter, EnterWith, LockFuture, LockFutureWith, ManyPermits, MutexFuture,
+    OnePermit, Passing, PollPager, ReadFuture, ShareFuture, ShareFutureWith, Turn, WriteFuture,
 };
 use saa::gate::{Error as GateError, Gate};
 use saa::lock::Lock;
 use saa::pager::Pager;
 use saa::semaphore::{Semaphore, SemaphoreOf};
 use saa::ticket::Full;
+use saa::waits::Pends;
 use saa::{Mutex, RwLock, lock_async, read_async, write_async};
 use std::alloc::{AllocError, AllocGlobal};
 use std::sync::Wait;
@@ -36,10 +36,10 @@ where
     }
 }
 
-// What a future of the question tells that is ready at its first poll.
-fn told<'s, R: Wait + Drop, Q: Question>(
+// What a future tells that is ready at its first poll.
+fn told<'s, S: Pends, Q: AnswerReader>(
     task: &MockTask,
-    mut future: Asked<'s, R, Q>,
+    mut future: Acquiring<'s, S, Q>,
 ) -> Option<Q::Output>
 where
     Q::Output: Drop,
@@ -68,7 +68,7 @@ fn gives<R: Wait + Drop>(task: &MockTask, semaphore: &Semaphore<R>) -> bool {
 
 fn gives_with<R: Wait + Drop>(task: &MockTask, semaphore: &Semaphore<R>) -> bool {
     let one: AcquireWith<'_, R, Callback> = semaphore.acquire_async_with(nothing);
-    let one: AskedWith<'_, R, OnePermit, Callback> = one;
+    let one: AcquiringWith<'_, Semaphore<R>, OnePermit, Callback> = one;
     let one = polled(task, one);
     let many: AcquireManyWith<'_, R, Callback> = semaphore.acquire_many_async_with(2, nothing);
     let many = polled(task, many);
@@ -77,9 +77,9 @@ fn gives_with<R: Wait + Drop>(task: &MockTask, semaphore: &Semaphore<R>) -> bool
 
 fn gives_any<R: Wait + Drop>(task: &MockTask, semaphore: &SemaphoreOf<R, 1_000>) -> bool {
     let one: AcquireOf<'_, R, 1_000> = semaphore.acquire_async();
-    let one = told::<_, OnePermitOf<1_000>>(task, one);
+    let one = told::<_, OnePermit>(task, one);
     let many: AcquireManyOf<'_, R, 1_000> = semaphore.acquire_many_async(2);
-    let many = told::<_, ManyPermitsOf<1_000>>(task, many);
+    let many = told::<_, ManyPermits>(task, many);
     one == Some(()) && many == Some(true)
 }
 

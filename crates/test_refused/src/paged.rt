@@ -6,7 +6,7 @@ use crate::watch::Watch;
 use saa_core::ticket::Full;
 use saa_sync::gate::State;
 use saa_sync::lock::Mode;
-use saa_sync::pager::{Pager, SyncResult};
+use saa_sync::pager::{Pager, SyncResult, Ticket};
 use std::alloc::AllocGlobal;
 use std::random::RandomSource;
 use std::sync::Wait;
@@ -46,7 +46,7 @@ pub fn paged<R: RandomSource + AllocGlobal + Wait>(
 }
 
 // Polls a pager until it is answered, anew where that was refused: it stays registered then.
-fn answered<R: RandomSource + AllocGlobal + Wait, S: SyncResult>(
+fn answered<R: RandomSource + AllocGlobal + Wait, S: SyncResult<Ticket>>(
     rt: &R,
     pager: &mut Pager<'_, S>,
     registered: Result<bool, Full>,

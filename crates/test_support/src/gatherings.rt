@@ -4,7 +4,7 @@
 //! too soon; it ends only if all that are answered wake.
 
 use crate::sleepers::{By, Counts};
-use saa_sync::testing::Patience;
+use saa_sync::testing::SpinPolicy;
 use std::alloc::{AllocError, Global};
 use std::sync::Wait;
 use std::sync::atomic::{AtomicU64, Ordering};
@@ -60,7 +60,7 @@ pub struct Plan {
     /// How they are answered.
     pub together: Together,
     /// Without patience they surely sleep when they are answered.
-    pub patience: Patience,
+    pub patience: SpinPolicy,
 }
 
 /// Such a form that is made anew for each gathering.
@@ -76,7 +76,7 @@ pub trait Made: Gathering + Sized + Drop {
 #[derive(Clone, Copy)]
 pub struct Case {
     /// How patient the waiters are.
-    pub patience: Patience,
+    pub patience: SpinPolicy,
     /// How they wait.
     pub by: By,
     /// How many they are.

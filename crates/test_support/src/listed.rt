@@ -29,7 +29,7 @@ impl ListedSemaphore {
     pub fn new(alloc: Global, room: u16) -> Result<Self, AllocError> {
         let line = Line::with_room(alloc, room)?;
         Ok(ListedSemaphore {
-            core: Granting::new(PermitsOut { out: 0 }, line),
+            core: Granting::from_parts(PermitsOut { out: 0 }, line),
         })
     }
 
@@ -62,7 +62,7 @@ impl ListedSemaphore {
         is_sync: bool,
     ) -> Result<bool, Full> {
         match self.request_of(count) {
-            Some(request) => self.core.register(ticket, request, is_sync),
+            Some(request) => self.core.register_request(ticket, request, is_sync),
             None => Ok(false),
         }
     }

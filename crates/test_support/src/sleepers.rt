@@ -5,7 +5,7 @@
 //! A test goes on only once all its waiters sleep, and ends only if all that a call answers wake.
 
 use saa_core::ticket::Ticket;
-use saa_sync::testing::Patience;
+use saa_sync::testing::SpinPolicy;
 use std::alloc::{AllocError, Global};
 use std::sync::Wait;
 use std::sync::atomic::{AtomicU64, Ordering};
@@ -53,7 +53,7 @@ pub trait Made: Sleepers + Sized + Drop {
         alloc: Global,
         size: usize,
         room: u16,
-        patience: Patience,
+        patience: SpinPolicy,
     ) -> Result<Self, AllocError>;
 }
 
@@ -65,7 +65,7 @@ pub struct Case {
     /// For how many waiters they have room.
     pub room: u16,
     /// Those without patience surely sleep when the first call comes.
-    pub patience: Patience,
+    pub patience: SpinPolicy,
     /// How they wait.
     pub by: By,
     /// How many they are.

@@ -6,7 +6,7 @@ mod gates;
 mod locks;
 mod semaphores;
 
-use saa_sync::pager::{Pager, SyncResult};
+use saa_sync::pager::{Pager, SyncResult, Ticket};
 use std::alloc::{AllocError, Global};
 use std::sync::atomic::{AtomicU64, Ordering};
 
@@ -18,7 +18,7 @@ const ROUNDS: u64 = 400;
 const ROOM: u16 = 6;
 
 // A form at which a pager can be registered that has to wait.
-trait Line: SyncResult {
+trait Line: SyncResult<Ticket> {
     // Registers such a pager; whether there was room.
     fn joins<'s>(&'s self, pager: &mut Pager<'s, Self>) -> bool;
 }

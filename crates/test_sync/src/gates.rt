@@ -15,7 +15,6 @@ use crate::stories::{
 use saa_core::ticket::Full;
 use saa_sync::gate::{Error, Gate, State};
 use saa_sync::pager::{Error as PollError, How, SyncResult};
-use saa_sync::testing::poll_as;
 use std::alloc::{AllocError, AllocGlobal, Global};
 use std::sync::Wait;
 use std::sync::atomic::Ordering;
@@ -92,7 +91,7 @@ impl<R: Wait + Drop + Sync> Form for Gate<R> {
             IsRegistered(who) => Is(desk.pager(who).is_registered()),
             PollSync(who) => Passed(desk.pager(who).poll_sync()),
             TryPoll(who) => Passed(desk.pager(who).try_poll()),
-            PollAsync(who) => Passed(poll_as(desk.pager(who), How::Async)),
+            PollAsync(who) => Passed(desk.pager(who).poll(How::Async)),
             Cancel(who) => desk.cancelled(who),
             LetGo(who) => desk.dropped(who),
             ToResult(value, error) => Passed(Self::to_result(value, error)),

@@ -20,6 +20,8 @@ mod orderings;
 #[cfg(test)]
 mod pagers;
 #[cfg(test)]
+mod parkers;
+#[cfg(test)]
 mod patience;
 #[cfg(test)]
 mod permits;
@@ -27,8 +29,6 @@ mod permits;
 mod prints;
 #[cfg(test)]
 mod races;
-#[cfg(test)]
-mod seats;
 #[cfg(test)]
 mod semaphores;
 #[cfg(test)]

@@ -1,6 +1,7 @@
 //! What each core prints, in states unlike a fresh one: every number that is shown differs from every other there.
 
 use crate::prints::Act::{Does, Prints};
+use saa_core::Primitive;
 use saa_core::barrier::BarrierCore;
 use saa_core::gate::{GateCore, State};
 use saa_core::lock::{LockCore, Mode};

@@ -13,6 +13,7 @@ use crate::stories::{
     Desk, FirstPair, Form, MadeOn, Notes, Others, Pair, Story, Told, Who, first_at, first_other,
 };
 use saa_core::ticket::Full;
+use saa_sync::Waitable;
 use saa_sync::pager::{Error, How, SyncResult};
 use saa_sync::semaphore::Semaphore;
 use std::alloc::{AllocError, AllocGlobal, Global};

@@ -144,7 +144,7 @@ impl Notes {
 
 // A form with all that one thread of a story needs beside it.
 #[derive(Drop)]
-pub(crate) struct Desk<'s, S: SyncResult> {
+pub(crate) struct Desk<'s, S: SyncResult<Ticket>> {
     pub(crate) form: &'s S,
     pub(crate) notes: &'s Notes,
     // One that is never registered.
@@ -155,7 +155,7 @@ pub(crate) struct Desk<'s, S: SyncResult> {
     four: Pager<'s, S>,
 }
 
-impl<'s, S: SyncResult> Desk<'s, S> {
+impl<'s, S: SyncResult<Ticket>> Desk<'s, S> {
     fn new(form: &'s S, notes: &'s Notes) -> Self {
         Desk {
             form,
@@ -202,7 +202,7 @@ impl<'s, S: SyncResult> Desk<'s, S> {
 }
 
 // A form that stories are told of.
-pub(crate) trait Form: SyncResult + Sync + Drop {
+pub(crate) trait Form: SyncResult<Ticket> + Sync + Drop {
     // A call at it, or at one of its pagers.
     type Call: Copy + Sync;
 

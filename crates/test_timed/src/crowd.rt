@@ -10,11 +10,11 @@ use crate::stories::Act::{
 use crate::stories::Ask::{Acquire, AcquireMany, Arrive, Enter};
 use crate::stories::Row::{Does, Has, In};
 use crate::stories::{LATE, Row, Sign, Story};
+use saa_core::primitive::Primitive;
 use saa_core::semaphore::SemaphoreCore;
-use saa_sync::patience::NONE;
 use saa_sync::semaphore::Semaphore;
-use saa_sync::testing::{OnShell, Shell};
-use saa_sync::tries::Tries;
+use saa_sync::spin_policy::NONE;
+use saa_sync::testing::{Counted, form_of};
 use std::alloc::{AllocError, AllocGlobal};
 use std::sync::Wait;
 use std::sync::atomic::{AtomicU64, Ordering};
@@ -121,9 +121,13 @@ struct Told {
 }
 
 // Waits until so many sleep.
-fn await_asleep<R: Wait + Drop, P: Tries>(rt: &impl Wait, shell: &Shell<R, P>, count: usize) {
+fn await_asleep<R: Wait + Drop, P: Primitive>(
+    rt: &impl Wait,
+    form: &saa_sync::form::Form<R, P>,
+    count: usize,
+) {
     for _ in rt.forever() {
-        if shell.asleep() == count {
+        if form.counts().parked() == count {
             return;
         }
         yield_now();
@@ -171,7 +175,7 @@ fn half_are_late<R: Wait + Threads + Sync, C: Wait + Clock + Drop + Sync>(
                 started = started.saturating_add(1);
             }
         }
-        await_asleep(rt, semaphore.shell(), started as usize);
+        await_asleep(rt, &semaphore, started as usize);
         clock.set(LATE);
         await_count(rt, &told.late, SLEEPERS / 2);
         let late = told.late.load(Ordering::SeqCst);
@@ -186,7 +190,7 @@ fn counted<H: Wait + Clock + Threads + Sync + AllocGlobal>(
 ) -> Result<(u64, u64, usize, usize), AllocError> {
     let clock = OnClock::new(rt, 0);
     let core = SemaphoreCore::with_permits(rt.alloc(), 0, 48)?;
-    let semaphore = Semaphore::on_shell(Shell::new(&clock, rt.alloc(), core, 48, NONE)?);
+    let semaphore = form_of(&clock, rt.alloc(), core, 48, NONE, NONE)?;
     let told = Told {
         granted: AtomicU64::new(0),
         late: AtomicU64::new(0),
@@ -196,7 +200,7 @@ fn counted<H: Wait + Clock + Threads + Sync + AllocGlobal>(
         late,
         told.granted.load(Ordering::SeqCst),
         semaphore.available_permits(Ordering::SeqCst),
-        semaphore.shell().asleep(),
+        semaphore.counts().parked(),
     ))
 }
 

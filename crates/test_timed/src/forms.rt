@@ -10,12 +10,12 @@ use saa_sync::barrier::Barrier;
 use saa_sync::gate::{Error as GateError, Gate, State};
 use saa_sync::lock::{Lock, Mode, TryLockError};
 use saa_sync::lock_api::{Mutex, MutexGuard, RwLock, RwLockReadGuard, RwLockWriteGuard};
-use saa_sync::pager::{Error, Pager};
-use saa_sync::patience::UNREGISTERED;
+use saa_sync::pager::{Error, Pager, Ticket};
 use saa_sync::permit::PermitOf;
 use saa_sync::semaphore::SemaphoreOf;
+use saa_sync::spin_policy::{DEFAULT, NONE, SpinPolicy};
 use saa_sync::testing::{
-    OnShell, PATIENCE, Patience, Shell, mutex_on, rwlock_on, shell_of_mutex, shell_of_rwlock,
+    Counted, WAITER, counts_of_mutex, counts_of_rwlock, form_of, mutex_on, rwlock_on,
 };
 use saa_sync::timed::Timed;
 use std::alloc::{AllocError, Global};
@@ -83,9 +83,9 @@ pub(crate) struct Made {
     pub(crate) count: usize,
     pub(crate) room: u16,
     // The patience of waiters.
-    pub(crate) patience: Patience,
+    pub(crate) patience: SpinPolicy,
     // The patience of calls that aren't registered.
-    pub(crate) unregistered: Patience,
+    pub(crate) unregistered: SpinPolicy,
     // Whether the locks are poisoned at first, those of the mutex and the reader-writer lock too, as no program can make them.
     pub(crate) is_poisoned: bool,
 }
@@ -95,8 +95,8 @@ pub(crate) const MADE: Made = Made {
     permits: 0,
     count: 2,
     room: 1,
-    patience: PATIENCE,
-    unregistered: UNREGISTERED,
+    patience: WAITER,
+    unregistered: DEFAULT,
     is_poisoned: false,
 };
 
@@ -121,26 +121,32 @@ fn turns_of<R: Wait + Copy + Drop>(
     made: Made,
 ) -> Result<(Permits<R>, Lock<R>), AllocError> {
     let permits = SemaphoreCoreOf::<1000>::with_permits(alloc, made.permits, made.room)?;
-    let permits = Shell::new(clock, alloc, permits, made.room, made.patience)?;
-    Ok((
-        SemaphoreOf::on_shell(permits.with_patience(made.unregistered)),
-        Lock::on_shell(lock_shell_of(clock, alloc, made)?),
-    ))
+    let permits = form_of(
+        clock,
+        alloc,
+        permits,
+        made.room,
+        made.unregistered,
+        made.patience,
+    )?;
+    Ok((permits, lock_of(clock, alloc, made)?))
 }
 
 // What a lock stands on, or the turns of a guarded value.
-fn lock_shell_of<R: Wait + Drop>(
-    clock: R,
-    alloc: Global,
-    made: Made,
-) -> Result<Shell<R, LockCore>, AllocError> {
+fn lock_of<R: Wait + Drop>(clock: R, alloc: Global, made: Made) -> Result<Lock<R>, AllocError> {
     let mut core = LockCore::new(alloc, made.room)?;
     if made.is_poisoned {
         let _is_owned = core.try_lock();
         core.poison_lock();
     }
-    let shell = Shell::new(clock, alloc, core, made.room, made.patience)?;
-    Ok(shell.with_patience(made.unregistered))
+    form_of(
+        clock,
+        alloc,
+        core,
+        made.room,
+        made.unregistered,
+        made.patience,
+    )
 }
 
 // A gate and a barrier on this clock, whose calls never look.
@@ -150,10 +156,10 @@ fn gatherings_of<R: Wait + Copy + Drop>(
     made: Made,
 ) -> Result<(Gate<R>, Barrier<R>), AllocError> {
     let gate = GateCore::new(alloc, made.room)?;
-    let gate = Shell::new(clock, alloc, gate, made.room, made.patience)?;
+    let gate = form_of(clock, alloc, gate, made.room, NONE, made.patience)?;
     let barrier = BarrierCore::with_count(alloc, made.count, made.room)?;
-    let barrier = Shell::new(clock, alloc, barrier, made.room, made.patience)?;
-    Ok((Gate::on_shell(gate), Barrier::on_shell(barrier)))
+    let barrier = form_of(clock, alloc, barrier, made.room, NONE, made.patience)?;
+    Ok((gate, barrier))
 }
 
 // A mutex and a reader-writer lock on this clock.
@@ -162,8 +168,8 @@ fn values_of<R: Wait + Copy + Drop>(
     alloc: Global,
     made: Made,
 ) -> Result<(Mutex<R, u32>, RwLock<R, u32>), AllocError> {
-    let mutex = lock_shell_of(clock, alloc, made)?;
-    let rwlock = lock_shell_of(clock, alloc, made)?;
+    let mutex = lock_of(clock, alloc, made)?;
+    let rwlock = lock_of(clock, alloc, made)?;
     Ok((mutex_on(mutex, 5), rwlock_on(rwlock, 5)))
 }
 
@@ -332,22 +338,22 @@ impl<R: Wait + Clock + Drop> Forms<R> {
     // How many sleep at a form.
     pub(crate) fn asleep(&self, form: Form) -> usize {
         match form {
-            Form::Semaphore => self.semaphore.shell().asleep(),
-            Form::Lock => self.lock.shell().asleep(),
-            Form::Gate => self.gate.shell().asleep(),
-            Form::Barrier => self.barrier.shell().asleep(),
+            Form::Semaphore => self.semaphore.counts().parked(),
+            Form::Lock => self.lock.counts().parked(),
+            Form::Gate => self.gate.counts().parked(),
+            Form::Barrier => self.barrier.counts().parked(),
         }
     }
 
     // How many sleep at the mutex and the reader-writer lock, and how many look at them.
     pub(crate) fn guards_asleep(&self) -> usize {
-        let mutex = shell_of_mutex(&self.mutex).asleep();
-        mutex.saturating_add(shell_of_rwlock(&self.rwlock).asleep())
+        let mutex = counts_of_mutex(&self.mutex).parked();
+        mutex.saturating_add(counts_of_rwlock(&self.rwlock).parked())
     }
 
     pub(crate) fn guard_lookers(&self) -> u64 {
-        let mutex = shell_of_mutex(&self.mutex).lookers();
-        mutex.saturating_add(shell_of_rwlock(&self.rwlock).lookers())
+        let mutex = counts_of_mutex(&self.mutex).lookers();
+        mutex.saturating_add(counts_of_rwlock(&self.rwlock).lookers())
     }
 
     // Whether a try for a permit, or for a share, is refused.
@@ -366,8 +372,8 @@ impl<R: Wait + Clock + Drop> Forms<R> {
     // How many calls look at the semaphore or the lock, and aren't registered.
     pub(crate) fn lookers(&self, form: Form) -> u64 {
         match form {
-            Form::Semaphore => self.semaphore.shell().lookers(),
-            Form::Lock => self.lock.shell().lookers(),
+            Form::Semaphore => self.semaphore.counts().lookers(),
+            Form::Lock => self.lock.counts().lookers(),
             Form::Gate | Form::Barrier => 0,
         }
     }
@@ -472,7 +478,7 @@ impl<'s, R: Wait + Clock + Drop> Pagers<'s, R> {
 }
 
 // What a pager is told in time.
-pub(crate) fn polled<S: Timed>(pager: &mut Pager<'_, S>, span: Span) -> Option<S::Result> {
+pub(crate) fn polled<S: Timed<Ticket>>(pager: &mut Pager<'_, S>, span: Span) -> Option<S::Result> {
     match span {
         Span::For(duration) => pager.poll_sync_for(duration),
         Span::Until(end) => pager.poll_sync_until(end),

@@ -11,13 +11,13 @@ use crate::stories::Act::{
 use crate::stories::Row::{Does, Has, In};
 use crate::stories::Sign::{Asleep, Awaited, Clock, Looks, Pauses, Reached, Read, Waits};
 use crate::stories::{Act, Ask, LATE, Row, Story};
-use saa_sync::patience::{NONE, Patience};
+use saa_sync::spin_policy::{NONE, SpinPolicy};
 
 // Waiters sleep at once, and calls that aren't registered look on, and register in no test's time.
 pub(crate) const LOOKING: Made = Made {
     room: 2,
     patience: NONE,
-    unregistered: Patience {
+    unregistered: SpinPolicy {
         looks: 0,
         yields: u32::MAX,
     },
@@ -34,7 +34,7 @@ const STILL: Story = Story {
 // The same with one seat, whose waiters look on there, or yield, and sleep in no test's time.
 const AWAKE: Made = Made {
     room: 1,
-    patience: Patience {
+    patience: SpinPolicy {
         looks: u32::MAX,
         yields: 0,
     },
@@ -43,7 +43,7 @@ const AWAKE: Made = Made {
 
 const YIELDING: Made = Made {
     room: 1,
-    patience: Patience {
+    patience: SpinPolicy {
         looks: 0,
         yields: u32::MAX,
     },

@@ -3,7 +3,8 @@
 use crate::clock::OnClock;
 use saa_core::semaphore::SemaphoreCore;
 use saa_sync::semaphore::Semaphore;
-use saa_sync::testing::{OnShell, Patience, Shell};
+use saa_sync::spin_policy::{NONE, SpinPolicy};
+use saa_sync::testing::{Counted, form_of};
 use std::alloc::{AllocError, AllocGlobal};
 use std::hint::spin_loop;
 use std::sync::Wait;
@@ -61,8 +62,8 @@ fn told<H: Wait + Clock + Threads + Sync + AllocGlobal>(
 ) -> Result<(u64, bool, usize), AllocError> {
     let clock = OnClock::new(rt, 1_000);
     let core = SemaphoreCore::with_permits(rt.alloc(), 1, 1)?;
-    let patience = Patience { looks: 0, yields };
-    let semaphore = Semaphore::on_shell(Shell::new(&clock, rt.alloc(), core, 1, patience)?);
+    let patience = SpinPolicy { looks: 0, yields };
+    let semaphore = form_of(&clock, rt.alloc(), core, 1, NONE, patience)?;
     let has_ended = AtomicBool::new(false);
     let (told, is_whole) = thread::join(
         rt,

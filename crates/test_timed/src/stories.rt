@@ -10,7 +10,7 @@ use crate::{calls, crowd, full, guards, order, pagers};
 use saa_core::ticket::Full;
 use saa_sync::gate::{Error as GateError, State};
 use saa_sync::pager::Error;
-use saa_sync::testing::{OnShell, call_untold};
+use saa_sync::testing::{Counted, call_untold};
 use std::alloc::{AllocGlobal, Global};
 use std::io;
 use std::sync::Wait;
@@ -321,7 +321,7 @@ fn release_late<R: Wait + Clock + Drop, C: Wait + Clock + Drop>(
     forms: &Forms<R>,
     clock: &OnClock<C>,
 ) -> bool {
-    call_untold(forms.semaphore.shell(), |core| {
+    call_untold(&forms.semaphore, |core| {
         clock.set(LATE);
         core.release()
     })

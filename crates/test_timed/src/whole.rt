@@ -3,7 +3,8 @@
 use saa_core::semaphore::SemaphoreCore;
 use saa_core::ticket::Full;
 use saa_sync::semaphore::Semaphore;
-use saa_sync::testing::{OnShell, Patience, Shell};
+use saa_sync::spin_policy::{NONE, SpinPolicy};
+use saa_sync::testing::{Counted, form_of};
 use std::alloc::AllocGlobal;
 use std::io;
 use std::sync::Wait;
@@ -15,16 +16,16 @@ use test_asserts::same;
 const WHILE: u64 = 3;
 
 // Waiters sleep at once, yield for as long as there is time, or look a million times first.
-static PATIENCES: [Patience; 3] = [
-    Patience {
+static PATIENCES: [SpinPolicy; 3] = [
+    SpinPolicy {
         looks: 0,
         yields: 0,
     },
-    Patience {
+    SpinPolicy {
         looks: 0,
         yields: u32::MAX,
     },
-    Patience {
+    SpinPolicy {
         looks: 1_000_000,
         yields: 0,
     },
@@ -62,7 +63,7 @@ fn told_at<R: Wait + Clock + Drop>(rt: &impl Clock, semaphore: &Semaphore<R>) ->
     let first = waited_for(rt, semaphore)?;
     let second = waited_until(rt, semaphore)?;
     let left = (
-        semaphore.shell().asleep(),
+        semaphore.counts().parked(),
         semaphore.release_many(2),
         semaphore.available_permits(Ordering::SeqCst),
     );
@@ -70,9 +71,9 @@ fn told_at<R: Wait + Clock + Drop>(rt: &impl Clock, semaphore: &Semaphore<R>) ->
 }
 
 // The same at a semaphore of no permit, with room for one.
-fn waited<H: Wait + Clock + AllocGlobal>(rt: &H, patience: Patience) -> io::Result<Told> {
+fn waited<H: Wait + Clock + AllocGlobal>(rt: &H, patience: SpinPolicy) -> io::Result<Told> {
     let core = SemaphoreCore::with_permits(rt.alloc(), 0, 1)?;
-    let semaphore = Semaphore::on_shell(Shell::new(rt, rt.alloc(), core, 1, patience)?);
+    let semaphore = form_of(rt, rt.alloc(), core, 1, NONE, patience)?;
     told_at(rt, &semaphore)
 }
 

@@ -6,11 +6,11 @@ ghost use Rattle.test_waits.specs.Placed.{number_of};
 use futures::task::{Context, Poll};
 use saa_core_spec::polling::How;
 use saa_core_spec::request::Full;
-use saa_core_waits::{AnswerReader, CallStart, Deadline, Pends, Timed, Waitable};
+use saa_core_waits::{AnswerReader, CallStart, Deadline, Pends, Waitable, WaitableUntil};
 use saa_word_threads::lock::{Error, Lock, Mode, Place};
 use std::sync::Wait;
 use std::thread::yield_now;
-use std::time::{Clock, Duration};
+use std::time::Clock;
 
 // The numbers of a grant and of poison.
 const GRANTED: u8 = 0;
@@ -82,21 +82,17 @@ impl<R: Wait> Waitable for Placed<'_, R> {
     fn finish(&self, place: &mut Place) -> Result<u8, Error> {
         let answer = self.poll(place, How::Sync);
         if answer.is_err() {
-            self.cancel(place);
+            self.cancel_registration(place);
         }
         answer
     }
 
-    fn cancel(&self, place: &mut Place) {
+    fn cancel_registration(&self, place: &mut Place) {
         self.lock.cancel(self.rt, place);
     }
 }
 
-impl<R: Wait + Clock> Timed for Placed<'_, R> {
-    fn after(&self, duration: Duration) -> Deadline {
-        Deadline::after(self.rt, duration)
-    }
-
+impl<R: Wait + Clock> WaitableUntil for Placed<'_, R> {
     fn poll_until(&self, place: &mut Place, deadline: Deadline) -> Result<u8, Error> {
         match deadline {
             Deadline::At(end) => number(self.lock.poll_until(self.rt, place, end)),
@@ -108,7 +104,7 @@ impl<R: Wait + Clock> Timed for Placed<'_, R> {
     fn finish_until(&self, place: &mut Place, deadline: Deadline) -> Result<u8, Error> {
         let answer = self.poll_until(place, deadline);
         if answer.is_err() {
-            self.cancel(place);
+            self.cancel_registration(place);
         }
         answer
     }

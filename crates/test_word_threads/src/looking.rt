@@ -1,4 +1,4 @@
-//! A place that looks hasn't joined, it looks as often as its patience says, and then it joins. A try and a registration look once.
+//! A place that looks hasn't joined, it looks as often as its spin policy says, and then it joins. A try and a registration look once.
 //!
 //! While a lock is shared, another try for a share is granted where there is no waiter, and refused where there is one.
 
@@ -8,35 +8,35 @@ use crate::gate::Gate;
 use crate::tally::Tally;
 use saa_word_threads::lock::{Error, Lock, Mode, Place, TryLockError};
 use saa_word_threads::testing::{
-    Moment, NONE, Patience, WAITING, may_exchange, register_patiently, try_share_watched,
+    DEFAULT, Moment, NONE, SpinPolicy, may_exchange, register_with_policy, try_share_watched,
 };
 use std::alloc::{AllocError, AllocGlobal};
 use std::sync::Wait;
 use std::thread::{self, Threads, yield_now};
 use test_asserts::same;
 
-// A patience that doesn't end while a test runs, and some that do.
-const ENDLESS: Patience = Patience {
+// A spin policy that doesn't end while a test runs, and some that do.
+const ENDLESS: SpinPolicy = SpinPolicy {
     looks: 0,
     yields: u32::MAX,
 };
 
-const LOOK: Patience = Patience {
+const LOOK: SpinPolicy = SpinPolicy {
     looks: 1,
     yields: 0,
 };
 
-const YIELD: Patience = Patience {
+const YIELD: SpinPolicy = SpinPolicy {
     looks: 0,
     yields: 1,
 };
 
-const SHORT: Patience = Patience {
+const SHORT: SpinPolicy = SpinPolicy {
     looks: 2,
     yields: 1,
 };
 
-const LONGER: Patience = Patience {
+const LONGER: SpinPolicy = SpinPolicy {
     looks: 12,
     yields: 3,
 };
@@ -80,11 +80,11 @@ fn release_beside(
     lock.release_share(rt, &mut owner) && is_passed
 }
 
-// Asks for the lock without an end to its patience; whether it is granted.
+// Asks for the lock without an end to its spin policy; whether it is granted.
 fn look(rt: &impl Wait, lock: &Lock, tally: &Tally, mut place: Place) -> bool
     requires { IsDealtBy lock.now place }
 {
-    register_patiently(lock, rt, tally, &mut place, Mode::Exclusive, ENDLESS)
+    register_with_policy(lock, rt, tally, &mut place, Mode::Exclusive, ENDLESS)
         && lock.try_poll(&mut place) == Ok(true)
         && lock.release_lock(rt, &mut place)
 }
@@ -134,7 +134,7 @@ fn looked<R: Wait + Threads + Sync + AllocGlobal>(
     Ok(Some((told, lock.close(left).main())))
 }
 
-// Registers beside an owner that shares the lock, in so much patience: what is counted of it, where it joined and is granted once the owner is
+// Registers beside an owner that shares the lock, in so much spin policy: what is counted of it, where it joined and is granted once the owner is
 // gone.
 fn joins_beside(
     rt: &impl Wait,
@@ -142,7 +142,7 @@ fn joins_beside(
     mut owner: Place,
     mut place: Place,
     mut passer: Place,
-    patience: Patience,
+    spin_policy: SpinPolicy,
 ) -> Option<[u64; 4]>
     requires owner { IsDealtBy lock.now owner }
     requires place { IsDealtBy lock.now place }
@@ -150,7 +150,7 @@ fn joins_beside(
 {
     let tally = Tally::new();
     let is_right = lock.try_share(rt, &mut owner).is_ok()
-        && register_patiently(lock, rt, &tally, &mut place, Mode::Exclusive, patience)
+        && register_with_policy(lock, rt, &tally, &mut place, Mode::Exclusive, spin_policy)
         && lock.try_share(rt, &mut passer) == Err(TryLockError::WouldBlock)
         && lock.try_poll(&mut place) == Err(Error::NotReady)
         && lock.release_share(rt, &mut owner)
@@ -165,7 +165,7 @@ fn joins_beside(
 // The same at a new lock.
 fn joins<R: Wait + AllocGlobal>(
     rt: &R,
-    patience: Patience,
+    spin_policy: SpinPolicy,
 ) -> Result<Option<[u64; 4]>, AllocError> {
     let (lock, mut places) = Lock::new(rt.alloc(), 3)?;
     let Some(passer) = places.pop() else {
@@ -177,27 +177,27 @@ fn joins<R: Wait + AllocGlobal>(
     let Some(owner) = places.pop() else {
         return Ok(None);
     };
-    Ok(joins_beside(rt, &lock, owner, place, passer, patience))
+    Ok(joins_beside(rt, &lock, owner, place, passer, spin_policy))
 }
 
-// A patience, and what a call does in it that joins then: how often it looks, which is once and in each turn of its patience; how many turns it
+// A spin policy, and what a call does in it that joins then: how often it looks, which is once and in each turn of its spin policy; how many turns it
 // rests in all, which are 8 before the second look, twice as many before each further one, and 1,024 at most; how often it yields, which comes last;
 // and how often it is about to take what it asks for.
-static PATIENCES: [(Patience, [u64; 4]); 6] = [
+static POLICIES: [(SpinPolicy, [u64; 4]); 6] = [
     (NONE, [1, 0, 0, 0]),
     (LOOK, [2, 8, 0, 0]),
     (YIELD, [2, 0, 1, 0]),
     (SHORT, [4, 24, 1, 0]),
     (LONGER, [16, 6_136, 3, 0]),
-    (WAITING, [117, 10_232, 100, 0]),
+    (DEFAULT, [117, 10_232, 100, 0]),
 ];
 
-// The first patience in which a call does otherwise, counted from 0, and what it does.
+// The first spin policy in which a call does otherwise, counted from 0, and what it does.
 fn first_other<R: Wait + AllocGlobal>(
     rt: &R,
 ) -> Result<Option<(usize, Option<[u64; 4]>)>, AllocError> {
-    for (number, (patience, wanted)) in PATIENCES.iter().enumerate() {
-        let told = joins(rt, *patience)?;
+    for (number, (spin_policy, wanted)) in POLICIES.iter().enumerate() {
+        let told = joins(rt, *spin_policy)?;
         if told != Some(*wanted) {
             return Ok(Some((number, told)));
         }
@@ -210,8 +210,8 @@ fn first_other<R: Wait + AllocGlobal>(
 enum Asking {
     // For a share, by a try.
     Tries,
-    // For the lock, by a registration with this patience.
-    Registers(Patience),
+    // For the lock, by a registration with this spin policy.
+    Registers(SpinPolicy),
 }
 
 // Asks, and tells whether the answer is yes: of a try that it is granted, and of a registration that it is made.
@@ -221,8 +221,8 @@ fn ask(rt: &impl Wait, lock: &Lock, gate: &Gate, place: &mut Place, asking: Aski
 {
     match asking {
         Asking::Tries => try_share_watched(lock, rt, gate, place).is_ok(),
-        Asking::Registers(patience) => {
-            register_patiently(lock, rt, gate, place, Mode::Exclusive, patience)
+        Asking::Registers(spin_policy) => {
+            register_with_policy(lock, rt, gate, place, Mode::Exclusive, spin_policy)
         }
     }
 }
@@ -283,7 +283,7 @@ fn missed<R: Wait + Threads + Sync + AllocGlobal>(
 }
 
 // What a try and a registration do that miss what they had seen: they are about to take it once. The try is refused then, and looks no more. The
-// registration looks as often as its patience says, and joins.
+// registration looks as often as its spin policy says, and joins.
 const REFUSED: (bool, Result<bool, Error>) = (false, Err(Error::NotRegistered));
 
 const JOINED: (bool, Result<bool, Error>) = (true, Err(Error::NotReady));

@@ -12,8 +12,8 @@ use crate::tally::Tally;
 use saa_word_threads::lock::{Lock, Mode, Place};
 use saa_word_threads::semaphore::{Place as PermitPlace, Semaphore};
 use saa_word_threads::testing::{
-    Made, Moment, WAITING, Watch, acquire_patiently, is_answered, is_parked, is_parked_at,
-    release_share_watched, wait_patiently,
+    DEFAULT, Made, Moment, Watch, acquire_with_policy, is_answered, is_parked, is_parked_at,
+    release_share_watched, wait_with_policy,
 };
 use std::alloc::AllocError;
 use std::sync::Wait;
@@ -26,7 +26,7 @@ const WAITER: u16 = 1;
 
 const OWNER: u16 = 0;
 
-// What a call with the patience of a wait does before it joins: it looks once, and 16 and 100 times more; it rests for 8, 16, .. 1,024 turns, which
+// What a call with the spin policy of a wait does before it joins: it looks once, and 16 and 100 times more; it rests for 8, 16, .. 1,024 turns, which
 // are 2,040, and for 1,024 eight times more; it yields 100 times; it takes nothing.
 const ASKED: [u64; 4] = [117, 10_232, 100, 0];
 
@@ -173,7 +173,7 @@ fn wait(rt: &impl Wait, lock: &Lock, scene: &Scene<'_>, mut place: Place) -> boo
     let thread = own_number(scene.host);
     scene.thread.store(thread, Ordering::SeqCst);
     let watch = AtWaiter { scene };
-    let is_granted = wait_patiently(lock, rt, &watch, &mut place, Mode::Exclusive, WAITING);
+    let is_granted = wait_with_policy(lock, rt, &watch, &mut place, Mode::Exclusive, DEFAULT);
     scene.ended.fetch_add(1, Ordering::SeqCst);
     is_granted && lock.release_lock(rt, &mut place)
 }
@@ -242,7 +242,7 @@ fn parked<R: Wait + Threads + Sync + AllocGlobal>(
 fn acquire(rt: &impl Wait, semaphore: &Semaphore, tally: &Tally, mut place: PermitPlace) -> bool
     requires { IsDealtBySemaphore semaphore.now place }
 {
-    acquire_patiently(semaphore, rt, tally, &mut place, 5, WAITING)
+    acquire_with_policy(semaphore, rt, tally, &mut place, 5, DEFAULT)
         && semaphore.release_many(rt, &mut place, 5)
 }
 

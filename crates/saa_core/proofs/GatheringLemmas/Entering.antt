@@ -12,7 +12,7 @@ use Rattle.saa_core_spec.specs.Gate.{gate_state, let_through, moved}
 use Rattle.saa_core.specs.Slots.{Slots, all_slots_answered, IsSound}
 use Rattle.saa_core.specs.declared.ticket.Registration.{Registration}
 use Rattle.saa_core.specs.declared.ticket.Registration.TheVariants.{Unregistered, AtOnce}
-use Rattle.saa_core.specs.Tickets.{Core, Acts, Calls, object_of}
+use Rattle.saa_core.specs.Tickets.{Core, StepsWithTicket, Calls, object_of}
 use Rattle.saa_core.proofs.TicketLemmas.Polls.{after}
 use Rattle.saa_core.specs.GateParts.{answer_by_state}
 use Rattle.saa_core.proofs.GatheringLemmas.Gathering.{Gathers, register_answered}
@@ -25,7 +25,7 @@ enter_answer Sealed v s is answered = let same : sealed_value ≡ v = cc in ap (
 enter_answer Open v s is answered = let same : opened_value ≡ v = cc in ap (λ h. answer_in s h Enter) is ∙ ap (λ n. Some (after n s)) same
 
 pub enter_answered : (state : State) (slots : Slots) (v : ℕ) (m : Bool) → answer_by_state state ≡ Some v
-    → Acts (record { held = OfGate state; slots = slots }) (record { held = OfGate state; slots = slots })
+    → StepsWithTicket (record { held = OfGate state; slots = slots }) (record { held = OfGate state; slots = slots })
     Unregistered (AtOnce v Enter m) (λ s name. registered s name Enter m) (Ok true)
 enter_answered state slots v m answered =
     let c : Core = record { held = OfGate state; slots = slots } in

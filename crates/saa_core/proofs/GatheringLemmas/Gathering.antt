@@ -12,7 +12,7 @@ use Rattle.saa_core_spec.proofs.Counts.{length-without, number_same}
 use Rattle.saa_core.specs.Slots.{Slots, answer_in, held_slots, held_times, room_of, IsSound}
 use Rattle.saa_core.specs.declared.ticket.Registration.{Registration}
 use Rattle.saa_core.specs.declared.ticket.Registration.TheVariants.{Unregistered, AtOnce, InSlot}
-use Rattle.saa_core.specs.Tickets.{Core, Acts, Belong, object_of, slot_entry, dropping}
+use Rattle.saa_core.specs.Tickets.{Core, StepsWithTicket, Belong, object_of, slot_entry, dropping}
 use Rattle.saa_core.proofs.TicketLemmas.Naming.{entry-at}
 use Rattle.saa_core.proofs.TicketLemmas.Steps.{own-object, own-belong, slots_joined, join-object, join-belong, slots_taken, take-object, take-belong, slots_left, leave-object, leave-belong, used-object}
 use Rattle.saa_core.proofs.TicketLemmas.Polls.{after, acts_unchanged}
@@ -25,7 +25,7 @@ use Rattle.saa_core.specs.GatheringParts.{vacated, vacated_by}
 pub register_answered : (c new : Core) (v : ℕ) (r : Request) (m : Bool) → asks_too_much c.held r ≡ false
     → ((ts : List Registration) → Belong c.slots ts → answer_at_once (object_of c ts) r ≡ Some (after v (object_of new ts)))
     → ((ts : List Registration) → Belong c.slots ts → Belong new.slots ts)
-    → Acts c new Unregistered (AtOnce v r m) (λ s name. registered s name r m) (Ok true)
+    → StepsWithTicket c new Unregistered (AtOnce v r m) (λ s name. registered s name r m) (Ok true)
 register_answered c new v r m fine answers belongs = record {
   acts = λ ts name here b. (
     registered-by (object_of c ts) name r m false _ _ (idle_asks c ts name r here fine) (answers ts b) refl
@@ -37,7 +37,7 @@ register_answered c new v r m fine answers belongs = record {
 -- a registration that must wait, and finds the room full
 pub register_full : (c : Core) (r : Request) (m : Bool) → asks_too_much c.held r ≡ false
     → ((ts : List Registration) → answer_at_once (object_of c ts) r ≡ None) → held_slots c.slots ≡ room_of c.slots
-    → Acts c c Unregistered Unregistered (λ s name. registered s name r m) (Err (record {}))
+    → StepsWithTicket c c Unregistered Unregistered (λ s name. registered s name r m) (Err (record {}))
 register_full c r m fine waits full = acts_unchanged c Unregistered _ _ (λ ts name here b.
     registered-by (object_of c ts) name r m false None true (idle_asks c ts name r here fine) (waits ts)
     (ap (λ n. n == room_of c.slots) (used-object c ts b ∙ full) ∙ number_same (room_of c.slots)))
@@ -46,7 +46,7 @@ register_full c r m fine waits full = acts_unchanged c Unregistered _ _ (λ ts n
 pub register_joined : (h : Held) (slots : Slots) (slot : ℕ) (r : Request) (m : Bool) → asks_too_much h r ≡ false
     → ((ts : List Registration) → answer_at_once (object_of (record { held = h; slots = slots }) ts) r ≡ None)
     → (held_slots slots ≡ room_of slots → ⊥) → held_times slots slot ≡ 0
-    → Acts (record { held = h; slots = slots }) (record { held = h; slots = slots_joined slots slot r }) Unregistered (InSlot slot r m) (λ s name. registered s name r m) (Ok true)
+    → StepsWithTicket (record { held = h; slots = slots }) (record { held = h; slots = slots_joined slots slot r }) Unregistered (InSlot slot r m) (λ s name. registered s name r m) (Ok true)
 register_joined h slots slot r m fine waits room fresh = record {
   acts = λ ts name here b.
       let c : Core = record { held = h; slots = slots } in
@@ -74,7 +74,7 @@ cond_same false x y e = refl
 
 -- a ticket that was answered at once
 pub cancel_at_once : (h : Held) (close : Slots → Slots) (slots : Slots) (v : ℕ) (r : Request) (m : Bool) → Gathers h close
-    → Acts (record { held = h; slots = slots }) (record { held = h; slots = slots }) (AtOnce v r m) Unregistered dropping tt
+    → StepsWithTicket (record { held = h; slots = slots }) (record { held = h; slots = slots }) (AtOnce v r m) Unregistered dropping tt
 cancel_at_once h close slots v r m gathers = record {
   acts = λ ts name here b.
       let c : Core = record { held = h; slots = slots } in (
@@ -87,7 +87,7 @@ cancel_at_once h close slots v r m gathers = record {
 
 -- a ticket that was answered out of the line
 cancel_answered : (h : Held) (close : Slots → Slots) (slots : Slots) (slot v : ℕ) (r : Request) (m : Bool) → Gathers h close → IsSound slots → answer_in slots.answers slot ≡ Some v
-    → Acts (record { held = h; slots = slots }) (record { held = h; slots = slots_taken slots slot }) (InSlot slot r m) Unregistered dropping tt
+    → StepsWithTicket (record { held = h; slots = slots }) (record { held = h; slots = slots_taken slots slot }) (InSlot slot r m) Unregistered dropping tt
 cancel_answered h close slots slot v r m gathers sound there = record {
   acts = λ ts name here b.
       let c : Core = record { held = h; slots = slots } in (
@@ -100,7 +100,7 @@ cancel_answered h close slots slot v r m gathers sound there = record {
 
 -- a ticket that waits
 cancel_waiting : (h : Held) (close : Slots → Slots) (slots : Slots) (slot : ℕ) (r : Request) (m : Bool) → Gathers h close → IsSound slots → answer_in slots.answers slot ≡ None → 0 < times slot slots.line
-    → Acts (record { held = h; slots = slots }) (record { held = h; slots = close (slots_left slots slot) }) (InSlot slot r m) Unregistered dropping tt
+    → StepsWithTicket (record { held = h; slots = slots }) (record { held = h; slots = close (slots_left slots slot) }) (InSlot slot r m) Unregistered dropping tt
 cancel_waiting h close slots slot r m gathers sound none waits = record {
   acts = λ ts name here b.
       let c : Core = record { held = h; slots = slots } in
@@ -116,7 +116,7 @@ cancel_waiting h close slots slot r m gathers sound none waits = record {
 -- a ticket with a slot, by what is known of it
 cancel_in_slot_by : (h : Held) (close : Slots → Slots) (slots : Slots) (slot : ℕ) (r : Request) (m : Bool) (a : Option ℕ) (waits : Bool) → Gathers h close → IsSound slots
     → answer_in slots.answers slot ≡ a → nat_lt 0 (times slot slots.line) ≡ waits
-    → Acts (record { held = h; slots = slots }) (record { held = h; slots = vacated_by close slots slot a waits }) (InSlot slot r m) Unregistered dropping tt
+    → StepsWithTicket (record { held = h; slots = slots }) (record { held = h; slots = vacated_by close slots slot a waits }) (InSlot slot r m) Unregistered dropping tt
 cancel_in_slot_by h close slots slot r m (Some v) waits gathers sound there line = cancel_answered h close slots slot v r m gathers sound there
 cancel_in_slot_by h close slots slot r m None true gathers sound there line =
     let some : 0 < times slot slots.line = grind (arith, nat_tests) in
@@ -128,7 +128,7 @@ cancel_in_slot_by h close slots slot r m None false gathers sound there line =
 
 -- a ticket with a slot: by the answer of the slot, and whether it waits
 pub cancel_in_slot : (h : Held) (close : Slots → Slots) (slots : Slots) (slot : ℕ) (r : Request) (m : Bool) → Gathers h close → IsSound slots
-    → Acts (record { held = h; slots = slots }) (record { held = h; slots = vacated close slots slot }) (InSlot slot r m) Unregistered dropping tt
+    → StepsWithTicket (record { held = h; slots = slots }) (record { held = h; slots = vacated close slots slot }) (InSlot slot r m) Unregistered dropping tt
 cancel_in_slot h close slots slot r m gathers sound =
     cancel_in_slot_by h close slots slot r m (answer_in slots.answers slot) (nat_lt 0 (times slot slots.line)) gathers sound refl refl
 
@@ -140,6 +140,6 @@ length-left false old new slot left same = omega (arith, ap (λ (s : Slots). len
 
 -- and nobody is answered by that, nor owed a wake
 pub left-unanswered : (waited : Bool) (old new : Slots) (slot : ℕ) → OnTrue waited (new ≡ record old { line = without slot old.line }) → OnFalse waited (new ≡ old)
-    → (old.answers ≡ new.answers) × (old.owed ≡ new.owed)
-left-unanswered true old new slot left same = (sym (ap (λ (s : Slots). s.answers) left), sym (ap (λ (s : Slots). s.owed) left))
-left-unanswered false old new slot left same = (sym (ap (λ (s : Slots). s.answers) same), sym (ap (λ (s : Slots). s.owed) same))
+    → (old.answers ≡ new.answers) × (old.pending_wakes ≡ new.pending_wakes)
+left-unanswered true old new slot left same = (sym (ap (λ (s : Slots). s.answers) left), sym (ap (λ (s : Slots). s.pending_wakes) left))
+left-unanswered false old new slot left same = (sym (ap (λ (s : Slots). s.answers) same), sym (ap (λ (s : Slots). s.pending_wakes) same))

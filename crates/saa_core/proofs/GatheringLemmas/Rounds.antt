@@ -14,7 +14,7 @@ use Rattle.saa_core_spec.proofs.Counts.{number_same, number_other}
 use Rattle.saa_core.specs.Slots.{Slots, all_slots_answered, IsSound}
 use Rattle.saa_core.specs.declared.ticket.Registration.{Registration}
 use Rattle.saa_core.specs.declared.ticket.Registration.TheVariants.{Unregistered, AtOnce}
-use Rattle.saa_core.specs.Tickets.{Core, Acts, Calls, object_of, named}
+use Rattle.saa_core.specs.Tickets.{Core, StepsWithTicket, Calls, object_of, named}
 use Rattle.saa_core.proofs.TicketLemmas.Naming.{length-named}
 use Rattle.saa_core.proofs.TicketLemmas.Polls.{after}
 use Rattle.saa_core.proofs.GatheringLemmas.Gathering.{Gathers, register_answered}
@@ -26,7 +26,7 @@ last-named size slots ts = ap (λ n. n + 1 == size) (length-named ts slots.line)
 
 -- the last arrival of a round lets all waiters pass, and is the leader
 pub arrive_last : (size : ℕ) (slots : Slots) (m : Bool) → IsSound slots → length slots.line + 1 ≡ size
-    → Acts (record { held = OfBarrier size; slots = slots }) (record { held = OfBarrier size; slots = all_slots_answered passed_value slots })
+    → StepsWithTicket (record { held = OfBarrier size; slots = slots }) (record { held = OfBarrier size; slots = all_slots_answered passed_value slots })
     Unregistered (AtOnce leader_value Arrive m) (λ s name. registered s name Arrive m) (Ok true)
 arrive_last size slots m sound last =
     let c : Core = record { held = OfBarrier size; slots = slots } in

@@ -13,7 +13,7 @@ use Rattle.saa_core_spec.specs.Values.{poisoned_value}
 use Rattle.saa_core.proofs.TicketLemmas.Answering.{all_calls}
 use Rattle.saa_core_spec.specs.Polling.{given_back, given_back_of, is_for_nothing, left_of, undone_of}
 use Rattle.saa_core.specs.Slots.{Slots, answer_in, held_slots, held_times, room_of, IsSound, all_slots_answered}
-use Rattle.saa_core.specs.Tickets.{Core, Acts, Calls, Belong, object_of, slot_entry, slotted_count, named, entries, dropping}
+use Rattle.saa_core.specs.Tickets.{Core, StepsWithTicket, Calls, Belong, object_of, slot_entry, slotted_count, named, entries, dropping}
 use Rattle.saa_core.specs.CoreParts.{core_granted, core_settled, core_given, core_given_of, core_undone, core_vacated, core_vacated_by, takes_now, IsGranting, answer_to_all}
 use Rattle.saa_core.proofs.TicketLemmas.Naming.{entry-at}
 use Rattle.saa_core.proofs.TicketLemmas.Steps.{own-object, own-belong, slots_joined, join-object, join-belong, slots_taken, take-object, take-belong, slots_left, leave-object, leave-belong, used-object, front-object, front-belong}
@@ -42,9 +42,9 @@ pub settled-belong : (c : Core) (ts : List Registration) → IsSound c.slots →
 unfolding core_settled
 settled-belong c ts sound b = front-belong 0 (fitting_front c.held c.slots.line) c.slots ts sound b
 
--- a core that stands settled is an object that does
-pub stands-object : (c : Core) (ts : List Registration) → fitting_front c.held c.slots.line ≡ 0 → fitting_front c.held (named ts c.slots.line) ≡ 0
-stands-object c ts none = fitting_front-named ts c.held c.slots.line ∙ none
+-- a core that is settled is an object that is
+pub IsCoreSettled-object : (c : Core) (ts : List Registration) → fitting_front c.held c.slots.line ≡ 0 → fitting_front c.held (named ts c.slots.line) ≡ 0
+IsCoreSettled-object c ts none = fitting_front-named ts c.held c.slots.line ∙ none
 
 -- Asking
 
@@ -84,7 +84,7 @@ grants (OfBarrier size) is = absurd is
 
 -- a registration that is answered as everybody is
 pub register_answered : (h : Held) (slots : Slots) (v : ℕ) (r : Request) (m : Bool) → Grants h → asks_too_much h r ≡ false → answer_to_all h ≡ Some v
-    → Acts (record { held = h; slots = slots }) (record { held = h; slots = slots }) Unregistered (AtOnce v r m) (λ s name. registered s name r m) (Ok true)
+    → StepsWithTicket (record { held = h; slots = slots }) (record { held = h; slots = slots }) Unregistered (AtOnce v r m) (λ s name. registered s name r m) (Ok true)
 register_answered h slots v r m grants fine all = record {
   acts = λ ts name here b.
       let c : Core = record { held = h; slots = slots } in
@@ -98,7 +98,7 @@ register_answered h slots v r m grants fine all = record {
 
 -- a registration that is granted at once
 pub register_granted : (h : Held) (slots : Slots) (r : Request) (m : Bool) → Grants h → asks_too_much h r ≡ false → answer_to_all h ≡ None → takes_now (record { held = h; slots = slots }) r ≡ true
-    → Acts (record { held = h; slots = slots }) (record { held = plus h r; slots = slots }) Unregistered (AtOnce 0 r m) (λ s name. registered s name r m) (Ok true)
+    → StepsWithTicket (record { held = h; slots = slots }) (record { held = plus h r; slots = slots }) Unregistered (AtOnce 0 r m) (λ s name. registered s name r m) (Ok true)
 register_granted h slots r m grants fine some takes = record {
   acts = λ ts name here b.
       let c : Core = record { held = h; slots = slots } in
@@ -118,7 +118,7 @@ no_answer_at_once c ts r grants some waits =
 
 -- a registration that must wait, and finds the room full
 pub register_full : (c : Core) (r : Request) (m : Bool) → Grants c.held → asks_too_much c.held r ≡ false → answer_to_all c.held ≡ None → takes_now c r ≡ false → held_slots c.slots ≡ room_of c.slots
-    → Acts c c Unregistered Unregistered (λ s name. registered s name r m) (Err (record {}))
+    → StepsWithTicket c c Unregistered Unregistered (λ s name. registered s name r m) (Err (record {}))
 register_full c r m grants fine some waits full = acts_unchanged c Unregistered _ _ (λ ts name here b.
     registered-by (object_of c ts) name r m false None true (idle_asks c ts name r here fine) (no_answer_at_once c ts r grants some waits)
     (ap (λ n. n == room_of c.slots) (used-object c ts b ∙ full) ∙ number_same (room_of c.slots)))
@@ -126,7 +126,7 @@ register_full c r m grants fine some waits full = acts_unchanged c Unregistered 
 -- a registration that waits
 pub register_joined : (h : Held) (slots : Slots) (slot : ℕ) (r : Request) (m : Bool) → Grants h → asks_too_much h r ≡ false → answer_to_all h ≡ None → takes_now (record { held = h; slots = slots }) r ≡ false
     → (held_slots slots ≡ room_of slots → ⊥) → held_times slots slot ≡ 0
-    → Acts (record { held = h; slots = slots }) (record { held = h; slots = slots_joined slots slot r }) Unregistered (InSlot slot r m) (λ s name. registered s name r m) (Ok true)
+    → StepsWithTicket (record { held = h; slots = slots }) (record { held = h; slots = slots_joined slots slot r }) Unregistered (InSlot slot r m) (λ s name. registered s name r m) (Ok true)
 register_joined h slots slot r m grants fine some waits room fresh = record {
   acts = λ ts name here b.
       let c : Core = record { held = h; slots = slots } in
@@ -245,7 +245,7 @@ undone-belong c ts v r sound b =
 
 -- a ticket that was answered at once
 pub cancel_at_once : (h : Held) (slots : Slots) (v : ℕ) (r : Request) (m : Bool) → Grants h → IsSound slots
-    → Acts (record { held = h; slots = slots }) (core_undone (record { held = h; slots = slots }) v r) (AtOnce v r m) Unregistered dropping tt
+    → StepsWithTicket (record { held = h; slots = slots }) (core_undone (record { held = h; slots = slots }) v r) (AtOnce v r m) Unregistered dropping tt
 cancel_at_once h slots v r m grants sound = record {
   acts = λ ts name here b.
       let c : Core = record { held = h; slots = slots } in
@@ -258,7 +258,7 @@ cancel_at_once h slots v r m grants sound = record {
 
 -- a ticket that was answered out of the line
 pub cancel_answered : (h : Held) (slots : Slots) (slot v : ℕ) (r : Request) (m : Bool) → Grants h → IsSound slots → IsSound (slots_taken slots slot) → answer_in slots.answers slot ≡ Some v
-    → Acts (record { held = h; slots = slots }) (core_undone (record { held = h; slots = slots_taken slots slot }) v r) (InSlot slot r m) Unregistered dropping tt
+    → StepsWithTicket (record { held = h; slots = slots }) (core_undone (record { held = h; slots = slots_taken slots slot }) v r) (InSlot slot r m) Unregistered dropping tt
 cancel_answered h slots slot v r m grants sound after_sound there = record {
   acts = λ ts name here b.
       let c : Core = record { held = h; slots = slots } in
@@ -272,7 +272,7 @@ cancel_answered h slots slot v r m grants sound after_sound there = record {
 
 -- a ticket that waits
 pub cancel_waiting : (h : Held) (slots : Slots) (slot : ℕ) (r : Request) (m : Bool) → Grants h → IsSound slots → IsSound (slots_left slots slot) → answer_in slots.answers slot ≡ None → 0 < times slot slots.line
-    → Acts (record { held = h; slots = slots }) (core_settled (record { held = h; slots = slots_left slots slot })) (InSlot slot r m) Unregistered dropping tt
+    → StepsWithTicket (record { held = h; slots = slots }) (core_settled (record { held = h; slots = slots_left slots slot })) (InSlot slot r m) Unregistered dropping tt
 cancel_waiting h slots slot r m grants sound after_sound none waits = record {
   acts = λ ts name here b.
       let c : Core = record { held = h; slots = slots } in
@@ -288,7 +288,7 @@ cancel_waiting h slots slot r m grants sound after_sound none waits = record {
 
 -- a ticket with a slot, by what is known of it
 cancel_in_slot_by : (h : Held) (slots : Slots) (slot : ℕ) (r : Request) (m : Bool) (a : Option ℕ) (waits : Bool) → Grants h → IsSound slots → answer_in slots.answers slot ≡ a → nat_lt 0 (times slot slots.line) ≡ waits
-    → Acts (record { held = h; slots = slots }) (core_vacated_by (record { held = h; slots = slots }) slot r a waits) (InSlot slot r m) Unregistered dropping tt
+    → StepsWithTicket (record { held = h; slots = slots }) (core_vacated_by (record { held = h; slots = slots }) slot r a waits) (InSlot slot r m) Unregistered dropping tt
 cancel_in_slot_by h slots slot r m (Some v) waits grants sound there line = cancel_answered h slots slot v r m grants sound (taken-sound slots slot v sound there) there
 cancel_in_slot_by h slots slot r m None true grants sound there line =
     let some : 0 < times slot slots.line = grind (arith, nat_tests) in
@@ -300,5 +300,5 @@ cancel_in_slot_by h slots slot r m None false grants sound there line =
 
 -- a ticket with a slot: by the answer of the slot, and whether it waits. The slots that remain are sound
 pub cancel_in_slot : (h : Held) (slots : Slots) (slot : ℕ) (r : Request) (m : Bool) → Grants h → IsSound slots
-    → Acts (record { held = h; slots = slots }) (core_vacated (record { held = h; slots = slots }) slot r) (InSlot slot r m) Unregistered dropping tt
+    → StepsWithTicket (record { held = h; slots = slots }) (core_vacated (record { held = h; slots = slots }) slot r) (InSlot slot r m) Unregistered dropping tt
 cancel_in_slot h slots slot r m grants sound = cancel_in_slot_by h slots slot r m (answer_in slots.answers slot) (nat_lt 0 (times slot slots.line)) grants sound refl refl

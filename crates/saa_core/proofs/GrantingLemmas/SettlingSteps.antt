@@ -4,7 +4,7 @@ use Rattle.saa_core_spec.specs.declared.request.Request.{Request}
 use Rattle.saa_core_spec.specs.Held.{Held, OfLock, Poisoned, fits, plus, less}
 use Rattle.saa_core_spec.specs.Object.{Waiter, is_nobody}
 use Rattle.saa_core_spec.specs.Settling.{fitting_front}
-use Rattle.saa_core.specs.Slots.{Slots, owing, slots_answered}
+use Rattle.saa_core.specs.Slots.{Slots, pending_with, slots_answered}
 use Rattle.saa_core.specs.Tickets.{IsCoreSettled, Core}
 use Rattle.saa_core.specs.CoreParts.{core_granted, core_settled, oldest_fitting}
 use Rattle.saa_core_spec.proofs.Counts.{bool_cases}
@@ -17,12 +17,12 @@ unfolding core_settled
 settled-none c none = ap (λ k. core_granted k c) none
 
 -- granting the oldest waiter is the first grant of settling
-pub settled-first : (h : Held) (w : Waiter) (ws : List Waiter) (answers : List (Option ℕ)) (owed : List ℕ) → fits h w.1 ≡ true
-    → core_settled (record { held = plus h w.1; slots = record { line = ws; answers = slice_set answers w.0 (Some 0); owed = owing w.0 owed } })
-    ≡ core_settled (record { held = h; slots = record { line = w ∷ ws; answers = answers; owed = owed } })
+pub settled-first : (h : Held) (w : Waiter) (ws : List Waiter) (answers : List (Option ℕ)) (pending_wakes : List ℕ) → fits h w.1 ≡ true
+    → core_settled (record { held = plus h w.1; slots = record { line = ws; answers = slice_set answers w.0 (Some 0); pending_wakes = pending_with w.0 pending_wakes } })
+    ≡ core_settled (record { held = h; slots = record { line = w ∷ ws; answers = answers; pending_wakes = pending_wakes } })
 unfolding core_settled
-settled-first h w ws answers owed e =
-    sym (ap (λ k. core_granted k (record { held = h; slots = record { line = w ∷ ws; answers = answers; owed = owed } }))
+settled-first h w ws answers pending_wakes e =
+    sym (ap (λ k. core_granted k (record { held = h; slots = record { line = w ∷ ws; answers = answers; pending_wakes = pending_wakes } }))
     (fitting_front-fits h w ws e))
 
 -- a core that settled is settled
@@ -56,17 +56,17 @@ settle-stop h (w ∷ ws) none =
     ]
 
 -- one grant, by the line
-settle-grant_by : (h : Held) (line : List Waiter) (answers : List (Option ℕ)) (owed : List ℕ) (r : Request) → oldest_fitting h line ≡ Some r
-    → core_settled (record { held = plus h r; slots = slots_answered 0 1 (record { line = line; answers = answers; owed = owed }) })
-    ≡ core_settled (record { held = h; slots = record { line = line; answers = answers; owed = owed } })
-settle-grant_by h [] answers owed r found = cc
-settle-grant_by h (w ∷ ws) answers owed r found =
+settle-grant_by : (h : Held) (line : List Waiter) (answers : List (Option ℕ)) (pending_wakes : List ℕ) (r : Request) → oldest_fitting h line ≡ Some r
+    → core_settled (record { held = plus h r; slots = slots_answered 0 1 (record { line = line; answers = answers; pending_wakes = pending_wakes }) })
+    ≡ core_settled (record { held = h; slots = record { line = line; answers = answers; pending_wakes = pending_wakes } })
+settle-grant_by h [] answers pending_wakes r found = cc
+settle-grant_by h (w ∷ ws) answers pending_wakes r found =
     elim (bool_cases (fits h w.1)) [
       | inl e ↦
           let same : ◌≡◌ {A = Option Request} (Some w.1) (Some r) = sym (ap (λ b. cond b (Some w.1) None) e) ∙ found in
           let request : r ≡ w.1 = cc in
-          ap (λ q. core_settled (record { held = plus h q; slots = record { line = ws; answers = slice_set answers w.0 (Some 0); owed = owing w.0 owed } })) request
-          ∙ settled-first h w ws answers owed e
+          ap (λ q. core_settled (record { held = plus h q; slots = record { line = ws; answers = slice_set answers w.0 (Some 0); pending_wakes = pending_with w.0 pending_wakes } })) request
+          ∙ settled-first h w ws answers pending_wakes e
       | inr e ↦
           let none : ◌≡◌ {A = Option Request} None (Some r) = sym (ap (λ b. cond b (Some w.1) None) e) ∙ found in
           absurd (cc)
@@ -75,7 +75,7 @@ settle-grant_by h (w ∷ ws) answers owed r found =
 -- one grant
 pub settle-grant : (h : Held) (slots : Slots) (r : Request) → oldest_fitting h slots.line ≡ Some r
     → core_settled (record { held = plus h r; slots = slots_answered 0 1 slots }) ≡ core_settled (record { held = h; slots = slots })
-settle-grant h slots r found = settle-grant_by h slots.line slots.answers slots.owed r found
+settle-grant h slots r found = settle-grant_by h slots.line slots.answers slots.pending_wakes r found
 
 -- one grant less is left to do
 pub settle-less : (line : List Waiter) → 0 < length line → length (drop 1 line) < length line

@@ -7,48 +7,48 @@ use Rattle.saa_core_spec.specs.Object.{times, without}
 use Rattle.saa_core_spec.specs.Settling.{fitting_front}
 use Rattle.saa_core_spec.specs.Polling.{is_for_nothing}
 use Rattle.saa_core_spec.specs.Values.{granted_value}
-use Rattle.saa_core.specs.Slots.{answer_in, IsSound, OwesAnswered}
+use Rattle.saa_core.specs.Slots.{answer_in, IsSound, WakesAnswered}
 use Rattle.saa_core.specs.Tickets.{Core}
 use Rattle.saa_core.proofs.TicketLemmas.Steps.{slots_taken}
-use Rattle.saa_core.proofs.TicketLemmas.Waking.{owes-same, owes-front, owes-taken, owes-left_front, sound-taken}
+use Rattle.saa_core.proofs.TicketLemmas.Waking.{wakes-same, wakes-front, wakes-taken, wakes-left_front, sound-taken}
 use Rattle.saa_core.specs.CoreParts.{core_settled, core_given, core_given_of, core_undone, core_vacated, core_vacated_by}
 use Rattle.saa_core_spec.proofs.Counts.{bool_cases}
 
 -- settling owes a wake to each waiter that it grants
-pub owes-settled : (c : Core) → IsSound c.slots → OwesAnswered c.slots (core_settled c).slots
+pub wakes-settled : (c : Core) → IsSound c.slots → WakesAnswered c.slots (core_settled c).slots
 unfolding core_settled
-owes-settled c sound = owes-front 0 (fitting_front c.held c.slots.line) c.slots sound
+wakes-settled c sound = wakes-front 0 (fitting_front c.held c.slots.line) c.slots sound
 
 -- and so does settling behind a slot that left
-pub owes-settled_left : (c : Core) (slot : ℕ) → IsSound c.slots → 0 < times slot c.slots.line
-    → OwesAnswered c.slots (core_settled (record c { slots = record c.slots { line = without slot c.slots.line } })).slots
+pub wakes-settled_left : (c : Core) (slot : ℕ) → IsSound c.slots → 0 < times slot c.slots.line
+    → WakesAnswered c.slots (core_settled (record c { slots = record c.slots { line = without slot c.slots.line } })).slots
 unfolding core_settled
-owes-settled_left c slot sound waits = owes-left_front 0 (fitting_front c.held (without slot c.slots.line)) c.slots slot sound waits
+wakes-settled_left c slot sound waits = wakes-left_front 0 (fitting_front c.held (without slot c.slots.line)) c.slots slot sound waits
 
 -- giving back owes a wake to each waiter that it grants
-owes-given_of : (c : Core) (nothing : Bool) (rest : Option Held) → IsSound c.slots → OwesAnswered c.slots (core_given_of c nothing rest).slots
-owes-given_of c true rest sound = owes-same c.slots sound
-owes-given_of c false (Some rest) sound = owes-settled (record c { held = rest }) sound
-owes-given_of c false None sound = owes-same c.slots sound
+wakes-given_of : (c : Core) (nothing : Bool) (rest : Option Held) → IsSound c.slots → WakesAnswered c.slots (core_given_of c nothing rest).slots
+wakes-given_of c true rest sound = wakes-same c.slots sound
+wakes-given_of c false (Some rest) sound = wakes-settled (record c { held = rest }) sound
+wakes-given_of c false None sound = wakes-same c.slots sound
 
-pub owes-given : (c : Core) (r : Request) → IsSound c.slots → OwesAnswered c.slots (core_given c r).slots
-owes-given c r sound = owes-given_of c (is_for_nothing r) (less c.held r) sound
+pub wakes-given : (c : Core) (r : Request) → IsSound c.slots → WakesAnswered c.slots (core_given c r).slots
+wakes-given c r sound = wakes-given_of c (is_for_nothing r) (less c.held r) sound
 
 -- and so does undoing an answer
-pub owes-undone : (c : Core) (v : ℕ) (r : Request) → IsSound c.slots → OwesAnswered c.slots (core_undone c v r).slots
-owes-undone c v r sound =
+pub wakes-undone : (c : Core) (v : ℕ) (r : Request) → IsSound c.slots → WakesAnswered c.slots (core_undone c v r).slots
+wakes-undone c v r sound =
     elim (bool_cases (v == granted_value)) [
-      | inl e ↦ rw e (owes-given c r sound)
-      | inr e ↦ rw e (owes-same c.slots sound)
+      | inl e ↦ rw e (wakes-given c r sound)
+      | inr e ↦ rw e (wakes-same c.slots sound)
     ]
 
 -- a slot that is freed owes a wake to each waiter that this grants
-owes-vacated_by : (c : Core) (slot : ℕ) (r : Request) (answer : Option ℕ) (waits : Bool) → IsSound c.slots
-    → answer_in c.slots.answers slot ≡ answer → nat_lt 0 (times slot c.slots.line) ≡ waits → OwesAnswered c.slots (core_vacated_by c slot r answer waits).slots
-owes-vacated_by c slot r (Some v) waits sound there is =
-    owes-taken c.slots _ slot (owes-undone (record c { slots = slots_taken c.slots slot }) v r (sound-taken c.slots slot v sound there))
-owes-vacated_by c slot r None true sound there is = owes-settled_left c slot sound (grind (arith, nat_tests))
-owes-vacated_by c slot r None false sound there is = owes-same c.slots sound
+wakes-vacated_by : (c : Core) (slot : ℕ) (r : Request) (answer : Option ℕ) (waits : Bool) → IsSound c.slots
+    → answer_in c.slots.answers slot ≡ answer → nat_lt 0 (times slot c.slots.line) ≡ waits → WakesAnswered c.slots (core_vacated_by c slot r answer waits).slots
+wakes-vacated_by c slot r (Some v) waits sound there is =
+    wakes-taken c.slots _ slot (wakes-undone (record c { slots = slots_taken c.slots slot }) v r (sound-taken c.slots slot v sound there))
+wakes-vacated_by c slot r None true sound there is = wakes-settled_left c slot sound (grind (arith, nat_tests))
+wakes-vacated_by c slot r None false sound there is = wakes-same c.slots sound
 
-pub owes-vacated : (c : Core) (slot : ℕ) (r : Request) → IsSound c.slots → OwesAnswered c.slots (core_vacated c slot r).slots
-owes-vacated c slot r sound = owes-vacated_by c slot r (answer_in c.slots.answers slot) (nat_lt 0 (times slot c.slots.line)) sound refl refl
+pub wakes-vacated : (c : Core) (slot : ℕ) (r : Request) → IsSound c.slots → WakesAnswered c.slots (core_vacated c slot r).slots
+wakes-vacated c slot r sound = wakes-vacated_by c slot r (answer_in c.slots.answers slot) (nat_lt 0 (times slot c.slots.line)) sound refl refl

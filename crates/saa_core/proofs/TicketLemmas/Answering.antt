@@ -4,7 +4,7 @@ use Rattle.std.proofs.Math.Seq.{take-length, drop-length}
 use Rattle.saa_core_spec.specs.Held.{Held}
 use Rattle.saa_core_spec.specs.Object.{Object, Waiter}
 use Rattle.saa_core_spec.specs.Settling.{all_answered, answered_in}
-use Rattle.saa_core.specs.Slots.{Slots, answered_slots, owed_after, slots_answered, all_slots_answered, IsSound}
+use Rattle.saa_core.specs.Slots.{Slots, answered_slots, pending_after, slots_answered, all_slots_answered, IsSound}
 use Rattle.saa_core.specs.declared.ticket.Registration.{Registration}
 use Rattle.saa_core.specs.Tickets.{Calls, Belong, object_of, named}
 use Rattle.saa_core.proofs.TicketLemmas.Naming.{length-named}
@@ -14,8 +14,8 @@ use Rattle.saa_core.proofs.TicketLemmas.Polls.{after}
 -- to answer as many as wait is to answer all
 pub all_answered-front : (v : ℕ) (slots : Slots) → slots_answered v (length slots.line) slots ≡ all_slots_answered v slots
 all_answered-front v slots =
-    ap (λ (l : List Waiter). record { line = drop (length slots.line) slots.line; answers = answered_slots v l slots.answers; owed = owed_after l slots.owed }) (take-length slots.line)
-    ∙ ap (λ (l : List Waiter). record { line = l; answers = answered_slots v slots.line slots.answers; owed = owed_after slots.line slots.owed }) (drop-length slots.line)
+    ap (λ (l : List Waiter). record { line = drop (length slots.line) slots.line; answers = answered_slots v l slots.answers; pending_wakes = pending_after l slots.pending_wakes }) (take-length slots.line)
+    ∙ ap (λ (l : List Waiter). record { line = l; answers = answered_slots v slots.line slots.answers; pending_wakes = pending_after slots.line slots.pending_wakes }) (drop-length slots.line)
 
 -- answering all of a core is answering all of the object
 pub all-object : (h : Held) (v : ℕ) (slots : Slots) (ts : List Registration) → IsSound slots → Belong slots ts

@@ -2,7 +2,7 @@
 use Rattle.std.proofs.Common.{◌≡◌, ℕ, suc, zero, List, [], ◌∷◌, slice_set, refl, ap, subst, ◌∙◌}
 use Rattle.saa_core.specs.declared.ticket.Registration.{Registration}
 use Rattle.saa_core_spec.specs.Object.{Object, After}
-use Rattle.saa_core.specs.Tickets.{Core, Acts, Belong, object_of}
+use Rattle.saa_core.specs.Tickets.{Core, StepsWithTicket, Belong, object_of}
 use Rattle.saa_core.proofs.TicketLemmas.Steps.{slice_get-set}
 use Rattle.saa_core.proofs.TicketLemmas.Polls.{after}
 
@@ -15,7 +15,7 @@ slice_set-set (x ∷ ts) (suc name) first second = ap (λ us. x ∷ us) (slice_s
 -- a call is also each step that leads where its own leads
 pub then : {A B : Type 0} (old new : Core) (t0 t1 : Registration) (step : Object → ℕ → After A) (whole : Object → ℕ → After B) (a : A) (b : B)
     → ((s next : Object) (name : ℕ) → step s name ≡ after a next → whole s name ≡ after b next)
-    → Acts old new t0 t1 step a → Acts old new t0 t1 whole b
+    → StepsWithTicket old new t0 t1 step a → StepsWithTicket old new t0 t1 whole b
 then old new t0 t1 step whole a b leads call = record {
   acts = λ ts name here belong.
       let done = call.acts ts name here belong in
@@ -25,7 +25,7 @@ then old new t0 t1 step whole a b leads call = record {
 -- two calls with one ticket are each step that goes on, where the first leads, as the second does
 pub follow : {A B : Type 0} (old mid new : Core) (t0 t1 t2 : Registration) (first : Object → ℕ → After A) (second whole : Object → ℕ → After B) (a : A) (b : B)
     → ((s next : Object) (name : ℕ) → first s name ≡ after a next → whole s name ≡ second next name)
-    → Acts old mid t0 t1 first a → Acts mid new t1 t2 second b → Acts old new t0 t2 whole b
+    → StepsWithTicket old mid t0 t1 first a → StepsWithTicket mid new t1 t2 second b → StepsWithTicket old new t0 t2 whole b
 follow old mid new t0 t1 t2 first second whole a b leads call later = record {
   acts = λ ts name here belong.
       let one = call.acts ts name here belong in

@@ -7,9 +7,9 @@ use Rattle.saa_core.specs.declared.ticket.Registration.TheVariants.{Unregistered
 use Rattle.saa_core_spec.specs.Asking.{registered, registered_of, answer_at_once, is_idle}
 use Rattle.saa_core_spec.specs.Held.{asks_too_much}
 use Rattle.saa_core_spec.specs.Object.{Object, After, Entry, Idle, Waiting, Answered, entry_at, used}
-use Rattle.saa_core.specs.Slots.{Slots, OwesAnswered, answer_in}
-use Rattle.saa_core.specs.Tickets.{Core, Acts, Belong, entry_of, slot_entry, is_yes, object_of}
-use Rattle.saa_core.specs.Beginning.{BeginOwes, alone, mode_of}
+use Rattle.saa_core.specs.Slots.{Slots, WakesAnswered, answer_in}
+use Rattle.saa_core.specs.Tickets.{Core, StepsWithTicket, Belong, entry_of, slot_entry, is_yes, object_of}
+use Rattle.saa_core.specs.Beginning.{BeginWakes, alone, mode_of}
 
 -- an entry's mode; an idle one has none
 abbrev pub entry_mode : Entry → Option Bool
@@ -53,7 +53,7 @@ idle-belongs slots = record {
 
 -- a call with an idle ticket answers what its step of the core with that ticket alone does
 pub reply-alone : {A : Type 0} (old new : Core) (ticket : Registration) (step : Object → ℕ → After A) (reply : A)
-    → Acts old new Unregistered ticket step reply → reply ≡ (step (alone old) 0).reply
+    → StepsWithTicket old new Unregistered ticket step reply → reply ≡ (step (alone old) 0).reply
 reply-alone old new ticket step reply call =
     sym (ap (λ a. a.reply) (call.acts (Unregistered ∷ []) 0 refl (idle-belongs old.slots)).0)
 
@@ -66,7 +66,7 @@ never-false s request is_sync None false = refl
 
 -- an idle ticket that asks for no more than there ever is is registered, or finds the room full
 pub registered-or-full : (old new : Core) (ticket : Registration) (request : Request) (is_sync : Bool) (reply : Result Bool Full) → asks_too_much old.held request ≡ false
-    → Acts old new Unregistered ticket (λ s name. registered s name request is_sync) reply → IfOk reply (λ is_registered. is_registered ≡ true)
+    → StepsWithTicket old new Unregistered ticket (λ s name. registered s name request is_sync) reply → IfOk reply (λ is_registered. is_registered ≡ true)
 registered-or-full old new ticket request is_sync reply small call =
     let same : reply ≡ (registered_of (alone old) 0 request is_sync false (answer_at_once (alone old) request) (used (alone old) == (alone old).room)).reply =
     reply-alone old new ticket (λ s name. registered s name request is_sync) reply call
@@ -75,7 +75,7 @@ registered-or-full old new ticket request is_sync reply small call =
     (never-false (alone old) request is_sync (answer_at_once (alone old) request) (used (alone old) == (alone old).room))
 
 yes-mode : (old new : Core) (ticket : Registration) (request : Request) (is_sync : Bool)
-    → Acts old new Unregistered ticket (λ s name. registered s name request is_sync) (Ok true) → mode_of ticket ≡ Some is_sync
+    → StepsWithTicket old new Unregistered ticket (λ s name. registered s name request is_sync) (Ok true) → mode_of ticket ≡ Some is_sync
 yes-mode old new ticket request is_sync call =
     sym (entry-mode new.slots.answers ticket)
     ∙ registered-entry (alone old) request is_sync (not (is_idle (entry_at (alone old).book 0)) || asks_too_much old.held request) (answer_at_once (alone old) request) (used (alone old) == (alone old).room) (object_of new (ticket ∷ [])) (entry_of new.slots.answers ticket)
@@ -83,30 +83,30 @@ yes-mode old new ticket request is_sync call =
 
 -- an idle ticket that was registered has the mode that was asked for
 pub registered-mode : (old new : Core) (ticket : Registration) (request : Request) (is_sync : Bool) (reply : Result Bool Full) → is_yes reply ≡ true
-    → Acts old new Unregistered ticket (λ s name. registered s name request is_sync) reply → mode_of ticket ≡ Some is_sync
+    → StepsWithTicket old new Unregistered ticket (λ s name. registered s name request is_sync) reply → mode_of ticket ≡ Some is_sync
 registered-mode old new ticket request is_sync (Ok true) is call = yes-mode old new ticket request is_sync call
 registered-mode old new ticket request is_sync (Ok false) is call = cc
 registered-mode old new ticket request is_sync (Err full) is call = cc
 
 -- what a registration owes that isn't polled
 pub registers-owes : (old new : Core) (ticket ticket_new : Registration) (request : Request) (is_sync : Bool) (answer : Result Bool Full)
-    → Acts old new ticket ticket_new (λ s name. registered s name request is_sync) answer → OwesAnswered old.slots new.slots → BeginOwes old new ticket request is_sync answer
+    → StepsWithTicket old new ticket ticket_new (λ s name. registered s name request is_sync) answer → WakesAnswered old.slots new.slots → BeginWakes old new ticket request is_sync answer
 registers-owes old new ticket ticket_new request is_sync answer call owes = record {
   between = new;
   ticket_between = ticket_new;
   registration = call;
   wakes = owes;
-  owed = refl;
+  pending_wakes = refl;
 }
 
 -- what a registration that was answered true and then polled owes
-pub begin-owes : (old between new : Core) (ticket ticket_between : Registration) (request : Request) (is_sync answer : Bool) → answer ≡ true
-    → Acts old between ticket ticket_between (λ s name. registered s name request is_sync) (Ok answer) → OwesAnswered old.slots between.slots
-    → new.slots.owed ≡ between.slots.owed → BeginOwes old new ticket request is_sync (Ok true)
-begin-owes old between new ticket ticket_between request is_sync answer is call owes same = record {
+pub begin-wakes : (old between new : Core) (ticket ticket_between : Registration) (request : Request) (is_sync answer : Bool) → answer ≡ true
+    → StepsWithTicket old between ticket ticket_between (λ s name. registered s name request is_sync) (Ok answer) → WakesAnswered old.slots between.slots
+    → new.slots.pending_wakes ≡ between.slots.pending_wakes → BeginWakes old new ticket request is_sync (Ok true)
+begin-wakes old between new ticket ticket_between request is_sync answer is call owes same = record {
   between = between;
   ticket_between = ticket_between;
-  registration = subst (λ (b : Bool). Acts old between ticket ticket_between (λ s name. registered s name request is_sync) (Ok b)) is call;
+  registration = subst (λ (b : Bool). StepsWithTicket old between ticket ticket_between (λ s name. registered s name request is_sync) (Ok b)) is call;
   wakes = owes;
-  owed = same;
+  pending_wakes = same;
 }

@@ -9,7 +9,7 @@ use Rattle.saa_core_spec.specs.Held.{Held}
 use Rattle.saa_core_spec.specs.Object.{Object, After, Entry, Idle, Waiting, Answered, entry_at}
 use Rattle.saa_core_spec.specs.Polling.{is_right_mode, polled, polled_of, polled_in}
 use Rattle.saa_core.specs.Slots.{Slots, answer_in, held_times, IsSound}
-use Rattle.saa_core.specs.Tickets.{Core, Acts, Belong, object_of, slot_entry}
+use Rattle.saa_core.specs.Tickets.{Core, StepsWithTicket, Belong, object_of, slot_entry}
 use Rattle.saa_core.proofs.TicketLemmas.Naming.{entry-at, owner-here}
 use Rattle.saa_core.proofs.TicketLemmas.Steps.{own-object, own-belong, slots_taken, take-object, take-belong}
 use Rattle.saa_core_spec.proofs.Counts.{number_same}
@@ -25,7 +25,7 @@ abbrev pub after : {A : Type 0} → A → Object → After A
 after reply s = record { state = s; reply = reply }
 
 -- a step that leaves the object as it was acts so where core and ticket stay
-pub acts_unchanged : {A : Type 0} (c : Core) (t : Registration) (step : Object → ℕ → After A) (reply : A) → ((ts : List Registration) (name : ℕ) → slice_get ts name ≡ Some t → Belong c.slots ts → step (object_of c ts) name ≡ after reply (object_of c ts)) → Acts c c t t step reply
+pub acts_unchanged : {A : Type 0} (c : Core) (t : Registration) (step : Object → ℕ → After A) (reply : A) → ((ts : List Registration) (name : ℕ) → slice_get ts name ≡ Some t → Belong c.slots ts → step (object_of c ts) name ≡ after reply (object_of c ts)) → StepsWithTicket c c t t step reply
 acts_unchanged c t step reply same = record {
   acts = λ ts name here b.
       let back : slice_set ts name t ≡ ts = set_back ts name t here in
@@ -37,17 +37,17 @@ poll-by : (s : Object) (name : ℕ) (how : How) (e : Entry) → entry_at s.book 
 poll-by s name how e is = ap (polled_of s name how) is
 
 -- an idle ticket
-pub poll_idle : (how : How) (c : Core) → Acts c c Unregistered Unregistered (λ s name. polled s name how) (Err NotRegistered)
+pub poll_idle : (how : How) (c : Core) → StepsWithTicket c c Unregistered Unregistered (λ s name. polled s name how) (Err NotRegistered)
 poll_idle how c = acts_unchanged c Unregistered _ _ (λ ts name here b. poll-by (object_of c ts) name how Idle (entry-at c.slots.answers ts name Unregistered here))
 
 -- a ticket answered at once, polled in the wrong mode
-pub poll_wrong_at_once : (how : How) (c : Core) (v : ℕ) (r : Request) (m : Bool) → is_right_mode how m ≡ false → Acts c c (AtOnce v r m) (AtOnce v r m) (λ s name. polled s name how) (Err WrongMode)
+pub poll_wrong_at_once : (how : How) (c : Core) (v : ℕ) (r : Request) (m : Bool) → is_right_mode how m ≡ false → StepsWithTicket c c (AtOnce v r m) (AtOnce v r m) (λ s name. polled s name how) (Err WrongMode)
 poll_wrong_at_once how c v r m wrong = acts_unchanged c (AtOnce v r m) _ _ (λ ts name here b.
     poll-by (object_of c ts) name how (Answered v r m false) (entry-at c.slots.answers ts name (AtOnce v r m) here)
     ∙ ap (polled_in (object_of c ts) name (Answered v r m false)) wrong)
 
 -- a ticket answered at once
-pub poll_at_once : (how : How) (c : Core) (v : ℕ) (r : Request) (m : Bool) → is_right_mode how m ≡ true → Acts c c (AtOnce v r m) Unregistered (λ s name. polled s name how) (Ok v)
+pub poll_at_once : (how : How) (c : Core) (v : ℕ) (r : Request) (m : Bool) → is_right_mode how m ≡ true → StepsWithTicket c c (AtOnce v r m) Unregistered (λ s name. polled s name how) (Ok v)
 poll_at_once how c v r m right = record {
   acts = λ ts name here b. (
     poll-by (object_of c ts) name how (Answered v r m false) (entry-at c.slots.answers ts name (AtOnce v r m) here)
@@ -58,7 +58,7 @@ poll_at_once how c v r m right = record {
 }
 
 -- a ticket whose slot isn't held doesn't belong to the core
-pub poll_foreign : {A : Type 0} (c : Core) (slot : ℕ) (r : Request) (m : Bool) (new : Core) (t : Registration) (step : Object → ℕ → After A) (reply : A) → held_times c.slots slot ≡ 0 → Acts c new (InSlot slot r m) t step reply
+pub poll_foreign : {A : Type 0} (c : Core) (slot : ℕ) (r : Request) (m : Bool) (new : Core) (t : Registration) (step : Object → ℕ → After A) (reply : A) → held_times c.slots slot ≡ 0 → StepsWithTicket c new (InSlot slot r m) t step reply
 poll_foreign c slot r m new t step reply free = record {
   acts = λ ts name here b.
       absurd (omega (arith, owner-here ts name (InSlot slot r m) slot here (number_same slot), b.owned slot));
@@ -69,25 +69,25 @@ entry-slot : (c : Core) (ts : List Registration) (name slot : ℕ) (r : Request)
 entry-slot c ts name slot r m a here is = entry-at c.slots.answers ts name (InSlot slot r m) here ∙ ap (λ x. slot_entry x r m) is
 
 -- a ticket that waits, polled in the wrong mode
-pub poll_wrong_waiting : (how : How) (c : Core) (slot : ℕ) (r : Request) (m : Bool) → answer_in c.slots.answers slot ≡ None → is_right_mode how m ≡ false → Acts c c (InSlot slot r m) (InSlot slot r m) (λ s name. polled s name how) (Err WrongMode)
+pub poll_wrong_waiting : (how : How) (c : Core) (slot : ℕ) (r : Request) (m : Bool) → answer_in c.slots.answers slot ≡ None → is_right_mode how m ≡ false → StepsWithTicket c c (InSlot slot r m) (InSlot slot r m) (λ s name. polled s name how) (Err WrongMode)
 poll_wrong_waiting how c slot r m none wrong = acts_unchanged c (InSlot slot r m) _ _ (λ ts name here b.
     poll-by (object_of c ts) name how (Waiting r m) (entry-slot c ts name slot r m None here none)
     ∙ ap (polled_in (object_of c ts) name (Waiting r m)) wrong)
 
 -- a ticket that waits
-pub poll_waiting : (how : How) (c : Core) (slot : ℕ) (r : Request) (m : Bool) → answer_in c.slots.answers slot ≡ None → is_right_mode how m ≡ true → Acts c c (InSlot slot r m) (InSlot slot r m) (λ s name. polled s name how) (Err NotReady)
+pub poll_waiting : (how : How) (c : Core) (slot : ℕ) (r : Request) (m : Bool) → answer_in c.slots.answers slot ≡ None → is_right_mode how m ≡ true → StepsWithTicket c c (InSlot slot r m) (InSlot slot r m) (λ s name. polled s name how) (Err NotReady)
 poll_waiting how c slot r m none right = acts_unchanged c (InSlot slot r m) _ _ (λ ts name here b.
     poll-by (object_of c ts) name how (Waiting r m) (entry-slot c ts name slot r m None here none)
     ∙ ap (polled_in (object_of c ts) name (Waiting r m)) right)
 
 -- a ticket that was answered out of the line, polled in the wrong mode
-pub poll_wrong_answered : (how : How) (c : Core) (slot v : ℕ) (r : Request) (m : Bool) → answer_in c.slots.answers slot ≡ Some v → is_right_mode how m ≡ false → Acts c c (InSlot slot r m) (InSlot slot r m) (λ s name. polled s name how) (Err WrongMode)
+pub poll_wrong_answered : (how : How) (c : Core) (slot v : ℕ) (r : Request) (m : Bool) → answer_in c.slots.answers slot ≡ Some v → is_right_mode how m ≡ false → StepsWithTicket c c (InSlot slot r m) (InSlot slot r m) (λ s name. polled s name how) (Err WrongMode)
 poll_wrong_answered how c slot v r m some wrong = acts_unchanged c (InSlot slot r m) _ _ (λ ts name here b.
     poll-by (object_of c ts) name how (Answered v r m true) (entry-slot c ts name slot r m (Some v) here some)
     ∙ ap (polled_in (object_of c ts) name (Answered v r m true)) wrong)
 
 -- a ticket that was answered out of the line: its slot is free again
-pub poll_answered : (how : How) (h : Held) (slots : Slots) (slot v : ℕ) (r : Request) (m : Bool) → IsSound slots → answer_in slots.answers slot ≡ Some v → is_right_mode how m ≡ true → Acts (record { held = h; slots = slots }) (record { held = h; slots = slots_taken slots slot }) (InSlot slot r m) Unregistered (λ s name. polled s name how) (Ok v)
+pub poll_answered : (how : How) (h : Held) (slots : Slots) (slot v : ℕ) (r : Request) (m : Bool) → IsSound slots → answer_in slots.answers slot ≡ Some v → is_right_mode how m ≡ true → StepsWithTicket (record { held = h; slots = slots }) (record { held = h; slots = slots_taken slots slot }) (InSlot slot r m) Unregistered (λ s name. polled s name how) (Ok v)
 poll_answered how h slots slot v r m sound some right = record {
   acts = λ ts name here b.
       let c : Core = record { held = h; slots = slots } in (

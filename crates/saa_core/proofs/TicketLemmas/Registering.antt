@@ -10,7 +10,7 @@ use Rattle.saa_core_spec.specs.Object.{Object, After, Entry, Idle, entry_at, use
 use Rattle.saa_core_spec.specs.Asking.{registered, registered_of, answer_at_once, is_idle}
 use Rattle.saa_core_spec.specs.Polling.{dropped, dropped_of}
 use Rattle.saa_core.specs.Slots.{Slots, answer_in, answer_count, held_times, empty_slots, IsSound}
-use Rattle.saa_core.specs.Tickets.{Core, Acts, Belong, object_of, entry_of, slot_entry, owners, slotted_count, entries, is_busy, dropping}
+use Rattle.saa_core.specs.Tickets.{Core, StepsWithTicket, Belong, object_of, entry_of, slot_entry, owners, slotted_count, entries, is_busy, dropping}
 use Rattle.saa_core.proofs.TicketLemmas.Naming.{entry-at, owner-here}
 use Rattle.std.proofs.Math.ListN.{length-set}
 use Rattle.saa_core.proofs.TicketLemmas.Counting.{held-once}
@@ -43,7 +43,7 @@ not_not true = refl
 not_not false = refl
 
 -- a registration of a ticket that isn't idle, or for too much
-pub register_refused : (c : Core) (t : Registration) (r : Request) (m : Bool) → (is_busy t || asks_too_much c.held r) ≡ true → Acts c c t t (λ s name. registered s name r m) (Ok false)
+pub register_refused : (c : Core) (t : Registration) (r : Request) (m : Bool) → (is_busy t || asks_too_much c.held r) ≡ true → StepsWithTicket c c t t (λ s name. registered s name r m) (Ok false)
 register_refused c t r m refused = acts_unchanged c t _ _ (λ ts name here b.
     registered-by (object_of c ts) name r m true _ _
     (ap (λ e. not (is_idle e) || asks_too_much c.held r) (entry-at c.slots.answers ts name t here)
@@ -66,11 +66,11 @@ pub dropped-by : (s : Object) (name : ℕ) (e : Entry) → entry_at s.book name 
 dropped-by s name e is = ap (dropped_of s name) is
 
 -- an idle ticket
-pub cancel_idle : (c : Core) → Acts c c Unregistered Unregistered dropping tt
+pub cancel_idle : (c : Core) → StepsWithTicket c c Unregistered Unregistered dropping tt
 cancel_idle c = acts_unchanged c Unregistered _ _ (λ ts name here b. ap (after tt) (dropped-by (object_of c ts) name Idle (entry-at c.slots.answers ts name Unregistered here)))
 
 -- a ticket whose slot isn't held doesn't belong to the core
-pub cancel_foreign : (c new : Core) (slot : ℕ) (r : Request) (m : Bool) → held_times c.slots slot ≡ 0 → Acts c new (InSlot slot r m) Unregistered dropping tt
+pub cancel_foreign : (c new : Core) (slot : ℕ) (r : Request) (m : Bool) → held_times c.slots slot ≡ 0 → StepsWithTicket c new (InSlot slot r m) Unregistered dropping tt
 cancel_foreign c new slot r m free = record {
   acts = λ ts name here b.
       absurd (omega (arith, owner-here ts name (InSlot slot r m) slot here (number_same slot), b.owned slot));
@@ -82,14 +82,14 @@ taken-sound slots slot v sound there =
     let room : length (slice_set slots.answers slot None) ≡ length slots.answers = length-set slots.answers slot None in
     record {
       each = λ other. omega (arith, held-taken slots slot v other there, sound.each other, ap (λ n. one_if (nat_lt other n)) room);
-      owed_once = λ other. omega (arith, sound.owed_once other, ap (λ n. one_if (nat_lt other n)) room);
+      pending_once = λ other. omega (arith, sound.pending_once other, ap (λ n. one_if (nat_lt other n)) room);
       small = omega (arith, sound.small);
     }
 
 -- what remains when a waiter leaves is sound
 pub left-sound : (slots : Slots) (slot : ℕ) → IsSound slots → 0 < times slot slots.line → IsSound (slots_left slots slot)
 left-sound slots slot sound waits =
-    record { each = λ other. omega (arith, held-left slots slot other (held-once slots sound slot) waits, sound.each other); owed_once = sound.owed_once; small = sound.small }
+    record { each = λ other. omega (arith, held-left slots slot other (held-once slots sound slot) waits, sound.each other); pending_once = sound.pending_once; small = sound.small }
 
 -- Small facts on tickets and tests
 

@@ -59,7 +59,7 @@ own-belong slots ts name old new here before after b = record {
 
 -- the line once it joined
 abbrev pub slots_joined : Slots → ℕ → Request → Slots
-slots_joined slots slot r = record { line = slots.line ++ (slot, r) ∷ []; answers = slots.answers; owed = slots.owed }
+slots_joined slots slot r = record { line = slots.line ++ (slot, r) ∷ []; answers = slots.answers; pending_wakes = slots.pending_wakes }
 
 -- how often a slot is held once one joined
 pub held-joined : (slots : Slots) (slot : ℕ) (r : Request) (other : ℕ) → held_times (slots_joined slots slot r) other ≡ held_times slots other + one_if (slot == other)
@@ -92,7 +92,7 @@ join-belong slots ts name old slot r m here before b = record {
 
 -- the line once it is taken
 abbrev pub slots_taken : Slots → ℕ → Slots
-slots_taken slots slot = record { line = slots.line; answers = slice_set slots.answers slot None; owed = slots.owed }
+slots_taken slots slot = record { line = slots.line; answers = slice_set slots.answers slot None; pending_wakes = slots.pending_wakes }
 
 -- how often a slot is held once the answer of one is taken
 pub held-taken : (slots : Slots) (slot v : ℕ) (other : ℕ) → answer_in slots.answers slot ≡ Some v → held_times (slots_taken slots slot) other + one_if (slot == other) ≡ held_times slots other
@@ -137,7 +137,7 @@ take-belong slots ts name slot v r m here there b = record {
 
 -- the line once it left
 abbrev pub slots_left : Slots → ℕ → Slots
-slots_left slots slot = record { line = without slot slots.line; answers = slots.answers; owed = slots.owed }
+slots_left slots slot = record { line = without slot slots.line; answers = slots.answers; pending_wakes = slots.pending_wakes }
 
 -- the names of the line without a slot are the names without its name
 pub named-without : (ts : List Registration) (name slot : ℕ) (r : Request) (m : Bool) (line : List Waiter) → slice_get ts name ≡ Some (InSlot slot r m) → owners ts slot ≤ 1 → named (slice_set ts name Unregistered) (without slot line) ≡ without name (named ts line)

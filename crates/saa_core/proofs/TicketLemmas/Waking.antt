@@ -4,7 +4,7 @@ use Rattle.std.proofs.lemmas.List.{take-append-drop, append-nil}
 use Rattle.std.proofs.Math.ListN.{length-set}
 use Rattle.saa_core_spec.specs.declared.request.Request.{Request}
 use Rattle.saa_core_spec.specs.Object.{Waiter, one_if, times, without}
-use Rattle.saa_core.specs.Slots.{Slots, answer_in, answered_of, answered_slots, all_slots_answered, owed_after, slots_answered, IsSound, OwesAnswered}
+use Rattle.saa_core.specs.Slots.{Slots, answer_in, answered_of, answered_slots, all_slots_answered, pending_after, slots_answered, IsSound, WakesAnswered}
 use Rattle.saa_core_spec.proofs.Counts.{bool_cases, same_number, one_if-same, times-take_drop, times-without_same}
 use Rattle.saa_core.proofs.TicketLemmas.Counting.{held-once, held-answered, no_answer, unanswered-take}
 use Rattle.saa_core.proofs.TicketLemmas.Steps.{slots_joined, slots_taken, slots_left, held-taken, held-left}
@@ -82,39 +82,39 @@ answered_of-front v k slots sound =
 -- What is owed
 
 -- a call that leaves the line and the answers as they are owes nobody
-pub owes-same : (slots : Slots) → IsSound slots → OwesAnswered slots slots
-owes-same slots sound = record {
+pub wakes-same : (slots : Slots) → IsSound slots → WakesAnswered slots slots
+wakes-same slots sound = record {
   exact =
       let nobody : answered_of slots.line slots.answers ≡ [] =
       answered_of-none slots.line slots.answers (λ slot some. one_if-false (is_some (answer_in slots.answers slot)) (omega (arith, held-once slots sound slot))) in
-      ap (λ (l : List Waiter). owed_after l slots.owed) (sym nobody);
+      ap (λ (l : List Waiter). pending_after l slots.pending_wakes) (sym nobody);
 }
 
 -- what is owed after a call is a matter of who waited before it, and what was owed
-pub owes-from : (old mid new : Slots) → mid.line ≡ old.line → mid.owed ≡ old.owed → OwesAnswered mid new → OwesAnswered old new
-owes-from old mid new line owed owes = record {
-  exact = owes.exact ∙ ap (λ (l : List Waiter). owed_after (answered_of l new.answers) mid.owed) line ∙ ap (λ (o : List ℕ). owed_after (answered_of old.line new.answers) o) owed;
+pub wakes-from : (old mid new : Slots) → mid.line ≡ old.line → mid.pending_wakes ≡ old.pending_wakes → WakesAnswered mid new → WakesAnswered old new
+wakes-from old mid new line pending_wakes owes = record {
+  exact = owes.exact ∙ ap (λ (l : List Waiter). pending_after (answered_of l new.answers) mid.pending_wakes) line ∙ ap (λ (o : List ℕ). pending_after (answered_of old.line new.answers) o) pending_wakes;
 }
 
 -- and of the answers after it, and what is owed then
-pub owes-to : (old mid new : Slots) → mid.answers ≡ new.answers → mid.owed ≡ new.owed → OwesAnswered old mid → OwesAnswered old new
-owes-to old mid new answers owed owes = record {
-  exact = sym owed ∙ owes.exact ∙ ap (λ (a : List (Option ℕ)). owed_after (answered_of old.line a) old.owed) answers;
+pub wakes-to : (old mid new : Slots) → mid.answers ≡ new.answers → mid.pending_wakes ≡ new.pending_wakes → WakesAnswered old mid → WakesAnswered old new
+wakes-to old mid new answers pending_wakes owes = record {
+  exact = sym pending_wakes ∙ owes.exact ∙ ap (λ (a : List (Option ℕ)). pending_after (answered_of old.line a) old.pending_wakes) answers;
 }
 
 -- a slot that joins is owed nothing
-pub owes-joined : (slots : Slots) (slot : ℕ) (r : Request) → IsSound slots → OwesAnswered slots (slots_joined slots slot r)
-owes-joined slots slot r sound = owes-to slots slots (slots_joined slots slot r) refl refl (owes-same slots sound)
+pub wakes-joined : (slots : Slots) (slot : ℕ) (r : Request) → IsSound slots → WakesAnswered slots (slots_joined slots slot r)
+wakes-joined slots slot r sound = wakes-to slots slots (slots_joined slots slot r) refl refl (wakes-same slots sound)
 
 -- the front that is answered is owed
-pub owes-front : (v k : ℕ) (slots : Slots) → IsSound slots → OwesAnswered slots (slots_answered v k slots)
-owes-front v k slots sound = record {
-  exact = ap (λ (l : List Waiter). owed_after l slots.owed) (sym (answered_of-front v k slots sound));
+pub wakes-front : (v k : ℕ) (slots : Slots) → IsSound slots → WakesAnswered slots (slots_answered v k slots)
+wakes-front v k slots sound = record {
+  exact = ap (λ (l : List Waiter). pending_after l slots.pending_wakes) (sym (answered_of-front v k slots sound));
 }
 
 -- and so are all who are answered
-pub owes-all : (v : ℕ) (slots : Slots) → IsSound slots → OwesAnswered slots (all_slots_answered v slots)
-owes-all v slots sound = subst (λ (s : Slots). OwesAnswered slots s) (all_answered-front v slots) (owes-front v (length slots.line) slots sound)
+pub wakes-all : (v : ℕ) (slots : Slots) → IsSound slots → WakesAnswered slots (all_slots_answered v slots)
+wakes-all v slots sound = subst (λ (s : Slots). WakesAnswered slots s) (all_answered-front v slots) (wakes-front v (length slots.line) slots sound)
 
 -- A slot is freed
 
@@ -124,7 +124,7 @@ sound-taken slots slot v sound there =
     let size : length (slice_set slots.answers slot None) ≡ length slots.answers = length-set slots.answers slot None in
     record {
       each = λ other. omega (arith, held-taken slots slot v other there, sound.each other, ap (λ n. one_if (nat_lt other n)) size);
-      owed_once = λ other. omega (arith, sound.owed_once other, ap (λ n. one_if (nat_lt other n)) size);
+      pending_once = λ other. omega (arith, sound.pending_once other, ap (λ n. one_if (nat_lt other n)) size);
       small = omega (arith, size, sound.small);
     }
 
@@ -132,31 +132,31 @@ sound-taken slots slot v sound there =
 pub sound-left : (slots : Slots) (slot : ℕ) → IsSound slots → 0 < times slot slots.line → IsSound (slots_left slots slot)
 sound-left slots slot sound waits = record {
   each = λ other. omega (arith, held-left slots slot other (held-once slots sound slot) waits, sound.each other);
-  owed_once = sound.owed_once;
+  pending_once = sound.pending_once;
   small = sound.small;
 }
 
 -- what is owed a wake after an answer was taken was owed one before
-pub owes-taken : (slots new : Slots) (slot : ℕ) → OwesAnswered (slots_taken slots slot) new → OwesAnswered slots new
-owes-taken slots new slot owes = owes-from slots (slots_taken slots slot) new refl refl owes
+pub wakes-taken : (slots new : Slots) (slot : ℕ) → WakesAnswered (slots_taken slots slot) new → WakesAnswered slots new
+wakes-taken slots new slot owes = wakes-from slots (slots_taken slots slot) new refl refl owes
 
 -- a slot that left is owed nothing where it has no answer afterwards
-owes-left : (slots new : Slots) (slot : ℕ) → answer_in new.answers slot ≡ None → OwesAnswered (slots_left slots slot) new → OwesAnswered slots new
-owes-left slots new slot none owes = record {
-  exact = owes.exact ∙ ap (λ (l : List Waiter). owed_after l slots.owed) (answered_of-without slot slots.line new.answers none);
+wakes-left : (slots new : Slots) (slot : ℕ) → answer_in new.answers slot ≡ None → WakesAnswered (slots_left slots slot) new → WakesAnswered slots new
+wakes-left slots new slot none owes = record {
+  exact = owes.exact ∙ ap (λ (l : List Waiter). pending_after l slots.pending_wakes) (answered_of-without slot slots.line new.answers none);
 }
 
 -- the front of those behind a slot that left is owed
-pub owes-left_front : (v k : ℕ) (slots : Slots) (slot : ℕ) → IsSound slots → 0 < times slot slots.line → OwesAnswered slots (slots_answered v k (slots_left slots slot))
-owes-left_front v k slots slot sound waits =
+pub wakes-left_front : (v k : ℕ) (slots : Slots) (slot : ℕ) → IsSound slots → 0 < times slot slots.line → WakesAnswered slots (slots_answered v k (slots_left slots slot))
+wakes-left_front v k slots slot sound waits =
     let left : Slots = slots_left slots slot in
     let left_sound : IsSound left = sound-left slots slot sound waits in
     let after : List (Option ℕ) = answered_slots v (take k left.line) left.answers in
     let none : answer_in after slot ≡ None =
     no_answer (answer_in after slot) (omega (arith, held-answered v (take k left.line) left.answers slot (unanswered-take left left_sound k), times-take_drop slot k left.line, times-without_same slot slots.line, held-once slots sound slot)) in
-    owes-left slots (slots_answered v k left) slot none (owes-front v k left left_sound)
+    wakes-left slots (slots_answered v k left) slot none (wakes-front v k left left_sound)
 
 -- and so are all the others
-pub owes-left_all : (v : ℕ) (slots : Slots) (slot : ℕ) → IsSound slots → 0 < times slot slots.line → OwesAnswered slots (all_slots_answered v (slots_left slots slot))
-owes-left_all v slots slot sound waits =
-    subst (λ (s : Slots). OwesAnswered slots s) (all_answered-front v (slots_left slots slot)) (owes-left_front v (length (without slot slots.line)) slots slot sound waits)
+pub wakes-left_all : (v : ℕ) (slots : Slots) (slot : ℕ) → IsSound slots → 0 < times slot slots.line → WakesAnswered slots (all_slots_answered v (slots_left slots slot))
+wakes-left_all v slots slot sound waits =
+    subst (λ (s : Slots). WakesAnswered slots s) (all_answered-front v (slots_left slots slot)) (wakes-left_front v (length (without slot slots.line)) slots slot sound waits)

@@ -146,7 +146,7 @@ impl<K: Requests> Order for Links<K> {
     }
 }
 
-// Takes a slot that stands once in the list out of it.
+// Takes a slot that is once in the list out of it.
 fn remove_slot(waiters: &mut VecDeque<(u16, Request)>, slot: u16)
     requires { times slot waiters.old.items ≡ 1 }
     ensures removed { waiters.new.items ≡ without slot waiters.old.items }

@@ -5,14 +5,14 @@
 //! Whom to wake is left to the callers of `Line`.
 
 ghost use Rattle.std.specs.Prelude.{◌≡◌, ◌<◌, [], IsOk, IfOk, IfSome, drop, slice_get};
-ghost use Rattle.saa_core.specs.LineParts.{with_owed};
+ghost use Rattle.saa_core.specs.LineParts.{with_pending};
 
 use crate::line::no_marks;
 use std::alloc::{AllocError, Global};
 use std::collections::VecDeque;
 use std::marker::Model;
 
-/// The slots whose wake is owed, each once, oldest first.
+/// The slots whose wake is pending, each once, oldest first.
 #[derive(Drop)]
 pub(crate) struct Wakes {
     order: VecDeque<u16>,
@@ -22,9 +22,9 @@ pub(crate) struct Wakes {
 impl Model for Wakes {
     ghost use Rattle.std.specs.Prelude.{◌≡◌, ◌≤◌, length};
     ghost use Rattle.std.specs.VecDeque.{deque_capacity};
-    ghost use Rattle.saa_core.specs.LineParts.{OwedWakes, IsListed};
+    ghost use Rattle.saa_core.specs.LineParts.{PendingWakes, IsListed};
 
-    ghost Value = { OwedWakes };
+    ghost Value = { PendingWakes };
 
     ghost view = { λ w. record { slots = w.order.items; room = length w.listed.items } };
 
@@ -35,7 +35,7 @@ impl Model for Wakes {
 }
 
 impl Wakes {
-    /// None is owed yet. Reserves all that the list of a room of so many slots will ever need.
+    /// None is pending yet. Reserves all that the list of a room of so many slots will ever need.
     pub(crate) fn with_room(alloc: Global, room: u16) -> Result<Wakes, AllocError>
         ensures made { IfOk result (λ wakes. wakes ≡ record { slots = []; room = room }) }
         ensures no_room { room ≡ 0 → IsOk result }
@@ -45,10 +45,10 @@ impl Wakes {
         Ok(Wakes { order, listed })
     }
 
-    /// The wake of a slot is owed, last in the list; a slot that is listed already stays where it is.
-    pub(crate) fn owe(&mut self, slot: u16)
+    /// The wake of a slot is pending from now on, last in the list; a slot that is listed already stays where it is.
+    pub(crate) fn push(&mut self, slot: u16)
         requires { slot < self.old.room }
-        ensures { self.new ≡ with_owed slot self.old }
+        ensures { self.new ≡ with_pending slot self.old }
     {
         let place = usize::from(slot);
         if self.listed[place] {
@@ -58,7 +58,7 @@ impl Wakes {
         self.order.push_back_reserved(slot);
     }
 
-    /// Takes the oldest wake that is owed out of the list.
+    /// Takes the oldest pending wake out of the list.
     pub(crate) fn next(&mut self) -> Option<u16>
         ensures oldest { result ≡ slice_get self.old.slots 0 }
         ensures rest { self.new ≡ record self.old { slots = drop 1 self.old.slots } }

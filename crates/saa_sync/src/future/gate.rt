@@ -1,29 +1,24 @@
-//! The named futures of the gate: what each asks, and how its answer reads.
-//!
-//! Each is `Asked`, or `AskedWith` where a callback comes with it, at one question; the calls that make them are those of
-//! the gate whose names end in `_async` and `_async_with`. What a poll does to the core and answers is said by the
-//! contracts of `poll_on` and `cancel_on`, over `specs/Futures.antt` of `saa_core` and the readings here.
+//! The named futures of the gate, and how its answers read in them.
 
 ghost use Rattle.std.specs.Prelude.{◌≡◌};
 
-pub use crate::future::asked::{Asked, AskedWith, Progress, Question};
+pub use crate::future::{Acquiring, AcquiringWith, AnswerReader, PollOn, Progress};
+use crate::gate::Gate;
 use saa_core::gate::{Error, GateCore, State};
 use saa_core::primitive::Primitive;
 
-/// The question whether a task passes a gate.
+/// How the answers of a gate read.
 #[derive(Drop)]
 pub struct Passing;
 
 /// The future of `Gate::enter_async`: whether the task passed.
-pub type Enter<'s, R> = Asked<'s, R, Passing>;
+pub type Enter<'s, R> = Acquiring<'s, Gate<R>, Passing>;
 
 /// The future of `Gate::enter_async_with`.
-pub type EnterWith<'s, R, F> = AskedWith<'s, R, Passing, F>;
+pub type EnterWith<'s, R, F> = AcquiringWith<'s, Gate<R>, Passing, F>;
 
-impl Question for Passing {
+impl AnswerReader for Passing {
     ghost use Rattle.saa_sync.specs.GateAnswers.{passing};
-
-    type Core = GateCore;
 
     type Output = Result<State, Error>;
 

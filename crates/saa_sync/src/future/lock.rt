@@ -1,35 +1,28 @@
-//! The named futures of the lock: what each asks, and how its answer reads.
-//!
-//! Each is `Asked`, or `AskedWith` where a callback comes with it, at one question; the calls that make them are those of
-//! the lock whose names end in `_async` and `_async_with`. What a poll does to the core and answers is said by the
-//! contracts of `poll_on` and `cancel_on`, over `specs/Futures.antt` of `saa_core` and the readings here.
+//! The named futures of the lock, and how its answers read in them.
 
 ghost use Rattle.std.specs.Prelude.{◌≡◌};
 
-pub use crate::future::asked::{Asked, AskedWith, Progress, Question};
-use crate::lock::is_granted;
-use saa_core::lock::LockCore;
+pub use crate::future::{Acquiring, AcquiringWith, AnswerReader, PollOn, Progress};
+use crate::lock::{Lock, is_granted};
 
-/// The question for a lock, for one owner alone or for a share of it.
+/// How the answers of a lock read, for one owner alone or for a share of it.
 #[derive(Drop)]
 pub struct Turn;
 
 /// The future of `Lock::lock_async`: `Ok(true)` once the lock is granted, `Ok(false)` where it is poisoned.
-pub type LockFuture<'s, R> = Asked<'s, R, Turn>;
+pub type LockFuture<'s, R> = Acquiring<'s, Lock<R>, Turn>;
 
 /// The future of `Lock::lock_async_with`.
-pub type LockFutureWith<'s, R, F> = AskedWith<'s, R, Turn, F>;
+pub type LockFutureWith<'s, R, F> = AcquiringWith<'s, Lock<R>, Turn, F>;
 
 /// The future of `Lock::share_async`: `Ok(true)` once a share is granted, `Ok(false)` where the lock is poisoned.
-pub type ShareFuture<'s, R> = Asked<'s, R, Turn>;
+pub type ShareFuture<'s, R> = Acquiring<'s, Lock<R>, Turn>;
 
 /// The future of `Lock::share_async_with`.
-pub type ShareFutureWith<'s, R, F> = AskedWith<'s, R, Turn, F>;
+pub type ShareFutureWith<'s, R, F> = AcquiringWith<'s, Lock<R>, Turn, F>;
 
-impl Question for Turn {
+impl AnswerReader for Turn {
     ghost use Rattle.saa_sync.specs.LockAnswers.{turn};
-
-    type Core = LockCore;
 
     type Output = bool;
 

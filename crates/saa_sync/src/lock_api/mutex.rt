@@ -1,11 +1,11 @@
 //! A mutex whose waiters are FIFO, and its guard.
 
 ghost use Rattle.std.specs.Prelude.{◌≡◌, IfOk, IfSome, IsOk};
-ghost use Rattle.saa_sync.specs.Forms.{patience_of, waiter_patience_of};
+ghost use Rattle.saa_sync.specs.Forms.{spin_policy_of, waiter_policy_of};
 
-use crate::guarded::Guarded;
-use crate::patience::{Patience, UNREGISTERED};
-use crate::seat::PATIENCE;
+use crate::guarded::{GuardOf, Guarded};
+use crate::parker::WAITER;
+use crate::spin_policy::{DEFAULT, SpinPolicy};
 use crate::turn::Alone;
 use saa_core::ticket::Full;
 use saa_core_guards::guard::Guard;
@@ -16,7 +16,7 @@ use std::sync::{RwLockWriteGuard as Writer, Wait};
 /// A value that one owner at a time uses.
 ///
 /// Waiters are granted in FIFO order of joining the queue. A call that may block, and isn't timed, first tries and spins for a bounded
-/// number of times ([`Patience`]); until it joins it is no waiter, and nothing orders it. `R` is the permission to block, as a reference to the runtime. The value's type says what holds of it while it has no
+/// number of times ([`SpinPolicy`]); until it joins it is no waiter, and nothing orders it. `R` is the permission to block, as a reference to the runtime. The value's type says what holds of it while it has no
 /// guard: a guard ends only where every invariant of the type holds, and its holder may use them. Contracts see a mutex as
 /// the lock whose turns the value is used in.
 #[derive(Drop)]
@@ -41,41 +41,40 @@ impl<R: Wait + Drop, T> Mutex<R, T> {
     where
         T: Drop,
         ensures no_room { room ≡ 0 → IsOk result }
-        ensures patience { IfOk result (λ made. patience_of made ≡ UNREGISTERED) }
-        ensures waiter { IfOk result (λ made. waiter_patience_of made ≡ PATIENCE) }
+        ensures spin_policy { IfOk result (λ made. spin_policy_of made ≡ DEFAULT) }
+        ensures waiter { IfOk result (λ made. waiter_policy_of made ≡ WAITER) }
     {
-        Self::with_patience(rt, alloc, value, room, UNREGISTERED)
+        Self::with_spin_policy(rt, alloc, value, room, DEFAULT)
     }
 
-    /// As [`Self::new`], with a patience of its own for calls that aren't registered yet; [`NONE`](crate::patience::NONE) has each
+    /// As [`Self::new`], with a spin policy of its own for calls that aren't registered yet; [`NONE`](crate::spin_policy::NONE) has each
     /// call register at its first turn at the mutex around the lock's core, so that grants come in the order of these turns.
-    pub fn with_patience(
+    pub fn with_spin_policy(
         rt: R,
         alloc: Global,
         value: T,
         room: u16,
-        patience: Patience,
+        spin_policy: SpinPolicy,
     ) -> Result<Self, AllocError>
     where
         T: Drop,
         ensures no_room { room ≡ 0 → IsOk result }
-        ensures patience { IfOk result (λ made. patience_of made ≡ patience) }
-        ensures waiter { IfOk result (λ made. waiter_patience_of made ≡ PATIENCE) }
+        ensures spin_policy { IfOk result (λ made. spin_policy_of made ≡ spin_policy) }
+        ensures waiter { IfOk result (λ made. waiter_policy_of made ≡ WAITER) }
     {
         Ok(Mutex {
-            guarded: Guarded::new(rt, alloc, value, room, patience)?,
+            guarded: Guarded::new(rt, alloc, value, room, spin_policy)?,
         })
     }
 
-    /// Takes the mutex. It spins for its patience first, and then waits in the queue where it must.
+    /// Takes the mutex. It spins first, as its spin policy says, and then waits in the queue where it must.
     ///
-    /// `Full`: its patience is over, it would have to wait, and as many slots are held as there is room; nothing is changed. A thread that has
+    /// `Full`: its spins are over, it would have to wait, and as many slots are held as there is room; nothing is changed. A thread that has
     /// the guard already waits for itself, so for ever, where there is room.
     pub fn lock(&self) -> Result<MutexGuard<'_, R, T>, Full>
         ensures { IfOk result (λ guard. guard.turn.now ≡ self.now) }
     {
-        let (turn, value) = self.guarded.write()?;
-        Ok(MutexGuard::new(turn, value))
+        Ok(MutexGuard::of(&self.guarded, self.guarded.turn.take()?))
     }
 
     /// Takes the mutex if nobody has it and nobody waits; never waits for it.
@@ -84,8 +83,7 @@ impl<R: Wait + Drop, T> Mutex<R, T> {
     pub fn try_lock(&self) -> Option<MutexGuard<'_, R, T>>
         ensures { IfSome result (λ guard. guard.turn.now ≡ self.now) }
     {
-        let (turn, value) = self.guarded.try_write()?;
-        Some(MutexGuard::new(turn, value))
+        Some(MutexGuard::of(&self.guarded, self.guarded.turn.try_take()?))
     }
 
     /// The value, with no lock: an exclusive reference to the mutex needs none.
@@ -102,3 +100,14 @@ impl<R: Wait + Drop, T> Mutex<R, T> {
 
 /// The turn of one owner at a [`Mutex`], and its value to read and write. Its drop gives both up.
 pub type MutexGuard<'a, R, T> = Guard<Writer<'a, T>, Alone<'a, R>>;
+
+impl<'a, R: Wait + Drop, T> GuardOf<'a, R, T> for MutexGuard<'a, R, T> {
+    type Granted = Alone<'a, R>;
+
+    ghost lock = { λ guard. guard.turn.now };
+
+    fn of(guarded: &'a Guarded<R, T>, turn: Alone<'a, R>) -> Self {
+        let (turn, value) = guarded.write_in(turn);
+        MutexGuard::new(turn, value)
+    }
+}

@@ -1,11 +1,11 @@
 //! A reader-writer lock whose waiters are FIFO, and its two guards.
 
 ghost use Rattle.std.specs.Prelude.{◌≡◌, IfOk, IfSome, IsOk};
-ghost use Rattle.saa_sync.specs.Forms.{patience_of, waiter_patience_of};
+ghost use Rattle.saa_sync.specs.Forms.{spin_policy_of, waiter_policy_of};
 
-use crate::guarded::Guarded;
-use crate::patience::{Patience, UNREGISTERED};
-use crate::seat::PATIENCE;
+use crate::guarded::{GuardOf, Guarded};
+use crate::parker::WAITER;
+use crate::spin_policy::{DEFAULT, SpinPolicy};
 use crate::turn::{Alone, Shared};
 use saa_core::ticket::Full;
 use saa_core_guards::guard::Guard;
@@ -17,7 +17,7 @@ use std::sync::{RwLockReadGuard as Reader, RwLockWriteGuard as Writer, Wait};
 /// A value that up to 62 readers share, or one writer uses alone.
 ///
 /// Waiters are granted in FIFO order of joining the queue: no later request passes a waiter, a reader beside readers included. A call
-/// that may block, and isn't timed, first tries and spins for a bounded number of times ([`Patience`]); until it joins it is no
+/// that may block, and isn't timed, first tries and spins for a bounded number of times ([`SpinPolicy`]); until it joins it is no
 /// waiter, and nothing orders it. `R` is the permission to block, as a
 /// reference to the runtime. The value's type says what holds of it while there is no writer: a guard ends only where every
 /// invariant of the type holds, and its holder may use them. Contracts see a lock around a value as the lock whose turns
@@ -44,41 +44,40 @@ impl<R: Wait + Drop, T> RwLock<R, T> {
     where
         T: Drop,
         ensures no_room { room ≡ 0 → IsOk result }
-        ensures patience { IfOk result (λ made. patience_of made ≡ UNREGISTERED) }
-        ensures waiter { IfOk result (λ made. waiter_patience_of made ≡ PATIENCE) }
+        ensures spin_policy { IfOk result (λ made. spin_policy_of made ≡ DEFAULT) }
+        ensures waiter { IfOk result (λ made. waiter_policy_of made ≡ WAITER) }
     {
-        Self::with_patience(rt, alloc, value, room, UNREGISTERED)
+        Self::with_spin_policy(rt, alloc, value, room, DEFAULT)
     }
 
-    /// As [`Self::new`], with a patience of its own for calls that aren't registered yet; [`NONE`](crate::patience::NONE) has each
+    /// As [`Self::new`], with a spin policy of its own for calls that aren't registered yet; [`NONE`](crate::spin_policy::NONE) has each
     /// call register at its first turn at the mutex around the lock's core, so that grants come in the order of these turns.
-    pub fn with_patience(
+    pub fn with_spin_policy(
         rt: R,
         alloc: Global,
         value: T,
         room: u16,
-        patience: Patience,
+        spin_policy: SpinPolicy,
     ) -> Result<Self, AllocError>
     where
         T: Drop,
         ensures no_room { room ≡ 0 → IsOk result }
-        ensures patience { IfOk result (λ made. patience_of made ≡ patience) }
-        ensures waiter { IfOk result (λ made. waiter_patience_of made ≡ PATIENCE) }
+        ensures spin_policy { IfOk result (λ made. spin_policy_of made ≡ spin_policy) }
+        ensures waiter { IfOk result (λ made. waiter_policy_of made ≡ WAITER) }
     {
         Ok(RwLock {
-            guarded: Guarded::new(rt, alloc, value, room, patience)?,
+            guarded: Guarded::new(rt, alloc, value, room, spin_policy)?,
         })
     }
 
-    /// Takes the lock to read. It spins for its patience first, and then waits in the queue where it must.
+    /// Takes the lock to read. It spins first, as its spin policy says, and then waits in the queue where it must.
     ///
-    /// `Full`: its patience is over, it would have to wait, and as many slots are held as there is room; nothing is changed. A thread that has a
+    /// `Full`: its spins are over, it would have to wait, and as many slots are held as there is room; nothing is changed. A thread that has a
     /// guard and asks again may wait for itself, so for ever: behind a writer readers wait too.
     pub fn read(&self) -> Result<RwLockReadGuard<'_, R, T>, Full>
         ensures { IfOk result (λ guard. guard.turn.now ≡ self.now) }
     {
-        let (turn, value) = self.guarded.read()?;
-        Ok(RwLockReadGuard::new(turn, value))
+        Ok(RwLockReadGuard::of(&self.guarded, self.guarded.turn.take()?))
     }
 
     /// Takes the lock to read if nobody writes, fewer than 62 read, and nobody waits; never waits for it.
@@ -87,19 +86,17 @@ impl<R: Wait + Drop, T> RwLock<R, T> {
     pub fn try_read(&self) -> Option<RwLockReadGuard<'_, R, T>>
         ensures { IfSome result (λ guard. guard.turn.now ≡ self.now) }
     {
-        let (turn, value) = self.guarded.try_read()?;
-        Some(RwLockReadGuard::new(turn, value))
+        Some(RwLockReadGuard::of(&self.guarded, self.guarded.turn.try_take()?))
     }
 
-    /// Takes the lock to write. It spins for its patience first, and then waits in the queue where it must.
+    /// Takes the lock to write. It spins first, as its spin policy says, and then waits in the queue where it must.
     ///
-    /// `Full`: its patience is over, it would have to wait, and as many slots are held as there is room; nothing is changed. A thread that has a
+    /// `Full`: its spins are over, it would have to wait, and as many slots are held as there is room; nothing is changed. A thread that has a
     /// guard already waits for itself, so for ever, where there is room.
     pub fn write(&self) -> Result<RwLockWriteGuard<'_, R, T>, Full>
         ensures { IfOk result (λ guard. guard.turn.turn.now ≡ self.now) }
     {
-        let (turn, value) = self.guarded.write()?;
-        Ok(RwLockWriteGuard::new(self.guarded.writing(turn), value))
+        Ok(RwLockWriteGuard::of(&self.guarded, self.guarded.turn.take()?))
     }
 
     /// Takes the lock to write if nobody has it and nobody waits; never waits for it.
@@ -108,8 +105,7 @@ impl<R: Wait + Drop, T> RwLock<R, T> {
     pub fn try_write(&self) -> Option<RwLockWriteGuard<'_, R, T>>
         ensures { IfSome result (λ guard. guard.turn.turn.now ≡ self.now) }
     {
-        let (turn, value) = self.guarded.try_write()?;
-        Some(RwLockWriteGuard::new(self.guarded.writing(turn), value))
+        Some(RwLockWriteGuard::of(&self.guarded, self.guarded.turn.try_take()?))
     }
 
     /// The value, with no lock: an exclusive reference to the lock needs none.
@@ -129,3 +125,25 @@ pub type RwLockReadGuard<'a, R, T> = Guard<Reader<'a, T>, Shared<'a, R>>;
 
 /// A writer's turn at an [`RwLock`], and its value to read and write. Its drop gives both up.
 pub type RwLockWriteGuard<'a, R, T> = Guard<Writer<'a, T>, Writing<'a, Alone<'a, R>, T>>;
+
+impl<'a, R: Wait + Drop, T> GuardOf<'a, R, T> for RwLockReadGuard<'a, R, T> {
+    type Granted = Shared<'a, R>;
+
+    ghost lock = { λ guard. guard.turn.now };
+
+    fn of(guarded: &'a Guarded<R, T>, turn: Shared<'a, R>) -> Self {
+        let (turn, value) = guarded.read_in(turn);
+        RwLockReadGuard::new(turn, value)
+    }
+}
+
+impl<'a, R: Wait + Drop, T> GuardOf<'a, R, T> for RwLockWriteGuard<'a, R, T> {
+    type Granted = Alone<'a, R>;
+
+    ghost lock = { λ guard. guard.turn.turn.now };
+
+    fn of(guarded: &'a Guarded<R, T>, turn: Alone<'a, R>) -> Self {
+        let (turn, value) = guarded.write_in(turn);
+        RwLockWriteGuard::new(guarded.writing(turn), value)
+    }
+}

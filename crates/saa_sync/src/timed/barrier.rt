@@ -23,7 +23,7 @@ impl<R: Wait + Clock + Drop> Form<R, BarrierCore> {
 
     // Arrives, and waits until then.
     fn wait_by(&self, deadline: Deadline) -> Result<Option<bool>, Full> {
-        match self.shell.acquire_until((), deadline)? {
+        match self.acquire_until((), deadline)? {
             Some(value) => Ok(Some(is_leader(value))),
             None => Ok(None),
         }

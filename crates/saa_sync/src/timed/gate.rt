@@ -32,7 +32,7 @@ impl<R: Wait + Clock + Drop> Form<R, GateCore> {
     fn enter_by(&self, deadline: Deadline) -> Result<Option<Result<State, Error>>, Full>
         ensures { IfOk result (λ told. IfSome told (λ answer. gate_fault answer ≡ None)) }
     {
-        match self.shell.acquire_until((), deadline)? {
+        match self.acquire_until((), deadline)? {
             Some(value) => Ok(Some(read_value(value))),
             None => Ok(None),
         }

@@ -16,24 +16,15 @@ impl<R: Wait + Clock + Drop, T> Mutex<R, T> {
     pub fn lock_for(&self, duration: Duration) -> Result<Option<MutexGuard<'_, R, T>>, Full>
         ensures { IfOk result (λ told. IfSome told (λ guard. guard.turn.now ≡ self.now)) }
     {
-        self.lock_by(Deadline::after(self.guarded.turn.rt(), duration))
+        self.guarded
+            .guard_by(Deadline::after(self.guarded.turn.rt(), duration))
     }
 
     /// Takes the mutex as [`Self::lock_for`] does, and waits for it until this instant.
     pub fn lock_until(&self, deadline: Instant) -> Result<Option<MutexGuard<'_, R, T>>, Full>
         ensures { IfOk result (λ told. IfSome told (λ guard. guard.turn.now ≡ self.now)) }
     {
-        self.lock_by(Deadline::At(deadline))
-    }
-
-    // The guard, by this time.
-    fn lock_by(&self, deadline: Deadline) -> Result<Option<MutexGuard<'_, R, T>>, Full>
-        ensures { IfOk result (λ told. IfSome told (λ guard. guard.turn.now ≡ self.now)) }
-    {
-        match self.guarded.write_by(deadline)? {
-            Some((turn, value)) => Ok(Some(MutexGuard::new(turn, value))),
-            None => Ok(None),
-        }
+        self.guarded.guard_by(Deadline::At(deadline))
     }
 }
 
@@ -45,14 +36,15 @@ impl<R: Wait + Clock + Drop, T> RwLock<R, T> {
     pub fn read_for(&self, duration: Duration) -> Result<Option<RwLockReadGuard<'_, R, T>>, Full>
         ensures { IfOk result (λ told. IfSome told (λ guard. guard.turn.now ≡ self.now)) }
     {
-        self.read_by(Deadline::after(self.guarded.turn.rt(), duration))
+        self.guarded
+            .guard_by(Deadline::after(self.guarded.turn.rt(), duration))
     }
 
     /// Takes the lock to read as [`Self::read_for`] does, and waits for it until this instant.
     pub fn read_until(&self, deadline: Instant) -> Result<Option<RwLockReadGuard<'_, R, T>>, Full>
         ensures { IfOk result (λ told. IfSome told (λ guard. guard.turn.now ≡ self.now)) }
     {
-        self.read_by(Deadline::At(deadline))
+        self.guarded.guard_by(Deadline::At(deadline))
     }
 
     /// Takes the lock to write, and waits for it in the queue at most so long; it joins at once, without a look before it.
@@ -62,36 +54,14 @@ impl<R: Wait + Clock + Drop, T> RwLock<R, T> {
     pub fn write_for(&self, duration: Duration) -> Result<Option<RwLockWriteGuard<'_, R, T>>, Full>
         ensures { IfOk result (λ told. IfSome told (λ guard. guard.turn.turn.now ≡ self.now)) }
     {
-        self.write_by(Deadline::after(self.guarded.turn.rt(), duration))
+        self.guarded
+            .guard_by(Deadline::after(self.guarded.turn.rt(), duration))
     }
 
     /// Takes the lock to write as [`Self::write_for`] does, and waits for it until this instant.
     pub fn write_until(&self, deadline: Instant) -> Result<Option<RwLockWriteGuard<'_, R, T>>, Full>
         ensures { IfOk result (λ told. IfSome told (λ guard. guard.turn.turn.now ≡ self.now)) }
     {
-        self.write_by(Deadline::At(deadline))
-    }
-
-    // A reader's guard, by this time.
-    fn read_by(&self, deadline: Deadline) -> Result<Option<RwLockReadGuard<'_, R, T>>, Full>
-        ensures { IfOk result (λ told. IfSome told (λ guard. guard.turn.now ≡ self.now)) }
-    {
-        match self.guarded.read_by(deadline)? {
-            Some((turn, value)) => Ok(Some(RwLockReadGuard::new(turn, value))),
-            None => Ok(None),
-        }
-    }
-
-    // A writer's guard, by this time.
-    fn write_by(&self, deadline: Deadline) -> Result<Option<RwLockWriteGuard<'_, R, T>>, Full>
-        ensures { IfOk result (λ told. IfSome told (λ guard. guard.turn.turn.now ≡ self.now)) }
-    {
-        match self.guarded.write_by(deadline)? {
-            Some((turn, value)) => Ok(Some(RwLockWriteGuard::new(
-                self.guarded.writing(turn),
-                value,
-            ))),
-            None => Ok(None),
-        }
+        self.guarded.guard_by(Deadline::At(deadline))
     }
 }

@@ -34,7 +34,7 @@ impl<R: Wait + Clock + Drop> Form<R, LockCore> {
 
     // The lock in this mode, by this time.
     pub(crate) fn take_by(&self, mode: Mode, deadline: Deadline) -> Result<Option<bool>, Full> {
-        match self.shell.acquire_until(mode, deadline)? {
+        match self.acquire_until(mode, deadline)? {
             Some(value) => Ok(Some(is_granted(value))),
             None => Ok(None),
         }

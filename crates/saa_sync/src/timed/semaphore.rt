@@ -81,7 +81,7 @@ impl<R: Wait + Clock + Drop, const MAX: usize> Form<R, SemaphoreCoreOf<MAX>> {
 
     // One permit, by this time.
     fn acquire_by(&self, deadline: Deadline) -> Result<Option<()>, Full> {
-        match self.shell.acquire_until(1, deadline)? {
+        match self.acquire_until(1, deadline)? {
             Some(_granted) => Ok(Some(())),
             None => Ok(None),
         }
@@ -95,7 +95,7 @@ impl<R: Wait + Clock + Drop, const MAX: usize> Form<R, SemaphoreCoreOf<MAX>> {
         if is_too_many::<MAX>(count) {
             return Ok(Some(false));
         }
-        match self.shell.acquire_until(count, deadline)? {
+        match self.acquire_until(count, deadline)? {
             Some(_granted) => Ok(Some(true)),
             None => Ok(None),
         }

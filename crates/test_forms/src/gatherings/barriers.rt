@@ -4,7 +4,8 @@ use saa_core::barrier::{BarrierAnswer, BarrierCall, BarrierCore};
 use saa_core::ticket::Full;
 use saa_sync::barrier::Barrier;
 use saa_sync::pager::{Error, Pager};
-use saa_sync::testing::{OnShell, PATIENCE, Patience, Shell};
+use saa_sync::spin_policy::{NONE, SpinPolicy};
+use saa_sync::testing::{Counted, WAITER, form_of};
 use std::alloc::{AllocError, AllocGlobal, Global};
 use std::sync::Wait;
 use std::sync::atomic::{AtomicU64, Ordering};
@@ -39,7 +40,7 @@ impl<R: Wait + Drop + Copy> Form for Tried<R> {
     }
 
     fn is_rung(&self, slot: u16) -> bool {
-        self.barrier.shell().is_rung(slot)
+        self.barrier.counts().is_notified(slot)
     }
 
     fn call(&self, call: BarrierCall, _is_short: bool) -> BarrierAnswer {
@@ -148,7 +149,7 @@ impl<R: Wait + Drop + Copy + Sync> Made for Tried<R> {
     fn made(rt: R, alloc: Global, plan: Plan) -> Result<Self, AllocError> {
         let room = u16::try_from(plan.count).unwrap_or(u16::MAX);
         let core = BarrierCore::with_count(alloc, usize::from(room).saturating_add(1), room)?;
-        let barrier = Barrier::on_shell(Shell::new(rt, alloc, core, room, plan.patience)?);
+        let barrier = form_of(rt, alloc, core, room, NONE, plan.patience)?;
         Ok(Tried { barrier })
     }
 }
@@ -186,8 +187,8 @@ impl<R: Wait + Drop + Sync> Gathering for Tried<R> {
     }
 
     fn seats(&self) -> (usize, usize) {
-        let shell = self.barrier.shell();
-        (shell.asleep(), shell.rung())
+        let counts = self.barrier.counts();
+        (counts.parked(), counts.notified())
     }
 }
 
@@ -218,7 +219,7 @@ impl<R: Wait + Drop> Tried<R> {
 
 // Every wait goes to sleep.
 const ASLEEP: Case = Case {
-    patience: Patience {
+    patience: SpinPolicy {
         looks: 0,
         yields: 0,
     },
@@ -242,11 +243,11 @@ static CASES: [Case; 5] = [
         ..ASLEEP
     },
     Case {
-        patience: PATIENCE,
+        patience: WAITER,
         ..ASLEEP
     },
     Case {
-        patience: PATIENCE,
+        patience: WAITER,
         by: By::Poll,
         ..ASLEEP
     },

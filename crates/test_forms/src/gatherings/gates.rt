@@ -4,7 +4,8 @@ use saa_core::gate::{GateAnswer, GateCall, GateCore};
 use saa_core::ticket::Full;
 use saa_sync::gate::{Error, Gate, State};
 use saa_sync::pager::Pager;
-use saa_sync::testing::{OnShell, PATIENCE, Patience, Shell};
+use saa_sync::spin_policy::{NONE, SpinPolicy};
+use saa_sync::testing::{Counted, WAITER, form_of};
 use std::alloc::{AllocError, AllocGlobal, Global};
 use std::sync::Wait;
 use std::sync::atomic::{AtomicU64, Ordering};
@@ -58,7 +59,7 @@ impl<R: Wait + Drop + Copy> Form for Tried<R> {
     }
 
     fn is_rung(&self, slot: u16) -> bool {
-        self.gate.shell().is_rung(slot)
+        self.gate.counts().is_notified(slot)
     }
 
     fn call(&self, call: GateCall, _is_short: bool) -> GateAnswer {
@@ -220,8 +221,8 @@ impl<R: Wait + Drop + Sync> Gathering for Tried<R> {
     }
 
     fn seats(&self) -> (usize, usize) {
-        let shell = self.gate.shell();
-        (shell.asleep(), shell.rung())
+        let counts = self.gate.counts();
+        (counts.parked(), counts.notified())
     }
 }
 
@@ -257,14 +258,14 @@ impl<R: Wait + Drop + Copy + Sync> Made for Tried<R> {
         let count = u16::try_from(plan.count).unwrap_or(u16::MAX);
         let room = count.saturating_add(others);
         let core = GateCore::new(alloc, room)?;
-        let gate = Gate::on_shell(Shell::new(rt, alloc, core, room, plan.patience)?);
+        let gate = form_of(rt, alloc, core, room, NONE, plan.patience)?;
         Ok(Tried { gate })
     }
 }
 
 // Every wait goes to sleep.
 const ASLEEP: Case = Case {
-    patience: Patience {
+    patience: SpinPolicy {
         looks: 0,
         yields: 0,
     },
@@ -291,11 +292,11 @@ static CASES: [Case; 5] = [
         ..ASLEEP
     },
     Case {
-        patience: PATIENCE,
+        patience: WAITER,
         ..ASLEEP
     },
     Case {
-        patience: PATIENCE,
+        patience: WAITER,
         by: By::Poll,
         ..ASLEEP
     },

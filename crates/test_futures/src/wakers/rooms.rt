@@ -8,9 +8,9 @@ use saa_sync::barrier::Barrier;
 use saa_sync::future::AcquireMany;
 use saa_sync::gate::Gate;
 use saa_sync::lock::{Lock, Mode};
-use saa_sync::pager::{Pager, SyncResult};
+use saa_sync::pager::{Pager, SyncResult, Ticket};
 use saa_sync::semaphore::Semaphore;
-use saa_sync::testing::OnShell;
+use saa_sync::testing::Counted;
 use std::alloc::{AllocError, AllocGlobal, Global};
 use std::io;
 use std::random::RandomSource;
@@ -94,7 +94,7 @@ fn every_room_is_filled(rt: HostRuntime) {
 }
 
 // A form whose room can be filled.
-trait Roomy: SyncResult {
+trait Roomy: SyncResult<Ticket> {
     // Registers a pager that has to wait, as the one of this number.
     fn join<'s>(&'s self, pager: &mut Pager<'s, Self>, number: u16) -> Result<bool, Full>;
 
@@ -121,7 +121,7 @@ impl<R: Wait + Drop> Roomy for Semaphore<R> {
     }
 
     fn rung(&self) -> usize {
-        self.shell().rung()
+        self.counts().notified()
     }
 }
 
@@ -138,7 +138,7 @@ impl<R: Wait + Drop> Roomy for Lock<R> {
     }
 
     fn rung(&self) -> usize {
-        self.shell().rung()
+        self.counts().notified()
     }
 }
 
@@ -154,7 +154,7 @@ impl<R: Wait + Drop> Roomy for Gate<R> {
     }
 
     fn rung(&self) -> usize {
-        self.shell().rung()
+        self.counts().notified()
     }
 }
 
@@ -171,7 +171,7 @@ impl<R: Wait + Drop> Roomy for Barrier<R> {
     fn answer_all(&self) {}
 
     fn rung(&self) -> usize {
-        self.shell().rung()
+        self.counts().notified()
     }
 }
 

@@ -1,6 +1,7 @@
 //! How often each call looks before it registers, how many turns it takes at the mutex, and how long a waiter stays awake: just as its
 //! patience says.
 
+use saa_core::Primitive;
 use saa_core::barrier::BarrierCore;
 use saa_core::gate::GateCore;
 use saa_core::lock::LockCore;
@@ -11,10 +12,11 @@ use saa_sync::gate::Gate;
 use saa_sync::lock::{Lock, Mode};
 use saa_sync::lock_api::{Mutex, RwLock};
 use saa_sync::pager::Pager;
-use saa_sync::patience::{NONE, Patience, UNREGISTERED};
 use saa_sync::semaphore::Semaphore;
+use saa_sync::spin_policy::{DEFAULT, NONE, SpinPolicy};
 use saa_sync::testing::{
-    OnShell, PATIENCE, Shell, call_untold, mutex_on, rwlock_on, shell_of_mutex, shell_of_rwlock,
+    Counted, Form, WAITER, call_untold, counts_of_mutex, counts_of_rwlock, form_of, mutex_on,
+    rwlock_on,
 };
 use std::alloc::{AllocError, Global};
 use std::mem::forget;
@@ -27,7 +29,7 @@ use std::time::{Clock, Duration, Instant};
 use test_asserts::same;
 
 // Nine looks, and four that yield.
-const FEW: Patience = Patience {
+const FEW: SpinPolicy = SpinPolicy {
     looks: 9,
     yields: 4,
 };
@@ -37,12 +39,12 @@ const FEW: Patience = Patience {
 const FEW_RESTS: (u64, u64) = (8 + 16 + 32 + 64 + 128 + 256 + 512 + 1_024 + 1_024, 4);
 
 // Stays awake for the whole test, by looks or by yields.
-const LOOKS_ON: Patience = Patience {
+const LOOKS_ON: SpinPolicy = SpinPolicy {
     looks: u32::MAX,
     yields: 0,
 };
 
-const YIELDS_ON: Patience = Patience {
+const YIELDS_ON: SpinPolicy = SpinPolicy {
     looks: 0,
     yields: u32::MAX,
 };
@@ -71,19 +73,19 @@ struct Forms<R: Wait + Drop> {
 fn forms_of<R: Wait + Copy + Drop>(
     rt: R,
     alloc: Global,
-    patience: Patience,
+    patience: SpinPolicy,
 ) -> Result<Forms<R>, AllocError> {
     let permits = SemaphoreCore::with_permits(alloc, 63, 1)?;
-    let permits = Shell::new(rt, alloc, permits, 1, NONE)?.with_patience(patience);
-    let gate = Shell::new(rt, alloc, GateCore::new(alloc, 1)?, 1, NONE)?;
+    let permits = form_of(rt, alloc, permits, 1, patience, NONE)?;
+    let gate = form_of(rt, alloc, GateCore::new(alloc, 1)?, 1, NONE, NONE)?;
     let barrier = BarrierCore::with_count(alloc, 2, 1)?;
     Ok(Forms {
-        semaphore: Semaphore::on_shell(permits),
-        lock: Lock::on_shell(turns_of(rt, alloc, patience)?),
+        semaphore: permits,
+        lock: turns_of(rt, alloc, patience)?,
         mutex: mutex_on(turns_of(rt, alloc, patience)?, 5),
         rwlock: rwlock_on(turns_of(rt, alloc, patience)?, 5),
-        gate: Gate::on_shell(gate),
-        barrier: Barrier::on_shell(Shell::new(rt, alloc, barrier, 1, NONE)?),
+        gate: gate,
+        barrier: form_of(rt, alloc, barrier, 1, NONE, NONE)?,
     })
 }
 
@@ -91,10 +93,9 @@ fn forms_of<R: Wait + Copy + Drop>(
 fn turns_of<R: Wait + Drop>(
     rt: R,
     alloc: Global,
-    patience: Patience,
-) -> Result<Shell<R, LockCore>, AllocError> {
-    let shell = Shell::new(rt, alloc, LockCore::new(alloc, 1)?, 1, NONE)?;
-    Ok(shell.with_patience(patience))
+    patience: SpinPolicy,
+) -> Result<Form<R, LockCore>, AllocError> {
+    form_of(rt, alloc, LockCore::new(alloc, 1)?, 1, patience, NONE)
 }
 
 // A call that may block.
@@ -173,52 +174,52 @@ fn make_call<R: Wait + Clock + Drop>(forms: &Forms<R>, call: Call) -> bool {
 fn looked_at<R: Wait + Drop>(forms: &Forms<R>, call: Call) -> u64 {
     match call {
         Call::Lock | Call::Share | Call::LockWith | Call::ShareWith | Call::LockFor => {
-            forms.lock.shell().looked()
+            forms.lock.counts().looked()
         }
-        Call::MutexLock | Call::MutexLockFor => shell_of_mutex(&forms.mutex).looked(),
-        Call::Read | Call::Write | Call::ReadFor => shell_of_rwlock(&forms.rwlock).looked(),
-        Call::Enter => forms.gate.shell().looked(),
-        Call::Arrive => forms.barrier.shell().looked(),
-        _ => forms.semaphore.shell().looked(),
+        Call::MutexLock | Call::MutexLockFor => counts_of_mutex(&forms.mutex).looked(),
+        Call::Read | Call::Write | Call::ReadFor => counts_of_rwlock(&forms.rwlock).looked(),
+        Call::Enter => forms.gate.counts().looked(),
+        Call::Arrive => forms.barrier.counts().looked(),
+        _ => forms.semaphore.counts().looked(),
     }
 }
 
 fn rested_at<R: Wait + Drop>(forms: &Forms<R>, call: Call) -> (u64, u64) {
     match call {
         Call::Lock | Call::Share | Call::LockWith | Call::ShareWith | Call::LockFor => {
-            forms.lock.shell().rested()
+            forms.lock.counts().rested()
         }
-        Call::MutexLock | Call::MutexLockFor => shell_of_mutex(&forms.mutex).rested(),
-        Call::Read | Call::Write | Call::ReadFor => shell_of_rwlock(&forms.rwlock).rested(),
-        Call::Enter => forms.gate.shell().rested(),
-        Call::Arrive => forms.barrier.shell().rested(),
-        _ => forms.semaphore.shell().rested(),
+        Call::MutexLock | Call::MutexLockFor => counts_of_mutex(&forms.mutex).rested(),
+        Call::Read | Call::Write | Call::ReadFor => counts_of_rwlock(&forms.rwlock).rested(),
+        Call::Enter => forms.gate.counts().rested(),
+        Call::Arrive => forms.barrier.counts().rested(),
+        _ => forms.semaphore.counts().rested(),
     }
 }
 
 fn turns_at<R: Wait + Drop>(forms: &Forms<R>, call: Call) -> u64 {
     match call {
         Call::Lock | Call::Share | Call::LockWith | Call::ShareWith | Call::LockFor => {
-            forms.lock.shell().turns()
+            forms.lock.counts().turns()
         }
-        Call::MutexLock | Call::MutexLockFor => shell_of_mutex(&forms.mutex).turns(),
-        Call::Read | Call::Write | Call::ReadFor => shell_of_rwlock(&forms.rwlock).turns(),
-        Call::Enter => forms.gate.shell().turns(),
-        Call::Arrive => forms.barrier.shell().turns(),
-        _ => forms.semaphore.shell().turns(),
+        Call::MutexLock | Call::MutexLockFor => counts_of_mutex(&forms.mutex).turns(),
+        Call::Read | Call::Write | Call::ReadFor => counts_of_rwlock(&forms.rwlock).turns(),
+        Call::Enter => forms.gate.counts().turns(),
+        Call::Arrive => forms.barrier.counts().turns(),
+        _ => forms.semaphore.counts().turns(),
     }
 }
 
 fn asleep_at<R: Wait + Drop>(forms: &Forms<R>, call: Call) -> usize {
     match call {
         Call::Lock | Call::Share | Call::LockWith | Call::ShareWith | Call::LockFor => {
-            forms.lock.shell().asleep()
+            forms.lock.counts().parked()
         }
-        Call::MutexLock | Call::MutexLockFor => shell_of_mutex(&forms.mutex).asleep(),
-        Call::Read | Call::Write | Call::ReadFor => shell_of_rwlock(&forms.rwlock).asleep(),
-        Call::Enter => forms.gate.shell().asleep(),
-        Call::Arrive => forms.barrier.shell().asleep(),
-        _ => forms.semaphore.shell().asleep(),
+        Call::MutexLock | Call::MutexLockFor => counts_of_mutex(&forms.mutex).parked(),
+        Call::Read | Call::Write | Call::ReadFor => counts_of_rwlock(&forms.rwlock).parked(),
+        Call::Enter => forms.gate.counts().parked(),
+        Call::Arrive => forms.barrier.counts().parked(),
+        _ => forms.semaphore.counts().parked(),
     }
 }
 
@@ -318,7 +319,7 @@ where
 fn seen<R>(
     rt: &R,
     alloc: Global,
-    patience: Patience,
+    patience: SpinPolicy,
     call: Call,
 ) -> Result<([Seen; 2], bool), AllocError>
 where
@@ -335,7 +336,7 @@ where
 // one, at a gate and at a barrier none, the registration one, and the waiter one that finds no answer before it parks. A call that looks takes two
 // more: it tries before its first look, and again at it, since no other call kept the hint up meanwhile; then the hint says that it is in
 // vain. One of no patience, or that never looks, tries nothing.
-fn wanted(patience: Patience, call: Call) -> (u64, (u64, u64), u64) {
+fn wanted(patience: SpinPolicy, call: Call) -> (u64, (u64, u64), u64) {
     let turns = if matches!(call, Call::Enter | Call::Arrive) {
         2
     } else {
@@ -374,7 +375,7 @@ static CALLS: [Call; 18] = [
 fn first_wrong<R>(
     rt: &R,
     alloc: Global,
-    patience: Patience,
+    patience: SpinPolicy,
 ) -> Result<Option<(Call, [Seen; 2])>, AllocError>
 where
     R: Wait + Clock + Threads + Sync,
@@ -496,22 +497,26 @@ fn a_try_takes_one_turn_at_the_mutex(rt: HostRuntime) -> Result<(), Fail> {
 // The patience of a form that is made with no other, and of all waiters, as the documents say.
 #[test]
 fn patience_is_what_is_said_of_it(rt: HostRuntime) {
-    let said = Patience {
+    let said = SpinPolicy {
         looks: 16,
         yields: 100,
     };
-    same!(rt; UNREGISTERED, said);
-    let said = Patience {
+    same!(rt; DEFAULT, said);
+    let said = SpinPolicy {
         looks: 500,
         yields: 500,
     };
-    same!(rt; PATIENCE, said);
+    same!(rt; WAITER, said);
 }
 
 // A lock whose calls register at once, and whose waiters stay awake for so long.
-fn lock_of<R: Wait + Drop>(rt: R, alloc: Global, waiter: Patience) -> Result<Lock<R>, AllocError> {
+fn lock_of<R: Wait + Drop>(
+    rt: R,
+    alloc: Global,
+    waiter: SpinPolicy,
+) -> Result<Lock<R>, AllocError> {
     let core = LockCore::new(alloc, 1)?;
-    Ok(Lock::on_shell(Shell::new(rt, alloc, core, 1, waiter)?))
+    Ok(form_of(rt, alloc, core, 1, NONE, waiter)?)
 }
 
 // Whether a locked lock has a waiter: then its number is larger than that of one owner alone.
@@ -522,7 +527,7 @@ fn has_waiter(core: &mut LockCore) -> bool {
 // Gives way until the lock has a waiter.
 fn await_waiter<R: Wait + Drop>(lock: &Lock<R>) -> bool {
     for _turn in 0..MOST_TURNS {
-        if call_untold(lock.shell(), has_waiter) {
+        if call_untold(&lock, has_waiter) {
             return true;
         }
         yield_now();
@@ -533,7 +538,7 @@ fn await_waiter<R: Wait + Drop>(lock: &Lock<R>) -> bool {
 // Whether no waiter is parked for a while.
 fn stays_awake<R: Wait + Drop>(lock: &Lock<R>) -> bool {
     for _turn in 0..AWAKE_TURNS {
-        if lock.shell().asleep() != 0 {
+        if lock.counts().parked() != 0 {
             return false;
         }
         yield_now();
@@ -560,7 +565,7 @@ fn take<R: Wait + Clock + Drop>(lock: &Lock<R>, is_timed: bool) -> bool {
 fn awake_beside<R>(
     rt: &R,
     alloc: Global,
-    waiter: Patience,
+    waiter: SpinPolicy,
     is_timed: bool,
 ) -> Result<([bool; 3], bool), AllocError>
 where
@@ -595,7 +600,7 @@ fn a_call_of_no_time_does_not_spin(rt: HostRuntime) -> Result<(), Fail> {
     same!(rt; lock.register_pager(&mut pager, Mode::Shared, true), Ok(true));
     same!(rt; pager.poll_sync_for(Duration::ZERO), None);
     // The owner's turn at the mutex, two of each call, to join and to leave, and two of the pager.
-    same!(rt; lock.shell().turns(), 7);
+    same!(rt; lock.counts().turns(), 7);
     same!(rt; lock.release_lock(), true);
     same!(rt; pager.poll_sync_for(Duration::ZERO), Some(Ok(true)));
     same!(rt; lock.release_share(), true);
@@ -603,12 +608,12 @@ fn a_call_of_no_time_does_not_spin(rt: HostRuntime) -> Result<(), Fail> {
 }
 
 // Two thousand looks, with 2 million spin hints between them, and 20,000 yields.
-const SPINS: Patience = Patience {
+const SPINS: SpinPolicy = SpinPolicy {
     looks: 2_000,
     yields: 0,
 };
 
-const YIELDS: Patience = Patience {
+const YIELDS: SpinPolicy = SpinPolicy {
     looks: 0,
     yields: 20_000,
 };
@@ -617,9 +622,9 @@ const YIELDS: Patience = Patience {
 fn looks_for<R: Wait + Clock + Drop + Copy>(
     rt: R,
     alloc: Global,
-    patience: Patience,
+    patience: SpinPolicy,
 ) -> Result<Option<Duration>, Fail> {
-    let lock = Lock::with_patience(rt, alloc, 0, patience)?;
+    let lock = Lock::with_spin_policy(rt, alloc, 0, patience)?;
     let is_taken = lock.try_lock() == Ok(());
     let began = Instant::now(&rt)?;
     let told = lock.lock_sync();

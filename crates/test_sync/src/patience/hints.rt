@@ -3,8 +3,8 @@
 use futures::test::MockTask;
 use saa_sync::lock::{Lock, Mode};
 use saa_sync::pager::Pager;
-use saa_sync::patience::Patience;
-use saa_sync::testing::OnShell;
+use saa_sync::spin_policy::SpinPolicy;
+use saa_sync::testing::Counted;
 use std::alloc::AllocGlobal;
 use std::random::RandomSource;
 use std::sync::Wait;
@@ -14,7 +14,7 @@ use std::{io, thread};
 use test_asserts::same;
 
 // Looks on, and registers in no test's time.
-const ENDLESS: Patience = Patience {
+const ENDLESS: SpinPolicy = SpinPolicy {
     looks: 0,
     yields: u32::MAX,
 };
@@ -38,7 +38,7 @@ enum Obstacle {
 fn let_come<R: Wait + Drop>(rt: &impl Wait, lock: &Lock<R>, may_come: &AtomicBool) {
     may_come.store(true, Ordering::SeqCst);
     for _ in rt.forever() {
-        if lock.shell().lookers() != 0 {
+        if lock.counts().lookers() != 0 {
             break;
         }
         yield_now();
@@ -106,7 +106,7 @@ fn seen_by_who_looks<H>(rt: &H, obstacle: Obstacle) -> io::Result<(bool, bool)>
 where
     H: Wait + RandomSource + AllocGlobal + Threads + Sync,
 {
-    let lock = Lock::with_patience(rt, rt.alloc(), 1, ENDLESS)?;
+    let lock = Lock::with_spin_policy(rt, rt.alloc(), 1, ENDLESS)?;
     let may_come = AtomicBool::new(false);
     let (has_share, has_ended) = thread::join(
         rt,

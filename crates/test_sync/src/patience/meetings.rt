@@ -4,8 +4,8 @@
 use saa_core::lock::LockCore;
 use saa_sync::lock::{Lock, Mode};
 use saa_sync::pager::Pager;
-use saa_sync::patience::{NONE, Patience};
-use saa_sync::testing::{OnShell, Shell, add_looker, call_untold, look_on};
+use saa_sync::spin_policy::{NONE, SpinPolicy};
+use saa_sync::testing::{Counted, add_looker, call_untold, form_of, look_on};
 use std::alloc::{AllocError, Global};
 use std::sync::Wait;
 use std::sync::atomic::{AtomicBool, Ordering};
@@ -26,7 +26,7 @@ const MET: (u64, u64, u64) = (
 const NOT_MET: (u64, u64, u64) = (0, 0, 0);
 
 // Nine looks, and four that yield; and how their rests are counted.
-const FEW: Patience = Patience {
+const FEW: SpinPolicy = SpinPolicy {
     looks: 9,
     yields: 4,
 };
@@ -34,7 +34,7 @@ const FEW: Patience = Patience {
 const FEW_RESTS: (u64, u64) = (8 + 16 + 32 + 64 + 128 + 256 + 512 + 1_024 + 1_024, 4);
 
 // Looks on for the whole test.
-const ENDLESS: Patience = Patience {
+const ENDLESS: SpinPolicy = SpinPolicy {
     looks: 0,
     yields: u32::MAX,
 };
@@ -49,10 +49,9 @@ const TURNS: u32 = 2_000;
 fn lock_of<R: Wait + Drop>(
     rt: R,
     alloc: Global,
-    patience: Patience,
+    patience: SpinPolicy,
 ) -> Result<Lock<R>, AllocError> {
-    let shell = Shell::new(rt, alloc, LockCore::new(alloc, 1)?, 1, NONE)?;
-    Ok(Lock::on_shell(shell.with_patience(patience)))
+    form_of(rt, alloc, LockCore::new(alloc, 1)?, 1, patience, NONE)
 }
 
 // What a holder waits for.
@@ -69,12 +68,12 @@ enum Until {
 
 // Whether it is so. Takes no turn at the mutex.
 fn is_so<R: Wait + Drop>(lock: &Lock<R>, until: Until) -> bool {
-    let shell = lock.shell();
+    let counts = lock.counts();
     match until {
-        Until::Blocks => shell.blocked() != NOT_MET,
-        Until::LooksOver => shell.looked() >= 13,
-        Until::Looks => shell.lookers() != 0,
-        Until::Gone => shell.lookers() == 0,
+        Until::Blocks => counts.blocked() != NOT_MET,
+        Until::LooksOver => counts.looked() >= 13,
+        Until::Looks => counts.lookers() != 0,
+        Until::Gone => counts.lookers() == 0,
     }
 }
 
@@ -91,7 +90,7 @@ fn await_so<R: Wait + Drop>(lock: &Lock<R>, until: Until) -> bool {
 
 // Holds the mutex, says so, and lets go once it is so, and it has given way so often more; whether it was so.
 fn hold<R: Wait + Drop>(lock: &Lock<R>, is_held: &AtomicBool, until: Until, turns: u32) -> bool {
-    call_untold(lock.shell(), |_core| {
+    call_untold(&lock, |_core| {
         is_held.store(true, Ordering::SeqCst);
         let is_seen = await_so(lock, until);
         for _turn in 0..turns {
@@ -162,9 +161,9 @@ where
         || call_once_held(rt, &lock, call, &is_held),
         || hold(&lock, &is_held, Until::Blocks, 0),
     );
-    let shell = lock.shell();
+    let counts = lock.counts();
     Ok((
-        (is_granted, shell.blocked(), shell.contended()),
+        (is_granted, counts.blocked(), counts.contended()),
         has_blocked,
     ))
 }
@@ -177,8 +176,8 @@ fn seen_alone<R: Wait + Clock + Copy + Drop>(
 ) -> Result<Tried, AllocError> {
     let lock = lock_of(rt, alloc, NONE)?;
     let is_granted = make_call(&lock, call);
-    let shell = lock.shell();
-    Ok((is_granted, shell.blocked(), shell.contended()))
+    let counts = lock.counts();
+    Ok((is_granted, counts.blocked(), counts.contended()))
 }
 
 #[test]
@@ -201,7 +200,7 @@ const ROUNDS: u32 = 100_000;
 // Takes turns at the mutex.
 fn take_turns<R: Wait + Drop>(lock: &Lock<R>) {
     for _turn in 0..MEETINGS {
-        call_untold(lock.shell(), |_core| ());
+        call_untold(&lock, |_core| ());
     }
 }
 
@@ -209,7 +208,7 @@ fn take_turns<R: Wait + Drop>(lock: &Lock<R>) {
 fn take_turns_until_met<R: Wait + Drop>(lock: &Lock<R>) -> bool {
     for _round in 0..ROUNDS {
         take_turns(lock);
-        if lock.shell().contended() != NOT_MET {
+        if lock.counts().contended() != NOT_MET {
             return true;
         }
     }
@@ -237,7 +236,7 @@ fn look_once_held<R: Wait + Drop>(
     is_held: &AtomicBool,
 ) -> Option<u8> {
     await_holder(rt, is_held);
-    look_on(lock.shell(), Mode::Exclusive)
+    look_on(&lock, Mode::Exclusive)
 }
 
 // What is seen of a call that looks at a free lock while another task holds the mutex: what it is answered, whether its patience was over
@@ -251,7 +250,7 @@ where
 {
     let lock = lock_of(rt, alloc, FEW)?;
     if !is_first {
-        add_looker(lock.shell());
+        add_looker(&lock);
     }
     let is_held = AtomicBool::new(false);
     let (answer, is_over) = thread::join(
@@ -259,13 +258,13 @@ where
         || look_once_held(rt, &lock, &is_held),
         || hold(&lock, &is_held, Until::LooksOver, 0),
     );
-    let shell = lock.shell();
+    let counts = lock.counts();
     Ok((
         answer,
         is_over,
-        shell.looked(),
-        shell.rested(),
-        shell.turns(),
+        counts.looked(),
+        counts.rested(),
+        counts.turns(),
     ))
 }
 
@@ -291,7 +290,7 @@ fn hold_and_await<R: Wait + Drop>(lock: &Lock<R>, is_held: &AtomicBool) -> [bool
 #[test]
 fn the_first_to_look_tries_until_it_has_the_mutex(rt: HostRuntime) -> Result<(), Fail> {
     let lock = lock_of(&rt, rt.alloc(), ENDLESS)?;
-    same!(rt; look_on(lock.shell(), Mode::Exclusive), Some(0));
+    same!(rt; look_on(&lock, Mode::Exclusive), Some(0));
     same!(rt; lock.release_lock(), true);
     let is_held = AtomicBool::new(false);
     let (answer, seen) = thread::join(

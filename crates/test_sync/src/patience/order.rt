@@ -2,8 +2,8 @@
 
 use saa_sync::lock::{Lock, Mode};
 use saa_sync::pager::{Error, Pager};
-use saa_sync::patience::{NONE, Patience, UNREGISTERED};
-use saa_sync::testing::OnShell;
+use saa_sync::spin_policy::{DEFAULT, NONE, SpinPolicy};
+use saa_sync::testing::Counted;
 use std::alloc::{AllocError, Global};
 use std::sync::Wait;
 use std::sync::atomic::{AtomicBool, Ordering};
@@ -13,7 +13,7 @@ use std::thread::{Threads, yield_now};
 use test_asserts::same;
 
 // Looks on, and registers in no test's time.
-const ENDLESS: Patience = Patience {
+const ENDLESS: SpinPolicy = SpinPolicy {
     looks: 0,
     yields: u32::MAX,
 };
@@ -25,9 +25,9 @@ const ROUNDS: u64 = 200;
 fn wait_for_a_call<R: Wait + Drop>(rt: &impl Wait, lock: &Lock<R>, looks: bool) {
     for _ in rt.forever() {
         let seen = if looks {
-            lock.shell().lookers() != 0
+            lock.counts().lookers() != 0
         } else {
-            lock.shell().asleep() != 0
+            lock.counts().parked() != 0
         };
         if seen {
             return;
@@ -79,10 +79,10 @@ fn take_turn<R: Wait + Drop>(lock: &Lock<R>) -> bool {
 fn told_behind<R: Wait + Threads + Sync>(
     rt: &R,
     alloc: Global,
-    patience: Patience,
+    patience: SpinPolicy,
     looks: bool,
 ) -> Result<(Result<bool, Error>, bool, bool), AllocError> {
-    let lock = Lock::with_patience(rt, alloc, 2, patience)?;
+    let lock = Lock::with_spin_policy(rt, alloc, 2, patience)?;
     let is_owned = lock.try_lock().is_ok();
     let is_told = AtomicBool::new(false);
     let (has_turn, (told, is_done)) = thread::join(
@@ -99,7 +99,7 @@ fn told_behind<R: Wait + Threads + Sync>(
 fn the_order_is_that_of_registrations(rt: HostRuntime) -> Result<(), Fail> {
     let not_yet = (Err(Error::NotReady), true, true);
     same!(rt; told_behind(&rt, rt.alloc(), NONE, false)?, not_yet);
-    same!(rt; told_behind(&rt, rt.alloc(), UNREGISTERED, false)?, not_yet);
+    same!(rt; told_behind(&rt, rt.alloc(), DEFAULT, false)?, not_yet);
     same!(rt; told_behind(&rt, rt.alloc(), ENDLESS, true)?, (Ok(true), true, true));
     Ok(())
 }
@@ -137,7 +137,7 @@ fn granted_by_the_release<R: Wait + Drop>(lock: &Lock<R>, is_over: &AtomicBool) 
 // Two who look in numbers beside a waiter that has registered never pass it.
 #[test]
 fn who_registered_is_never_passed(rt: HostRuntime) -> Result<(), Fail> {
-    let lock = Lock::with_patience(&rt, rt.alloc(), 4, ENDLESS)?;
+    let lock = Lock::with_spin_policy(&rt, rt.alloc(), 4, ENDLESS)?;
     let is_over = AtomicBool::new(false);
     let ((one, two), granted) = thread::join(
         &rt,

@@ -3,23 +3,25 @@
 use saa_core::lock::LockCore;
 use saa_sync::lock::Lock;
 use saa_sync::lock_api::{Mutex, RwLock, RwLockWriteGuard};
-use saa_sync::patience::NONE;
 use saa_sync::semaphore::Semaphore;
-use saa_sync::testing::{OnShell, Shell, mutex_on, rwlock_on, shell_of_mutex, shell_of_rwlock};
+use saa_sync::spin_policy::NONE;
+use saa_sync::testing::{
+    Counted, Form, counts_of_mutex, counts_of_rwlock, form_of, mutex_on, rwlock_on,
+};
 use std::alloc::{AllocError, Global};
 use std::sync::Wait;
 use std::test::Fail;
 use test_asserts::same;
 
 // What a lock stands on.
-fn shell_of<R: Wait + Drop>(rt: R, alloc: Global) -> Result<Shell<R, LockCore>, AllocError> {
-    Shell::new(rt, alloc, LockCore::new(alloc, 1)?, 1, NONE)
+fn lock_of<R: Wait + Drop>(rt: R, alloc: Global) -> Result<Form<R, LockCore>, AllocError> {
+    form_of(rt, alloc, LockCore::new(alloc, 1)?, 1, NONE, NONE)
 }
 
 // How many turns there were at the mutex of a lock behind each of: a lock, a downgrade, a release of the share, a share, its release.
 fn turns_of_lock<R: Wait + Drop>(rt: R, alloc: Global) -> Result<[(bool, u64); 5], AllocError> {
-    let lock = Lock::on_shell(shell_of(rt, alloc)?);
-    let turns = || lock.shell().turns();
+    let lock = lock_of(rt, alloc)?;
+    let turns = || lock.counts().turns();
     Ok([
         (lock.try_lock() == Ok(()), turns()),
         (lock.downgrade(), turns()),
@@ -35,7 +37,7 @@ fn turns_of_semaphore<R: Wait + Drop>(
     alloc: Global,
 ) -> Result<[(bool, u64); 4], AllocError> {
     let semaphore = Semaphore::new(rt, alloc, 1)?;
-    let turns = || semaphore.shell().turns();
+    let turns = || semaphore.counts().turns();
     let permit = semaphore.try_acquire_permit();
     let taken = (permit.is_some(), turns());
     drop(permit);
@@ -49,17 +51,17 @@ fn turns_of_semaphore<R: Wait + Drop>(
 
 // The same of a mutex: a guard that is taken, and goes.
 fn turns_of_mutex<R: Wait + Drop>(rt: R, alloc: Global) -> Result<[(bool, u64); 2], AllocError> {
-    let mutex = mutex_on(shell_of(rt, alloc)?, 5u32);
+    let mutex = mutex_on(lock_of(rt, alloc)?, 5u32);
     let guard = mutex.try_lock();
-    let taken = (guard.is_some(), shell_of_mutex(&mutex).turns());
+    let taken = (guard.is_some(), counts_of_mutex(&mutex).turns());
     drop(guard);
-    Ok([taken, (true, shell_of_mutex(&mutex).turns())])
+    Ok([taken, (true, counts_of_mutex(&mutex).turns())])
 }
 
 // The same of a reader-writer lock: a writer's guard that is lowered, and goes; a reader's guard that is taken, and goes.
 fn turns_of_rwlock<R: Wait + Drop>(rt: R, alloc: Global) -> Result<[(bool, u64); 5], AllocError> {
-    let rwlock = rwlock_on(shell_of(rt, alloc)?, 5u32);
-    let turns = || shell_of_rwlock(&rwlock).turns();
+    let rwlock = rwlock_on(lock_of(rt, alloc)?, 5u32);
+    let turns = || counts_of_rwlock(&rwlock).turns();
     let writer = rwlock.try_write();
     let written = (writer.is_some(), turns());
     let reader = writer.map(RwLockWriteGuard::downgrade);

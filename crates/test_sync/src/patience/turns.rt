@@ -3,8 +3,8 @@
 use saa_core::lock::LockCore;
 use saa_sync::lock::{Lock, Mode};
 use saa_sync::pager::Pager;
-use saa_sync::patience::{NONE, Patience};
-use saa_sync::testing::{OnShell, Shell};
+use saa_sync::spin_policy::{NONE, SpinPolicy};
+use saa_sync::testing::{Counted, form_of};
 use std::hint::spin_loop;
 use std::sync::Wait;
 use std::test::Fail;
@@ -41,24 +41,23 @@ fn take_turns<R: Wait + Drop>(lock: &Lock<R>) -> u64 {
 #[test]
 fn each_who_gives_up_looking_is_woken(rt: HostRuntime) -> Result<(), Fail> {
     let core = LockCore::new(rt.alloc(), 4)?;
-    let shell = Shell::new(&rt, rt.alloc(), core, 4, NONE)?;
-    let few = Patience {
+    let few = SpinPolicy {
         looks: 20,
         yields: 1,
     };
-    let lock = Lock::on_shell(shell.with_patience(few));
+    let lock: Lock<_> = form_of(&rt, rt.alloc(), core, 4, few, NONE)?;
     let (one, (two, three)) = thread::join(
         &rt,
         || take_turns(&lock),
         || thread::join(&rt, || take_turns(&lock), || take_turns(&lock)),
     );
     same!(rt; [one, two, three], [ROUNDS, ROUNDS, ROUNDS]);
-    same!(rt; (lock.shell().lookers(), lock.shell().asleep()), (0, 0));
+    same!(rt; (lock.counts().lookers(), lock.counts().parked()), (0, 0));
     Ok(())
 }
 
 // Looks on, and registers in no test's time.
-const ENDLESS: Patience = Patience {
+const ENDLESS: SpinPolicy = SpinPolicy {
     looks: 0,
     yields: u32::MAX,
 };
@@ -81,8 +80,8 @@ const GIVES_WAY: u32 = 500;
 // Waits until one sleeps and so many look, after all the turns that they take.
 fn await_lookers<R: Wait + Drop>(rt: &impl Wait, lock: &Lock<R>, lookers: u64) {
     for _ in rt.forever() {
-        let shell = lock.shell();
-        if shell.asleep() == 1 && shell.lookers() == lookers && shell.turns() >= TURNS {
+        let counts = lock.counts();
+        if counts.parked() == 1 && counts.lookers() == lookers && counts.turns() >= TURNS {
             return;
         }
         yield_now();
@@ -106,14 +105,14 @@ fn release_once_all_are_there<R: Wait + Drop>(rt: &impl Wait, lock: &Lock<R>) ->
     for _turn in 0..GIVES_WAY {
         yield_now();
     }
-    (lock.shell().turns(), lock.release_lock())
+    (lock.counts().turns(), lock.release_lock())
 }
 
 // A call that leaves the mutex while others spin wakes the waiters that it answers all the same. The second that spins has the hint of the
 // first, and takes no turn at the mutex by which it would hold up the others.
 #[test]
 fn a_sleeper_is_woken_while_others_look(rt: HostRuntime) -> Result<(), Fail> {
-    let lock = Lock::with_patience(&rt, rt.alloc(), 1, ENDLESS)?;
+    let lock = Lock::with_spin_policy(&rt, rt.alloc(), 1, ENDLESS)?;
     same!(rt; lock.try_lock(), Ok(()));
     let (is_woken, ((one, two), seen)) = thread::join(
         &rt,

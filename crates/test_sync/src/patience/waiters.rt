@@ -1,10 +1,11 @@
 //! How a waiter rests before it parks: it looks and spins, and then looks and yields, just as its patience says.
 
+use saa_core::Primitive;
 use saa_core::lock::LockCore;
 use saa_sync::lock::{Lock, Mode};
 use saa_sync::pager::Pager;
-use saa_sync::patience::{NONE, Patience};
-use saa_sync::testing::{OnShell, Shell, call_untold};
+use saa_sync::spin_policy::{NONE, SpinPolicy};
+use saa_sync::testing::{Counted, call_untold, form_of};
 use std::alloc::Global;
 use std::sync::Wait;
 use std::test::Fail;
@@ -14,7 +15,7 @@ use std::{io, thread};
 use test_asserts::same;
 
 // Nine looks with a spin hint behind each, and four with a yield.
-const FEW: Patience = Patience {
+const FEW: SpinPolicy = SpinPolicy {
     looks: 9,
     yields: 4,
 };
@@ -84,23 +85,22 @@ type Seen = ((u64, u64, u64), bool, bool);
 fn see_parked<R: Wait + Drop>(lock: &Lock<R>) -> Seen {
     let mut is_parked = false;
     for _turn in 0..MOST_TURNS {
-        is_parked = lock.shell().asleep() == 1;
+        is_parked = lock.counts().parked() == 1;
         if is_parked {
             break;
         }
         yield_now();
     }
-    let lingered = lock.shell().lingered();
+    let lingered = lock.counts().spun();
     (lingered, is_parked, lock.release_lock())
 }
 
 // What is seen of a call that waits for the lock with this patience, and whether it was granted.
-fn seen<R>(rt: &R, alloc: Global, patience: Patience, call: Call) -> Result<(Seen, bool), Fail>
+fn seen<R>(rt: &R, alloc: Global, patience: SpinPolicy, call: Call) -> Result<(Seen, bool), Fail>
 where
     R: Wait + Clock + Threads + Sync,
 {
-    let shell = Shell::new(rt, alloc, LockCore::new(alloc, 1)?, 1, patience)?;
-    let lock = Lock::on_shell(shell);
+    let lock: Lock<_> = form_of(rt, alloc, LockCore::new(alloc, 1)?, 1, NONE, patience)?;
     let end = late(rt)?;
     let is_owned = lock.try_lock() == Ok(());
     let (is_granted, seen) = thread::join(rt, || take(&lock, call, end), || see_parked(&lock));
@@ -121,21 +121,21 @@ fn a_waiter_rests_as_its_patience_says_and_parks(rt: HostRuntime) -> Result<(), 
 // A call that is granted at once, or has no time, doesn't rest.
 #[test]
 fn who_need_not_wait_does_not_rest(rt: HostRuntime) -> Result<(), Fail> {
-    let shell = Shell::new(&rt, rt.alloc(), LockCore::new(rt.alloc(), 1)?, 1, FEW)?;
-    let lock = Lock::on_shell(shell);
+    let core = LockCore::new(rt.alloc(), 1)?;
+    let lock: Lock<_> = form_of(&rt, rt.alloc(), core, 1, NONE, FEW)?;
     let end = late(&rt)?;
     for call in &CALLS {
         same!(rt; (take(&lock, *call, end), lock.release_lock()), (true, true));
     }
-    same!(rt; lock.shell().lingered(), (0, 0, 0));
+    same!(rt; lock.counts().spun(), (0, 0, 0));
     same!(rt; lock.try_lock(), Ok(()));
     same!(rt; lock.lock_sync_for(Duration::ZERO), Ok(None));
-    same!(rt; lock.shell().lingered(), (0, 0, 0));
+    same!(rt; lock.counts().spun(), (0, 0, 0));
     Ok(())
 }
 
 // Yields for the whole test.
-const YIELDS_ON: Patience = Patience {
+const YIELDS_ON: SpinPolicy = SpinPolicy {
     looks: 0,
     yields: u32::MAX,
 };
@@ -150,16 +150,15 @@ fn short() -> Duration {
 fn late_calls<R: Wait + Clock + Copy + Drop>(
     rt: R,
     alloc: Global,
-    patience: Patience,
+    patience: SpinPolicy,
 ) -> Result<([bool; 3], usize), Fail> {
-    let shell = Shell::new(rt, alloc, LockCore::new(alloc, 1)?, 1, patience)?;
-    let lock = Lock::on_shell(shell);
+    let lock: Lock<_> = form_of(rt, alloc, LockCore::new(alloc, 1)?, 1, NONE, patience)?;
     let is_owned = lock.try_lock() == Ok(());
     let is_late = lock.share_sync_for(short()) == Ok(None);
     let mut pager = Pager::new();
     let has_joined = lock.register_pager(&mut pager, Mode::Shared, true) == Ok(true);
     let has_no_answer = has_joined && pager.poll_sync_for(short()).is_none();
-    Ok(([is_owned, is_late, has_no_answer], lock.shell().asleep()))
+    Ok(([is_owned, is_late, has_no_answer], lock.counts().parked()))
 }
 
 // Who is late stops to yield, and sleeps no more.
@@ -171,7 +170,7 @@ fn who_is_late_neither_yields_on_nor_sleeps(rt: HostRuntime) -> Result<(), Fail>
 }
 
 // Looks for the whole test, and would yield behind that.
-const LOOKS_ON: Patience = Patience {
+const LOOKS_ON: SpinPolicy = SpinPolicy {
     looks: u32::MAX,
     yields: 4,
 };
@@ -187,7 +186,7 @@ fn has_waiter(core: &mut LockCore) -> bool {
 // Gives way until a call waits in the queue or looks, and a while more, and lets it in.
 fn let_in<R: Wait + Drop>(lock: &Lock<R>) -> bool {
     for _turn in 0..MOST_TURNS {
-        if lock.shell().lookers() != 0 || call_untold(lock.shell(), has_waiter) {
+        if lock.counts().lookers() != 0 || call_untold(&lock, has_waiter) {
             break;
         }
         yield_now();
@@ -202,20 +201,19 @@ fn let_in<R: Wait + Drop>(lock: &Lock<R>) -> bool {
 fn yields_of<R>(
     rt: &R,
     alloc: Global,
-    looks: Patience,
-    waits: Patience,
+    looks: SpinPolicy,
+    waits: SpinPolicy,
     call: Call,
 ) -> Result<(u64, bool), Fail>
 where
     R: Wait + Clock + Threads + Sync,
 {
-    let shell = Shell::new(rt, alloc, LockCore::new(alloc, 1)?, 1, waits)?;
-    let lock = Lock::on_shell(shell.with_patience(looks));
+    let lock: Lock<_> = form_of(rt, alloc, LockCore::new(alloc, 1)?, 1, looks, waits)?;
     let end = late(rt)?;
     let is_owned = lock.try_lock() == Ok(());
     let (is_granted, is_let) = thread::join(rt, || take(&lock, call, end), || let_in(&lock));
-    let (_looks, _spins, lingered) = lock.shell().lingered();
-    let (_hints, rested) = lock.shell().rested();
+    let (_looks, _spins, lingered) = lock.counts().spun();
+    let (_hints, rested) = lock.counts().rested();
     Ok((
         lingered.saturating_add(rested),
         is_owned && is_granted && is_let,

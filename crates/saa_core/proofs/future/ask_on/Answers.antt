@@ -1,7 +1,7 @@
 use Rattle.std.proofs.Common.{rules, ◌≡◌, is_some, true, Ok, refl, sym, ap, ◌∙◌}
 use Rattle.saa_core.specs.Tickets.{is_busy, slot_of}
 use Rattle.saa_core.specs.Beginning.{mode_of}
-use Rattle.saa_core.proofs.TicketLemmas.Modes.{begin-owes, registers-owes, registered-mode, reply-alone}
+use Rattle.saa_core.proofs.TicketLemmas.Modes.{begin-wakes, registers-owes, registered-mode, reply-alone}
 use Rattle.saa_core.proofs.FuturePolls.{asked-full, asked-false, asked-polled, waits-slotted}
 use Rattle.saa_core.proofs.future.ask_on.Goals as goal
 
@@ -30,11 +30,11 @@ returns-in-Err-poll_number-clause-acts g c =
 
 pub returns-in-Ok-clause-wakes : goal.returns-in-Ok-clause-wakes
 returns-in-Ok-clause-wakes g c =
-    begin-owes _ _ _ _ _ _ _ _ c.in-Ok-true.field-0-test c.in-Ok-true.ensures.acts c.in-Ok-true.ensures.wakes c.in-Ok.ensures.owed
+    begin-wakes _ _ _ _ _ _ _ _ c.in-Ok-true.field-0-test c.in-Ok-true.ensures.acts c.in-Ok-true.ensures.wakes c.in-Ok.ensures.pending_wakes
 
 pub returns-in-Err-poll_number-clause-wakes : goal.returns-in-Err-poll_number-clause-wakes
 returns-in-Err-poll_number-clause-wakes g c =
-    begin-owes _ _ _ _ _ _ _ _ c.in-Ok-true.field-0-test c.in-Ok-true.ensures.acts c.in-Ok-true.ensures.wakes c.in-Err-poll_number.ensures.owed
+    begin-wakes _ _ _ _ _ _ _ _ c.in-Ok-true.field-0-test c.in-Ok-true.ensures.acts c.in-Ok-true.ensures.wakes c.in-Err-poll_number.ensures.pending_wakes
 
 pub returns-in-Err-poll_number-clause-mode : goal.returns-in-Err-poll_number-clause-mode
 returns-in-Err-poll_number-clause-mode g c = λ joined.

@@ -9,7 +9,7 @@ use Rattle.saa_core_spec.specs.Barrier.{size_of}
 use Rattle.saa_core_spec.proofs.Counts.{same_number, other_number}
 use Rattle.saa_core.proofs.GatheringLemmas.Gathering.{register_full, register_joined}
 use Rattle.saa_core.proofs.GatheringLemmas.Rounds.{arrive_last, arrive_waits}
-use Rattle.saa_core.proofs.TicketLemmas.Waking.{owes-same, owes-joined, owes-all}
+use Rattle.saa_core.proofs.TicketLemmas.Waking.{wakes-same, wakes-joined, wakes-all}
 use Rattle.saa_core.proofs.barrier.BarrierCore.arrive.Goals as goal
 
 pub returns-then-is_registered-clause-acts : goal.returns-then-is_registered-clause-acts
@@ -38,16 +38,16 @@ returns-clause-acts c =
     rw (idle, c.set-2.ensures, c.in-Some.ensures.joined, ← c.self.view_is) (register_joined _ c.self.inside.line c.in-Some.slot Arrive c.args.is_sync refl (arrive_waits c.self.inside.size c.self.inside.line (other_number _ _ (rw (← c.self.view_is) at test))) (λ full. (let wrong : true ≡ false = c.in-Some.ensures.full.1 full in cc)) c.in-Some.ensures.was_free)
 
 pub returns-then-is_registered-clause-wakes : goal.returns-then-is_registered-clause-wakes
-returns-then-is_registered-clause-wakes c = rw (← c.self.view_is) (owes-same c.self.inside.line c.self.invariant.sound)
+returns-then-is_registered-clause-wakes c = rw (← c.self.view_is) (wakes-same c.self.inside.line c.self.invariant.sound)
 
 pub returns-then-completes_round-clause-wakes : goal.returns-then-completes_round-clause-wakes
-returns-then-completes_round-clause-wakes c = rw (c.answer_all.ensures.answered, ← c.self.view_is) (owes-all _ c.self.inside.line c.self.invariant.sound)
+returns-then-completes_round-clause-wakes c = rw (c.answer_all.ensures.answered, ← c.self.view_is) (wakes-all _ c.self.inside.line c.self.invariant.sound)
 
 pub returns-in_default-clause-wakes : goal.returns-in_default-clause-wakes
-returns-in_default-clause-wakes c = rw (c.in_default.ensures.unchanged, ← c.self.view_is) (owes-same c.self.inside.line c.self.invariant.sound)
+returns-in_default-clause-wakes c = rw (c.in_default.ensures.unchanged, ← c.self.view_is) (wakes-same c.self.inside.line c.self.invariant.sound)
 
 pub returns-clause-wakes : goal.returns-clause-wakes
-returns-clause-wakes c = rw (c.in-Some.ensures.joined, ← c.self.view_is) (owes-joined c.self.inside.line c.in-Some.slot Arrive c.self.invariant.sound)
+returns-clause-wakes c = rw (c.in-Some.ensures.joined, ← c.self.view_is) (wakes-joined c.self.inside.line c.in-Some.slot Arrive c.self.invariant.sound)
 
 pub returns-then-completes_round-clause-last : goal.returns-then-completes_round-clause-last
 returns-then-completes_round-clause-last c = λ idle last. (refl, rw (c.answer_all.ensures.answered, ← c.self.view_is), c.set.ensures)
@@ -60,8 +60,8 @@ returns-clause-last c = λ idle last.
 pub returns-clause-nobody : goal.returns-clause-nobody
 returns-clause-nobody c = λ other. rw (c.in-Some.ensures.joined, ← c.self.view_is)
 
-pub returns-clause-standing : goal.returns-clause-standing
-returns-clause-standing c = λ some.
+pub returns-clause-invariant : goal.returns-clause-invariant
+returns-clause-invariant c = λ some.
     let test : (length c.args.self.now.slots.line + 1 == size_of c.args.self.now.held) ≡ false = cc in
     let other = other_number _ _ (rw (← c.self.view_is) at test) in
     let grown : length c.join.new.self.line ≡ length c.self.inside.line.line + 1 = ap (λ (s : Slots). length s.line) c.in-Some.ensures.joined ∙ length_push _ _ in

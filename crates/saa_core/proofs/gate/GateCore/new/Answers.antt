@@ -13,5 +13,5 @@ pub invariant_of-result : goal.invariant_of-result
 invariant_of-result c = record {
   sound = c.in_ok-line.ensures.sound;
   answers = rw c.in_ok-line.ensures.made (gate_answers-none c.args.room);
-  standing = inl refl;
+  waits = inl refl;
 }

@@ -7,7 +7,7 @@ use Rattle.saa_core_spec.specs.Gate.{gate_state}
 use Rattle.saa_core.specs.GateParts.{answer_by_state}
 use Rattle.saa_core.proofs.GatheringLemmas.Gathering.{register_full, register_joined}
 use Rattle.saa_core.proofs.GatheringLemmas.Entering.{enter_answered, enter_waits}
-use Rattle.saa_core.proofs.TicketLemmas.Waking.{owes-same, owes-joined}
+use Rattle.saa_core.proofs.TicketLemmas.Waking.{wakes-same, wakes-joined}
 use Rattle.saa_core.proofs.gate.GateCore.register.Goals as goal
 
 pub returns-then-is_registered-clause-acts : goal.returns-then-is_registered-clause-acts
@@ -35,10 +35,10 @@ returns-clause-acts c =
     rw (idle, c.set-2.ensures, c.in-Some-join.ensures.joined, ← c.self.view_is) (register_joined _ c.self.inside.line c.in-Some-join.slot Enter c.args.is_sync refl (enter_waits c.self.inside.state c.self.inside.line (rw (← c.self.view_is) at none)) (λ full. (let wrong : true ≡ false = c.in-Some-join.ensures.full.1 full in cc)) c.in-Some-join.ensures.was_free)
 
 pub returns-then-is_registered-clause-wakes : goal.returns-then-is_registered-clause-wakes
-returns-then-is_registered-clause-wakes c = rw (← c.self.view_is) (owes-same c.self.inside.line c.self.invariant.sound)
+returns-then-is_registered-clause-wakes c = rw (← c.self.view_is) (wakes-same c.self.inside.line c.self.invariant.sound)
 
 pub returns-in_default-join-clause-wakes : goal.returns-in_default-join-clause-wakes
-returns-in_default-join-clause-wakes c = rw (c.in_default-join.ensures.unchanged, ← c.self.view_is) (owes-same c.self.inside.line c.self.invariant.sound)
+returns-in_default-join-clause-wakes c = rw (c.in_default-join.ensures.unchanged, ← c.self.view_is) (wakes-same c.self.inside.line c.self.invariant.sound)
 
 pub returns-clause-wakes : goal.returns-clause-wakes
-returns-clause-wakes c = rw (c.in-Some-join.ensures.joined, ← c.self.view_is) (owes-joined c.self.inside.line c.in-Some-join.slot Enter c.self.invariant.sound)
+returns-clause-wakes c = rw (c.in-Some-join.ensures.joined, ← c.self.view_is) (wakes-joined c.self.inside.line c.in-Some-join.slot Enter c.self.invariant.sound)

@@ -1,5 +1,5 @@
-use Rattle.saa_core.proofs.TicketLemmas.Waking.{owes-same}
+use Rattle.saa_core.proofs.TicketLemmas.Waking.{wakes-same}
 use Rattle.saa_core.proofs.gate.GateCore.reset.Goals as goal
 
 pub returns-in-Controlled-clause-wakes : goal.returns-in-Controlled-clause-wakes
-returns-in-Controlled-clause-wakes c = rw (← c.self.view_is) (owes-same c.self.inside.line c.self.invariant.sound)
+returns-in-Controlled-clause-wakes c = rw (← c.self.view_is) (wakes-same c.self.inside.line c.self.invariant.sound)

@@ -2,7 +2,7 @@ use Rattle.std.proofs.Common.{◌≡◌, [], sym, subst, ap}
 use Rattle.saa_core_spec.specs.Held.{OfLock, Poisoned}
 use Rattle.saa_core.specs.Tickets.{IsCoreSettled, Core}
 use Rattle.saa_core.proofs.GrantingLemmas.SettlingSteps.{settled-settled, unpoisoned-settled}
-use Rattle.saa_core.proofs.GrantingLemmas.Waking.{owes-settled}
+use Rattle.saa_core.proofs.GrantingLemmas.Waking.{wakes-settled}
 use Rattle.saa_core.proofs.granting.Granting.settle_with.Goals as goal
 
 pub invariant_of-self : goal.invariant_of-self
@@ -22,4 +22,4 @@ returns-clause-settled g c = subst (λ k. IsCoreSettled k) (sym c.settle.ensures
 pub returns-clause-wakes : goal.returns-clause-wakes
 returns-clause-wakes g c =
     let line = ap (λ (k : Core). k.slots) c.settle.ensures.settled in
-    rw (line, ← c.self.view_is) (owes-settled (record { held = g.N.Needs.held c.args.needs; slots = c.self.inside.line }) c.self.invariant.sound)
+    rw (line, ← c.self.view_is) (wakes-settled (record { held = g.N.Needs.held c.args.needs; slots = c.self.inside.line }) c.self.invariant.sound)

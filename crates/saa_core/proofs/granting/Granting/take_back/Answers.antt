@@ -4,8 +4,8 @@ use Rattle.saa_core_spec.specs.Polling.{is_for_nothing}
 use Rattle.saa_core.specs.Tickets.{IsCoreSettled, Core}
 use Rattle.saa_core.proofs.GrantingLemmas.Asks.{release_given}
 use Rattle.saa_core.proofs.GrantingLemmas.SettlingSteps.{settled-settled, unpoisoned-given}
-use Rattle.saa_core.proofs.TicketLemmas.Waking.{owes-same}
-use Rattle.saa_core.proofs.GrantingLemmas.Waking.{owes-settled}
+use Rattle.saa_core.proofs.TicketLemmas.Waking.{wakes-same}
+use Rattle.saa_core.proofs.GrantingLemmas.Waking.{wakes-settled}
 use Rattle.saa_core.proofs.granting.Granting.take_back.Goals as goal
 
 pub invariant_of-self-2 : goal.invariant_of-self-2
@@ -27,12 +27,12 @@ pub returns-clause-settled : goal.returns-clause-settled
 returns-clause-settled g c = subst (λ k. IsCoreSettled k) (sym c.settle.ensures.settled) (settled-settled _)
 
 pub returns-then-is_for_nothing-clause-wakes : goal.returns-then-is_for_nothing-clause-wakes
-returns-then-is_for_nothing-clause-wakes g c = rw (← c.self.view_is) (owes-same c.self.inside.line c.self.invariant.sound)
+returns-then-is_for_nothing-clause-wakes g c = rw (← c.self.view_is) (wakes-same c.self.inside.line c.self.invariant.sound)
 
 pub returns-then-not-give_back-clause-wakes : goal.returns-then-not-give_back-clause-wakes
-returns-then-not-give_back-clause-wakes g c = rw (← c.self.view_is) (owes-same c.self.inside.line c.self.invariant.sound)
+returns-then-not-give_back-clause-wakes g c = rw (← c.self.view_is) (wakes-same c.self.inside.line c.self.invariant.sound)
 
 pub returns-clause-wakes : goal.returns-clause-wakes
 returns-clause-wakes g c =
     let line = ap (λ (k : Core). k.slots) c.settle.ensures.settled in
-    rw (line, ← c.self.view_is) (owes-settled (record { held = g.N.Needs.held c.give_back.new.self; slots = c.self.inside.line }) c.self.invariant.sound)
+    rw (line, ← c.self.view_is) (wakes-settled (record { held = g.N.Needs.held c.give_back.new.self; slots = c.self.inside.line }) c.self.invariant.sound)

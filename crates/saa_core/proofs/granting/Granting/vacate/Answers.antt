@@ -4,8 +4,8 @@ use Rattle.saa_core_spec.specs.Object.{without, times}
 use Rattle.saa_core.specs.Slots.{Slots}
 use Rattle.saa_core.specs.Tickets.{IsCoreSettled, Core}
 use Rattle.saa_core.proofs.GrantingLemmas.SettlingSteps.{settled-settled, unpoisoned-settled}
-use Rattle.saa_core.proofs.TicketLemmas.Waking.{owes-same}
-use Rattle.saa_core.proofs.GrantingLemmas.Waking.{owes-settled_left}
+use Rattle.saa_core.proofs.TicketLemmas.Waking.{wakes-same}
+use Rattle.saa_core.proofs.GrantingLemmas.Waking.{wakes-settled_left}
 use Rattle.saa_core.proofs.granting.Granting.vacate.Goals as goal
 
 pub invariant_of-self-then-leave : goal.invariant_of-self-then-leave
@@ -30,8 +30,8 @@ returns-then-leave-clause-wakes g c =
     let waited : 0 < times c.args.slot c.take.new.self.line = c.if-leave.ensures.waited.0 refl in
     let waits : 0 < times c.args.slot c.self.inside.line.line = rw took at waited in
     let line = ap (λ (k : Core). k.slots) c.settle.ensures.settled in
-    rw (line, left, ← c.self.view_is) (owes-settled_left (record { held = g.N.Needs.held c.self.inside.needs; slots = c.self.inside.line }) c.args.slot c.self.invariant.sound waits)
+    rw (line, left, ← c.self.view_is) (wakes-settled_left (record { held = g.N.Needs.held c.self.inside.needs; slots = c.self.inside.line }) c.args.slot c.self.invariant.sound waits)
 
 pub returns-else-leave-clause-wakes : goal.returns-else-leave-clause-wakes
 returns-else-leave-clause-wakes g c =
-    rw (c.if-leave.ensures.unchanged, c.in_default.ensures.unchanged, ← c.self.view_is) (owes-same c.self.inside.line c.self.invariant.sound)
+    rw (c.if-leave.ensures.unchanged, c.in_default.ensures.unchanged, ← c.self.view_is) (wakes-same c.self.inside.line c.self.invariant.sound)

@@ -17,7 +17,7 @@ invariant_of-self-2 g c = record {
   order_room = ap (λ (w : Waiters). w.room) c.push.ensures ∙ c.self.invariant.order_room;
   free_reserved = omega (arith, c.pop.ensures.capacity, c.self.invariant.free_reserved);
   wakes_room = c.self.invariant.wakes_room;
-  owed = c.self.invariant.owed;
+  pending_wakes = c.self.invariant.pending_wakes;
 }
 
 pub returns-clause-was_free : goal.returns-clause-was_free
@@ -33,7 +33,7 @@ returns-clause-within g c =
 pub returns-clause-sound : goal.returns-clause-sound
 returns-clause-sound g c =
     rw c.push.ensures
-    (IsSound-from_line _ _ _ _ _ (IsLine-joined _ _ _ _ _ _ _ c.in_ok-slot.ensures.items c.self.invariant.agrees) c.self.invariant.owed)
+    (IsSound-from_line _ _ _ _ _ (IsLine-joined _ _ _ _ _ _ _ c.in_ok-slot.ensures.items c.self.invariant.agrees) c.self.invariant.pending_wakes)
 
 pub push-requires-clause-within : goal.push-requires-clause-within
 push-requires-clause-within g c =

@@ -17,7 +17,7 @@ invariant_of-self g c =
       order_room = ap (λ (w : Waiters). w.room) c.remove.ensures ∙ c.self.invariant.order_room;
       free_reserved = omega (arith, c.push_reserved.ensures.capacity, c.self.invariant.free_reserved);
       wakes_room = c.self.invariant.wakes_room;
-      owed = c.self.invariant.owed;
+      pending_wakes = c.self.invariant.pending_wakes;
     }
 
 pub returns-clause-sound : goal.returns-clause-sound
@@ -25,4 +25,4 @@ returns-clause-sound g c =
     let view : times c.args.slot (g.O.Order.waiters c.self.inside.order).line ≡ times c.args.slot c.args.self.now.line = ap (λ (s : Slots). times c.args.slot s.line) c.self.view_is in
     let waits : 0 < times c.args.slot (g.O.Order.waiters c.self.inside.order).line = grind (arith, nat_tests) in
     let once = IsLine-once _ _ _ _ c.args.slot c.self.invariant.agrees waits in
-    rw c.remove.ensures (IsSound-from_line _ _ _ _ _ (IsLine-left _ _ _ _ _ once c.self.invariant.agrees) c.self.invariant.owed)
+    rw c.remove.ensures (IsSound-from_line _ _ _ _ _ (IsLine-left _ _ _ _ _ once c.self.invariant.agrees) c.self.invariant.pending_wakes)

@@ -1,7 +1,7 @@
 -- The slot that leaves the list was marked, so it is within the marks; its mark goes with it.
 use Rattle.std.proofs.Common.{◌≡◌, false, length, arith, ap}
 use Rattle.std.proofs.lemmas.List.{length-set}
-use Rattle.saa_core.specs.LineParts.{OwedWakes}
+use Rattle.saa_core.specs.LineParts.{PendingWakes}
 use Rattle.saa_core.proofs.WakesLemmas.{IsListed-within, IsListed-pop}
 use Rattle.saa_core.proofs.line.wakes.Wakes.next.Goals as goal
 
@@ -18,5 +18,5 @@ invariant_of-self-2 c = record {
 
 pub returns-clause-within : goal.returns-clause-within
 returns-clause-within c =
-    let room : length c.self.inside.listed.items ≡ c.args.self.now.room = ap (λ (w : OwedWakes). w.room) c.self.view_is in
+    let room : length c.self.inside.listed.items ≡ c.args.self.now.room = ap (λ (w : PendingWakes). w.room) c.self.view_is in
     omega (arith, IsListed-within _ _ _ _ c.in_ok-slot.ensures.items c.self.invariant.agrees, room)
