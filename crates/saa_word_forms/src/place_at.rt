@@ -58,7 +58,7 @@ impl<'l> PlaceAt<'l> {
             if self.ask_lock(rt) {
                 return;
             }
-            self.mend(rt);
+            self.clear_impossible_state(rt);
         }
         unreachable!()
     }
@@ -93,7 +93,7 @@ impl<'l> PlaceAt<'l> {
             if self.ask_share(rt) {
                 return;
             }
-            self.mend(rt);
+            self.clear_impossible_state(rt);
         }
         unreachable!()
     }
@@ -127,7 +127,7 @@ impl<'l> PlaceAt<'l> {
     }
 
     // Makes a lock that is poisoned free, and a place that is registered idle: neither is ever so where the lock's calls aren't handed out.
-    fn mend<R: Wait>(&mut self, rt: &R)
+    fn clear_impossible_state<R: Wait>(&mut self, rt: &R)
         ensures lock { self.new.lock ≡ self.old.lock }
         ensures cleared { (cleared : Place) × (said : Answer) × (answer : Answer) × IsMade ClearPoison self.old.place said cleared × IsMade Cancel cleared answer self.new.place }
     {

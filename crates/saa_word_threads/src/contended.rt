@@ -52,7 +52,7 @@ impl Form {
         )
     }
 
-    // Goes on with an ask whose exchange of the first word failed.
+    // Goes on with an ask whose exchange failed: the word that it had seen, and the one that it found.
     #[cold]
     pub(crate) fn ask_anew<R: Wait, W: Watch>(
         &self,
@@ -61,16 +61,16 @@ impl Form {
         seat: &mut Seat<(), View>,
         position: &mut Position,
         ask: Ask,
-        first: u64,
-        found: u64,
+        exchanged: (u64, u64),
         spin_policy: SpinPolicy,
         pending: Pending,
     ) -> Answer
-        requires ranged { IsRanged (needs self.now) (AskExchange ask (word_of count_bits first)) }
-        requires found { HasFound self.now pending (record position.old { stage = AskExchange ask (word_of count_bits first) }) found seat.old }
+        requires ranged { IsRanged (needs self.now) (AskExchange ask (word_of count_bits exchanged.0)) }
+        requires found { HasFound self.now pending (record position.old { stage = AskExchange ask (word_of count_bits exchanged.0) }) exchanged.1 seat.old }
         ensures same { IsSameSeat seat.old seat.new }
         ensures ended { HasEnded self.now pending position.new result seat.new }
     {
+        let (first, found) = exchanged;
         let seen = Word::unpack(first);
         let stage = Stage::AskExchange { ask, seen };
         self.follow(
@@ -106,7 +106,7 @@ impl Form {
         self.follow(rt, watch, seat, position, stage, found, NONE, pending)
     }
 
-    // Goes on with a release whose exchange of the first word failed.
+    // Goes on with a release whose exchange failed: the word that it had seen, and the one that it found.
     #[cold]
     pub(crate) fn give_anew<R: Wait, W: Watch>(
         &self,
@@ -115,15 +115,15 @@ impl Form {
         seat: &mut Seat<(), View>,
         position: &mut Position,
         request: u16,
-        first: u64,
-        found: u64,
+        exchanged: (u64, u64),
         pending: Pending,
     ) -> Answer
-        requires ranged { IsRanged (needs self.now) (ReleaseExchange (Asked request) (word_of count_bits first)) }
-        requires found { HasFound self.now pending (record position.old { stage = ReleaseExchange (Asked request) (word_of count_bits first) }) found seat.old }
+        requires ranged { IsRanged (needs self.now) (ReleaseExchange (Asked request) (word_of count_bits exchanged.0)) }
+        requires found { HasFound self.now pending (record position.old { stage = ReleaseExchange (Asked request) (word_of count_bits exchanged.0) }) exchanged.1 seat.old }
         ensures same { IsSameSeat seat.old seat.new }
         ensures ended { HasEnded self.now pending position.new result seat.new }
     {
+        let (first, found) = exchanged;
         let (given, seen) = (Given::Asked(request), Word::unpack(first));
         let stage = Stage::ReleaseExchange { given, seen };
         self.follow(rt, watch, seat, position, stage, found, NONE, pending)

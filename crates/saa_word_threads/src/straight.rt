@@ -124,8 +124,7 @@ impl Form {
                 seat,
                 position,
                 ask,
-                found,
-                other,
+                (found, other),
                 spin_policy,
                 pending,
             );
@@ -197,7 +196,7 @@ impl Form {
         let other = self.seek_by_exchange::<Brand>(seat, changing, &pending, old, new);
         if other != old {
             let (seat, position) = (&mut place.seat, &mut place.position);
-            return yes(self.give_anew(rt, watch, seat, position, request, found, other, pending));
+            return yes(self.give_anew(rt, watch, seat, position, request, (found, other), pending));
         }
         true
     }

@@ -14,9 +14,9 @@ returns-then-ask_lock-clause-taken g c =
 
 pub loop-preserved : goal.loop-preserved
 loop-preserved g c =
-    let cleared = c.mend.ensures.cleared in
+    let cleared = c.clear_impossible_state.ensures.cleared in
     record {
-      lock = c.mend.ensures.lock ∙ c.ask_lock.ensures.lock ∙ c.loop.invariant.lock;
+      lock = c.clear_impossible_state.ensures.lock ∙ c.ask_lock.ensures.lock ∙ c.loop.invariant.lock;
       refused = (
         suc c.loop.invariant.refused.0,
         (
