@@ -69,5 +69,6 @@ pub use Rattle.saa_word_threads.specs.Told as WordViews
 pub use Rattle.saa_word_threads.specs.Dealt as WordPlaces
 pub use Rattle.saa_word_threads.specs.Kept as WordHistory
 pub use Rattle.saa_word_threads.specs.Visits as WordVisits
+pub use Rattle.saa_word_threads.specs.Receipts as WordReceipts
 pub use Rattle.saa_word_forms.specs.Turns as WordTurns
 pub use Rattle.saa_word_forms.specs.Workers as WordWorkers

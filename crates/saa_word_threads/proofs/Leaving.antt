@@ -23,7 +23,7 @@ use Rattle.saa_word_threads.specs.declared.table.Role.TheVariants.{Acting, Spent
 use Rattle.saa_word_threads.specs.declared.table.View.{View}
 use Rattle.saa_word_threads.specs.Dealt.{AreLedTo, IsOf, has_number}
 use Rattle.saa_word_threads.specs.Gathered.{IsAmong, Knows}
-use Rattle.saa_word_threads.specs.Kept.{AreGathered, Fits, FitsAs, IsGathered, Kept, departed, gathering, is_dealer, row_of, spent}
+use Rattle.saa_word_threads.specs.Kept.{AreGathered, Fits, FitsAs, IsGathered, Kept, departed, gathering, is_unnumbered, row_of, spent}
 use Rattle.saa_word_threads.proofs.Gathering.{found-within, gathered-stay, place-fits, spent-apart}
 use Rattle.saa_word_threads.proofs.Opening.{shows}
 
@@ -67,8 +67,8 @@ module _ (about : About) (s : State (Unit {0}) View) (kept : Kept about s) (id o
       set_else between other seat (spent w) (spent-apart s.views other seat w u there (acting w left) is gone)
       ∙ set_else s.views id seat (gathering v w) (spent-apart s.views id seat v u at (acting v acts) is gone) ∙ is
 
-  stay : (seat : ℕ) (u : View) → get_elem? s.views seat ≡ some u → AreGathered behind u.gathered
-  stay seat u is = gathered-stay s.views behind stays u.gathered (kept.gathers seat u is)
+  stay : (seat : ℕ) (u : View) → get_elem? s.views seat ≡ some u → is_unnumbered u.role ≡ false → AreGathered behind u.gathered
+  stay seat u is plays = gathered-stay s.views behind stays u.gathered (kept.gathers seat u is plays)
 
   is-gathered : IsGathered behind (departed w)
   is-gathered = (other, spent w, set_here between other (spent w) (found-within between other w found), refl, left_line, refl)
@@ -80,14 +80,14 @@ module _ (about : About) (s : State (Unit {0}) View) (kept : Kept about s) (id o
 
   -- each seat has the number that it had
   abbrev WasOf : ℕ → View → Type 0
-  WasOf seat u = (was : View) × (get_elem? s.views seat ≡ some was) × (is_dealer u.role ≡ is_dealer was.role) × (u.number ≡ was.number)
+  WasOf seat u = (was : View) × (get_elem? s.views seat ≡ some was) × (is_unnumbered u.role ≡ is_unnumbered was.role) × (u.number ≡ was.number)
 
   was : (seat : ℕ) (u : View) → get_elem? behind seat ≡ some u → WasOf seat u
-  was = at-all WasOf (w, there, ap is_dealer (sym left), refl) (v, at, refl, refl) (λ seat u is. (u, is, refl, refl))
+  was = at-all WasOf (w, there, ap is_unnumbered (sym left), refl) (v, at, refl, refl) (λ seat u is. (u, is, refl, refl))
 
   -- and each seat that was there is there with that number
   is-there : (seat : ℕ) (u : View) → get_elem? s.views seat ≡ some u
-      → (now : View) × (get_elem? behind seat ≡ some now) × (is_dealer now.role ≡ is_dealer u.role) × (now.number ≡ u.number)
+      → (now : View) × (get_elem? behind seat ≡ some now) × (is_unnumbered now.role ≡ is_unnumbered u.role) × (now.number ≡ u.number)
   is-there seat u is =
       elim (cases_Bool (seat == other)) [
         | inl one ↦
@@ -95,7 +95,7 @@ module _ (about : About) (s : State (Unit {0}) View) (kept : Kept about s) (id o
             let view_is : w ≡ u = some-injective w u (sym there ∙ ap (get_elem? s.views) (sym place_is) ∙ is) in (
               spent w,
               ap (get_elem? behind) place_is ∙ set_here between other (spent w) (found-within between other w found),
-              ap is_dealer (sym left) ∙ ap (λ (x : View). is_dealer x.role) view_is,
+              ap is_unnumbered (sym left) ∙ ap (λ (x : View). is_unnumbered x.role) view_is,
               ap (λ (x : View). x.number) view_is,
             )
         | inr not_other ↦
@@ -107,7 +107,7 @@ module _ (about : About) (s : State (Unit {0}) View) (kept : Kept about s) (id o
                     gathering v w,
                     set_else between other seat (spent w) differs ∙ ap (get_elem? between) place_is
                         ∙ set_here s.views id (gathering v w) (found-within s.views id v at),
-                    ap (λ (x : View). is_dealer x.role) view_is,
+                    ap (λ (x : View). is_unnumbered x.role) view_is,
                     ap (λ (x : View). x.number) view_is,
                   )
               | inr not_id ↦
@@ -127,7 +127,9 @@ module _ (about : About) (s : State (Unit {0}) View) (kept : Kept about s) (id o
     few = kept.few;
     refines = kept.refines;
     each = each-fits;
-    gathers = at-all (λ seat u. AreGathered behind u.gathered) (stay other w there) (is-gathered, stay id v at) stay;
+    gathers =
+        at-all (λ seat u. is_unnumbered u.role ≡ false → AreGathered behind u.gathered) (λ plays. stay other w there (ap is_unnumbered left))
+        (λ plays. (is-gathered, stay id v at (ap is_unnumbered acts))) stay;
     apart = λ one another u x is also acts_one acts_another same.
         (let first = was one u is in let second = was another x also in
         kept.apart one another first.0 second.0 first.1 second.1 (sym first.2 ∙ acts_one) (sym second.2 ∙ acts_another) (sym first.3 ∙ same ∙ second.3));
@@ -186,7 +188,7 @@ module _ (about : About) (s : State (Unit {0}) View) (kept : Kept about s) (seat
   known-fits gone (inl is) =
       let fits = place-fits kept.history kept.standing about.places kept.dealt seat v acts (kept.each seat v at) in
       subst (IsKept kept.history) is (fits.2, fits.3)
-  known-fits gone (inr among) = among-fits gone v.gathered (kept.gathers seat v at) among
+  known-fits gone (inr among) = among-fits gone v.gathered (kept.gathers seat v at (ap is_unnumbered acts)) among
 
   pub all-of : (views : List View) → Knows v views → (index : ℕ) (unknown : View) → index < length views → IsOf kept.history (get_or views index unknown)
   all-of [] known index unknown within = absurd (omega arith)
@@ -209,7 +211,7 @@ module _ (about : About) (s : State (Unit {0}) View) (kept : Kept about s) (seat
   known-out out gone (inl is) =
       let fits = place-fits kept.history kept.standing about.places kept.dealt seat v acts (kept.each seat v at) in
       subst (λ (d : Departed). IsOut d.number) is (ap (λ (p : Position). is_slot p.registration) fits.1 ∙ out)
-  known-out out gone (inr among) = among-out gone v.gathered (kept.gathers seat v at) among
+  known-out out gone (inr among) = among-out gone v.gathered (kept.gathers seat v at (ap is_unnumbered acts)) among
 
   pub has-out : is_slot v.position.registration ≡ false → (number : ℕ) (views : List View) → Knows v views → has_number number views ≡ true → IsOut number
   has-out out number [] known has = absurd (cc)

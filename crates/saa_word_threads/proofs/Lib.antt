@@ -5,6 +5,7 @@ pub mod Beginning
 pub mod Moving
 pub mod Calling
 pub mod Opening
+pub mod Receiving
 pub mod Going
 pub mod Leaving
 pub mod Comparing

@@ -1,5 +1,5 @@
 -- Each step of a place keeps the table's rule, and tells the place what it does.
-use Rattle.std.proofs.Common.{◌≡◌, ◌≢◌, ℕ, ◌+◌, ◌^◌, ◌<◌, ◌≤◌, ◌⊎◌, ◌==◌, ◌&&◌, ◌||◌, Bool, true, false, List, ◌++◌, length, get_or, refl, sym, ap, subst, ◌∙◌, arith, inl, inr, append-nil}
+use Rattle.std.proofs.Common.{◌≡◌, ◌≢◌, ℕ, ◌+◌, ◌^◌, ◌<◌, ◌≤◌, ◌⊎◌, ◌==◌, ◌&&◌, ◌||◌, Bool, true, false, List, [], ◌∷◌, ◌++◌, length, get_or, refl, sym, ap, subst, ◌∙◌, arith, inl, inr, append-nil, append_assoc}
 use Rattle.std.proofs.Math.ListN.{set, length-set}
 use Rattle.std.proofs.lemmas.List.{get_or-set_same, get_or-set_other, set-get_or}
 use Rattle.std.proofs.lemmas.Bool.{cases_Bool}
@@ -17,7 +17,7 @@ use Rattle.saa_word_steps.specs.declared.place.Stage.{Stage}
 use Rattle.saa_word_steps.specs.Needs.{AreNeeds, Needs, needs_of}
 use Rattle.saa_word_steps.specs.AbstractState.{AbstractState, IsRun, OwesNothing, opening}
 use Rattle.saa_word_steps.specs.Steps.{next_of, operation_of, word_at, written_by}
-use Rattle.saa_word_proofs.specs.History.{has_part, named, never_waits, of_place, part_of, seen_by}
+use Rattle.saa_word_proofs.specs.History.{BeginsWith, has_part, named, never_waits, of_place, part_of, seen_by}
 use Rattle.saa_word_proofs.specs.Refinement.{IsVisiting, Refines, joins_line}
 use Rattle.saa_word_proofs.specs.Promises.{idle_place}
 use Rattle.saa_word_proofs.specs.Rows.{updated}
@@ -27,10 +27,11 @@ use Rattle.saa_word_proofs.proofs.RefinementLemmas.Lists.{all-same, updated-at}
 use Rattle.saa_word_proofs.proofs.RefinementLemmas.Steps.{step-anyone, visiting}
 use Rattle.saa_word_proofs.proofs.SoloLemmas.Alone.{rules-lawful}
 use Rattle.saa_word_threads.specs.declared.table.About.{About}
+use Rattle.saa_word_threads.specs.declared.table.Departed.{Departed}
 use Rattle.saa_word_threads.specs.declared.table.Role.{Role}
-use Rattle.saa_word_threads.specs.declared.table.Role.TheVariants.{Dealer, Acting, Spent}
+use Rattle.saa_word_threads.specs.declared.table.Role.TheVariants.{Dealer, Acting, Receipt, Spent}
 use Rattle.saa_word_threads.specs.declared.table.View.{View}
-use Rattle.saa_word_threads.specs.Kept.{AreGathered, Fits, FitsAs, IsFree, Kept, is_dealer, row_of}
+use Rattle.saa_word_threads.specs.Kept.{AreGathered, BeginsWithEach, Fits, FitsAs, IsFree, Kept, departed, is_unnumbered, row_of}
 use Rattle.saa_word_steps.specs.declared.rules.Rules.{Rules}
 use Rattle.saa_word_threads.specs.Told.{Begins, Extends, IsLegal, IsNext, IsLookOnly, Moves, is_showing, prepares}
 use Rattle.saa_word_threads.proofs.Beginning.{begins-refines, updated-twice}
@@ -104,6 +105,14 @@ never-joins places me stage (inr visits) out = visits.0
 
 -- Views and the history
 
+-- a longer history begins with what a shorter one began with
+begins-more : (history more seen : List (ℕ × Event)) → BeginsWith history seen → BeginsWith (history ++ more) seen
+begins-more history more seen begins = (begins.0 ++ more, ap (λ (l : List (ℕ × Event)). l ++ more) begins.1 ∙ append_assoc seen begins.0 more)
+
+begins-each : (history more : List (ℕ × Event)) (gathered : List Departed) → BeginsWithEach history gathered → BeginsWithEach (history ++ more) gathered
+begins-each history more [] each = tt
+begins-each history more (gone ∷ rest) each = (begins-more history more gone.seen each.0, each.1, begins-each history more rest each.2)
+
 module _ (history : List (ℕ × Event)) (standing : ℕ → Place) (places dealt seat : ℕ) (v : View) where
   -- a view of another number fits a history with events of the mover behind it
   apart-fits : (me : ℕ) (events : List Event) (place : Place) → me ≢ v.number → FitsAs history standing places dealt seat v Acting
@@ -119,9 +128,10 @@ module _ (history : List (ℕ × Event)) (standing : ℕ → Place) (places deal
             ∙ append-nil (part_of v.number history)),
       )
 
-  other-fits : (me : ℕ) (role : Role) (events : List Event) (place : Place) → (is_dealer role ≡ false → me ≢ v.number)
+  other-fits : (me : ℕ) (role : Role) (events : List Event) (place : Place) → (is_unnumbered role ≡ false → me ≢ v.number)
       → FitsAs history standing places dealt seat v role → FitsAs (history ++ of_place me events) (updated standing me place) places dealt seat v role
   other-fits me Dealer events place apart fits = fits
+  other-fits me Receipt events place apart fits = begins-each history (of_place me events) (departed v ∷ v.gathered) fits
   other-fits me Acting events place apart fits = apart-fits me events place (apart refl) fits
   other-fits me Spent events place apart fits = apart-fits me events place (apart refl) fits
 
@@ -215,11 +225,11 @@ module _ (about : About) (few : about.places < 65536) (wide : (needs_of about.ru
         (subst (λ (f : ℕ → Place). Refines (needs_of about.rules) about.places (row_after (row_of s.words) operation) f made.last)
         (updated-twice kept.standing v.number place behind) made.refines)
 
-    plays : is_dealer v.role ≡ false
-    plays = ap is_dealer acts
+    plays : is_unnumbered v.role ≡ false
+    plays = ap is_unnumbered acts
 
     -- no other seat has the mover's number
-    other-number : (other : ℕ) (w : View) → other ≢ seat → get_elem? s.views other ≡ some w → is_dealer w.role ≡ false → v.number ≢ w.number
+    other-number : (other : ℕ) (w : View) → other ≢ seat → get_elem? s.views other ≡ some w → is_unnumbered w.role ≡ false → v.number ≢ w.number
     other-number other w differ is other_plays same = differ (sym (kept.apart seat other v w at is plays other_plays same))
 
     -- each view fits the longer history
@@ -235,7 +245,7 @@ module _ (about : About) (few : about.places < 65536) (wide : (needs_of about.ru
 
     -- no two have one number still
     apart-after : (one other : ℕ) (u w : View) → ((one ≡ seat) × (view ≡ u)) ⊎ ((one ≢ seat) × (get_elem? s.views one ≡ some u))
-        → ((other ≡ seat) × (view ≡ w)) ⊎ ((other ≢ seat) × (get_elem? s.views other ≡ some w)) → is_dealer u.role ≡ false → is_dealer w.role ≡ false
+        → ((other ≡ seat) × (view ≡ w)) ⊎ ((other ≢ seat) × (get_elem? s.views other ≡ some w)) → is_unnumbered u.role ≡ false → is_unnumbered w.role ≡ false
         → u.number ≡ w.number → one ≡ other
     apart-after one other u w (inl own) (inl also) acting_one acting_other same = own.0 ∙ sym also.0
     apart-after one other u w (inl own) (inr differ) acting_one acting_other same =
@@ -250,10 +260,10 @@ module _ (about : About) (few : about.places < 65536) (wide : (needs_of about.ru
         set_else s.views seat other view (spent-apart s.views seat other v w at (λ r. let wrong : Acting ≡ Spent = sym acts ∙ r in absurd (cc)) is gone) ∙ is
 
     gathers-after : (other : ℕ) (w : View) → ((other ≡ seat) × (view ≡ w)) ⊎ ((other ≢ seat) × (get_elem? s.views other ≡ some w))
-        → AreGathered after.views w.gathered
-    gathers-after other w (inl own) =
-        subst (λ (u : View). AreGathered after.views u.gathered) own.1 (gathered-stay s.views after.views stays v.gathered (kept.gathers seat v at))
-    gathers-after other w (inr apart) = gathered-stay s.views after.views stays w.gathered (kept.gathers other w apart.1)
+        → is_unnumbered w.role ≡ false → AreGathered after.views w.gathered
+    gathers-after other w (inl own) has =
+        subst (λ (u : View). AreGathered after.views u.gathered) own.1 (gathered-stay s.views after.views stays v.gathered (kept.gathers seat v at plays))
+    gathers-after other w (inr apart) has = gathered-stay s.views after.views stays w.gathered (kept.gathers other w apart.1 has)
 
     within : seat < length s.views
     within = found-within s.views seat v at
@@ -317,7 +327,7 @@ module _ (about : About) (few : about.places < 65536) (wide : (needs_of about.ru
       few = kept.few;
       refines = refined;
       each = λ other w is. each-after other w (at_set s.views seat other view w is);
-      gathers = λ other w is. gathers-after other w (at_set s.views seat other view w is);
+      gathers = λ other w is has. gathers-after other w (at_set s.views seat other view w is) has;
       apart = λ one other u w is also. apart-after one other u w (at_set s.views seat one view u is) (at_set s.views seat other view w also);
       fresh = fresh-after;
       visits = visits-after;

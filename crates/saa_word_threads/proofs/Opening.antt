@@ -9,13 +9,13 @@ use mathlib.Core.Option.{some, some-injective, some-ne-none}
 use lib.ListN.{get_elem?}
 use Rattle.atomic_table.specs.Table.{Enters, Splits, State, opening as table_opening}
 use Rattle.atomic_table.specs.Seated.{TableId}
-use Rattle.atomic_table.proofs.Lists.{at_longer, at_set, set_else}
+use Rattle.atomic_table.proofs.Lists.{at_longer, at_set, set_again, set_else}
 use Rattle.saa_core_words.specs.Words.{count_bits}
 use Rattle.saa_word_steps.specs.declared.event.Event.{Event}
 use Rattle.saa_word_steps.specs.declared.place.Place.{Place as Position}
 use Rattle.saa_word_steps.specs.AbstractState.{opening}
 use Rattle.saa_word_steps.specs.Needs.{needs_of}
-use Rattle.saa_word_proofs.specs.History.{BeginsWith, LeadsTo}
+use Rattle.saa_word_proofs.specs.History.{BeginsWith, LeadsTo, part_of}
 use Rattle.saa_word_proofs.specs.Promises.{Observes, idle_place, opening_row}
 use Rattle.saa_word_proofs.specs.Refinement.{Refines}
 use Rattle.saa_word_proofs.proofs.RefinementLemmas.Lists.{all-same}
@@ -24,13 +24,13 @@ use Rattle.saa_word_proofs.proofs.RefinementLemmas.Seen.{begins-seen}
 use Rattle.saa_word_threads.specs.declared.place.Place.{Place}
 use Rattle.saa_word_threads.specs.declared.table.About.{About}
 use Rattle.saa_word_threads.specs.declared.table.Role.{Role}
-use Rattle.saa_word_threads.specs.declared.table.Role.TheVariants.{Dealer, Acting, Spent}
+use Rattle.saa_word_threads.specs.declared.table.Role.TheVariants.{Dealer, Acting, Receipt, Spent}
 use Rattle.saa_word_threads.specs.declared.table.View.{View}
 use Rattle.saa_word_threads.specs.Dealt.{AreNew, IsLedTo, IsNew}
-use Rattle.saa_word_threads.specs.Kept.{AreGathered, Fits, FitsAs, IsFree, IsNumber, Kept, dealer, is_dealer, fresh_view, row_of}
+use Rattle.saa_word_threads.specs.Kept.{AreGathered, BeginsWithEach, Fits, FitsAs, IsFree, IsNumber, Kept, dealer, departed, fresh_view, is_unnumbered, receipt_of, row_of}
 use Rattle.saa_word_threads.specs.Visits.{IsEntering}
 use Rattle.saa_word_threads.proofs.Gathering.{found-within, gathered-stay, place-fits}
-use Rattle.saa_word_threads.proofs.Growing.{none-seen, part-none}
+use Rattle.saa_word_threads.proofs.Growing.{none-seen, part-none, seen-part}
 
 -- The beginning
 
@@ -58,9 +58,9 @@ module _ (about : About) (wide : (needs_of about.rules).top < 2 ^ count_bits) (c
   first-alone zero v is = refl
   first-alone (suc seat) v is = absurd (some-ne-none v (sym is))
 
-  first-gathers : (seat : ℕ) (v : View) → get_elem? (dealer 0 ∷ []) seat ≡ some v → AreGathered (dealer 0 ∷ []) v.gathered
-  first-gathers zero v is = subst (λ (u : View). AreGathered (dealer 0 ∷ []) u.gathered) (some-injective (dealer 0) v is) tt
-  first-gathers (suc seat) v is = absurd (some-ne-none v (sym is))
+  first-gathers : (seat : ℕ) (v : View) → get_elem? (dealer 0 ∷ []) seat ≡ some v → is_unnumbered v.role ≡ false → AreGathered (dealer 0 ∷ []) v.gathered
+  first-gathers zero v is plays = subst (λ (u : View). AreGathered (dealer 0 ∷ []) u.gathered) (some-injective (dealer 0) v is) tt
+  first-gathers (suc seat) v is plays = absurd (some-ne-none v (sym is))
 
   pub kept-opening : (words : List ℕ) → words ≡ set (replicate (about.places + about.places + 1) 0) 0 about.withheld
       → Kept about (table_opening words [] (dealer 0))
@@ -110,16 +110,18 @@ number-more places dealt more seat number grows (inl below) = inl (omega (arith,
 number-more places dealt more seat number grows (inr is) = inr is
 
 more-fits : (history : List (ℕ × Event)) (standing : ℕ → Position) (places dealt more seat : ℕ) (w : View) (role : Role) → dealt ≤ more
-    → is_dealer role ≡ false → FitsAs history standing places dealt seat w role → FitsAs history standing places more seat w role
+    → is_unnumbered role ≡ false → FitsAs history standing places dealt seat w role → FitsAs history standing places more seat w role
 more-fits history standing places dealt more seat w Dealer grows plays fits = absurd (cc)
+more-fits history standing places dealt more seat w Receipt grows plays fits = absurd (cc)
 more-fits history standing places dealt more seat w Acting grows plays fits =
     (number-more places dealt more seat w.number grows fits.0, fits.1, fits.2, fits.3)
 more-fits history standing places dealt more seat w Spent grows plays fits =
     (number-more places dealt more seat w.number grows fits.0, fits.1, fits.2, fits.3)
 
-numbered : (history : List (ℕ × Event)) (standing : ℕ → Position) (places dealt seat : ℕ) (w : View) (role : Role) → is_dealer role ≡ false
+numbered : (history : List (ℕ × Event)) (standing : ℕ → Position) (places dealt seat : ℕ) (w : View) (role : Role) → is_unnumbered role ≡ false
     → FitsAs history standing places dealt seat w role → IsNumber places dealt seat w.number
 numbered history standing places dealt seat w Dealer plays fits = absurd (cc)
+numbered history standing places dealt seat w Receipt plays fits = absurd (cc)
 numbered history standing places dealt seat w Acting plays fits = fits.0
 numbered history standing places dealt seat w Spent plays fits = fits.0
 
@@ -136,10 +138,10 @@ seat-free places dealt seats seat one few within (inr is) same = omega (arith, i
 module _ (about : About) (s : State (Unit {0}) View) (kept : Kept about s) (views : List View) (dealt number : ℕ) (grows : kept.dealt ≤ dealt)
     (few : dealt ≤ about.places) (free : IsFree s.views number) (is_number : IsNumber about.places dealt (length s.views) number)
     (long : length views ≡ length s.views)
-    (same : (seat : ℕ) (w : View) → get_elem? views seat ≡ some w → is_dealer w.role ≡ false → get_elem? s.views seat ≡ some w)
-    (back : (seat : ℕ) (w : View) → get_elem? s.views seat ≡ some w → is_dealer w.role ≡ false → get_elem? views seat ≡ some w)
-    (deals : (seat : ℕ) (w : View) → get_elem? views seat ≡ some w → is_dealer w.role ≡ true
-    → Fits kept.history kept.standing about.places dealt seat w × ((w.gathered ≡ []) ⊎ (get_elem? s.views seat ≡ some w))) where
+    (same : (seat : ℕ) (w : View) → get_elem? views seat ≡ some w → is_unnumbered w.role ≡ false → get_elem? s.views seat ≡ some w)
+    (back : (seat : ℕ) (w : View) → get_elem? s.views seat ≡ some w → is_unnumbered w.role ≡ false → get_elem? views seat ≡ some w)
+    (deals : (seat : ℕ) (w : View) → get_elem? views seat ≡ some w → is_unnumbered w.role ≡ true
+    → Fits kept.history kept.standing about.places dealt seat w) where
   abbrev all : List View
   all = views ++ fresh_view number ∷ []
 
@@ -151,8 +153,8 @@ module _ (about : About) (s : State (Unit {0}) View) (kept : Kept about s) (view
   all-fits : (seat : ℕ) (w : View) → (get_elem? views seat ≡ some w) ⊎ ((seat ≡ length views) × (fresh_view number ≡ w))
       → Fits kept.history kept.standing about.places dealt seat w
   all-fits seat w (inl there) =
-      elim (cases_Bool (is_dealer w.role)) [
-        | inl dealing ↦ (deals seat w there dealing).0
+      elim (cases_Bool (is_unnumbered w.role)) [
+        | inl dealing ↦ deals seat w there dealing
         | inr plays ↦
             more-fits kept.history kept.standing about.places kept.dealt dealt seat w w.role grows plays (kept.each seat w (same seat w there plays))
       ]
@@ -161,22 +163,15 @@ module _ (about : About) (s : State (Unit {0}) View) (kept : Kept about s) (view
       (subst (λ (n : ℕ). Fits kept.history kept.standing about.places dealt n (fresh_view number)) (sym (last.0 ∙ long)) fresh_view-fits)
 
   stays : (seat : ℕ) (w : View) → get_elem? s.views seat ≡ some w → w.role ≡ Spent → get_elem? all seat ≡ some w
-  stays seat w is gone = found-front views (fresh_view number) w seat (back seat w is (ap is_dealer gone))
+  stays seat w is gone = found-front views (fresh_view number) w seat (back seat w is (ap is_unnumbered gone))
 
-  all-gathers : (seat : ℕ) (w : View) → (get_elem? views seat ≡ some w) ⊎ ((seat ≡ length views) × (fresh_view number ≡ w)) → AreGathered all w.gathered
-  all-gathers seat w (inl there) =
-      elim (cases_Bool (is_dealer w.role)) [
-        | inl dealing ↦
-            elim (deals seat w there dealing).1 [
-              | inl none ↦ subst (AreGathered all) (sym none) tt
-              | inr was ↦ gathered-stay s.views all stays w.gathered (kept.gathers seat w was)
-            ]
-        | inr plays ↦ gathered-stay s.views all stays w.gathered (kept.gathers seat w (same seat w there plays))
-      ]
-  all-gathers seat w (inr last) = subst (λ (u : View). AreGathered all u.gathered) last.1 tt
+  all-gathers : (seat : ℕ) (w : View) → (get_elem? views seat ≡ some w) ⊎ ((seat ≡ length views) × (fresh_view number ≡ w))
+      → is_unnumbered w.role ≡ false → AreGathered all w.gathered
+  all-gathers seat w (inl there) plays = gathered-stay s.views all stays w.gathered (kept.gathers seat w (same seat w there plays) plays)
+  all-gathers seat w (inr last) plays = subst (λ (u : View). AreGathered all u.gathered) last.1 tt
 
   all-apart : (one other : ℕ) (v w : View) → (get_elem? views one ≡ some v) ⊎ ((one ≡ length views) × (fresh_view number ≡ v))
-      → (get_elem? views other ≡ some w) ⊎ ((other ≡ length views) × (fresh_view number ≡ w)) → is_dealer v.role ≡ false → is_dealer w.role ≡ false
+      → (get_elem? views other ≡ some w) ⊎ ((other ≡ length views) × (fresh_view number ≡ w)) → is_unnumbered v.role ≡ false → is_unnumbered w.role ≡ false
       → v.number ≡ w.number → one ≡ other
   all-apart one other v w (inl there) (inl also) plays also_plays is =
       kept.apart one other v w (same one v there plays) (same other w also also_plays) plays also_plays is
@@ -197,7 +192,7 @@ module _ (about : About) (s : State (Unit {0}) View) (kept : Kept about s) (view
     few = few;
     refines = kept.refines;
     each = λ seat w is. all-fits seat w (found-snoc views (fresh_view number) w seat is);
-    gathers = λ seat w is. all-gathers seat w (found-snoc views (fresh_view number) w seat is);
+    gathers = λ seat w is plays. all-gathers seat w (found-snoc views (fresh_view number) w seat is) plays;
     apart = λ one other v w is also. all-apart one other v w (found-snoc views (fresh_view number) v one is) (found-snoc views (fresh_view number) w other also);
     fresh = λ other none. kept.fresh other (λ seat w is plays. none seat w (found-front views (fresh_view number) w seat (back seat w is plays)) plays);
     visits = kept.visits;
@@ -216,30 +211,30 @@ module _ (about : About) (number : ℕ) (room : number < about.places) (s : Stat
       (numbered kept.history kept.standing about.places kept.dealt seat w w.role plays (kept.each seat w is)) (equal ∙ first.1)
 
   dealer-is : (seat : ℕ) (w : View) → ((seat ≡ id) × (dealer (number + 1) ≡ w)) ⊎ ((seat ≢ id) × (get_elem? s.views seat ≡ some w))
-      → is_dealer w.role ≡ false → get_elem? s.views seat ≡ some w
-  dealer-is seat w (inl own) plays = let wrong : true ≡ false = ap (λ (u : View). is_dealer u.role) own.1 ∙ plays in absurd (cc)
+      → is_unnumbered w.role ≡ false → get_elem? s.views seat ≡ some w
+  dealer-is seat w (inl own) plays = let wrong : true ≡ false = ap (λ (u : View). is_unnumbered u.role) own.1 ∙ plays in absurd (cc)
   dealer-is seat w (inr other) plays = other.1
 
-  -- no other seat is a dealer's
-  dealer-alone : (seat : ℕ) (w : View) (role : Role) → is_dealer role ≡ true → FitsAs kept.history kept.standing about.places kept.dealt seat w role → seat ≡ 0
-  dealer-alone seat w Dealer dealing fits = fits.0
-  dealer-alone seat w Acting dealing fits = absurd (cc)
-  dealer-alone seat w Spent dealing fits = absurd (cc)
+  -- no other seat is a dealer's, and a receipt fits as it did
+  dealing-fits : (seat : ℕ) (w : View) (role : Role) → seat ≢ id → is_unnumbered role ≡ true
+      → FitsAs kept.history kept.standing about.places kept.dealt seat w role → FitsAs kept.history kept.standing about.places (number + 1) seat w role
+  dealing-fits seat w Dealer apart dealing fits = absurd (apart (fits.0 ∙ sym first.0))
+  dealing-fits seat w Receipt apart dealing fits = fits
+  dealing-fits seat w Acting apart dealing fits = absurd (cc)
+  dealing-fits seat w Spent apart dealing fits = absurd (cc)
 
   dealer-first : (seat : ℕ) (w : View) → ((seat ≡ id) × (dealer (number + 1) ≡ w)) ⊎ ((seat ≢ id) × (get_elem? s.views seat ≡ some w))
-      → is_dealer w.role ≡ true → Fits kept.history kept.standing about.places (number + 1) seat w × ((w.gathered ≡ []) ⊎ (get_elem? s.views seat ≡ some w))
+      → is_unnumbered w.role ≡ true → Fits kept.history kept.standing about.places (number + 1) seat w
   dealer-first seat w (inl own) dealing =
-      subst (λ (u : View). Fits kept.history kept.standing about.places (number + 1) seat u × ((u.gathered ≡ []) ⊎ (get_elem? s.views seat ≡ some u))) own.1
-      ((own.0 ∙ first.0, refl), inl refl)
-  dealer-first seat w (inr other) dealing =
-      absurd (other.0 (dealer-alone seat w w.role dealing (kept.each seat w other.1) ∙ sym first.0))
+      subst (λ (u : View). Fits kept.history kept.standing about.places (number + 1) seat u) own.1 (own.0 ∙ first.0, refl)
+  dealer-first seat w (inr other) dealing = dealing-fits seat w w.role other.0 dealing (kept.each seat w other.1)
 
-  dealer-back : (seat : ℕ) (w : View) → get_elem? s.views seat ≡ some w → is_dealer w.role ≡ false
+  dealer-back : (seat : ℕ) (w : View) → get_elem? s.views seat ≡ some w → is_unnumbered w.role ≡ false
       → get_elem? (set s.views id (dealer (number + 1))) seat ≡ some w
   dealer-back seat w is plays =
       let apart : seat ≢ id = λ e.
       (let one : dealer number ≡ w = some-injective (dealer number) w (sym at ∙ ap (get_elem? s.views) (sym e) ∙ is) in
-      let wrong : true ≡ false = ap (λ (u : View). is_dealer u.role) one ∙ plays in absurd (cc)) in
+      let wrong : true ≡ false = ap (λ (u : View). is_unnumbered u.role) one ∙ plays in absurd (cc)) in
       set_else s.views id seat (dealer (number + 1)) apart ∙ is
 
   pub kept-dealt : Kept about (record { words = s.words; homes = s.homes; views = set s.views id (dealer (number + 1)) ++ fresh_view number ∷ [] })
@@ -266,7 +261,7 @@ module _ (about : About) (s : State (Unit {0}) View) (kept : Kept about s) where
       seat-free about.places kept.dealt (length s.views) seat w.number kept.few (found-within s.views seat w is)
       (numbered kept.history kept.standing about.places kept.dealt seat w w.role plays (kept.each seat w is)))
       (inr refl) refl (λ seat w is plays. is) (λ seat w is plays. is)
-      (λ seat w is dealing. (kept.each seat w is, inr is))
+      (λ seat w is dealing. kept.each seat w is)
 
 pub enters : (about : About) (picked_places slots index : ℕ) → picked_places ≡ about.places
     → Enters (Kept about) slots index (λ number v. IsEntering picked_places v)
@@ -275,6 +270,59 @@ enters about picked_places slots index same = λ s kept sized small. (
   kept-entered about s kept,
   (about.places + length s.views, omega (arith, same), refl),
 )
+
+-- One receipt more
+
+module _ (about : About) (s : State (Unit {0}) View) (kept : Kept about s) (id : ℕ) (v : View) (acts : v.role ≡ Acting) (at : get_elem? s.views id ≡ some v) where
+  abbrev witnessed : List View
+  witnessed = s.views ++ receipt_of v ∷ []
+
+  receipt-fits : BeginsWithEach kept.history (departed v ∷ [])
+  receipt-fits =
+      let fits = place-fits kept.history kept.standing about.places kept.dealt id v acts (kept.each id v at) in (
+        subst (BeginsWith kept.history) (sym fits.2) (begins-seen v.number kept.history),
+        ap (part_of v.number) fits.2 ∙ seen-part v.number kept.history ∙ sym fits.3,
+        tt,
+      )
+
+  witnessed-fits : (seat : ℕ) (w : View) → (get_elem? s.views seat ≡ some w) ⊎ ((seat ≡ length s.views) × (receipt_of v ≡ w))
+      → Fits kept.history kept.standing about.places kept.dealt seat w
+  witnessed-fits seat w (inl there) = kept.each seat w there
+  witnessed-fits seat w (inr last) = subst (Fits kept.history kept.standing about.places kept.dealt seat) last.1 receipt-fits
+
+  -- a seat that has a number was there before
+  was-there : (seat : ℕ) (w : View) → (get_elem? s.views seat ≡ some w) ⊎ ((seat ≡ length s.views) × (receipt_of v ≡ w))
+      → is_unnumbered w.role ≡ false → get_elem? s.views seat ≡ some w
+  was-there seat w (inl there) plays = there
+  was-there seat w (inr last) plays = let wrong : true ≡ false = ap (λ (u : View). is_unnumbered u.role) last.1 ∙ plays in absurd (cc)
+
+  numbered-there : (seat : ℕ) (w : View) → get_elem? witnessed seat ≡ some w → is_unnumbered w.role ≡ false → get_elem? s.views seat ≡ some w
+  numbered-there seat w is plays = was-there seat w (found-snoc s.views (receipt_of v) w seat is) plays
+
+  pub kept-witnessed : Kept about (record { words = s.words; homes = s.homes; views = witnessed })
+  kept-witnessed = record {
+    history = kept.history;
+    last = kept.last;
+    standing = kept.standing;
+    dealt = kept.dealt;
+    run = kept.run;
+    wide = kept.wide;
+    few = kept.few;
+    refines = kept.refines;
+    each = λ seat w is. witnessed-fits seat w (found-snoc s.views (receipt_of v) w seat is);
+    gathers = λ seat w is plays.
+        gathered-stay s.views witnessed (λ other u there gone. found-front s.views (receipt_of v) u other there) w.gathered
+        (kept.gathers seat w (numbered-there seat w is plays) plays);
+    apart = λ one other u w is also plays also_plays same.
+        kept.apart one other u w (numbered-there one u is plays) (numbered-there other w also also_plays) plays also_plays same;
+    fresh = λ number free. kept.fresh number (λ seat w is plays. free seat w (found-front s.views (receipt_of v) w seat is) plays);
+    visits = kept.visits;
+  }
+
+pub witnesses : (about : About) (id : ℕ) (v : View) → v.role ≡ Acting → Splits (Kept about) id v v (receipt_of v)
+witnesses about id v acts = λ s kept at.
+    subst (λ (views : List View). Kept about (record { words = s.words; homes = s.homes; views = views ++ receipt_of v ∷ [] })) (sym (set_again s.views id v at))
+    (kept-witnessed about s kept id v acts at)
 
 -- a list of new places with one more
 pub new-more : (table : TableId) (from : ℕ) (places : List Place) (place : Place) → AreNew table from places → IsNew table (from + length places) place

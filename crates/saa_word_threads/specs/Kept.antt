@@ -1,5 +1,5 @@
 -- What is always so of a table: one legal history leads to its words, and each place and each visitor knows what it has seen of that history.
-use Rattle.std.specs.Prelude.{◌≡◌, ◌≢◌, ℕ, ◌+◌, ◌<◌, ◌≤◌, ◌⊎◌, Bool, true, false, List, [], ◌∷◌, length, slice_index}
+use Rattle.std.specs.Prelude.{◌≡◌, ◌≢◌, ℕ, ◌+◌, ◌<◌, ◌≤◌, ◌⊎◌, Bool, true, false, List, [], ◌∷◌, ◌++◌, length, slice_index}
 use mathlib.Core.Option.{some}
 use lib.ListN.{get_elem?}
 use Rattle.atomic_table.specs.Table.{State}
@@ -7,13 +7,13 @@ use Rattle.saa_word_steps.specs.declared.event.Event.{Event}
 use Rattle.saa_word_steps.specs.declared.place.Place.{Place}
 use Rattle.saa_word_steps.specs.AbstractState.{AbstractState, IsRun, opening}
 use Rattle.saa_word_steps.specs.Needs.{needs_of}
-use Rattle.saa_word_proofs.specs.History.{has_part, never_waits, part_of, seen_by}
+use Rattle.saa_word_proofs.specs.History.{BeginsWith, has_part, never_waits, part_of, seen_by}
 use Rattle.saa_word_proofs.specs.Promises.{idle_place}
 use Rattle.saa_word_proofs.specs.Refinement.{Refines}
 use Rattle.saa_word_proofs.specs.Registering.{is_slot}
 use Rattle.saa_word_threads.specs.declared.table.Departed.{Departed}
 use Rattle.saa_word_threads.specs.declared.table.Role.{Role}
-use Rattle.saa_word_threads.specs.declared.table.Role.TheVariants.{Dealer, Acting, Spent}
+use Rattle.saa_word_threads.specs.declared.table.Role.TheVariants.{Dealer, Acting, Receipt, Spent}
 use Rattle.saa_word_threads.specs.declared.table.View.{View}
 use Rattle.saa_word_threads.specs.declared.table.About.{About}
 
@@ -36,19 +36,35 @@ gathering v w = record v { gathered = departed w ∷ v.gathered }
 abbrev pub spent : View → View
 spent v = record v { role = Spent }
 
--- whether a seat is the dealer's, and no place's and no visitor's
-abbrev pub is_dealer : Role → Bool
-is_dealer Dealer = true
-is_dealer role = false
+-- the view of a receipt: what a place or a visitor has seen, and its own part of that
+abbrev pub receipt_of : View → View
+receipt_of v = record v { role = Receipt; gathered = [] }
+
+-- a receipt that says what another one says too, behind its own
+abbrev pub with_receipt : View → View → View
+with_receipt v w = record v { gathered = v.gathered ++ departed w ∷ w.gathered }
+
+-- whether a seat is the dealer's or a receipt, and no place's and no visitor's
+abbrev pub is_unnumbered : Role → Bool
+is_unnumbered Dealer = true
+is_unnumbered Receipt = true
+is_unnumbered role = false
+
+-- a history begins with what each of these had seen, and in that its events are its part
+abbrev pub BeginsWithEach : List (ℕ × Event) → List Departed → Type 0
+BeginsWithEach history [] = Unit {0}
+BeginsWithEach history (gone ∷ rest) = BeginsWith history gone.seen × (part_of gone.number gone.seen ≡ gone.part) × BeginsWithEach history rest
 
 -- the numbers of seats: those of the places that are dealt, and that of a visitor, which goes by its seat
 abbrev pub IsNumber : ℕ → ℕ → ℕ → ℕ → Type 0
 IsNumber places dealt seat number = (number < dealt) ⊎ (number ≡ places + seat)
 
--- A view fits a history: the dealer has the first seat and has dealt so many places. A place and a visitor are at the stage of their number, have seen
--- the history as it was at their last event, and know their own part of it
+-- A view fits a history: the dealer has the first seat and has dealt so many places. The history begins with each that a
+-- receipt says was seen. A place and a visitor are at the stage of their number, have seen the history as it was at their last event, and know their own
+-- part of it
 abbrev pub FitsAs : List (ℕ × Event) → (ℕ → Place) → ℕ → ℕ → ℕ → View → Role → Type 0
 FitsAs history standing places dealt seat v Dealer = (seat ≡ 0) × (v.number ≡ dealt)
+FitsAs history standing places dealt seat v Receipt = BeginsWithEach history (departed v ∷ v.gathered)
 FitsAs history standing places dealt seat v role =
     IsNumber places dealt seat v.number × (standing v.number ≡ v.position) × (v.seen ≡ seen_by v.number history) × (v.part ≡ part_of v.number history)
 
@@ -70,10 +86,10 @@ row_of words index = slice_index words index
 
 -- no seat of these has this number
 abbrev pub IsFree : List View → ℕ → Type 0
-IsFree views number = (seat : ℕ) (v : View) → get_elem? views seat ≡ some v → is_dealer v.role ≡ false → v.number ≢ number
+IsFree views number = (seat : ℕ) (v : View) → get_elem? views seat ≡ some v → is_unnumbered v.role ≡ false → v.number ≢ number
 
 -- A table is kept: from the opening on each event of a history is enabled where it comes, and words and places refine the state behind
--- them; each view fits the history, and has gathered what fits it; no two seats have one number, and a number of no seat is idle and has no event.
+-- them; each view fits the history, and what a place has gathered fits it; no two seats have one number, and a number of no seat is idle and has no event.
 -- No more places are dealt than there are, and no number beyond them waits
 pub record Kept (about : About) (s : State (Unit {0}) View) : Type 0 where
   pub history : List (ℕ × Event)
@@ -85,8 +101,8 @@ pub record Kept (about : About) (s : State (Unit {0}) View) : Type 0 where
   pub few : dealt ≤ about.places
   pub refines : Refines (needs_of about.rules) about.places (row_of s.words) standing last
   pub each : (seat : ℕ) (v : View) → get_elem? s.views seat ≡ some v → Fits history standing about.places dealt seat v
-  pub gathers : (seat : ℕ) (v : View) → get_elem? s.views seat ≡ some v → AreGathered s.views v.gathered
-  pub apart : (one other : ℕ) (v w : View) → get_elem? s.views one ≡ some v → get_elem? s.views other ≡ some w → is_dealer v.role ≡ false
-      → is_dealer w.role ≡ false → v.number ≡ w.number → one ≡ other
+  pub gathers : (seat : ℕ) (v : View) → get_elem? s.views seat ≡ some v → is_unnumbered v.role ≡ false → AreGathered s.views v.gathered
+  pub apart : (one other : ℕ) (v w : View) → get_elem? s.views one ≡ some v → get_elem? s.views other ≡ some w → is_unnumbered v.role ≡ false
+      → is_unnumbered w.role ≡ false → v.number ≡ w.number → one ≡ other
   pub fresh : (number : ℕ) → IsFree s.views number → (has_part number history ≡ false) × (standing number ≡ idle_place)
   pub visits : (number : ℕ) → about.places ≤ number → never_waits (part_of number history) ≡ true

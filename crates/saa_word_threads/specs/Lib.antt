@@ -10,3 +10,4 @@ pub mod Locks
 pub mod Pending
 pub mod Straight
 pub mod SpinPolicies
+pub mod Receipts

@@ -21,6 +21,7 @@ mod main_word;
 mod mark;
 mod open;
 pub mod place;
+pub mod receipt;
 pub mod semaphore;
 mod semaphore_visits;
 mod step;

@@ -3,7 +3,7 @@
 //! Every call is one call of a place of the form (`call`), and is held to `specs/Locks.antt`, which says the same of a lock's places as
 //! `specs/Public.antt` of a semaphore's. Which owners may be there together is said by the steps (`saa_word_steps`), and nowhere here.
 
-ghost use Rattle.std.specs.Prelude.{◌≡◌, ◌≢◌, All, Err, IfOk, map, vec_len};
+ghost use Rattle.std.specs.Prelude.{◌≡◌, ◌≢◌, All, Err, IfOk, [], ◌∷◌, map, vec_len};
 ghost use Rattle.saa_core_spec.specs.declared.lock.Mode.TheVariants.{Exclusive, Shared};
 ghost use Rattle.saa_core_spec.specs.declared.polling.Error.TheVariants.{NotReady};
 ghost use Rattle.saa_word_steps.specs.declared.call.Answer.{Answer};
@@ -12,6 +12,8 @@ ghost use Rattle.saa_word_steps.specs.declared.call.WordCall.TheVariants.{TryLoc
 ghost use Rattle.saa_word_steps.specs.declared.rules.Rules.TheVariants.{Modes};
 ghost use Rattle.saa_word_steps.specs.Readings.{mode_number};
 ghost use Rattle.saa_word_threads.specs.Dealt.{AreLedTo, IsLedTo, numbers};
+ghost use Rattle.saa_word_threads.specs.Kept.{departed};
+ghost use Rattle.saa_word_threads.specs.Receipts.{IsReceiptAt, said};
 ghost use Rattle.saa_word_threads.specs.SpinPolicies.{none, waiting};
 ghost use Rattle.saa_word_threads.specs.Public.{is_yes, polled_lock, tried};
 ghost use Rattle.futures.specs.Task.{Hears, IsArmed, Keeps};
@@ -21,6 +23,7 @@ use crate::answers::yes;
 use crate::form::Form;
 use crate::limit::{Limit, Until};
 use crate::place::{Left as FormLeft, Place as FormPlace};
+use crate::receipt::Receipt;
 use crate::watch::{Unwatched, Watch};
 pub use crate::words::Words;
 use futures::task::{self, Context};
@@ -470,6 +473,16 @@ impl Lock {
             self.form
                 .call_at_once(&mut place.inner, WordCall::IsPoisoned),
         )
+    }
+
+    /// A receipt of what a place has seen of the one history: a witness for whoever asks what the place's calls were. Costs one load, and takes no bytes.
+    pub fn receipt(&self, place: &mut Place) -> Receipt
+        requires { IsDealtBy self.now place.old }
+        ensures same { place.new ≡ place.old }
+        ensures table { IsReceiptAt (table_of self.now) result }
+        ensures seen { said result ≡ departed place.old.inner.seat.me.0 ∷ [] }
+    {
+        self.form.receipt_at(&mut place.inner)
     }
 
     /// The place leaves; it cancels first, and costs as that.

@@ -3,15 +3,18 @@
 //! A call by a kept visitor ends in `_by`. One that ends in `_once` is by a visitor that comes for this call alone, and gives it out beside the answer, so
 //! that contracts can say what the call did. Both are held to `specs/Visits.antt`.
 
-ghost use Rattle.std.specs.Prelude.{◌≡◌};
+ghost use Rattle.std.specs.Prelude.{◌≡◌, [], ◌∷◌, ◌++◌};
 ghost use Rattle.saa_word_steps.specs.declared.call.Answer.{Answer};
 ghost use Rattle.saa_word_steps.specs.declared.call.WordCall.TheVariants.{TryLock, TryShare, ReleaseLock, ReleaseShare, Downgrade, PoisonLock, ClearPoison, IsFree, IsLocked, IsShared, IsPoisoned};
 ghost use Rattle.saa_word_threads.specs.Dealt.{IsLedTo, numbers};
 ghost use Rattle.saa_word_threads.specs.Public.{is_yes, tried};
+ghost use Rattle.saa_word_threads.specs.Kept.{departed};
+ghost use Rattle.saa_word_threads.specs.Receipts.{IsLedOn, IsReceiptAt, said};
 ghost use Rattle.saa_word_threads.specs.Visits.{IsNewVisitor, view_of};
 
 use crate::answers::yes;
 use crate::lock::{EXCLUSIVE, Lock, SHARED, tried};
+use crate::receipt::Receipt;
 use crate::visitor::Visitor;
 use crate::watch::Unwatched;
 use crate::words::Words;
@@ -260,6 +263,35 @@ impl Lock {
         let mut visitor = self.visit();
         let found = self.is_poisoned_by(&mut visitor);
         (found, visitor)
+    }
+
+    /// A receipt of what a visitor has seen, as [`Self::receipt`] gives one of a place.
+    pub fn receipt_by(&self, visitor: &mut Visitor) -> Receipt
+        requires { IsVisitorOf self.now visitor.old }
+        ensures same { visitor.new ≡ visitor.old }
+        ensures table { IsReceiptAt (table_of self.now) result }
+        ensures seen { said result ≡ departed (view_of visitor.old) ∷ [] }
+    {
+        self.form.receipt(&mut visitor.seat)
+    }
+
+    /// A receipt says from now on what another one says, too. Costs one load.
+    pub fn join_receipt(&self, receipt: &mut Receipt, other: Receipt)
+        requires { IsReceiptAt (table_of self.now) receipt.old × IsReceiptAt (table_of self.now) other }
+        ensures table { IsReceiptAt (table_of self.now) receipt.new }
+        ensures joined { said receipt.new ≡ said receipt.old ++ said other }
+    {
+        self.form.join_receipt(receipt, other);
+    }
+
+    /// The words at the end, with a receipt as the witness of what led there; never blocks. Costs O(1).
+    pub fn close_on(self, receipt: Receipt) -> Words
+        requires { IsReceiptAt (table_of self) receipt }
+        ensures places { result.places ≡ (about_of self).places }
+        ensures led { IsLedOn (about_of self) (numbers result) (said receipt) }
+    {
+        let Lock { form } = self;
+        form.close_on(receipt)
     }
 
     /// The words at the end, with a visitor as the witness of what led there; never blocks. Costs O(1).

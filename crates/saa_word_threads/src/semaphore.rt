@@ -3,7 +3,7 @@
 //! Every call is one call of a place of the form (`call`), and is held to `specs/Public.antt`. The history of all calls is one: it leads to
 //! the words, begins with what each place has seen, and has of each place just its own events.
 
-ghost use Rattle.std.specs.Prelude.{◌≡◌, ◌≢◌, ◌<◌, All, Err, IfOk, map, min, vec_len};
+ghost use Rattle.std.specs.Prelude.{◌≡◌, ◌≢◌, ◌<◌, All, Err, IfOk, [], ◌∷◌, map, min, vec_len};
 ghost use Rattle.saa_core_spec.specs.declared.polling.Error.{Error};
 ghost use Rattle.saa_core_spec.specs.declared.polling.Error.TheVariants.{NotReady};
 ghost use Rattle.saa_word_steps.specs.declared.call.Answer.{Answer};
@@ -11,6 +11,8 @@ ghost use Rattle.saa_word_steps.specs.declared.call.Answer.TheVariants.{Number, 
 ghost use Rattle.saa_word_steps.specs.declared.call.WordCall.TheVariants.{Try, Register, Release, Available, TryPoll, Poll, Cancel};
 ghost use Rattle.saa_word_steps.specs.declared.rules.Rules.TheVariants.{Permits};
 ghost use Rattle.saa_word_threads.specs.Dealt.{AreLedTo, AreNew, IsLedTo, numbers};
+ghost use Rattle.saa_word_threads.specs.Kept.{departed};
+ghost use Rattle.saa_word_threads.specs.Receipts.{IsReceiptAt, said};
 ghost use Rattle.saa_word_threads.specs.SpinPolicies.{none, waiting};
 ghost use Rattle.saa_word_threads.specs.Public.{is_yes, spin_policy_of, polled, view_left};
 ghost use Rattle.futures.specs.Task.{Hears, IsArmed, Keeps};
@@ -20,6 +22,7 @@ use crate::answers::yes;
 use crate::form::Form;
 use crate::limit::{Limit, Until};
 pub use crate::place::{Left, Place};
+use crate::receipt::Receipt;
 use crate::watch::{Unwatched, Watch};
 pub use crate::words::Words;
 use futures::task::{self, Context};
@@ -309,6 +312,16 @@ impl<const MAX: usize> SemaphoreOf<MAX> {
             Answer::Number(number) => number,
             _ => unreachable!(),
         }
+    }
+
+    /// A receipt of what a place has seen of the one history: a witness for whoever asks what the place's calls were. Costs one load, and takes no bytes.
+    pub fn receipt(&self, place: &mut Place) -> Receipt
+        requires { IsDealtBy self.now place.old }
+        ensures same { place.new ≡ place.old }
+        ensures table { IsReceiptAt (table_of self.now) result }
+        ensures seen { said result ≡ departed place.old.seat.me.0 ∷ [] }
+    {
+        self.form.receipt_at(place)
     }
 
     /// The place leaves; it cancels first.

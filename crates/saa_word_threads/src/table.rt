@@ -10,15 +10,16 @@ use saa_word_steps::rules::Rules;
 use std::collections::LinkedList;
 use std::marker::{Brand, PhantomData};
 
-/// What a seat is: the dealer's, that of a place or of a visitor that makes calls, or that of a place that has left and whose view another one has
-/// gathered, which makes no step any more.
+/// What a seat is: the dealer's, that of a place or of a visitor that makes calls, a receipt of what such a one had seen, or that of a place that has left
+/// and whose view another one has gathered. The last two make no step.
 pub enum Role {
     Dealer,
     Acting,
+    Receipt,
     Spent,
 }
 
-/// Of a place that has left: its number, the history as it was at its last event, and its own events in it.
+/// Of a place that has left, or that gave a receipt, as a visitor can: its number, the history as it was at its last event, and its own events in it.
 pub struct Departed {
     pub number: u16,
     pub seen: LinkedList<(u16, Event)>,
@@ -26,7 +27,8 @@ pub struct Departed {
 }
 
 /// What a seat knows. The dealer: how many places it has dealt. A place or a visitor: its number, where it stood behind its last step, the history as
-/// it was at its last event, its own events in it, and what it has gathered of places that have left. No value of it is made.
+/// it was at its last event, its own events in it, and what it has gathered of places that have left. A receipt: the same of the place or visitor that gave
+/// it, and of the receipts that were joined to it. No value of it is made.
 pub struct View {
     pub role: Role,
     pub number: u16,
@@ -122,6 +124,43 @@ impl Split<View> for Dealt {
     ghost left = { λ v. dealer (v.number + 1) };
 
     ghost right = { λ v. fresh_view v.number };
+}
+
+/// A place or a visitor gives a receipt of what it has seen, and stays as it is.
+pub struct Witnessed;
+
+impl Split<View> for Witnessed {
+    ghost use Rattle.saa_word_threads.specs.Kept.{receipt_of};
+
+    ghost left = { λ v. v };
+
+    ghost right = { receipt_of };
+}
+
+/// Which receipt is joined to another one. The call picks it.
+pub trait Received {
+    ghost use Rattle.saa_word_threads.specs.declared.table.View.{View};
+
+    ghost view: { View };
+}
+
+impl Received for Brand {
+    ghost use Rattle.saa_word_threads.specs.Kept.{fresh_view};
+
+    ghost view = { fresh_view 0 };
+}
+
+/// A receipt says what another one says, too.
+pub struct JoinedReceipt<M> {
+    of: PhantomData<M>,
+}
+
+impl<M: Received> Join<View> for JoinedReceipt<M> {
+    ghost use Rattle.saa_word_threads.specs.Kept.{with_receipt};
+
+    ghost both = { with_receipt };
+
+    ghost spent = { M.view };
 }
 
 /// Which view another one gathers. The call picks it.

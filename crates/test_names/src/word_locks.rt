@@ -3,7 +3,7 @@
 ghost use Rattle.saa.specs.WordLocks.{IsDealtBy};
 
 use saa::word::machine::TryLockError;
-use saa::word::{Error, Lock, LockLeft, LockPlace, Mode, Visitor, Words};
+use saa::word::{Error, Lock, LockLeft, LockPlace, Mode, Receipt, Visitor, Words};
 use std::alloc::{AllocError, Global};
 use std::sync::Wait;
 
@@ -106,6 +106,21 @@ fn is_closed_by_a_visitor<R: Wait>(rt: &R, alloc: Global) -> Result<bool, AllocE
     Ok(taken == Ok(()) && words.main() == 63)
 }
 
+// The main word of a lock that is closed on receipts of a place that has a share, and of a visitor that finds it taken: 1.
+fn is_closed_on_receipts<R: Wait>(rt: &R, alloc: Global) -> Result<bool, AllocError> {
+    let (lock, mut places) = Lock::new(alloc, 1)?;
+    let Some(mut place) = places.pop() else {
+        unreachable!()
+    };
+    let shared = lock.try_share(rt, &mut place);
+    let mut receipt: Receipt = lock.receipt(&mut place);
+    let (taken, mut visitor) = lock.try_lock_once(rt);
+    let other = lock.receipt_by(&mut visitor);
+    lock.join_receipt(&mut receipt, other);
+    let words: Words = lock.close_on(receipt);
+    Ok(shared == Ok(()) && taken.is_err() && words.main() == 1)
+}
+
 // Makes each call at a place.
 fn makes_each_call<R: Wait>(rt: &R, lock: &Lock, place: &mut LockPlace) -> bool
     requires { IsDealtBy lock.now place.old }
@@ -147,5 +162,6 @@ pub(crate) fn is_right<R: Wait>(rt: &R, alloc: Global) -> Result<bool, AllocErro
         && makes_each_call(rt, &lock, &mut place);
     let is_closed = is_closed(rt, lock, place);
     let is_closed = is_closed && is_closed_alone(alloc)? && is_closed_by_a_visitor(rt, alloc)?;
+    let is_closed = is_closed && is_closed_on_receipts(rt, alloc)?;
     Ok(is_called && is_closed && Lock::MAX_SHARED_OWNERS == 62)
 }

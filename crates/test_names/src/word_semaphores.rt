@@ -2,7 +2,7 @@
 
 ghost use Rattle.saa.specs.WordSemaphores.{IsDealtBy};
 
-use saa::word::{Error, Left, Place, Semaphore, SemaphoreOf, Visitor, Words};
+use saa::word::{Error, Left, Place, Receipt, Semaphore, SemaphoreOf, Visitor, Words};
 use std::alloc::{AllocError, Global};
 use std::sync::Wait;
 
@@ -66,6 +66,21 @@ fn is_closed_by_a_visitor<R: Wait>(rt: &R, alloc: Global) -> Result<bool, AllocE
     Ok(is_taken && words.main() == 5)
 }
 
+// The main word of a semaphore that is closed on receipts of a place that has taken 1, and of a visitor that finds too few.
+fn is_closed_on_receipts<R: Wait>(rt: &R, alloc: Global) -> Result<bool, AllocError> {
+    let (semaphore, mut places) = SemaphoreOf::<2>::new(alloc, 0, 1)?;
+    let Some(mut place) = places.pop() else {
+        unreachable!()
+    };
+    let is_taken = semaphore.try_acquire_many(rt, &mut place, 1);
+    let mut receipt: Receipt = semaphore.receipt(&mut place);
+    let (is_found, mut visitor) = semaphore.try_acquire_many_once(rt, 2);
+    let other = semaphore.receipt_by(&mut visitor);
+    semaphore.join_receipt(&mut receipt, other);
+    let words: Words = semaphore.close_on(receipt);
+    Ok(is_taken && !is_found && words.main() == 1)
+}
+
 // Makes each call at a place.
 fn makes_each_call<R: Wait>(rt: &R, semaphore: &SemaphoreOf<2>, place: &mut Place) -> bool
     requires { IsDealtBy semaphore.now place.old }
@@ -104,7 +119,9 @@ pub(crate) fn is_right<R: Wait>(rt: &R, alloc: Global) -> Result<bool, AllocErro
     };
     let is_called = needs_no_place(rt, &semaphore) && makes_each_call(rt, &semaphore, &mut place);
     let is_closed = is_closed(rt, semaphore, place);
-    let is_closed = is_closed && is_closed_by_a_visitor(rt, alloc)?;
+    let is_closed = is_closed
+        && is_closed_by_a_visitor(rt, alloc)?
+        && is_closed_on_receipts(rt, alloc)?;
     Ok(is_called && is_closed && SemaphoreOf::<2>::MAX_PERMITS == 2)
 }
 

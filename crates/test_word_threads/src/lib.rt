@@ -39,6 +39,8 @@ mod public_waits;
 #[cfg(test)]
 mod queue;
 #[cfg(test)]
+mod receipts;
+#[cfg(test)]
 mod rows;
 #[cfg(test)]
 mod sleepers;
