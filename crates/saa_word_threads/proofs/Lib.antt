@@ -9,6 +9,7 @@ pub mod Receiving
 pub mod Going
 pub mod Leaving
 pub mod Comparing
+pub mod RegistrationLaws
 pub mod Inner
 pub mod Visiting
 pub mod PendingLemmas
