@@ -10,10 +10,10 @@ use Rattle.saa_sync.specs.declared.form.Form.{Form}
 use Rattle.saa_core.specs.Futures.{PendingState}
 use Rattle.saa_core_waits.specs.FutureStates.{FutureState, FutureWithState, with_pending}
 
--- what a value reads as, by what answers mean; and an error, in its place
-abbrev pub answer_of : {V : Type 0} → (Result ℕ Error → V) → ℕ → Option Error → V
-answer_of reading value None = reading (Ok value)
-answer_of reading value (Some error) = reading (Err error)
+-- what a value means; or an error in its place, as polls read it
+abbrev pub answer_of : {V : Type 0} → (Result ℕ Error → V) → (Result ℕ Error → V) → ℕ → Option Error → V
+answer_of meaning reading value None = meaning (Ok value)
+answer_of meaning reading value (Some error) = reading (Err error)
 
 -- what tasks that poll at a form wait for
 abbrev pub source_of : {R P Call Ask Answer Value : Type 0} → Form R P Call Ask Answer Value → ℕ

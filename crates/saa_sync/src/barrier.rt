@@ -148,28 +148,21 @@ impl PagerCore for BarrierCore {
     ghost use Rattle.saa_core.specs.Tickets.{fault_of};
     ghost use Rattle.std.proofs.Common.{refl};
     ghost use Rattle.saa_core_spec.specs.Values.{barrier_value};
-    ghost use Rattle.saa_sync.specs.Forms.{answer_of};
 
     ghost is_value = { λ value. Unit {0} };
 
     ghost is_answer = { λ value. Unit {0} };
 
-    ghost answer = { answer_of barrier_value };
-
     ghost fault = { λ result. fault_of result };
 
     ghost reading = { barrier_value };
-
-    ghost errors = { λ value error. refl };
-
-    ghost answers = { λ value is. refl };
 
     /// 1, the last arrival of its round, is `Ok(true)`, and every other value `Ok(false)`; an error is itself.
     fn read(polled: Result<u8, Error>) -> Result<bool, Error> {
         BarrierCore::value_of(polled)
     }
 
-    ghost means = { λ value. refl };
+    ghost answers = { λ value is. refl };
 }
 
 // Whether a value is that of the leader.

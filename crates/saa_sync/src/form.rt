@@ -88,15 +88,8 @@ impl<R: Wait + Drop, P: Primitive> Form<R, P> {
         &self.rt
     }
 
-    // Makes the parker of a ticket that joined ready for it.
-    fn reset_parker(&self, ticket: &Ticket) {
-        if let Some(parker) = self.parker_of(ticket) {
-            parker.reset();
-        }
-    }
-
-    // Makes the parker of a slot that a future joined in ready for it.
-    fn reset_parker_at(&self, slot: Option<u16>) {
+    // Makes the parker of a slot that a call or a future joined in ready for it.
+    fn reset_parker(&self, slot: Option<u16>) {
         if let Some(slot) = slot {
             if let Some(parker) = self.parker(slot) {
                 parker.reset();

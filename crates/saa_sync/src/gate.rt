@@ -183,23 +183,15 @@ impl<R: Wait + Drop> Form<R, GateCore> {
 impl PagerCore for GateCore {
     ghost use Rattle.std.specs.Prelude.{◌≡◌, None, Ok};
     ghost use Rattle.saa_core_spec.specs.Values.{gate_value};
-    ghost use Rattle.std.proofs.Common.{refl};
-    ghost use Rattle.saa_sync.specs.Forms.{answer_of};
     ghost use Rattle.saa_sync.specs.GateAnswers.{gate_fault, gate_reading};
 
     ghost is_value = { λ value. Unit {0} };
 
     ghost is_answer = { λ value. gate_fault (gate_value (Ok value)) ≡ None };
 
-    ghost answer = { answer_of gate_value };
-
     ghost fault = { gate_fault };
 
     ghost reading = { gate_reading };
-
-    ghost errors = { λ value error. refl };
-
-    ghost answers = { λ value is. is };
 
     /// The value's two low bits are the state that let it pass, and the rest is the gate's error, if it isn't 0: a gate answers 0, 2, 4,
     /// 9 and 12. An error of a poll is the gate's error of the same name. `Rejected`, `Sealed` and `SpuriousFailure` are answers.
@@ -210,7 +202,7 @@ impl PagerCore for GateCore {
         }
     }
 
-    ghost means = { λ value. refl };
+    ghost answers = { λ value is. is };
 }
 
 // What a number means that the core answered.

@@ -100,23 +100,13 @@ impl<R: Wait + Drop, T> Guarded<R, T> {
         Writing::new(turn, &self.value)
     }
 
-    // The value to write, with the turn alone.
-    pub(crate) fn write_in<'a>(
-        &'a self,
-        turn: Alone<'a, R>,
-    ) -> (Alone<'a, R>, RwLockWriteGuard<'a, T>)
-        ensures { result.0 ≡ turn.entry }
-    {
-        (turn, self.value.write(self.turn.rt()))
+    // The value to write, in the turn alone.
+    pub(crate) fn write_in(&self, _turn: &Alone<'_, R>) -> RwLockWriteGuard<'_, T> {
+        self.value.write(self.turn.rt())
     }
 
-    // The value to read, with a share of the turn.
-    pub(crate) fn read_in<'a>(
-        &'a self,
-        turn: Shared<'a, R>,
-    ) -> (Shared<'a, R>, RwLockReadGuard<'a, T>)
-        ensures { result.0 ≡ turn.entry }
-    {
-        (turn, self.value.read(self.turn.rt()))
+    // The value to read, in a share of the turn.
+    pub(crate) fn read_in(&self, _turn: &Shared<'_, R>) -> RwLockReadGuard<'_, T> {
+        self.value.read(self.turn.rt())
     }
 }

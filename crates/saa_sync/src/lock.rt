@@ -273,28 +273,21 @@ impl PagerCore for LockCore {
     ghost use Rattle.saa_core.specs.Tickets.{fault_of};
     ghost use Rattle.std.proofs.Common.{refl};
     ghost use Rattle.saa_core_spec.specs.Values.{lock_value};
-    ghost use Rattle.saa_sync.specs.Forms.{answer_of};
 
     ghost is_value = { λ value. (value ≡ 0) ⊎ (value ≡ 2) };
 
     ghost is_answer = { λ value. Unit {0} };
 
-    ghost answer = { answer_of lock_value };
-
     ghost fault = { λ result. fault_of result };
 
     ghost reading = { lock_value };
-
-    ghost errors = { λ value error. refl };
-
-    ghost answers = { λ value is. refl };
 
     /// 0, granted, is `Ok(true)`, and 2, poisoned, `Ok(false)`; an error is itself.
     fn read(polled: Result<u8, Error>) -> Result<bool, Error> {
         LockCore::value_of(polled)
     }
 
-    ghost means = { λ value. refl };
+    ghost answers = { λ value is. refl };
 }
 
 // Whether a value is that of a grant.

@@ -303,28 +303,21 @@ impl<const MAX: usize> PagerCore for SemaphoreCoreOf<MAX> {
     ghost use Rattle.saa_core.specs.Tickets.{fault_of};
     ghost use Rattle.std.proofs.Common.{refl};
     ghost use Rattle.saa_core_spec.specs.Values.{semaphore_value};
-    ghost use Rattle.saa_sync.specs.Forms.{answer_of};
 
     ghost is_value = { λ value. Unit {0} };
 
     ghost is_answer = { λ value. Unit {0} };
 
-    ghost answer = { answer_of semaphore_value };
-
     ghost fault = { λ result. fault_of result };
 
     ghost reading = { semaphore_value };
-
-    ghost errors = { λ value error. refl };
-
-    ghost answers = { λ value is. refl };
 
     /// Every value is a grant, `Ok(())`; an error is itself.
     fn read(polled: Result<u8, Error>) -> Result<(), Error> {
         SemaphoreCoreOf::<MAX>::value_of(polled)
     }
 
-    ghost means = { λ value. refl };
+    ghost answers = { λ value is. refl };
 }
 
 // Whether a count is above the bound, so that it can never be granted.

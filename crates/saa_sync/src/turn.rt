@@ -282,7 +282,7 @@ impl<'a, R: Wait + Drop> Model for TurnFuture<'a, R> {
 }
 
 impl<'a, R: Wait + Drop> TurnFuture<'a, R> {
-    // Polls for the turn: the only way to it beside a try and a wait.
+    // Polls for the turn: the only way to it beside a try and a wait. One that is poisoned, as none here ever is, never comes.
     pub(crate) fn poll_turn<U: Granted<'a, R>>(
         &mut self,
         cx: &mut Context<'_>,
@@ -292,25 +292,10 @@ impl<'a, R: Wait + Drop> TurnFuture<'a, R> {
         ensures heard { OnPending result (Covers cx.new (λ source. source ≡ self.new.acquiring.source)) }
         ensures kept { Keeps cx.old cx.new }
     {
-        match ready!(poll_grant(&mut self.acquiring, cx)) {
-            Ok(()) => Poll::Ready(Ok(U::of(self.turns))),
+        match ready!(self.acquiring.poll(cx)) {
+            Ok(true) => Poll::Ready(Ok(U::of(self.turns))),
+            Ok(false) => cx.yield_now(),
             Err(full) => Poll::Ready(Err(full)),
         }
-    }
-}
-
-// Polls a future of the lock, for all of it or a share. A turn that is poisoned, as none here ever is, never comes.
-fn poll_grant<'a, R: Wait + Drop>(
-    acquiring: &mut LockFuture<'a, R>,
-    cx: &mut Context<'_>,
-) -> Poll<Result<(), Full>>
-    ensures heard { OnPending result (Covers cx.new (λ source. source ≡ acquiring.new.source)) }
-    ensures kept { Keeps cx.old cx.new }
-{
-    match acquiring.poll(cx) {
-        Poll::Ready(Ok(true)) => Poll::Ready(Ok(())),
-        Poll::Ready(Ok(false)) => cx.yield_now(),
-        Poll::Ready(Err(full)) => Poll::Ready(Err(full)),
-        Poll::Pending => Poll::Pending,
     }
 }

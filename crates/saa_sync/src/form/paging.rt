@@ -18,30 +18,23 @@ use std::time::{Clock, Duration};
 
 /// A core as the pagers of its form see it: what the numbers of its answers read as, and which readings are an error of the poll.
 pub trait PagerCore: Primitive {
-    // Which values may be read, which are answers, what an answer reads as, and which readings are an error of the poll.
+    // Which values may be read, which are answers, and which readings are an error of the poll.
     ghost is_value: { ℕ → Type 0 };
 
     ghost is_answer: { ℕ → Type 0 };
 
-    ghost answer: { ℕ → Option Error → Self.Value };
-
     ghost fault: { Self.Value → Option Error };
 
-    // What a poll is told, by the number that the core answered, or by why there is none; an error reads as in `answer`.
+    // What a poll is told, by the number that the core answered, or by why there is none.
     ghost reading: { Result ℕ Error → Self.Value };
-
-    ghost errors: { (value : ℕ) (error : Error) → answer value (Some error) ≡ reading (Err error) };
-
-    // No answer reads as an error of a poll.
-    ghost answers: { (value : ℕ) → is_answer value → fault (answer value None) ≡ None };
 
     /// What a poll is told, by the number that the core answered, or by why there is none.
     fn read(polled: Result<u8, Error>) -> Self::Value
         ensures reads { result ≡ reading polled }
         ensures told { fault result ≡ error_of polled };
 
-    // A value reads as what it means to the core.
-    ghost means: { (value : ℕ) → Self.answer value None ≡ Self.Primitive.value (Ok value) };
+    // No answer means an error of a poll.
+    ghost answers: { (value : ℕ) → Self.is_answer value → Self.fault (Self.Primitive.value (Ok value)) ≡ None };
 }
 
 impl<R: Wait + Drop, P: PagerCore> Form<R, P>
@@ -81,7 +74,7 @@ where
     ghost use Rattle.std.proofs.Common.{refl};
     ghost use Rattle.saa_core.specs.declared.ticket.Registration.TheVariants.{Unregistered};
     ghost use Rattle.saa_core.specs.Tickets.{is_busy, is_wrong_mode};
-    ghost use Rattle.saa_sync.specs.Forms.{source_of};
+    ghost use Rattle.saa_sync.specs.Forms.{answer_of, source_of};
     ghost use Rattle.saa_sync.specs.PagerLaws.{at_once, free_is_idle};
 
     type Result = P::Value;
@@ -90,13 +83,13 @@ where
 
     ghost is_answer = { P.is_answer };
 
-    ghost answer = { P.answer };
+    ghost answer = { answer_of P.value P.reading };
 
     ghost fault = { P.fault };
 
     ghost reading = { P.reading };
 
-    ghost errors = { P.errors };
+    ghost errors = { λ value error. refl };
 
     ghost admits = { λ form ticket. Unit {0} };
 

@@ -55,7 +55,7 @@ impl<R: Wait + Drop, P: Primitive> Pends for Form<R, P> {
         };
         let has_joined = matches!(progress, Progress::Joined);
         if has_joined {
-            self.reset_parker_at(now);
+            self.reset_parker(now);
         }
         self.leave(locked);
         (polled, has_joined)

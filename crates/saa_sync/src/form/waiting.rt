@@ -42,7 +42,7 @@ impl<R: Wait + Drop, P: Primitive> Waitable for Form<R, P> {
     fn register(&self, ticket: &mut Ticket, ask: P::Ask, is_sync: bool) -> Result<bool, Full> {
         let mut locked = self.lock();
         let answer = locked.register(ticket, ask, is_sync);
-        self.reset_parker(ticket);
+        self.reset_parker(ticket.slot());
         self.leave(locked);
         answer
     }
@@ -55,7 +55,7 @@ impl<R: Wait + Drop, P: Primitive> Waitable for Form<R, P> {
         }
         let mut locked = self.lock();
         let start = locked.start(ticket, ask);
-        self.reset_parker(ticket);
+        self.reset_parker(ticket.slot());
         self.leave(locked);
         start
     }

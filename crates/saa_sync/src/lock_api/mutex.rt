@@ -107,7 +107,7 @@ impl<'a, R: Wait + Drop, T> GuardOf<'a, R, T> for MutexGuard<'a, R, T> {
     ghost lock = { λ guard. guard.turn.now };
 
     fn of(guarded: &'a Guarded<R, T>, turn: Alone<'a, R>) -> Self {
-        let (turn, value) = guarded.write_in(turn);
+        let value = guarded.write_in(&turn);
         MutexGuard::new(turn, value)
     }
 }

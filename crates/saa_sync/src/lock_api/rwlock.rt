@@ -132,7 +132,7 @@ impl<'a, R: Wait + Drop, T> GuardOf<'a, R, T> for RwLockReadGuard<'a, R, T> {
     ghost lock = { λ guard. guard.turn.now };
 
     fn of(guarded: &'a Guarded<R, T>, turn: Shared<'a, R>) -> Self {
-        let (turn, value) = guarded.read_in(turn);
+        let value = guarded.read_in(&turn);
         RwLockReadGuard::new(turn, value)
     }
 }
@@ -143,7 +143,7 @@ impl<'a, R: Wait + Drop, T> GuardOf<'a, R, T> for RwLockWriteGuard<'a, R, T> {
     ghost lock = { λ guard. guard.turn.turn.now };
 
     fn of(guarded: &'a Guarded<R, T>, turn: Alone<'a, R>) -> Self {
-        let (turn, value) = guarded.write_in(turn);
+        let value = guarded.write_in(&turn);
         RwLockWriteGuard::new(guarded.writing(turn), value)
     }
 }

@@ -23,9 +23,6 @@ impl<R: Wait + Clock + Drop> Form<R, BarrierCore> {
 
     // Arrives, and waits until then.
     fn wait_by(&self, deadline: Deadline) -> Result<Option<bool>, Full> {
-        match self.acquire_until((), deadline)? {
-            Some(value) => Ok(Some(is_leader(value))),
-            None => Ok(None),
-        }
+        Ok(self.acquire_until((), deadline)?.map(is_leader))
     }
 }

@@ -32,9 +32,6 @@ impl<R: Wait + Clock + Drop> Form<R, GateCore> {
     fn enter_by(&self, deadline: Deadline) -> Result<Option<Result<State, Error>>, Full>
         ensures { IfOk result (λ told. IfSome told (λ answer. gate_fault answer ≡ None)) }
     {
-        match self.acquire_until((), deadline)? {
-            Some(value) => Ok(Some(read_value(value))),
-            None => Ok(None),
-        }
+        Ok(self.acquire_until((), deadline)?.map(read_value))
     }
 }

@@ -34,9 +34,6 @@ impl<R: Wait + Clock + Drop> Form<R, LockCore> {
 
     // The lock in this mode, by this time.
     pub(crate) fn take_by(&self, mode: Mode, deadline: Deadline) -> Result<Option<bool>, Full> {
-        match self.acquire_until(mode, deadline)? {
-            Some(value) => Ok(Some(is_granted(value))),
-            None => Ok(None),
-        }
+        Ok(self.acquire_until(mode, deadline)?.map(is_granted))
     }
 }

@@ -81,10 +81,7 @@ impl<R: Wait + Clock + Drop, const MAX: usize> Form<R, SemaphoreCoreOf<MAX>> {
 
     // One permit, by this time.
     fn acquire_by(&self, deadline: Deadline) -> Result<Option<()>, Full> {
-        match self.acquire_until(1, deadline)? {
-            Some(_granted) => Ok(Some(())),
-            None => Ok(None),
-        }
+        Ok(self.acquire_until(1, deadline)?.map(|_granted| ()))
     }
 
     // So many permits, by this time.
