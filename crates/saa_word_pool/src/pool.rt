@@ -34,7 +34,9 @@ pub struct Pool<T, K, P: PoolRule<T, K>> {
     ghost wide: { (table.shared.table_id.words ≡ places + 1) × (table.shared.table_id.slots ≡ places) },
 }
 
-/// A value that is out of a pool, and the slot that it comes from. It can't be dropped: give it back, or keep its value by `into_value`.
+/// A value that is out of a pool, and the slot that it comes from. Give it back, or keep its value by `into_value`: one that is dropped instead counts as out
+/// from then on, and its value is dropped.
+#[derive(Drop)]
 pub struct Borrowed<T, K> {
     seat: Seat<Option<T>, View<K>>,
     index: u16,

@@ -15,7 +15,8 @@ ghost use Rattle.saa_word_threads.specs.Dealt.{AreLedTo, IsLedTo, numbers};
 ghost use Rattle.saa_word_threads.specs.Kept.{departed};
 ghost use Rattle.saa_word_threads.specs.Receipts.{IsReceiptAt, said};
 ghost use Rattle.saa_word_threads.specs.SpinPolicies.{none, waiting};
-ghost use Rattle.saa_word_threads.specs.Public.{is_yes, polled_lock, tried};
+ghost use Rattle.saa_word_proofs.specs.Registering.{is_slot};
+ghost use Rattle.saa_word_threads.specs.Public.{is_yes, polled_lock, registered, tried};
 ghost use Rattle.futures.specs.Task.{Hears, IsArmed, Keeps};
 ghost use Rattle.futures.specs.Poll.{IfReady, OnPending};
 
@@ -72,6 +73,13 @@ pub struct Left {
 
 impl Place {
     ghost use Rattle.saa_word_threads.specs.Locks.{inners};
+
+    /// Whether it waits in the queue, or has an answer there that it hasn't taken. Costs no step.
+    pub fn has_joined(&self) -> bool
+        ensures { result ≡ is_slot (registered self.now.inner) }
+    {
+        self.inner.has_joined()
+    }
 
     // The places of a lock, of those that its form dealt.
     fn of_all(alloc: Global, dealt: Vec<FormPlace>) -> Result<Vec<Place>, AllocError>
@@ -286,6 +294,21 @@ impl Lock {
         ensures spin_policy { spin_policy_of place.new ≡ none }
     {
         self.register_with_policy(rt, &Unwatched, place, mode, NONE)
+    }
+
+    /// Asks as [`Self::register`] does, but looks and yields first, as often as a spin policy says, and joins the waiters once that is over.
+    pub fn register_spinning<R: Wait>(
+        &self,
+        rt: &R,
+        place: &mut Place,
+        mode: Mode,
+        spin_policy: SpinPolicy,
+    ) -> bool
+        requires { IsDealtBy self.now place.old }
+        ensures called { (answer : Answer) × (result ≡ is_yes answer) × IsMade (RegisterMode mode) place.old answer place.new }
+        ensures spin_policy { spin_policy_of place.new ≡ spin_policy }
+    {
+        self.register_with_policy(rt, &Unwatched, place, mode, spin_policy)
     }
 
     // Registers as `register` does, and joins the waiters once its spins are over.

@@ -32,6 +32,8 @@ pub struct Place {
 }
 
 impl Place {
+    ghost use Rattle.saa_word_threads.specs.Public.{registered};
+
     // Whether it is registered as nothing.
     pub(crate) fn is_idle(&self) -> bool
         ensures { result ≡ is_idle self.now.position.registration }
@@ -39,9 +41,9 @@ impl Place {
         matches!(self.position.registration, Registration::Idle)
     }
 
-    // Whether it has joined the waiters, and has no answer that it has taken.
-    pub(crate) fn has_joined(&self) -> bool
-        ensures { result ≡ is_slot self.now.position.registration }
+    /// Whether it waits in the queue, or has an answer there that it hasn't taken. Costs no step.
+    pub fn has_joined(&self) -> bool
+        ensures { result ≡ is_slot (registered self.now) }
     {
         matches!(self.position.registration, Registration::Slot(_))
     }

@@ -47,6 +47,7 @@ use std::time::{Clock, Duration, Instant};
 pub struct SemaphoreOf<const MAX: usize> {
     pub(crate) form: Form,
     ghost permits: { form.rules ≡ Permits MAX },
+    ghost bound: { 0 < MAX },
     ghost narrow: { MAX < 65536 },
 }
 
@@ -156,6 +157,21 @@ impl<const MAX: usize> SemaphoreOf<MAX> {
         ensures spin_policy { spin_policy_of place.new ≡ none }
     {
         self.register_with_policy(rt, &Unwatched, place, count, NONE)
+    }
+
+    /// Asks as [`Self::register`] does, but looks and yields first, as often as a spin policy says, and joins the waiters once that is over.
+    pub fn register_spinning<R: Wait>(
+        &self,
+        rt: &R,
+        place: &mut Place,
+        count: usize,
+        spin_policy: SpinPolicy,
+    ) -> bool
+        requires { IsDealtBy self.now place.old }
+        ensures called { (answer : Answer) × (result ≡ is_yes answer) × IsMade self.now (Register count) place.old answer place.new }
+        ensures spin_policy { spin_policy_of place.new ≡ spin_policy }
+    {
+        self.register_with_policy(rt, &Unwatched, place, count, spin_policy)
     }
 
     // Registers as `register` does, and joins the waiters once its spins are over.
