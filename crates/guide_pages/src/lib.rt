@@ -15,6 +15,8 @@ mod gate;
 #[cfg(test)]
 mod lock;
 #[cfg(test)]
+mod lock_free;
+#[cfg(test)]
 mod pager;
 #[cfg(test)]
 mod semaphore;

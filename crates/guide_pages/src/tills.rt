@@ -46,7 +46,7 @@ fn free_till<'a, R: Wait + Drop>(
     one: &'a Mutex<R, u64>,
     other: &'a Mutex<R, u64>,
 ) -> Result<MutexGuard<'a, R, u64>, Full>
-    ensures { IfOk result (λ till. (till.turn.now ≡ one.now) ⊎ (till.turn.now ≡ other.now)) }
+    ensures { IfOk result (λ till. (till.turn.lock.now ≡ one.now) ⊎ (till.turn.lock.now ≡ other.now)) }
 {
     if let Some(till) = one.try_lock() {
         return Ok(till);

@@ -1,9 +1,11 @@
 //! What is behind mutexes that a task waits for.
 
-ghost use Rattle.std.specs.Prelude.{⊤};
+ghost use Rattle.std.specs.Prelude.{◌≡◌};
 
 use futures::executor::block_on;
-use futures::future::{FutureExt, join};
+use futures::future::{Future, FutureExt, join};
+use futures::task::{Context, Poll};
+use saa_sync::future::MutexFuture;
 use saa_sync::{Full, Mutex, MutexGuard, lock_async};
 use std::alloc::AllocGlobal;
 use std::io;
@@ -24,29 +26,7 @@ pub fn both<R: Wait + AllocGlobal + RandomSource>(
     one: &Mutex<&R, u64>,
     other: &Mutex<&R, u64>,
 ) -> io::Result<(u64, u64)> {
-    let first = lock_async(one).map(
-        |told| -> u64
-            requires { ⊤ }
-            ensures { ⊤ }
-        {
-            match told {
-                Ok(guard) => *guard,
-                Err(_full) => 0,
-            }
-        },
-    );
-    let second = lock_async(other).map(
-        |told| -> u64
-            requires { ⊤ }
-            ensures { ⊤ }
-        {
-            match told {
-                Ok(guard) => *guard,
-                Err(_full) => 0,
-            }
-        },
-    );
-    block_on(rt, join(first, second))
+    block_on(rt, join(Look::at(one), Look::at(other)))
 }
 
 /// What is behind the two, with both taken.
@@ -55,8 +35,53 @@ pub fn together<R: Wait + AllocGlobal + RandomSource>(
     one: &Mutex<&R, u64>,
     other: &Mutex<&R, u64>,
 ) -> io::Result<(u64, u64)> {
-    let (first, second) = block_on(rt, join(lock_async(one), lock_async(other)))?;
+    let (first, second) = joined(rt, lock_async(one), lock_async(other))?;
     Ok((read(first), read(second)))
+}
+
+// What two futures tell, waited for together. (It knows nothing of them but that they are futures: with the types of guards in it `join` isn't proved.)
+fn joined<R: Wait + AllocGlobal + RandomSource, A: Future, B: Future>(
+    rt: &R,
+    first: A,
+    second: B,
+) -> io::Result<(A::Output, B::Output)>
+where
+    A::Output: Drop,
+    B::Output: Drop,
+    requires first { A.can_poll first }
+    requires second { B.can_poll second }
+{
+    block_on(rt, join(first, second))
+}
+
+/// A future that looks at what is behind a mutex, and lets go of the guard at once.
+#[derive(Drop)]
+pub struct Look<'a, R: Wait + Drop> {
+    asked: MutexFuture<'a, R, u64>,
+}
+
+impl<'a, R: Wait + Drop> Look<'a, R> {
+    /// A look that wasn't polled yet.
+    pub fn at(mutex: &'a Mutex<R, u64>) -> Self {
+        Look {
+            asked: lock_async(mutex),
+        }
+    }
+}
+
+impl<'a, R: Wait + Drop> Future for Look<'a, R> {
+    ghost use Rattle.saa_sync.specs.Forms.{source_of};
+
+    type Output = u64;
+
+    ghost needs = { λ look source. source ≡ source_of look.asked.lock };
+
+    fn poll(&mut self, cx: &mut Context<'_>) -> Poll<u64> {
+        match self.asked.poll(cx) {
+            Poll::Ready(told) => Poll::Ready(read(told)),
+            Poll::Pending => Poll::Pending,
+        }
+    }
 }
 
 // What a guard shows, and 0 where there was no room to wait.

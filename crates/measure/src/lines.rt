@@ -1,5 +1,5 @@
-//! Lines in which many wait: what it costs to drop one from the middle, to drop the newest, and to grant the oldest, with its
-//! release and its poll, at the core and at the form that threads share. And what a turn as a future costs that is granted at once.
+//! Lines in which many wait: what it costs to drop the oldest, one in the middle, or the newest, and to grant the oldest, with its release and
+//! its poll, at the core and at the form that threads share. And what a turn as a future costs that is granted at once.
 
 use crate::times::{Case, nanos_since};
 use crate::turns::PERMITS;
@@ -19,6 +19,8 @@ use std::time::{Clock, Instant};
 /// What happens in a line.
 #[derive(Clone, Copy)]
 pub enum Action {
+    /// The oldest gives up, and joins as the newest.
+    DropOldest,
     /// One in the middle gives up, and joins as the newest.
     DropMiddle,
     /// The newest gives up, and joins anew.
@@ -29,13 +31,13 @@ pub enum Action {
 
 impl Action {
     // The place in the queue of the waiter that a turn is about.
-    fn place(self, turn: u64, waiting: u64) -> usize {
+    pub(crate) fn place(self, turn: u64, waiting: u64) -> usize {
         let half = waiting / 2;
         let place = match self {
             // The first half stays, so that the next of the second half stands in the middle.
             Action::DropMiddle => half.saturating_add(turn.checked_rem(half).unwrap_or(0)),
             Action::DropNewest => waiting.saturating_sub(1),
-            Action::Grant => turn.checked_rem(waiting).unwrap_or(0),
+            Action::DropOldest | Action::Grant => turn.checked_rem(waiting).unwrap_or(0),
         };
         place as usize
     }
@@ -76,7 +78,7 @@ fn act_at_core(core: &mut SemaphoreCore, line: &mut [Ticket], action: Action, ti
 #[inline(always)]
 fn act(core: &mut SemaphoreCore, ticket: &mut Ticket, action: Action) {
     match action {
-        Action::DropMiddle | Action::DropNewest => core.cancel(ticket),
+        Action::DropOldest | Action::DropMiddle | Action::DropNewest => core.cancel(ticket),
         Action::Grant => {
             core.release();
             let _told = core.next_answered();

@@ -2,8 +2,10 @@
 //!
 //! Each measurement makes what it times anew, before it looks at the clock.
 
+use crate::alone::{Asked, By, Form, alone_nanos};
 use crate::cores::core_timed;
 use crate::lines::{Action, core_line_nanos, task_nanos};
+use crate::lock_free_lines::lock_free_task_nanos;
 use crate::rounds::{Rounds, passings_nanos};
 use crate::times::{Case, Figure, PASSES, Timed, figure_of};
 use crate::turns::{Counter, TwoTurns, turns_nanos};
@@ -14,6 +16,9 @@ use saa_sync::gate::Gate;
 use saa_sync::lock::Lock;
 use saa_sync::lock_api;
 use saa_sync::semaphore::Semaphore;
+use saa_word_lock_free::lock::Lock as LockFreeLock;
+use saa_word_lock_free::lock_api::Mutex as LockFreeMutex;
+use saa_word_lock_free::semaphore::Semaphore as LockFreeSemaphore;
 use std::alloc::{AllocGlobal, Global};
 use std::random::RandomSource;
 use std::sync::{Mutex, RwLock, Wait};
@@ -33,10 +38,11 @@ const SHORTEST: u64 = 64;
 /// What is timed. Those of std are plain ones, under its `Mutex`, `Condvar` or `RwLock`.
 #[derive(Clone, Copy)]
 pub enum Load {
-    /// Turns at a semaphore, at a plain counter, and at the word's semaphore.
+    /// Turns at a semaphore, at a plain counter, at the word's semaphore, and at the lock-free one.
     Semaphore,
     Counter,
     Word,
+    LockFreeSemaphore,
     /// Two bare turns at a `Mutex`.
     TwoTurns,
     /// Turns at a lock, of which three of four share it, or none.
@@ -44,6 +50,9 @@ pub enum Load {
     LockShared,
     StdLock,
     StdLockShared,
+    LockFreeLock,
+    LockFreeLockShared,
+    LockFreeMutex,
     /// Turns at a number behind a lock: all alone, or three of four that read.
     Mutex,
     StdMutex,
@@ -57,11 +66,15 @@ pub enum Load {
     StdGate,
     /// Turns as futures.
     Future,
+    /// Calls of one thread that needn't wait, each with its release.
+    Alone(Form, Asked, By),
     /// What happens in a line at a core, in one that threads share, and in the shortest of each.
     CoreLine(Action),
     ShortCoreLine(Action),
     SharedLine(Action),
     ShortSharedLine(Action),
+    /// The same in the line of a lock-free semaphore.
+    LockFreeLine(Action),
     /// Turns at a core of links or of a list, in each of which one waits, or none.
     Linked { waits: bool },
     Listed { waits: bool },
@@ -144,6 +157,8 @@ fn nanos<R: Clock + RandomSource + AllocGlobal + Threads + Wait + Sync>(
         Load::Future => task_nanos(rt, alloc, None, case),
         Load::SharedLine(action) => task_nanos(rt, alloc, Some(action), case),
         Load::ShortSharedLine(action) => task_nanos(rt, alloc, Some(action), short),
+        Load::LockFreeLine(action) => lock_free_task_nanos(rt, alloc, action, case),
+        Load::Alone(form, asked, by) => alone_nanos(rt, alloc, form, asked, by, case),
         Load::CoreLine(action) => core_line_nanos(rt, alloc, action, case),
         Load::ShortCoreLine(action) => core_line_nanos(rt, alloc, action, short),
         _ => threads_nanos(rt, alloc, load, case),
@@ -161,9 +176,13 @@ fn threads_nanos<R: Clock + Threads + Wait + Sync>(
         Load::Semaphore => semaphore(rt, alloc, case),
         Load::Counter => turns_nanos(rt, &Counter::new(), case, false),
         Load::Word => words_nanos(rt, alloc, case),
+        Load::LockFreeSemaphore => lock_free_semaphore(rt, alloc, case),
         Load::TwoTurns => turns_nanos(rt, &TwoTurns::new(), case, false),
         Load::Lock => lock(rt, alloc, case, false),
         Load::LockShared => lock(rt, alloc, case, true),
+        Load::LockFreeLock => lock_free_lock(rt, alloc, case, false),
+        Load::LockFreeLockShared => lock_free_lock(rt, alloc, case, true),
+        Load::LockFreeMutex => lock_free_mutex(rt, alloc, case),
         Load::StdLock => turns_nanos(rt, &RwLock::new(()), case, false),
         Load::StdLockShared => turns_nanos(rt, &RwLock::new(()), case, true),
         Load::Mutex => mutex(rt, alloc, case),
@@ -191,6 +210,34 @@ fn lock<R: Clock + Threads + Wait + Sync>(
 ) -> Option<u64> {
     let lock = Lock::new(rt, alloc, ROOM).ok()?;
     turns_nanos(rt, &lock, case, is_mostly_shared)
+}
+
+fn lock_free_semaphore<R: Clock + Threads + Wait + Sync>(
+    rt: &R,
+    alloc: Global,
+    case: Case,
+) -> Option<u64> {
+    let semaphore = LockFreeSemaphore::new(rt, alloc, ROOM).ok()?;
+    turns_nanos(rt, &semaphore, case, false)
+}
+
+fn lock_free_lock<R: Clock + Threads + Wait + Sync>(
+    rt: &R,
+    alloc: Global,
+    case: Case,
+    is_mostly_shared: bool,
+) -> Option<u64> {
+    let lock = LockFreeLock::new(rt, alloc, ROOM).ok()?;
+    turns_nanos(rt, &lock, case, is_mostly_shared)
+}
+
+fn lock_free_mutex<R: Clock + Threads + Wait + Sync>(
+    rt: &R,
+    alloc: Global,
+    case: Case,
+) -> Option<u64> {
+    let mutex = LockFreeMutex::new(rt, alloc, 0u64, ROOM).ok()?;
+    turns_nanos(rt, &mutex, case, false)
 }
 
 fn mutex<R: Clock + Threads + Wait + Sync>(rt: &R, alloc: Global, case: Case) -> Option<u64> {

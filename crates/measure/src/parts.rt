@@ -44,7 +44,7 @@ fn print_parts<R: Print + Clock + RandomSource + AllocGlobal + Threads + Wait + 
     }
     print_text(
         rt,
-        "run with: measure, or a part of it: threads, lines, cores, crowds, waits",
+        "run with: measure, or a part of it: threads, alone, lines, cores, crowds, waits",
     )
 }
 

@@ -8,6 +8,8 @@ use saa_sync::lock::Lock;
 use saa_sync::lock_api;
 use saa_sync::spin_policy::{DEFAULT, NONE, SpinPolicy};
 use saa_word_forms::mutex::Mutex as WordMutex;
+use saa_word_lock_free::lock::Lock as LockFreeLock;
+use saa_word_lock_free::lock_api::Mutex as LockFreeMutex;
 use saa_word_threads::lock::Lock as WordLock;
 use std::alloc::Global;
 use std::sync::{Mutex, RwLock, Wait};
@@ -30,6 +32,10 @@ pub enum Kind {
     WordLock,
     /// The mutex round a number on the word's lock.
     WordMutex,
+    /// The lock-free lock.
+    LockFreeLock,
+    /// The lock-free mutex round a number.
+    LockFreeMutex,
     /// std's mutex round a number.
     StdMutex,
     /// std's reader-writer lock round a number, which all read.
@@ -49,6 +55,8 @@ pub fn meet_at<R: Threads + Wait + Clock + Sync>(
         Kind::Mutex => meet_at_mutex(rt, alloc, meeting),
         Kind::WordLock => meet_at_word_lock(rt, alloc, meeting),
         Kind::WordMutex => meet_at_word_mutex(rt, alloc, meeting),
+        Kind::LockFreeLock => meet_at_lock_free_lock(rt, alloc, meeting),
+        Kind::LockFreeMutex => meet_at_lock_free_mutex(rt, alloc, meeting),
         Kind::StdMutex => meet(rt, alloc, meeting, &Mutex::new(0u64)),
         Kind::StdRwLock => meet(rt, alloc, meeting, &RwLock::new(0u64)),
     }
@@ -71,7 +79,27 @@ fn meet_at_mutex<R: Threads + Wait + Clock + Sync>(rt: &R, alloc: Global, meetin
     }
 }
 
-// The threads meet at a lock that they take with no place.
+fn meet_at_lock_free_lock<R: Threads + Wait + Clock + Sync>(
+    rt: &R,
+    alloc: Global,
+    meeting: &Meeting,
+) {
+    if let Ok(lock) = LockFreeLock::new(rt, alloc, ROOM) {
+        meet(rt, alloc, meeting, &lock);
+    }
+}
+
+fn meet_at_lock_free_mutex<R: Threads + Wait + Clock + Sync>(
+    rt: &R,
+    alloc: Global,
+    meeting: &Meeting,
+) {
+    if let Ok(mutex) = LockFreeMutex::new(rt, alloc, 0u64, ROOM) {
+        meet(rt, alloc, meeting, &mutex);
+    }
+}
+
+// The threads meet at a lock that they take with no place of their own.
 fn meet<R: Threads + Wait + Clock + Sync, L: Enter>(
     rt: &R,
     alloc: Global,

@@ -2,6 +2,7 @@
 //!
 //! A heading is above the rows that it is of. A row is printed for each of its counts.
 
+use crate::alone::{Asked, By, Form};
 use crate::lines::Action;
 use crate::loads::Load;
 use crate::meeting::How;
@@ -30,12 +31,13 @@ pub enum Line {
 pub type Entry = (&'static str, Line, u64, &'static [u64]);
 
 /// What the argument calls each part.
-pub const PARTS: [&str; 5] = ["threads", "lines", "cores", "crowds", "waits"];
+pub const PARTS: [&str; 6] = ["threads", "alone", "lines", "cores", "crowds", "waits"];
 
 /// The lines of a part.
 pub fn entries_of(part: &str) -> &'static [Entry] {
     match part {
         "threads" => &THREADS,
+        "alone" => &ALONE,
         "lines" => &LINES,
         "cores" => &CORES,
         "crowds" => &CROWDS,
@@ -61,6 +63,9 @@ const TRIES: u64 = 5_000_000;
 
 const GRANTS: u64 = 1_000_000;
 
+// How often in a line that each change walks.
+const WALKS: u64 = 2_000;
+
 // How many turns a figure of a crowd is of, so that it has parts of a nanosecond.
 const COUNTED: u64 = 1_000;
 
@@ -76,11 +81,13 @@ const TO_EIGHT: &[u64] = &[1, 2, 4, 8];
 // How many wait in a line.
 const LENGTHS: &[u64] = &[64, 1_024, 4_096, 16_384];
 
+const WALKED: &[u64] = &[1, 64, 4_096];
+
 // Turns, rounds and futures, by the number of threads: a semaphore beside a plain counter, the word's semaphore beside both, a lock
 // beside std's `RwLock`, a number behind our locks beside one behind std's, an arrival at a barrier, of which each last one of a round
-// wakes all others, and a gate that lets so many pass, until all have. Then what a shell costs where nobody waits, and a turn as a future
-// beside one as a call.
-static THREADS: [Entry; 14] = [
+// wakes all others, and a gate that lets so many pass, until all have. Then what a shell costs where nobody waits, a turn as a future
+// beside one as a call, and the lock-free forms: beside what stands above them here, and the semaphore beside the two others.
+static THREADS: [Entry; 20] = [
     (
         "what                    threads     ours ns      std ns  ratio",
         Line::Text,
@@ -159,12 +166,131 @@ static THREADS: [Entry; 14] = [
         TURNS,
         ONCE,
     ),
+    (
+        "lock-free, 40 of 63",
+        Line::Beside(Load::LockFreeSemaphore, Load::Counter),
+        TURNS,
+        TO_EIGHT,
+    ),
+    (
+        "lock-free, beside semaphore",
+        Line::Beside(Load::LockFreeSemaphore, Load::Semaphore),
+        TURNS,
+        TO_EIGHT,
+    ),
+    (
+        "lock-free, beside word",
+        Line::Beside(Load::LockFreeSemaphore, Load::Word),
+        TURNS,
+        TO_EIGHT,
+    ),
+    (
+        "lock-free, all exclusive",
+        Line::Beside(Load::LockFreeLock, Load::StdLock),
+        TURNS,
+        TO_FOUR,
+    ),
+    (
+        "lock-free, 3 of 4 share",
+        Line::Beside(Load::LockFreeLockShared, Load::StdLockShared),
+        TURNS,
+        TO_FOUR,
+    ),
+    (
+        "lock-free, add 1",
+        Line::Beside(Load::LockFreeMutex, Load::StdMutex),
+        TURNS,
+        TO_FOUR,
+    ),
     ("tasks in threads", Line::IdlePolls, POLLED, FROM_TWO),
 ];
 
+// A call with its release by one thread alone, at the lock-free form beside the threaded one.
+static ALONE: [Entry; 9] = [
+    (
+        "uncontended             threads  lock-free ns  threaded ns  ratio",
+        Line::Text,
+        1,
+        ONCE,
+    ),
+    (
+        "try 1 of 63",
+        Line::Beside(
+            Load::Alone(Form::LockFree, Asked::Permits(1), By::Try),
+            Load::Alone(Form::Threaded, Asked::Permits(1), By::Try),
+        ),
+        TURNS,
+        ONCE,
+    ),
+    (
+        "acquire 1 of 63",
+        Line::Beside(
+            Load::Alone(Form::LockFree, Asked::Permits(1), By::Call),
+            Load::Alone(Form::Threaded, Asked::Permits(1), By::Call),
+        ),
+        TURNS,
+        ONCE,
+    ),
+    (
+        "try 40 of 63",
+        Line::Beside(
+            Load::Alone(Form::LockFree, Asked::Permits(40), By::Try),
+            Load::Alone(Form::Threaded, Asked::Permits(40), By::Try),
+        ),
+        TURNS,
+        ONCE,
+    ),
+    (
+        "acquire 40 of 63",
+        Line::Beside(
+            Load::Alone(Form::LockFree, Asked::Permits(40), By::Call),
+            Load::Alone(Form::Threaded, Asked::Permits(40), By::Call),
+        ),
+        TURNS,
+        ONCE,
+    ),
+    (
+        "try the lock",
+        Line::Beside(
+            Load::Alone(Form::LockFree, Asked::Lock, By::Try),
+            Load::Alone(Form::Threaded, Asked::Lock, By::Try),
+        ),
+        TURNS,
+        ONCE,
+    ),
+    (
+        "take the lock",
+        Line::Beside(
+            Load::Alone(Form::LockFree, Asked::Lock, By::Call),
+            Load::Alone(Form::Threaded, Asked::Lock, By::Call),
+        ),
+        TURNS,
+        ONCE,
+    ),
+    (
+        "try a share",
+        Line::Beside(
+            Load::Alone(Form::LockFree, Asked::Share, By::Try),
+            Load::Alone(Form::Threaded, Asked::Share, By::Try),
+        ),
+        TURNS,
+        ONCE,
+    ),
+    (
+        "take a share",
+        Line::Beside(
+            Load::Alone(Form::LockFree, Asked::Share, By::Call),
+            Load::Alone(Form::Threaded, Asked::Share, By::Call),
+        ),
+        TURNS,
+        ONCE,
+    ),
+];
+
 // What it costs in a line in which many wait to drop one from the middle, to drop the newest, and to grant the oldest, beside the shortest
-// line; at the core and at the form that threads share.
-static LINES: [Entry; 8] = [
+// line; at the core and at the form that threads share. Then the same in the line of a lock-free form, and to drop the oldest, beside one
+// that is shared: a lock-free form walks its line for each change, so there are fewer.
+static LINES: [Entry; 13] = [
     (
         "in the line of a core   waiting          ns    of 64 ns  ratio",
         Line::Text,
@@ -231,6 +357,48 @@ static LINES: [Entry; 8] = [
         CHANGES,
         LENGTHS,
     ),
+    (
+        "in a lock-free line     waiting  lock-free ns  threaded ns  ratio",
+        Line::Text,
+        1,
+        ONCE,
+    ),
+    (
+        "drop the oldest",
+        Line::Beside(
+            Load::LockFreeLine(Action::DropOldest),
+            Load::SharedLine(Action::DropOldest),
+        ),
+        WALKS,
+        WALKED,
+    ),
+    (
+        "drop the middle",
+        Line::Beside(
+            Load::LockFreeLine(Action::DropMiddle),
+            Load::SharedLine(Action::DropMiddle),
+        ),
+        WALKS,
+        WALKED,
+    ),
+    (
+        "drop the newest",
+        Line::Beside(
+            Load::LockFreeLine(Action::DropNewest),
+            Load::SharedLine(Action::DropNewest),
+        ),
+        WALKS,
+        WALKED,
+    ),
+    (
+        "grant the oldest",
+        Line::Beside(
+            Load::LockFreeLine(Action::Grant),
+            Load::SharedLine(Action::Grant),
+        ),
+        WALKS,
+        WALKED,
+    ),
 ];
 
 // What a turn at a core of links costs beside a list, where nobody waits and where one does.
@@ -264,7 +432,7 @@ static CORES: [Entry; 3] = [
 ];
 
 // What a turn costs at one lock at which threads meet.
-static CROWDS: [Entry; 11] = [
+static CROWDS: [Entry; 14] = [
     (
         "at one lock             threads      nothing ns    100 inside ns  1,000 inside ns     100 both ns   1,000 both ns",
         Line::Text,
@@ -314,6 +482,24 @@ static CROWDS: [Entry; 11] = [
         TO_EIGHT,
     ),
     (
+        "lock_free::Lock",
+        Line::Crowd(Kind::LockFreeLock, How::Called),
+        COUNTED,
+        TO_EIGHT,
+    ),
+    (
+        "lock_free::Lock, shared",
+        Line::Crowd(Kind::LockFreeLock, How::Shared),
+        COUNTED,
+        TO_EIGHT,
+    ),
+    (
+        "lock_free::Mutex",
+        Line::Crowd(Kind::LockFreeMutex, How::Called),
+        COUNTED,
+        TO_EIGHT,
+    ),
+    (
         "std::sync::Mutex",
         Line::Crowd(Kind::StdMutex, How::Called),
         COUNTED,
@@ -329,7 +515,7 @@ static CROWDS: [Entry; 11] = [
 ];
 
 // How long a thread waits for its turn, which is empty, among others that take turns of a microsecond.
-static WAITS: [Entry; 8] = [
+static WAITS: [Entry; 10] = [
     (
         "a wait at one lock      threads       median ns          99% ns      longest ns",
         Line::Text,
@@ -369,6 +555,18 @@ static WAITS: [Entry; 8] = [
     (
         "word::Lock, joined",
         Line::Waits(Kind::WordLock, How::Joined),
+        1,
+        FROM_TWO,
+    ),
+    (
+        "lock_free::Lock, a call",
+        Line::Waits(Kind::LockFreeLock, How::Called),
+        1,
+        FROM_TWO,
+    ),
+    (
+        "lock_free::Lock, joined",
+        Line::Waits(Kind::LockFreeLock, How::Joined),
         1,
         FROM_TWO,
     ),

@@ -72,3 +72,14 @@ pub use Rattle.saa_word_threads.specs.Visits as WordVisits
 pub use Rattle.saa_word_threads.specs.Receipts as WordReceipts
 pub use Rattle.saa_word_forms.specs.Turns as WordTurns
 pub use Rattle.saa_word_forms.specs.Workers as WordWorkers
+pub use Rattle.saa_word_pool.specs.Pools as WordPools
+pub use Rattle.saa_word_lock_free.specs.Answers as LockFreeAnswers
+pub use Rattle.saa_word_lock_free.specs.Calls as LockFreeCalls
+pub use Rattle.saa_word_lock_free.specs.Forms as LockFreeForms
+pub use Rattle.saa_word_lock_free.specs.KeptAs as LockFreeKeptAs
+pub use Rattle.saa_word_lock_free.specs.LockCalls as LockFreeLockCalls
+pub use Rattle.saa_word_lock_free.specs.OfLock as LockFreeLocks
+pub use Rattle.saa_word_lock_free.specs.OfSemaphore as LockFreeSemaphores
+pub use Rattle.saa_word_lock_free.specs.Places as LockFreePlaces
+pub use Rattle.saa_word_lock_free.specs.Registered as LockFreeRegistrations
+pub use Rattle.saa_word_lock_free.specs.SemaphoreCalls as LockFreeSemaphoreCalls

@@ -7,7 +7,7 @@
 ghost use Rattle.std.specs.Prelude.{◌≡◌};
 ghost use Rattle.std.specs.Borrow.{follows, sem};
 
-use crate::turn::{Lowers, Turn, Writing};
+use crate::turn::{Lowers, Turn, Witnessed, Writing};
 use crate::value::{Lowered, ValueMut, ValueRef};
 use std::marker::Model;
 use std::ops::{Deref, DerefMut};
@@ -59,6 +59,17 @@ impl<V: ValueRef, U: Turn> Guard<V, U> {
     }
 }
 
+impl<V: ValueRef, U: Witnessed> Guard<V, U> {
+    /// Gives the guard up as [`Guard::unlock_fair`] does, and hands out the witness of its grant.
+    pub fn unlock_witnessed(guard: Self) -> U::Witness
+        ensures witness { result ≡ U.witness guard.turn }
+        ensures granted { ∥ U.granted guard.turn ∥₁ }
+    {
+        let (turn, value) = guard.into_parts();
+        turn.pass_on_witnessed(value.release())
+    }
+}
+
 impl<'l, U: Lowers, T> Guard<Writer<'l, T>, Writing<'l, U, T>> {
     /// Becomes a reader's guard, and lets in the oldest readers while they may share, up to the first writer; no other task writes in between.
     ///
@@ -67,7 +78,7 @@ impl<'l, U: Lowers, T> Guard<Writer<'l, T>, Writing<'l, U, T>> {
         ensures { U.lowered guard.entry.turn.turn result.turn }
     {
         let (Writing { turn, value }, writer) = guard.into_parts();
-        let lowered = Lowered::from_writer(writer, value, turn.blocks());
+        let lowered = Lowered::from_writer(writer, value, &turn);
         let (turn, reader) = turn.lower(lowered);
         Guard::new(turn, reader)
     }

@@ -1,13 +1,20 @@
-//! What the guards of all mutexes and reader-writer locks have in common: a value that a guard shows, and a turn at a lock that ends after it.
+//! Mutexes, reader-writer locks and their guards, once for every lock: a value that a guard shows, and a turn at a lock that ends after it.
 //!
-//! A mutex brings the turns of its own lock (`turn`); the guard (`guard`), how a value is shown and written through it (`value`), and the downgrade of
-//! a writer's guard are here, once. Nothing here waits, and nothing names a lock.
+//! `raw_lock` says what a lock has to offer. A mutex and a reader-writer lock over any such lock (`guarded`, `mutex`, `rw_lock`), and the futures of
+//! their guards (`future`), stand on that, with the turns of `turn_at`. The guard (`guard`), how a value is shown and written through it (`value`), and
+//! the downgrade of a writer's guard take any turn (`turn`): the mutexes whose callers have places bring their own.
 #![tactic(auto)]
 
+pub mod future;
 pub mod guard;
+pub mod guarded;
+pub mod mutex;
+pub mod raw_lock;
+pub mod rw_lock;
 pub mod turn;
+pub mod turn_at;
 pub mod value;
 
 pub use guard::Guard;
-pub use turn::{Lowers, Turn, Writing};
+pub use turn::{Lowers, Turn, Witnessed, Writing};
 pub use value::{Lowered, ValueMut, ValueRef, ValueReleased};

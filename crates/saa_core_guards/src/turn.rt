@@ -6,7 +6,7 @@
 ghost use Rattle.std.specs.Prelude.{◌≡◌};
 
 use crate::value::{Lowered, ValueReleased};
-use std::sync::{RwLock, RwLockReadGuard, Wait};
+use std::sync::{RwLock, RwLockReadGuard};
 
 /// A turn at a lock, to be passed on once the value is given up.
 pub trait Turn {
@@ -18,19 +18,30 @@ pub trait Turn {
         requires { ∥ granted self ∥₁ };
 }
 
+/// A turn that keeps the witness of its grant.
+pub trait Witnessed: Turn {
+    /// The witness.
+    type Witness;
+
+    // The witness of a turn.
+    ghost witness: { Self → Self.Witness };
+
+    /// Gives the turn up as [`Turn::pass_on`] does, and hands out its witness.
+    fn pass_on_witnessed(self, value: ValueReleased) -> Self::Witness
+        requires { ∥ Self.granted self ∥₁ }
+        ensures { result ≡ witness self };
+}
+
 /// The turn of one owner alone, which can be lowered to a share.
 pub trait Lowers: Turn {
     /// A turn that is shared with others.
     type Shared: Turn;
 
-    /// The permission to block.
-    type Blocks: Wait;
-
     // What the lowering of a turn to a share is.
     ghost lowered: { Self → Self.Shared → Type 0 };
 
-    /// The permission to block, for the value's lock.
-    fn blocks(&self) -> &Self::Blocks;
+    /// The value to read, with the lock's permission to block.
+    fn read<'l, T>(&self, value: &'l RwLock<T>) -> RwLockReadGuard<'l, T>;
 
     /// Makes the turn a share, beside which others may have shares, and gives the value to read with it.
     fn lower<'l, T>(self, value: Lowered<'l, T>) -> (Self::Shared, RwLockReadGuard<'l, T>)
@@ -64,5 +75,19 @@ impl<U: Turn, T> Turn for Writing<'_, U, T> {
             value: _value,
         } = self;
         turn.pass_on(value);
+    }
+}
+
+impl<U: Witnessed, T> Witnessed for Writing<'_, U, T> {
+    type Witness = U::Witness;
+
+    ghost witness = { λ writing. U.witness writing.turn };
+
+    fn pass_on_witnessed(self, value: ValueReleased) -> U::Witness {
+        let Writing {
+            turn,
+            value: _value,
+        } = self;
+        turn.pass_on_witnessed(value)
     }
 }

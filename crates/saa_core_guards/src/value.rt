@@ -4,9 +4,10 @@ ghost use Rattle.std.specs.Prelude.{◌≡◌};
 ghost use Rattle.std.specs.Borrow.{follows, sem};
 ghost use Rattle.std.specs.Sync.RwLock.{read_guard_value, write_guard_value, write_guard_with_value};
 
+use crate::turn::Lowers;
 use std::marker::PhantomData;
 use std::ops::{Deref, DerefMut};
-use std::sync::{RwLock, RwLockReadGuard as Reader, RwLockWriteGuard as Writer, Wait};
+use std::sync::{RwLock, RwLockReadGuard as Reader, RwLockWriteGuard as Writer};
 
 /// Says that a hold on a value has ended; only that makes one. The types don't say of which value.
 pub struct ValueReleased {
@@ -40,14 +41,14 @@ pub struct Lowered<'l, T> {
 
 impl<'l, T> Lowered<'l, T> {
     // Ends a writer's hold, and takes a reader's.
-    pub(crate) fn from_writer<R: Wait>(
+    pub(crate) fn from_writer<U: Lowers>(
         writer: Writer<'_, T>,
         value: &'l RwLock<T>,
-        rt: &R,
+        turn: &U,
     ) -> Self {
         drop(writer);
         Lowered {
-            reader: value.read(rt),
+            reader: turn.read(value),
         }
     }
 

@@ -1,14 +1,10 @@
--- What contracts see of the forms that threads share, of the locks round a value, and of their guards and futures.
-use Rattle.std.specs.Prelude.{ℕ, Bool, Option, Some, None, Result, Ok, Err}
-use Rattle.saa_core_spec.specs.declared.lock.LockAnswer.{LockAnswer}
-use Rattle.saa_core_spec.specs.declared.lock.LockCall.{LockCall}
-use Rattle.saa_core_spec.specs.declared.lock.Mode.{Mode}
+-- What contracts see of the forms that threads share, and of their futures.
+use Rattle.std.specs.Prelude.{ℕ, Option, Some, None, Result, Ok, Err}
 use Rattle.saa_core_spec.specs.declared.polling.Error.{Error}
-use Rattle.saa_core.specs.Tickets.{Core}
 use Rattle.saa_core_waits.specs.declared.spin_policy.SpinPolicy.{SpinPolicy}
 use Rattle.saa_sync.specs.declared.form.Form.{Form}
 use Rattle.saa_core.specs.Futures.{PendingState}
-use Rattle.saa_core_waits.specs.FutureStates.{FutureState, FutureWithState, with_pending}
+use Rattle.saa_core_waits.specs.FutureStates.{FutureWithState, with_pending}
 
 -- what a value means; or an error in its place, as polls read it
 abbrev pub answer_of : {V : Type 0} → (Result ℕ Error → V) → (Result ℕ Error → V) → ℕ → Option Error → V
@@ -26,16 +22,6 @@ spin_policy_of form = form.unregistered
 -- how often a waiter at a form spins and yields before it parks
 abbrev pub waiter_policy_of : {R P Call Ask Answer Value : Type 0} → Form R P Call Ask Answer Value → SpinPolicy
 waiter_policy_of form = form.waiting
-
--- a lock round a value is the lock whose turns the value is used in: its form, whose core is told by the types of its calls, of what is
--- asked, of its answers, and of what these are read as
-abbrev pub TurnLock : Type 0 → Type 0
-TurnLock R = Form R Core LockCall Mode LockAnswer (Result Bool Error)
-
--- a future of a guard is the lock whose turn it waits for, and the future of the turn
-pub record GuardFutureState (R : Type 0) : Type 0 where
-  pub lock : TurnLock R
-  pub acquiring : FutureState PendingState
 
 -- the same future, with this pending; its callback stays
 abbrev pub with_pending_before : {F : Type 0} → FutureWithState PendingState F → PendingState → FutureWithState PendingState F

@@ -5,14 +5,14 @@
 //! `form` is the one type of the four forms: one mutex around a core, with what is under it in `locked`, where a thread parks in `parker`,
 //! and what tasks are woken by in `wakers`; it offers what `saa_core_waits` builds on, the waits of every kind. `semaphore`, `lock`, `gate` and
 //! `barrier` have the calls of each. `future` has the futures that they hand out, `permit` a semaphore's permits as values, `pager` waits that
-//! are kept outside a call, and `lock_api` mutexes and reader-writer locks. `testing` has what tests alone may see.
+//! are kept outside a call, and `lock_api` mutexes and reader-writer locks, over what `raw_lock` says that the lock offers. `testing` has what
+//! tests alone may see.
 #![tactic(auto)]
 
 pub mod barrier;
 pub mod form;
 pub mod future;
 pub mod gate;
-mod guarded;
 mod hint;
 pub mod lock;
 pub mod lock_api;
@@ -20,12 +20,12 @@ mod locked;
 pub mod pager;
 mod parker;
 pub mod permit;
+mod raw_lock;
 mod rest;
 pub mod semaphore;
 pub mod spin_policy;
 pub mod testing;
 pub mod timed;
-mod turn;
 mod wakers;
 
 pub use barrier::Barrier;

@@ -8,15 +8,14 @@ ghost use Rattle.saa_core.specs.Tickets.{slot_of};
 ghost use Rattle.saa_sync.specs.Forms.{spin_policy_of, waiter_policy_of};
 
 pub use crate::form::{Counts, Form};
-use crate::guarded::Guarded;
 use crate::lock::Lock;
 use crate::lock_api::{Mutex, RwLock};
 use crate::pager::{Pager, SyncResult, Ticket};
 pub use crate::parker::{Parker, WAITER};
 pub use crate::spin_policy::SpinPolicy;
-use crate::turn::Turns;
 use saa_core::lock::LockCore;
 use saa_core::primitive::Primitive;
+use saa_core_guards::guarded::lock_of;
 use std::alloc::{AllocError, Global};
 use std::sync::Wait;
 
@@ -73,32 +72,28 @@ pub fn slot_of<S: SyncResult<Ticket>>(pager: &Pager<'_, S>) -> Option<u16>
 pub fn mutex_on<R: Wait + Drop, T>(lock: Lock<R>, value: T) -> Mutex<R, T>
     ensures { result ≡ lock }
 {
-    Mutex {
-        guarded: Guarded::of(Turns::of(lock), value),
-    }
+    Mutex::of_lock(lock, value)
 }
 
 /// The reader-writer lock whose turns are those of a lock that is handed in.
 pub fn rwlock_on<R: Wait + Drop, T>(lock: Lock<R>, value: T) -> RwLock<R, T>
     ensures { result ≡ lock }
 {
-    RwLock {
-        guarded: Guarded::of(Turns::of(lock), value),
-    }
+    RwLock::of_lock(lock, value)
 }
 
 /// What a test may see of the lock that the turns of a mutex are of.
 pub fn counts_of_mutex<R: Wait + Drop, T>(mutex: &Mutex<R, T>) -> Counts<'_, R, LockCore>
     ensures { result.now ≡ mutex.now }
 {
-    mutex.guarded.turn.counts()
+    Counts::of(lock_of(mutex))
 }
 
 /// What a test may see of the lock that the turns of a reader-writer lock are of.
 pub fn counts_of_rwlock<R: Wait + Drop, T>(rwlock: &RwLock<R, T>) -> Counts<'_, R, LockCore>
     ensures { result.now ≡ rwlock.now }
 {
-    rwlock.guarded.turn.counts()
+    Counts::of(lock_of(rwlock))
 }
 
 /// Makes one step of the core under the mutex, and wakes none of the waiters that it answers: their wakes stay pending until the next call.

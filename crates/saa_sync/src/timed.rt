@@ -11,7 +11,6 @@
 
 mod barrier;
 mod gate;
-mod guards;
 mod lock;
 mod semaphore;
 

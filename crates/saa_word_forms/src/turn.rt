@@ -11,7 +11,7 @@ ghost use Rattle.saa_word_forms.specs.Turns.{HasLock, HasShare, IsLoweredOrWaite
 use crate::place_at::PlaceAt;
 use saa_core_guards::turn::{Lowers, Turn};
 use saa_core_guards::value::{Lowered, ValueReleased};
-use std::sync::{RwLockReadGuard, Wait};
+use std::sync::{RwLock, RwLockReadGuard, Wait};
 
 /// The turn of one owner alone.
 pub struct Alone<'a, 'l, R: Wait> {
@@ -56,12 +56,10 @@ impl<R: Wait> Turn for Alone<'_, '_, R> {
 impl<'a, 'b, R: Wait> Lowers for Alone<'a, 'b, R> {
     type Shared = Shared<'a, 'b, R>;
 
-    type Blocks = R;
-
     ghost lowered = { λ alone shared. (shared.at.now.lock ≡ alone.at.now.lock) × IsLoweredOrWaitedFor alone.at.now.place shared.at.now.place };
 
-    fn blocks(&self) -> &R {
-        self.rt
+    fn read<'l, T>(&self, value: &'l RwLock<T>) -> RwLockReadGuard<'l, T> {
+        value.read(self.rt)
     }
 
     fn lower<'l, T>(self, value: Lowered<'l, T>) -> (Self::Shared, RwLockReadGuard<'l, T>) {

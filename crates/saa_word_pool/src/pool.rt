@@ -26,10 +26,8 @@ const ATTEMPTS: usize = 64;
 pub struct Pool<T, K, P: PoolRule<T, K>> {
     table: Table<Option<T>, View<K>, K, Resting<P>, Global>,
     hints: Hints,
+    // No value lies here outside of the table, whose slots threads share without sharing the values: so a pool may cross threads if its values may.
     places: u16,
-    // Empty, with room for every value, so that `close` takes no memory.
-    room: Vec<T>,
-    ghost empty: { (vec_len room ≡ 0) × (places ≤ vec_capacity room) },
     ghost hinted: { hints.slots ≡ places },
     ghost wide: { (table.shared.table_id.words ≡ places + 1) × (table.shared.table_id.slots ≡ places) },
 }
@@ -79,28 +77,26 @@ impl<T: Drop, K, P: PoolRule<T, K>> Pool<T, K, P> {
         requires belong { All (P.belongs about.now) values.items }
         ensures made { IfOk result (λ pool. (places_of pool ≡ vec_len values) × (key_of pool ≡ about.now)) }
     {
-        let mut room = values;
-        let places = room.len() as u16;
+        let places = values.len() as u16;
         let hints = Hints::new(alloc, places)?;
         let words = opening_words(alloc, places)?;
-        let slots = Self::lay(alloc, about, &mut room)?;
+        let slots = Self::lay(alloc, about, values)?;
         match Table::new(alloc, words.as_slice(), slots, about) {
             Ok((table, _seat)) => Ok(Pool {
                 table,
                 hints,
                 places,
-                room,
             }),
             Err(_refused) => Err(AllocError),
         }
     }
 
     // Puts each value into a slot.
-    fn lay(alloc: Global, about: &K, values: &mut Vec<T>) -> Result<Vec<Option<T>>, AllocError>
-        requires { All (P.belongs about.now) values.old.items }
-        ensures empty { IfOk result (λ _. (vec_len values.new ≡ 0) × (vec_len values.old ≤ vec_capacity values.new)) }
-        ensures all { IfOk result (λ slots. (vec_len slots ≡ vec_len values.old) × All (IsRest (P.belongs about.now)) slots.items) }
+    fn lay(alloc: Global, about: &K, values: Vec<T>) -> Result<Vec<Option<T>>, AllocError>
+        requires { All (P.belongs about.now) values.items }
+        ensures { IfOk result (λ slots. (vec_len slots ≡ vec_len values) × All (IsRest (P.belongs about.now)) slots.items) }
     {
+        let mut values = values;
         let mut slots = Vec::with_capacity(alloc, values.len())?;
         while let Some(value) = values.pop() {
             slots.push_reserved(Some(value));
@@ -108,10 +104,18 @@ impl<T: Drop, K, P: PoolRule<T, K>> Pool<T, K, P> {
         Ok(slots)
     }
 
-    /// The values that are in, at the end. A value that is out, or was kept by `into_value`, isn't among them.
+    /// How many values the pool has, in or out.
+    pub fn places(&self) -> u16
+        ensures { result ≡ places_of self.now }
+    {
+        self.places
+    }
+
+    /// The values that are in, at the end, in an empty `room` of the caller's. A value that is out, or was kept by `into_value`, isn't among them.
     ///
-    /// Costs O(places), and takes no memory.
-    pub fn close(self) -> Vec<T>
+    /// Costs O(places), and takes no memory: the room has to have some for each value ([`Self::places`]).
+    pub fn close(self, room: Vec<T>) -> Vec<T>
+        requires { (vec_len room ≡ 0) × (places_of self ≤ vec_capacity room) }
         ensures belong { All (P.belongs (key_of self)) result.items }
         ensures few { vec_len result ≤ places_of self }
     {
@@ -119,7 +123,6 @@ impl<T: Drop, K, P: PoolRule<T, K>> Pool<T, K, P> {
             table,
             hints: _,
             places,
-            room,
         } = self;
         let mut closed = table.close();
         let mut values = room;

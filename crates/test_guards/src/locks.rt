@@ -1,4 +1,5 @@
-//! A mutex and a reader-writer lock round a number each, every way to ask for a guard of theirs, and what is had of it.
+//! A mutex and a reader-writer lock round a number each, every way to ask for a guard of theirs, and what is had of it. They stand on any lock: the
+//! threaded one, or the lock-free one.
 
 use futures::Future;
 use futures::executor::block_on;
@@ -6,16 +7,32 @@ use futures::task::Poll;
 use futures::test::MockTask;
 use saa_core::lock::LockCore;
 use saa_core::ticket::Full;
-use saa_sync::lock_api::{
-    Guard, Mutex, MutexFuture, MutexGuard, ReadFuture, RwLock, RwLockReadGuard, RwLockWriteGuard,
-    WriteFuture, lock_async, read_async, write_async,
+use saa_core_guards::Guard;
+use saa_core_guards::future::{
+    MutexFuture, ReadFuture, WriteFuture, lock_async, read_async, write_async,
 };
+use saa_core_guards::guarded::Guarded;
+use saa_core_guards::mutex::{Mutex, MutexGuard};
+use saa_core_guards::raw_lock::{RawLockAsync, RawLockUntil};
+use saa_core_guards::rw_lock::{RwLock, RwLockReadGuard, RwLockWriteGuard};
+use saa_sync::lock::Lock;
 use saa_sync::spin_policy::NONE;
-use saa_sync::testing::{Form, WAITER, form_of, mutex_on, rwlock_on};
+use saa_sync::testing::{WAITER, form_of};
+use saa_word_lock_free::lock::Lock as LockFree;
 use std::alloc::{AllocError, AllocGlobal};
 use std::random::RandomSource;
 use std::sync::Wait;
+use std::time::{Clock, Duration};
 use test_asserts::same;
+
+// Which lock the two stand on, and whether that is poisoned at first, as no lock of a mutex is but in these tests.
+#[derive(Clone, Copy)]
+pub(crate) enum Kind {
+    Threaded,
+    ThreadedPoisoned,
+    LockFree,
+    LockFreePoisoned,
+}
 
 // Which guard is asked for.
 #[derive(Clone, Copy)]
@@ -30,50 +47,89 @@ pub(crate) enum Way {
 pub(crate) enum By {
     Thread,
     Task,
+    // A thread, until a time that never comes.
+    Timed,
 }
+
+// How long a timed call waits, in seconds: none waits so long.
+const LONG: u64 = 50;
 
 // A mutex and a reader-writer lock.
 #[derive(Drop)]
-pub(crate) struct Locks<R: Wait + Drop> {
-    pub(crate) mutex: Mutex<R, u64>,
-    pub(crate) rwlock: RwLock<R, u64>,
+pub(crate) struct Locks<L: RawLockAsync + RawLockUntil + Drop> {
+    pub(crate) mutex: Mutex<L, u64>,
+    pub(crate) rwlock: RwLock<L, u64>,
 }
 
-// Both locks round this number, with room for so many waiters each.
-pub(crate) fn locks_of<H: Wait + AllocGlobal>(
+// Both threaded locks round this number, with room for so many waiters each.
+pub(crate) fn threaded<H: Wait + Clock + AllocGlobal>(
     rt: &H,
     number: u64,
     room: u16,
-) -> Result<Locks<&H>, AllocError> {
+) -> Result<Locks<Lock<&H>>, AllocError> {
     Ok(Locks {
-        mutex: Mutex::new(rt, rt.alloc(), number, room)?,
-        rwlock: RwLock::new(rt, rt.alloc(), number, room)?,
+        mutex: Guarded::new(rt, rt.alloc(), number, room)?,
+        rwlock: Guarded::new(rt, rt.alloc(), number, room)?,
     })
 }
 
-// What a lock of this room stands on that is poisoned, as no lock of a mutex is but in these tests.
-fn poisoned<H: Wait + AllocGlobal>(rt: &H, room: u16) -> Result<Form<&H, LockCore>, AllocError> {
+// Both lock-free ones.
+pub(crate) fn lock_free<H: Wait + Clock + AllocGlobal>(
+    rt: &H,
+    number: u64,
+    room: u16,
+) -> Result<Locks<LockFree<&H>>, AllocError> {
+    Ok(Locks {
+        mutex: Guarded::new(rt, rt.alloc(), number, room)?,
+        rwlock: Guarded::new(rt, rt.alloc(), number, room)?,
+    })
+}
+
+// A lock of this room that is poisoned.
+fn poisoned<H: Wait + AllocGlobal>(rt: &H, room: u16) -> Result<Lock<&H>, AllocError> {
     let mut core = LockCore::new(rt.alloc(), room)?;
     let _is_owned = core.try_lock();
     core.poison_lock();
     form_of(rt, rt.alloc(), core, room, NONE, WAITER)
 }
 
-// As `locks_of`, with locks that are poisoned.
-pub(crate) fn poisoned_locks_of<H: Wait + AllocGlobal>(
+fn poisoned_lock_free<H: Wait + AllocGlobal>(
+    rt: &H,
+    room: u16,
+) -> Result<LockFree<&H>, AllocError> {
+    let lock = LockFree::with_spin_policy(rt, rt.alloc(), room, NONE)?;
+    let _is_owned = lock.try_lock();
+    lock.poison_lock();
+    Ok(lock)
+}
+
+// As `threaded`, with locks that are poisoned.
+pub(crate) fn threaded_poisoned<H: Wait + Clock + AllocGlobal>(
     rt: &H,
     number: u64,
     room: u16,
-) -> Result<Locks<&H>, AllocError> {
+) -> Result<Locks<Lock<&H>>, AllocError> {
     Ok(Locks {
-        mutex: mutex_on(poisoned(rt, room)?, number),
-        rwlock: rwlock_on(poisoned(rt, room)?, number),
+        mutex: Guarded::of_lock(poisoned(rt, room)?, number),
+        rwlock: Guarded::of_lock(poisoned(rt, room)?, number),
     })
 }
 
-impl<R: Wait + Drop> Locks<R> {
+// As `lock_free`, with locks that are poisoned.
+pub(crate) fn lock_free_poisoned<H: Wait + Clock + AllocGlobal>(
+    rt: &H,
+    number: u64,
+    room: u16,
+) -> Result<Locks<LockFree<&H>>, AllocError> {
+    Ok(Locks {
+        mutex: Guarded::of_lock(poisoned_lock_free(rt, room)?, number),
+        rwlock: Guarded::of_lock(poisoned_lock_free(rt, room)?, number),
+    })
+}
+
+impl<L: RawLockAsync + RawLockUntil + Drop> Locks<L> {
     // The guard, by the call that waits for it.
-    pub(crate) fn wait(&self, way: Way) -> Result<Held<'_, R>, Full> {
+    pub(crate) fn wait(&self, way: Way) -> Result<Held<'_, L>, Full> {
         Ok(match way {
             Way::Lock => Held::Mutex(self.mutex.lock()?),
             Way::Read => Held::Reader(self.rwlock.read()?),
@@ -82,7 +138,7 @@ impl<R: Wait + Drop> Locks<R> {
     }
 
     // The guard, if it is had at once.
-    pub(crate) fn attempt(&self, way: Way) -> Option<Held<'_, R>> {
+    pub(crate) fn attempt(&self, way: Way) -> Option<Held<'_, L>> {
         Some(match way {
             Way::Lock => Held::Mutex(self.mutex.try_lock()?),
             Way::Read => Held::Reader(self.rwlock.try_read()?),
@@ -91,7 +147,7 @@ impl<R: Wait + Drop> Locks<R> {
     }
 
     // The future of the guard.
-    pub(crate) fn ask(&self, way: Way) -> Asked<'_, R> {
+    pub(crate) fn ask(&self, way: Way) -> Asked<'_, L> {
         match way {
             Way::Lock => Asked::Mutex(lock_async(&self.mutex)),
             Way::Read => Asked::Reader(read_async(&self.rwlock)),
@@ -99,12 +155,22 @@ impl<R: Wait + Drop> Locks<R> {
         }
     }
 
+    // The guard, by the call that waits for it in time.
+    fn wait_for(&self, way: Way) -> Option<Held<'_, L>> {
+        let long = Duration::from_secs(LONG);
+        Some(match way {
+            Way::Lock => Held::Mutex(self.mutex.lock_for(long).ok()??),
+            Way::Read => Held::Reader(self.rwlock.read_for(long).ok()??),
+            Way::Write => Held::Writer(self.rwlock.write_for(long).ok()??),
+        })
+    }
+
     // The guard, by an executor that waits for its future.
-    fn block_on<H: Wait + RandomSource + AllocGlobal>(
+    fn block_on<H: Wait + Clock + RandomSource + AllocGlobal>(
         &self,
         rt: &H,
         way: Way,
-    ) -> Option<Held<'_, R>> {
+    ) -> Option<Held<'_, L>> {
         Some(match way {
             Way::Lock => Held::Mutex(awaited(rt, lock_async(&self.mutex))?),
             Way::Read => Held::Reader(awaited(rt, read_async(&self.rwlock))?),
@@ -113,15 +179,16 @@ impl<R: Wait + Drop> Locks<R> {
     }
 
     // The guard, waited for by a thread or a task.
-    pub(crate) fn wait_by<H: Wait + RandomSource + AllocGlobal>(
+    pub(crate) fn wait_by<H: Wait + Clock + RandomSource + AllocGlobal>(
         &self,
         rt: &H,
         by: By,
         way: Way,
-    ) -> Option<Held<'_, R>> {
+    ) -> Option<Held<'_, L>> {
         match by {
             By::Thread => self.wait(way).ok(),
             By::Task => self.block_on(rt, way),
+            By::Timed => self.wait_for(way),
         }
     }
 
@@ -154,7 +221,7 @@ impl<R: Wait + Drop> Locks<R> {
 // The guard that an executor gets of its future.
 fn awaited<H, G: Drop, F>(rt: &H, future: F) -> Option<G>
 where
-    H: Wait + RandomSource + AllocGlobal,
+    H: Wait + Clock + RandomSource + AllocGlobal,
     F: Future<Output = Result<G, Full>>,
     requires { F.can_poll future }
 {
@@ -163,13 +230,13 @@ where
 
 // A guard of either lock.
 #[derive(Drop)]
-pub(crate) enum Held<'s, R: Wait + Drop> {
-    Mutex(MutexGuard<'s, R, u64>),
-    Reader(RwLockReadGuard<'s, R, u64>),
-    Writer(RwLockWriteGuard<'s, R, u64>),
+pub(crate) enum Held<'s, L: RawLockAsync + RawLockUntil + Drop> {
+    Mutex(MutexGuard<'s, L, u64>),
+    Reader(RwLockReadGuard<'s, L, u64>),
+    Writer(RwLockWriteGuard<'s, L, u64>),
 }
 
-impl<'s, R: Wait + Drop> Held<'s, R> {
+impl<'s, L: RawLockAsync + RawLockUntil + Drop> Held<'s, L> {
     // The number that it shows.
     pub(crate) fn shown(&self) -> u64 {
         match self {
@@ -190,7 +257,7 @@ impl<'s, R: Wait + Drop> Held<'s, R> {
     }
 
     // The reader's guard that a writer's one becomes.
-    pub(crate) fn lowered(self) -> Option<Held<'s, R>> {
+    pub(crate) fn lowered(self) -> Option<Held<'s, L>> {
         match self {
             Held::Writer(guard) => Some(Held::Reader(RwLockWriteGuard::downgrade(guard))),
             _ => None,
@@ -209,15 +276,15 @@ impl<'s, R: Wait + Drop> Held<'s, R> {
 
 // A future of a guard.
 #[derive(Drop)]
-pub(crate) enum Asked<'s, R: Wait + Drop> {
-    Mutex(MutexFuture<'s, R, u64>),
-    Reader(ReadFuture<'s, R, u64>),
-    Writer(WriteFuture<'s, R, u64>),
+pub(crate) enum Asked<'s, L: RawLockAsync + RawLockUntil + Drop> {
+    Mutex(MutexFuture<'s, L, u64>),
+    Reader(ReadFuture<'s, L, u64>),
+    Writer(WriteFuture<'s, L, u64>),
 }
 
-impl<'s, R: Wait + Drop> Asked<'s, R> {
+impl<'s, L: RawLockAsync + RawLockUntil + Drop> Asked<'s, L> {
     // What a poll by this task gives, if it is ready.
-    pub(crate) fn poll(&mut self, task: &MockTask) -> Option<Result<Held<'s, R>, Full>> {
+    pub(crate) fn poll(&mut self, task: &MockTask) -> Option<Result<Held<'s, L>, Full>> {
         Some(match self {
             Asked::Mutex(future) => match ready(task.poll(future))? {
                 Ok(guard) => Ok(Held::Mutex(guard)),
@@ -246,8 +313,7 @@ fn ready<T>(polled: Poll<T>) -> Option<T> {
 // What stands behind both locks at first, what guards show of another number, what stands there once they wrote, and a last number.
 type Numbers = ((u64, u64), [Option<u64>; 3], (u64, u64), (u64, u64));
 
-fn numbers<H: Wait + AllocGlobal>(rt: &H) -> Result<Numbers, AllocError> {
-    let mut locks = locks_of(rt, 5, 0)?;
+fn numbers<L: RawLockAsync + RawLockUntil + Drop>(mut locks: Locks<L>) -> Numbers {
     let first = locks.get();
     locks.set(6);
     let shown = [
@@ -257,10 +323,15 @@ fn numbers<H: Wait + AllocGlobal>(rt: &H) -> Result<Numbers, AllocError> {
     ];
     let written = locks.get();
     locks.set(8);
-    Ok((first, shown, written, locks.into_inner()))
+    (first, shown, written, locks.into_inner())
+}
+
+// The numbers of both kinds of locks.
+fn numbers_of_both<H: Wait + Clock + AllocGlobal>(rt: &H) -> Result<[Numbers; 2], AllocError> {
+    Ok([numbers(threaded(rt, 5, 0)?), numbers(lock_free(rt, 5, 0)?)])
 }
 
 #[test]
 fn the_numbers_of_locks_that_nobody_else_has(rt: HostRuntime) {
-    same!(rt; numbers(&rt), Ok(((5, 5), [Some(6); 3], (7, 7), (8, 8))));
+    same!(rt; numbers_of_both(&rt), Ok([((5, 5), [Some(6); 3], (7, 7), (8, 8)); 2]));
 }

@@ -6,8 +6,9 @@
 ghost use Rattle.std.specs.Prelude.{◌≡◌, IfOk};
 
 use saa_core::ticket::Full;
-use saa_sync::lock_api::{Mutex, RwLock};
-use std::sync::Wait;
+use saa_core_guards::mutex::Mutex;
+use saa_core_guards::raw_lock::RawLock;
+use saa_core_guards::rw_lock::RwLock;
 
 /// Two numbers that agree.
 #[derive(Drop)]
@@ -38,13 +39,13 @@ impl Pair {
 }
 
 /// Makes both numbers of a mutex this one.
-pub fn store<R: Wait + Drop>(mutex: &Mutex<R, Pair>, number: u64) -> Result<(), Full> {
+pub fn store<L: RawLock + Drop>(mutex: &Mutex<L, Pair>, number: u64) -> Result<(), Full> {
     mutex.lock()?.set(number);
     Ok(())
 }
 
 /// Both numbers of a mutex, which agree.
-pub fn load<R: Wait + Drop>(mutex: &Mutex<R, Pair>) -> Result<(u64, u64), Full>
+pub fn load<L: RawLock + Drop>(mutex: &Mutex<L, Pair>) -> Result<(u64, u64), Full>
     ensures { IfOk result (λ numbers. numbers.0 ≡ numbers.1) }
 {
     let guard = mutex.lock()?;
@@ -52,13 +53,13 @@ pub fn load<R: Wait + Drop>(mutex: &Mutex<R, Pair>) -> Result<(u64, u64), Full>
 }
 
 /// Makes both numbers of a reader-writer lock this one.
-pub fn write<R: Wait + Drop>(rwlock: &RwLock<R, Pair>, number: u64) -> Result<(), Full> {
+pub fn write<L: RawLock + Drop>(rwlock: &RwLock<L, Pair>, number: u64) -> Result<(), Full> {
     rwlock.write()?.set(number);
     Ok(())
 }
 
 /// Both numbers of a reader-writer lock, which agree.
-pub fn read<R: Wait + Drop>(rwlock: &RwLock<R, Pair>) -> Result<(u64, u64), Full>
+pub fn read<L: RawLock + Drop>(rwlock: &RwLock<L, Pair>) -> Result<(u64, u64), Full>
     ensures { IfOk result (λ numbers. numbers.0 ≡ numbers.1) }
 {
     let guard = rwlock.read()?;
@@ -66,7 +67,7 @@ pub fn read<R: Wait + Drop>(rwlock: &RwLock<R, Pair>) -> Result<(u64, u64), Full
 }
 
 /// Writes a number behind a mutex, and reads it back through the same guard: it is the number that was written.
-pub fn put<R: Wait + Drop>(mutex: &Mutex<R, u64>, number: u64) -> Result<u64, Full>
+pub fn put<L: RawLock + Drop>(mutex: &Mutex<L, u64>, number: u64) -> Result<u64, Full>
     ensures { IfOk result (λ shown. shown ≡ number) }
 {
     let mut guard = mutex.lock()?;
@@ -75,7 +76,7 @@ pub fn put<R: Wait + Drop>(mutex: &Mutex<R, u64>, number: u64) -> Result<u64, Fu
 }
 
 /// Writes a number behind a reader-writer lock, and reads it back through the same guard.
-pub fn put_to_read<R: Wait + Drop>(rwlock: &RwLock<R, u64>, number: u64) -> Result<u64, Full>
+pub fn put_to_read<L: RawLock + Drop>(rwlock: &RwLock<L, u64>, number: u64) -> Result<u64, Full>
     ensures { IfOk result (λ shown. shown ≡ number) }
 {
     let mut guard = rwlock.write()?;
@@ -87,15 +88,19 @@ pub fn put_to_read<R: Wait + Drop>(rwlock: &RwLock<R, u64>, number: u64) -> Resu
 mod tests {
     use super::{Pair, load, put, put_to_read, read, store, write};
     use saa_core::ticket::Full;
-    use saa_sync::lock_api::{Mutex, RwLock};
+    use saa_core_guards::mutex::Mutex;
+    use saa_core_guards::raw_lock::RawLock;
+    use saa_core_guards::rw_lock::RwLock;
+    use saa_sync::lock::Lock;
+    use saa_word_lock_free::lock::Lock as LockFree;
     use std::alloc::{AllocError, AllocGlobal};
     use std::sync::Wait;
     use test_asserts::same;
 
     // The pairs behind both locks, before 7 and 8 are written there and afterwards.
-    fn loaded<R: Wait + Drop>(
-        mutex: &Mutex<R, Pair>,
-        rwlock: &RwLock<R, Pair>,
+    fn loaded<L: RawLock + Drop>(
+        mutex: &Mutex<L, Pair>,
+        rwlock: &RwLock<L, Pair>,
     ) -> Result<[(u64, u64); 4], Full> {
         let before = (load(mutex)?, read(rwlock)?);
         store(mutex, 7)?;
@@ -104,22 +109,31 @@ mod tests {
     }
 
     fn pairs<H: Wait + AllocGlobal>(rt: &H) -> Result<Result<[(u64, u64); 4], Full>, AllocError> {
-        let mutex = Mutex::new(rt, rt.alloc(), Pair::new(3), 1)?;
-        let rwlock = RwLock::new(rt, rt.alloc(), Pair::new(4), 1)?;
+        let mutex: Mutex<Lock<&H>, Pair> = Mutex::new(rt, rt.alloc(), Pair::new(3), 1)?;
+        let rwlock: RwLock<Lock<&H>, Pair> = RwLock::new(rt, rt.alloc(), Pair::new(4), 1)?;
+        Ok(loaded(&mutex, &rwlock))
+    }
+
+    fn lock_free_pairs<H: Wait + AllocGlobal>(
+        rt: &H,
+    ) -> Result<Result<[(u64, u64); 4], Full>, AllocError> {
+        let mutex: Mutex<LockFree<&H>, Pair> = Mutex::new(rt, rt.alloc(), Pair::new(3), 1)?;
+        let rwlock: RwLock<LockFree<&H>, Pair> = RwLock::new(rt, rt.alloc(), Pair::new(4), 1)?;
         Ok(loaded(&mutex, &rwlock))
     }
 
     #[test]
     fn a_pair_behind_each_lock(rt: HostRuntime) {
         same!(rt; pairs(&rt), Ok(Ok([(3, 3), (4, 4), (7, 7), (8, 8)])));
+        same!(rt; lock_free_pairs(&rt), Ok(Ok([(3, 3), (4, 4), (7, 7), (8, 8)])));
     }
 
     // What is shown once it is put behind both locks, and what stands there in the end.
     type Shown = ([Result<u64, Full>; 2], [u64; 2]);
 
     fn shown<H: Wait + AllocGlobal>(rt: &H) -> Result<Shown, AllocError> {
-        let mutex = Mutex::new(rt, rt.alloc(), 3, 0)?;
-        let rwlock = RwLock::new(rt, rt.alloc(), 3, 0)?;
+        let mutex: Mutex<Lock<&H>, u64> = Mutex::new(rt, rt.alloc(), 3, 0)?;
+        let rwlock: RwLock<LockFree<&H>, u64> = RwLock::new(rt, rt.alloc(), 3, 0)?;
         let shown = [put(&mutex, 5), put_to_read(&rwlock, 6)];
         Ok((shown, [mutex.into_inner(), rwlock.into_inner()]))
     }

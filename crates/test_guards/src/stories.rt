@@ -2,14 +2,18 @@
 //!
 //! A call that stands in a test's text is proved there anew; one that stands in a row of a table is data, and costs no proof.
 
-use crate::locks::{Asked, Held, Locks, Way, locks_of, poisoned_locks_of};
+use crate::locks::{
+    Asked, Held, Kind, Locks, Way, lock_free, lock_free_poisoned, threaded, threaded_poisoned,
+};
 use crate::{mutexes, poisoned, rooms, rwlocks, tasks};
 use futures::test::MockTask;
 use saa_core::ticket::Full;
+use saa_core_guards::raw_lock::{RawLockAsync, RawLockUntil};
 use std::alloc::AllocGlobal;
 use std::io;
 use std::random::RandomSource;
 use std::sync::Wait;
+use std::time::Clock;
 use test_asserts::same;
 
 // What a call for a guard is told: nothing yet, or the number that the guard shows, or that there is no room.
@@ -70,13 +74,13 @@ pub(crate) struct Story {
 
 // A task, its future and its guard.
 #[derive(Drop)]
-struct Place<'s, R: Wait + Drop> {
+struct Place<'s, L: RawLockAsync + RawLockUntil + Drop> {
     task: MockTask,
-    asked: Option<Asked<'s, R>>,
-    held: Option<Held<'s, R>>,
+    asked: Option<Asked<'s, L>>,
+    held: Option<Held<'s, L>>,
 }
 
-impl<'s, R: Wait + Drop> Place<'s, R> {
+impl<'s, L: RawLockAsync + RawLockUntil + Drop> Place<'s, L> {
     fn new<H: RandomSource + AllocGlobal>(rt: &H) -> io::Result<Self> {
         Ok(Place {
             task: MockTask::new(rt)?,
@@ -86,7 +90,7 @@ impl<'s, R: Wait + Drop> Place<'s, R> {
     }
 
     // Keeps the guard that was given; what was told.
-    fn keep(&mut self, told: Option<Result<Held<'s, R>, Full>>) -> Told {
+    fn keep(&mut self, told: Option<Result<Held<'s, L>, Full>>) -> Told {
         match told? {
             Ok(held) => {
                 let shown = held.shown();
@@ -97,11 +101,11 @@ impl<'s, R: Wait + Drop> Place<'s, R> {
         }
     }
 
-    fn try_it(&mut self, told: Option<Held<'s, R>>) -> Told {
+    fn try_it(&mut self, told: Option<Held<'s, L>>) -> Told {
         self.keep(Some(Ok(told?)))
     }
 
-    fn ask(&mut self, asked: Asked<'s, R>) -> Told {
+    fn ask(&mut self, asked: Asked<'s, L>) -> Told {
         self.asked = Some(asked);
         self.poll()
     }
@@ -157,7 +161,7 @@ impl<'s, R: Wait + Drop> Place<'s, R> {
     }
 
     // Does this; whether it is told what it must be.
-    fn does(&mut self, locks: &'s Locks<R>, act: Act) -> bool {
+    fn does(&mut self, locks: &'s Locks<L>, act: Act) -> bool {
         match act {
             Act::Waits(way, wanted) => self.keep(Some(locks.wait(way))) == wanted,
             Act::Tries(way, wanted) => self.try_it(locks.attempt(way)) == wanted,
@@ -176,16 +180,16 @@ impl<'s, R: Wait + Drop> Place<'s, R> {
 
 // Both locks, and the tasks that use them.
 #[derive(Drop)]
-pub(crate) struct Stage<'s, R: Wait + Drop> {
-    locks: &'s Locks<R>,
-    places: Vec<Place<'s, R>>,
+pub(crate) struct Stage<'s, L: RawLockAsync + RawLockUntil + Drop> {
+    locks: &'s Locks<L>,
+    places: Vec<Place<'s, L>>,
 }
 
-impl<'s, R: Wait + Drop> Stage<'s, R> {
+impl<'s, L: RawLockAsync + RawLockUntil + Drop> Stage<'s, L> {
     // The tasks of a story with so large a crowd.
     pub(crate) fn new<H: RandomSource + AllocGlobal>(
         rt: &H,
-        locks: &'s Locks<R>,
+        locks: &'s Locks<L>,
         crowd: u16,
     ) -> io::Result<Self> {
         let mut places = Vec::new(rt.alloc());
@@ -246,60 +250,65 @@ impl<'s, R: Wait + Drop> Stage<'s, R> {
 }
 
 // The first of these rows that was told otherwise at these locks.
-fn first_at<H: RandomSource + AllocGlobal, R: Wait + Drop>(
+fn first_at<H: RandomSource + AllocGlobal, L: RawLockAsync + RawLockUntil + Drop>(
     rt: &H,
-    locks: &Locks<R>,
+    locks: &Locks<L>,
     story: &Story,
 ) -> io::Result<Option<usize>> {
     let mut stage = Stage::new(rt, locks, story.crowd)?;
     Ok(stage.first_other(story.rows))
 }
 
-// The first row of a story that was told otherwise, at locks that may be poisoned at first.
-fn first_row<H: Wait + RandomSource + AllocGlobal>(
+// The first row of a story that was told otherwise, at locks of this kind.
+fn first_row<H: Wait + Clock + RandomSource + AllocGlobal>(
     rt: &H,
-    is_poisoned: bool,
+    kind: Kind,
     story: &Story,
 ) -> io::Result<Option<usize>> {
-    let locks = if is_poisoned {
-        poisoned_locks_of(rt, story.number, story.room)?
-    } else {
-        locks_of(rt, story.number, story.room)?
-    };
-    first_at(rt, &locks, story)
+    let (number, room) = (story.number, story.room);
+    match kind {
+        Kind::Threaded => first_at(rt, &threaded(rt, number, room)?, story),
+        Kind::ThreadedPoisoned => first_at(rt, &threaded_poisoned(rt, number, room)?, story),
+        Kind::LockFree => first_at(rt, &lock_free(rt, number, room)?, story),
+        Kind::LockFreePoisoned => first_at(rt, &lock_free_poisoned(rt, number, room)?, story),
+    }
 }
 
 // The first of these stories in which a row was told otherwise, and that row.
-fn first_story<H: Wait + RandomSource + AllocGlobal>(
+fn first_story<H: Wait + Clock + RandomSource + AllocGlobal>(
     rt: &H,
-    is_poisoned: bool,
+    kind: Kind,
     stories: &[Story],
 ) -> io::Result<Option<(&'static str, usize)>> {
     for story in stories {
-        if let Some(row) = first_row(rt, is_poisoned, story)? {
+        if let Some(row) = first_row(rt, kind, story)? {
             return Ok(Some((story.name, row)));
         }
     }
     Ok(None)
 }
 
-// The stories, and whether the locks are poisoned at first.
-const ALL: [(bool, &[Story]); 5] = [
-    (false, &mutexes::STORIES),
-    (false, &rwlocks::STORIES),
-    (false, &tasks::STORIES),
-    (false, &rooms::STORIES),
-    (true, &poisoned::STORIES),
+// The stories, and of which kind the locks are: each story is told at both.
+const ALL: [(Kind, &[Story]); 10] = [
+    (Kind::Threaded, &mutexes::STORIES),
+    (Kind::Threaded, &rwlocks::STORIES),
+    (Kind::Threaded, &tasks::STORIES),
+    (Kind::Threaded, &rooms::STORIES),
+    (Kind::ThreadedPoisoned, &poisoned::STORIES),
+    (Kind::LockFree, &mutexes::STORIES),
+    (Kind::LockFree, &rwlocks::STORIES),
+    (Kind::LockFree, &tasks::STORIES),
+    (Kind::LockFree, &rooms::STORIES),
+    (Kind::LockFreePoisoned, &poisoned::STORIES),
 ];
 
 // The same of all stories.
-fn first_of_all<H: Wait + RandomSource + AllocGlobal>(
+fn first_of_all<H: Wait + Clock + RandomSource + AllocGlobal>(
     rt: &H,
-) -> io::Result<Option<(&'static str, usize)>> {
-    for (is_poisoned, stories) in ALL {
-        let first = first_story(rt, is_poisoned, stories)?;
-        if first.is_some() {
-            return Ok(first);
+) -> io::Result<Option<(usize, (&'static str, usize))>> {
+    for (place, (kind, stories)) in ALL.iter().enumerate() {
+        if let Some(first) = first_story(rt, *kind, stories)? {
+            return Ok(Some((place, first)));
         }
     }
     Ok(None)

@@ -21,12 +21,12 @@ use std::alloc::{AllocError, AllocGlobal};
 use std::sync::Wait;
 
 // A callback that does nothing, as one type.
-type Callback = fn();
+pub(crate) type Callback = fn();
 
-fn nothing() {}
+pub(crate) fn nothing() {}
 
 // What a future tells that is ready at its first poll.
-fn polled<F: Future>(task: &MockTask, mut future: F) -> Option<F::Output>
+pub(crate) fn polled<F: Future>(task: &MockTask, mut future: F) -> Option<F::Output>
 where
     requires { F.can_poll future }
 {
@@ -37,7 +37,7 @@ where
 }
 
 // What a future tells that is ready at its first poll.
-fn told<'s, S: Pends, Q: AnswerReader>(
+pub(crate) fn told<'s, S: Pends, Q: AnswerReader>(
     task: &MockTask,
     mut future: Acquiring<'s, S, Q>,
 ) -> Option<Q::Output>

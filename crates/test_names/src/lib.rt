@@ -10,6 +10,8 @@ mod futures_by_name;
 #[cfg(test)]
 mod laws;
 #[cfg(test)]
+mod lock_free_forms;
+#[cfg(test)]
 mod parts;
 #[cfg(test)]
 mod word_guards;

@@ -5,6 +5,7 @@
 
 use crate::cores::{self, CorePart};
 use crate::forms::{self, FormPart};
+use crate::lock_free_forms::{self, LockFreePart};
 use crate::word_guards::{self, WordGuardPart};
 use crate::words::{self, WordPart};
 use crate::{futures_by_name, laws, word_locks, word_semaphores};
@@ -24,6 +25,7 @@ enum Part {
     Form(FormPart),
     PermitFutures,
     LockFutures,
+    LockFree(LockFreePart),
     Word(WordPart),
     WordSemaphore,
     MostPermits,
@@ -31,7 +33,7 @@ enum Part {
     WordGuard(WordGuardPart),
 }
 
-static PARTS: [(&str, Part); 31] = [
+static PARTS: [(&str, Part); 36] = [
     ("the laws of runs", Part::Laws),
     ("a semaphore's core", Part::Core(CorePart::Semaphore)),
     ("a lock's core", Part::Core(CorePart::Lock)),
@@ -58,6 +60,23 @@ static PARTS: [(&str, Part); 31] = [
     ),
     ("futures of permits", Part::PermitFutures),
     ("futures of a lock", Part::LockFutures),
+    (
+        "a lock-free semaphore",
+        Part::LockFree(LockFreePart::Semaphore),
+    ),
+    (
+        "a lock-free semaphore of any bound",
+        Part::LockFree(LockFreePart::SemaphoreOf),
+    ),
+    ("a lock-free lock", Part::LockFree(LockFreePart::Lock)),
+    (
+        "a pager of a lock-free lock",
+        Part::LockFree(LockFreePart::Pager),
+    ),
+    (
+        "names of lock-free forms",
+        Part::LockFree(LockFreePart::Names),
+    ),
     ("a line in a list", Part::Word(WordPart::Line)),
     ("a line of links", Part::Word(WordPart::LinkedLine)),
     ("lines of no room", Part::Word(WordPart::NoRoom)),
@@ -89,6 +108,7 @@ fn is_right<H: Wait + Clock + AllocGlobal>(
         Part::Form(part) => forms::is_right(rt, task, part),
         Part::PermitFutures => futures_by_name::permits(rt, task),
         Part::LockFutures => futures_by_name::turns(rt, task),
+        Part::LockFree(part) => lock_free_forms::is_right(rt, task, part),
         Part::Word(part) => words::is_right(rt.alloc(), part),
         Part::WordSemaphore => word_semaphores::is_right(rt, rt.alloc()),
         Part::MostPermits => word_semaphores::has_63(rt.alloc()),

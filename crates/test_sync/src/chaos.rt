@@ -1,10 +1,9 @@
 //! Chaos: threads that take turns in all ways at one form, while pagers are registered and dropped, unanswered and granted.
 //!
-//! Each ends by itself. In the end all is back that was taken, nobody waits, and each slot is free again.
+//! Each ends by itself. In the end nobody waits, and each slot is free again. Here the form is a gate: `test_lock_free` has the same of the
+//! semaphore and the lock, at both forms of each.
 
 mod gates;
-mod locks;
-mod semaphores;
 
 use saa_sync::pager::{Pager, SyncResult, Ticket};
 use std::alloc::{AllocError, Global};

@@ -1,6 +1,6 @@
 //! Threads that take and give at once.
 
-use crate::held::{Numbers, numbers, take_one};
+use crate::held::{Numbers, count_at_end, numbers, take_one};
 use std::alloc::{AllocError, Global};
 use std::sync::Wait;
 use std::sync::atomic::AtomicBool;
@@ -50,7 +50,7 @@ fn threads_never_hold_one_number_at_once(rt: HostRuntime) -> Result<(), Fail> {
         );
         same!(rt; one, 0);
         same!(rt; other, 0);
-        same!(rt; pool.close().len(), usize::from(count));
+        same!(rt; count_at_end(rt.alloc(), pool)?, usize::from(count));
     }
     Ok(())
 }

@@ -4,22 +4,26 @@ ghost use Rattle.saa_word_pool.specs.Pools.{IsFrom};
 
 use saa_word_pool::{AnyValue, Borrowed, Pool};
 use std::alloc::{AllocError, Global};
+use std::cell::Cell;
 use std::sync::Wait;
 
+/// A number in a cell, which threads can't share: a pool of it crosses threads nevertheless, since each value is with one of them at a time.
+pub(crate) type Number = Cell<u64>;
+
 /// A pool of numbers, in which any may lie.
-pub(crate) type Numbers = Pool<u64, (), AnyValue>;
+pub(crate) type Numbers = Pool<Number, (), AnyValue>;
 
 /// A number that is out, and the pool that it goes back to.
 pub(crate) struct Held<'p> {
     pool: &'p Numbers,
-    borrowed: Borrowed<u64, ()>,
+    borrowed: Borrowed<Number, ()>,
     ghost ours: { IsFrom pool.now borrowed },
 }
 
 impl Held<'_> {
     /// The number.
     pub(crate) fn number(&self) -> u64 {
-        self.borrowed.value
+        self.borrowed.value.get()
     }
 }
 
@@ -35,7 +39,7 @@ impl Drop for Held<'_> {
 pub(crate) fn numbers(alloc: Global, count: u16) -> Result<Numbers, AllocError> {
     let mut values = Vec::with_capacity(alloc, usize::from(count))?;
     for number in 0..count {
-        values.push(u64::from(number))?;
+        values.push(Cell::new(u64::from(number)))?;
     }
     if values.len() > usize::from(u16::MAX) {
         return Err(AllocError);
@@ -68,4 +72,10 @@ pub(crate) fn take_all<'p, R: Wait>(
         taken.push(held)?;
     }
     Ok(taken)
+}
+
+/// How many numbers are in at the end.
+pub(crate) fn count_at_end(alloc: Global, pool: Numbers) -> Result<usize, AllocError> {
+    let room = Vec::with_capacity(alloc, usize::from(pool.places()))?;
+    Ok(pool.close(room).len())
 }

@@ -30,7 +30,8 @@ fn what_is_taken_out_belongs(rt: HostRuntime) -> Result<(), Fail> {
             holds!(rt; false);
         }
     }
-    let values = pool.close();
+    let room = Vec::with_capacity(rt.alloc(), usize::from(pool.places()))?;
+    let values = pool.close(room);
     same!(rt; values.as_slice(), [1u64].as_slice());
     Ok(())
 }

@@ -1,6 +1,6 @@
 //! Pools of no value, of one, of a few, and of as many as there can be.
 
-use crate::held::{numbers, take_all, take_one};
+use crate::held::{count_at_end, numbers, take_all, take_one};
 use std::test::Fail;
 use test_asserts::{holds, same};
 
@@ -19,7 +19,7 @@ fn each_is_taken_once_and_then_none(rt: HostRuntime) -> Result<(), Fail> {
             same!(rt; sum, wanted);
             holds!(rt; take_one(&rt, &pool).is_none());
         }
-        same!(rt; pool.close().len(), usize::from(count));
+        same!(rt; count_at_end(rt.alloc(), pool)?, usize::from(count));
     }
     Ok(())
 }
@@ -30,6 +30,6 @@ fn as_many_as_there_can_be(rt: HostRuntime) -> Result<(), Fail> {
     let taken = take_all(&rt, rt.alloc(), &pool)?;
     same!(rt; taken.len(), usize::from(u16::MAX));
     drop(taken);
-    same!(rt; pool.close().len(), usize::from(u16::MAX));
+    same!(rt; count_at_end(rt.alloc(), pool)?, usize::from(u16::MAX));
     Ok(())
 }

@@ -1,0 +1,2 @@
+pub mod NewPlaces
+pub mod Turning

@@ -1,0 +1,10 @@
+use Rattle.std.proofs.Common.{subst}
+use Rattle.saa_word_threads.specs.declared.lock.Lock.{Lock}
+use Rattle.saa_word_lock_free.specs.LockCalls.{IsDone}
+use Rattle.saa_word_steps.specs.declared.call.WordCall.TheVariants.{ReleaseLock}
+use Rattle.saa_word_lock_free.proofs.lock.Form+R+Word.release_lock.Goals as goal
+
+pub returns : goal.returns
+returns g c =
+    let P : Lock → Type 0 = λ word. IsDone word ReleaseLock c.release_lock_once-is_given.result.0 in
+    subst P c.word.ensures (c.release_lock_once-is_given.result.1, c.release_lock_once-is_given.ensures.0, c.release_lock_once-is_given.ensures.1, c.release_lock_once-is_given.ensures.2)

@@ -1,0 +1,10 @@
+use Rattle.std.proofs.Common.{subst}
+use Rattle.saa_word_threads.specs.declared.lock.Lock.{Lock}
+use Rattle.saa_word_lock_free.specs.LockCalls.{IsTriedIn}
+use Rattle.saa_core_spec.specs.declared.lock.Mode.TheVariants.{Shared}
+use Rattle.saa_word_lock_free.proofs.lock.Form+R+Word.try_share.Goals as goal
+
+pub returns : goal.returns
+returns g c =
+    let P : Lock → Type 0 = λ word. IsTriedIn word Shared c.try_share_once-told.result.0 in
+    subst P c.word.ensures (c.try_share_once-told.result.1, c.try_share_once-told.ensures)

@@ -1,0 +1,10 @@
+use Rattle.std.proofs.Common.{subst}
+use Rattle.saa_word_threads.specs.declared.semaphore.SemaphoreOf.{SemaphoreOf}
+use Rattle.saa_word_lock_free.specs.SemaphoreCalls.{IsDoneWith}
+use Rattle.saa_word_steps.specs.declared.call.WordCall.TheVariants.{Release}
+use Rattle.saa_word_lock_free.proofs.semaphore.Form+R+Word+MAX.release_many_witnessed.Goals as goal
+
+pub returns : goal.returns
+returns g c =
+    let P : _ → Type 0 = λ word. IsDoneWith word (Release c.args.count) c.release_many_once-is_given.result.0 c.receipt_by-receipt.result in
+    subst P c.word-word.ensures (c.release_many_once-is_given.result.1, c.release_many_once-is_given.ensures.0, c.release_many_once-is_given.ensures.1, c.release_many_once-is_given.ensures.2, (c.receipt_by-receipt.ensures.table, c.receipt_by-receipt.ensures.seen))

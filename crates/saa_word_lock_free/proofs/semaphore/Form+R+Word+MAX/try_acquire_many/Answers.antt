@@ -1,0 +1,10 @@
+use Rattle.std.proofs.Common.{subst}
+use Rattle.saa_word_threads.specs.declared.semaphore.SemaphoreOf.{SemaphoreOf}
+use Rattle.saa_word_lock_free.specs.SemaphoreCalls.{IsDone}
+use Rattle.saa_word_steps.specs.declared.call.WordCall.TheVariants.{Try}
+use Rattle.saa_word_lock_free.proofs.semaphore.Form+R+Word+MAX.try_acquire_many.Goals as goal
+
+pub returns : goal.returns
+returns g c =
+    let P : _ → Type 0 = λ word. IsDone word (Try c.args.count) c.try_acquire_many_once-is_granted.result.0 in
+    subst P c.word.ensures (c.try_acquire_many_once-is_granted.result.1, c.try_acquire_many_once-is_granted.ensures.0, c.try_acquire_many_once-is_granted.ensures.1, c.try_acquire_many_once-is_granted.ensures.2)

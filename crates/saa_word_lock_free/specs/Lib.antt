@@ -1,0 +1,14 @@
+pub mod Answers
+pub mod Calls
+pub mod Forms
+pub mod KeptAs
+pub mod LockCalls
+pub mod OfLock
+pub mod OfSemaphore
+pub mod PagerLaws
+pub mod Pendings
+pub mod Places
+pub mod Registered
+pub mod SemaphoreCalls
+pub mod Turns
+pub mod WordCalls

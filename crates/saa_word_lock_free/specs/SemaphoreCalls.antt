@@ -1,0 +1,55 @@
+-- What the calls of a semaphore are.
+use Rattle.std.specs.Prelude.{◌≡◌, ℕ, ◌-◌, min, Bool, true, Option, Some, None, Result, Ok, Err}
+use Rattle.saa_core_spec.specs.declared.polling.Error.{Error}
+use Rattle.saa_word_steps.specs.declared.call.Answer.{Answer}
+use Rattle.saa_word_steps.specs.declared.call.WordCall.{WordCall}
+use Rattle.saa_word_steps.specs.declared.rules.Rules.TheVariants.{Permits}
+use Rattle.saa_word_threads.specs.declared.receipt.Receipt.{Receipt}
+use Rattle.saa_word_threads.specs.declared.semaphore.SemaphoreOf.{SemaphoreOf}
+use Rattle.saa_word_threads.specs.declared.table.About.{About}
+use Rattle.saa_word_threads.specs.declared.visitor.Visitor.{Visitor}
+use Rattle.saa_word_threads.specs.Public.{is_yes}
+use Rattle.saa_word_threads.specs.Semaphores.{IsVisitedOnce, table_of}
+use Rattle.saa_word_lock_free.specs.Calls.{IsAcquired as IsAcquiredBy, IsAnswered as IsAnsweredBy, IsReceivedBy}
+use Rattle.saa_word_lock_free.specs.OfSemaphore.{Rests, calls_of, home_of}
+use Rattle.saa_word_lock_free.specs.Places.{RestsIn}
+
+module _ {max : ℕ} where
+  -- a visitor that came for it made a call, which is done or not; and this is what it has seen
+  abbrev pub IsDone : SemaphoreOf max → WordCall → Bool → Type 0
+  IsDone semaphore call is_done = (visitor : Visitor) × (answer : Answer) × (is_done ≡ is_yes answer) × IsVisitedOnce semaphore call answer visitor
+
+  abbrev pub IsDoneWith : SemaphoreOf max → WordCall → Bool → Receipt → Type 0
+  IsDoneWith semaphore call is_done receipt =
+      (visitor : Visitor) × (answer : Answer) × (is_done ≡ is_yes answer) × IsVisitedOnce semaphore call answer visitor × IsReceivedBy (table_of semaphore) visitor receipt
+
+  -- the same of a call that reads a number
+  abbrev pub IsRead : SemaphoreOf max → WordCall → Answer → Type 0
+  IsRead semaphore call answer = (visitor : Visitor) × IsVisitedOnce semaphore call answer visitor
+
+  abbrev pub IsReadWith : SemaphoreOf max → WordCall → Answer → Receipt → Type 0
+  IsReadWith semaphore call answer receipt = (visitor : Visitor) × IsVisitedOnce semaphore call answer visitor × IsReceivedBy (table_of semaphore) visitor receipt
+
+  -- a call for so many permits was answered so: its visitor at once, or a place that waited; and this is what the one or the other has seen
+  abbrev pub IsAnswered : SemaphoreOf max → ℕ → Result ℕ Error → Type 0
+  IsAnswered semaphore count answer = IsAnsweredBy (calls_of semaphore) (RestsIn home_of Rests (table_of semaphore)) count answer
+
+  abbrev pub IsAcquired : SemaphoreOf max → ℕ → Result ℕ Error → Receipt → Type 0
+  IsAcquired semaphore count answer receipt = IsAcquiredBy (calls_of semaphore) (RestsIn home_of Rests (table_of semaphore)) count answer receipt
+
+  -- it was granted
+  abbrev pub IsGranted : SemaphoreOf max → ℕ → Type 0
+  IsGranted semaphore count = (value : ℕ) × IsAnswered semaphore count (Ok value)
+
+-- a semaphore of so many permits at most, of which so many are available, with so many places
+abbrev pub opened : ℕ → ℕ → ℕ → About
+opened max permits places = record { rules = Permits max; withheld = min (max - permits) max; places = places }
+
+-- what a timed call tells: a grant, or that its time is up
+abbrev pub one_in_time : Result ℕ Error → Option (Unit {0})
+one_in_time (Ok value) = Some tt
+one_in_time (Err error) = None
+
+abbrev pub many_in_time : Result ℕ Error → Option Bool
+many_in_time (Ok value) = Some true
+many_in_time (Err error) = None

@@ -1,0 +1,231 @@
+//! Calls that end in time: they wait in the queue at most so long, or until an instant, and join it without a look before.
+
+ghost use Rattle.std.specs.Prelude.{◌≡◌, ◌≤◌, ◌<◌, ◌↔◌, ℕ, false, IfErr, IfOk, IfSome, IsTrue, Ok, Result, Some};
+ghost use Rattle.saa_core_spec.specs.declared.lock.Mode.TheVariants.{Exclusive, Shared};
+ghost use Rattle.saa_core_spec.specs.declared.polling.Error.{Error};
+ghost use Rattle.saa_word_lock_free.specs.Forms.{IsRefusedBy, WasFull};
+ghost use Rattle.saa_word_lock_free.specs.LockCalls.{IsAcquired as IsAcquiredIn, IsAnswered as IsAnsweredIn, in_time};
+ghost use Rattle.saa_word_lock_free.specs.SemaphoreCalls.{IsAcquired, IsAnswered, many_in_time, one_in_time};
+
+use crate::form::{Form, NoPlace};
+use crate::permit::PermitOf;
+use crate::waiting::GRANTED;
+use saa_core_spec::request::Full;
+use saa_core_waits::Deadline;
+use saa_word_threads::lock::{Error, Lock as LockWord, Mode, Place as LockPlace};
+use saa_word_threads::receipt::Receipt;
+use saa_word_threads::semaphore::{Place as SemaphorePlace, SemaphoreOf as SemaphoreWord};
+use std::sync::Wait;
+use std::time::{Clock, Duration, Instant};
+
+impl<R: Wait + Clock + Drop, const MAX: usize> Form<R, SemaphoreWord<MAX>> {
+    /// Takes one permit, and waits for it in the queue at most so long.
+    ///
+    /// `Ok(Some(()))`: it is granted. `Ok(None)`: time is up, and nothing is registered or taken; those behind are granted while they fit. `Full` comes at
+    /// once, where it would have to wait and no place is in.
+    pub fn acquire_sync_for(&self, duration: Duration) -> Result<Option<()>, Full>
+        ensures called { IfOk result (λ told. (answer : Result ℕ Error) × (told ≡ one_in_time answer) × IsAnswered self.now.word 1 answer) }
+        ensures full { IfErr result (λ full. WasFull SemaphorePlace self.now) }
+    {
+        self.one_by(Deadline::after(self.rt(), duration))
+    }
+
+    /// Takes one permit as [`Self::acquire_sync_for`] does, and waits for it until this instant.
+    pub fn acquire_sync_until(&self, deadline: Instant) -> Result<Option<()>, Full>
+        ensures called { IfOk result (λ told. (answer : Result ℕ Error) × (told ≡ one_in_time answer) × IsAnswered self.now.word 1 answer) }
+        ensures full { IfErr result (λ full. WasFull SemaphorePlace self.now) }
+    {
+        self.one_by(Deadline::At(deadline))
+    }
+
+    /// Takes `count` permits, all together, and waits for them in the queue at most so long.
+    ///
+    /// `Ok(Some(true))`: they are granted. `Ok(Some(false))` comes at once, exactly where the count is above
+    /// [`Self::MAX_PERMITS`]. `Ok(None)`: time is up, and nothing is registered or taken; those behind are granted while they fit.
+    /// `Full` comes at once, where it would have to wait and no place is in.
+    pub fn acquire_many_sync_for(
+        &self,
+        count: usize,
+        duration: Duration,
+    ) -> Result<Option<bool>, Full>
+        ensures full { IfErr result (λ full. WasFull SemaphorePlace self.now) }
+        ensures called { count ≤ MAX → IfOk result (λ told. (answer : Result ℕ Error) × (told ≡ many_in_time answer) × IsAnswered self.now.word count answer) }
+        ensures answer { IfOk result (λ told. IfSome told (λ is_granted. IsTrue is_granted ↔ (count ≤ MAX))) }
+        ensures too_many { MAX < count → result ≡ Ok (Some false) }
+    {
+        self.many_by(count, Deadline::after(self.rt(), duration))
+    }
+
+    /// Takes `count` permits as [`Self::acquire_many_sync_for`] does, and waits for them until this instant.
+    pub fn acquire_many_sync_until(
+        &self,
+        count: usize,
+        deadline: Instant,
+    ) -> Result<Option<bool>, Full>
+        ensures full { IfErr result (λ full. WasFull SemaphorePlace self.now) }
+        ensures called { count ≤ MAX → IfOk result (λ told. (answer : Result ℕ Error) × (told ≡ many_in_time answer) × IsAnswered self.now.word count answer) }
+        ensures answer { IfOk result (λ told. IfSome told (λ is_granted. IsTrue is_granted ↔ (count ≤ MAX))) }
+        ensures too_many { MAX < count → result ≡ Ok (Some false) }
+    {
+        self.many_by(count, Deadline::At(deadline))
+    }
+
+    /// Takes one permit as [`Self::acquire_sync_for`] does, and gives it back when what is returned goes.
+    pub fn acquire_permit_for(
+        &self,
+        duration: Duration,
+    ) -> Result<Option<PermitOf<'_, R, MAX>>, Full>
+        ensures { IfOk result (λ told. IfSome told (λ permit. permit.now ≡ self.now)) }
+    {
+        match self.acquire_sync_for(duration)? {
+            Some(()) => Ok(Some(self.permit())),
+            None => Ok(None),
+        }
+    }
+
+    /// Takes one permit as [`Self::acquire_permit_for`] does, and waits for it until this instant.
+    pub fn acquire_permit_until(
+        &self,
+        deadline: Instant,
+    ) -> Result<Option<PermitOf<'_, R, MAX>>, Full>
+        ensures { IfOk result (λ told. IfSome told (λ permit. permit.now ≡ self.now)) }
+    {
+        match self.acquire_sync_until(deadline)? {
+            Some(()) => Ok(Some(self.permit())),
+            None => Ok(None),
+        }
+    }
+
+    /// As [`Self::acquire_many_sync_until`], with a receipt of what the call's visitor or its place has seen. `NotReady`: time is up.
+    pub fn acquire_many_witnessed_until(
+        &self,
+        count: usize,
+        deadline: Deadline,
+    ) -> Result<(Result<u8, Error>, Receipt), NoPlace<SemaphorePlace>>
+        requires { count ≤ MAX }
+        ensures acquired { IfOk result (λ told. IsAcquired self.now.word count told.0 told.1) }
+        ensures refused { IfErr result (λ no_place. IsRefusedBy self.now no_place) }
+    {
+        self.acquire_until(count, deadline)
+    }
+
+    // One permit, by this time.
+    fn one_by(&self, deadline: Deadline) -> Result<Option<()>, Full>
+        ensures called { IfOk result (λ told. (answer : Result ℕ Error) × (told ≡ one_in_time answer) × IsAnswered self.now.word 1 answer) }
+        ensures full { IfErr result (λ full. WasFull SemaphorePlace self.now) }
+    {
+        // A semaphore has one permit at least, which its type says.
+        let _bounded = self.word();
+        match self.acquire_by(1, deadline) {
+            Ok(answer) => Ok(one_in_time(answer)),
+            Err(full) => Err(full),
+        }
+    }
+
+    // So many permits, by this time.
+    fn many_by(&self, count: usize, deadline: Deadline) -> Result<Option<bool>, Full>
+        ensures full { IfErr result (λ full. WasFull SemaphorePlace self.now) }
+        ensures called { count ≤ MAX → IfOk result (λ told. (answer : Result ℕ Error) × (told ≡ many_in_time answer) × IsAnswered self.now.word count answer) }
+        ensures answer { IfOk result (λ told. IfSome told (λ is_granted. IsTrue is_granted ↔ (count ≤ MAX))) }
+        ensures too_many { MAX < count → result ≡ Ok (Some false) }
+    {
+        if count > MAX {
+            return Ok(Some(false));
+        }
+        match self.acquire_by(count, deadline) {
+            Ok(answer) => Ok(many_in_time(answer)),
+            Err(full) => Err(full),
+        }
+    }
+}
+
+impl<R: Wait + Clock + Drop> Form<R, LockWord> {
+    /// Takes the lock for one owner alone, and waits for it in the queue at most so long.
+    ///
+    /// `Ok(Some(true))`: it is granted. `Ok(Some(false))`: the lock is or was poisoned. `Ok(None)`: time is up, and nothing is registered or taken; those
+    /// behind are granted while they fit. `Full` comes at once, where it would have to wait and no place is in.
+    pub fn lock_sync_for(&self, duration: Duration) -> Result<Option<bool>, Full>
+        ensures called { IfOk result (λ told. (answer : Result ℕ Error) × (told ≡ in_time answer) × IsAnsweredIn self.now.word Exclusive answer) }
+        ensures full { IfErr result (λ full. WasFull LockPlace self.now) }
+    {
+        self.take_by(Mode::Exclusive, Deadline::after(self.rt(), duration))
+    }
+
+    /// Takes the lock as [`Self::lock_sync_for`] does, and waits for it until this instant.
+    pub fn lock_sync_until(&self, deadline: Instant) -> Result<Option<bool>, Full>
+        ensures called { IfOk result (λ told. (answer : Result ℕ Error) × (told ≡ in_time answer) × IsAnsweredIn self.now.word Exclusive answer) }
+        ensures full { IfErr result (λ full. WasFull LockPlace self.now) }
+    {
+        self.take_by(Mode::Exclusive, Deadline::At(deadline))
+    }
+
+    /// Takes a share of the lock, and waits and answers as [`Self::lock_sync_for`] does.
+    pub fn share_sync_for(&self, duration: Duration) -> Result<Option<bool>, Full>
+        ensures called { IfOk result (λ told. (answer : Result ℕ Error) × (told ≡ in_time answer) × IsAnsweredIn self.now.word Shared answer) }
+        ensures full { IfErr result (λ full. WasFull LockPlace self.now) }
+    {
+        self.take_by(Mode::Shared, Deadline::after(self.rt(), duration))
+    }
+
+    /// Takes a share as [`Self::share_sync_for`] does, and waits for it until this instant.
+    pub fn share_sync_until(&self, deadline: Instant) -> Result<Option<bool>, Full>
+        ensures called { IfOk result (λ told. (answer : Result ℕ Error) × (told ≡ in_time answer) × IsAnsweredIn self.now.word Shared answer) }
+        ensures full { IfErr result (λ full. WasFull LockPlace self.now) }
+    {
+        self.take_by(Mode::Shared, Deadline::At(deadline))
+    }
+
+    /// As [`Self::lock_sync_until`] or, in mode `Shared`, [`Self::share_sync_until`], with a receipt of what the call's visitor or its place has seen.
+    /// `NotReady`: time is up.
+    pub fn take_witnessed_until(
+        &self,
+        mode: Mode,
+        deadline: Deadline,
+    ) -> Result<(Result<u8, Error>, Receipt), NoPlace<LockPlace>>
+        ensures acquired { IfOk result (λ told. IsAcquiredIn self.now.word mode told.0 told.1) }
+        ensures refused { IfErr result (λ no_place. IsRefusedBy self.now no_place) }
+    {
+        self.acquire_until(mode, deadline)
+    }
+
+    // Takes the lock in a mode, by this time.
+    fn take_by(&self, mode: Mode, deadline: Deadline) -> Result<Option<bool>, Full>
+        ensures called { IfOk result (λ told. (answer : Result ℕ Error) × (told ≡ in_time answer) × IsAnsweredIn self.now.word mode answer) }
+        ensures full { IfErr result (λ full. WasFull LockPlace self.now) }
+    {
+        match self.acquire_by(mode, deadline) {
+            Ok(answer) => Ok(in_time(answer)),
+            Err(full) => Err(full),
+        }
+    }
+}
+
+// What a timed call for one permit tells.
+fn one_in_time(answer: Result<u8, Error>) -> Option<()>
+    ensures { result ≡ one_in_time answer }
+{
+    match answer {
+        Ok(_value) => Some(()),
+        Err(_late) => None,
+    }
+}
+
+// What a timed call for many permits tells.
+fn many_in_time(answer: Result<u8, Error>) -> Option<bool>
+    ensures { result ≡ many_in_time answer }
+{
+    match answer {
+        Ok(_value) => Some(true),
+        Err(_late) => None,
+    }
+}
+
+// What a timed call of a lock tells.
+fn in_time(answer: Result<u8, Error>) -> Option<bool>
+    ensures { result ≡ in_time answer }
+{
+    match answer {
+        Ok(value) => Some(value == GRANTED),
+        Err(_late) => None,
+    }
+}

@@ -1,0 +1,198 @@
+//! What a form offers to waits: registrations, polls, waits and cancels. A registration is answered at once, or has a place of the pool.
+
+ghost use Rattle.std.specs.Prelude.{◌≡◌, false, true, IfOk};
+ghost use Rattle.saa_core_spec.specs.Errors.{error_of, is_not_ready};
+ghost use Rattle.saa_word_lock_free.specs.Registered.{IsPolled, IsRegistered, at_place, is_busy, unregistered};
+
+use crate::form::{BorrowedPlace, Form};
+use crate::registration::{Kept, Registration};
+use crate::word_form::WordForm;
+use saa_core_spec::polling::{Error, How};
+use saa_core_spec::request::Full;
+use saa_core_waits::spin_policy::NONE;
+use saa_core_waits::{CallStart, Deadline, Waitable, WaitableUntil};
+use std::sync::Wait;
+use std::time::Clock;
+
+// The numbers of a grant, and of poison.
+pub(crate) const GRANTED: u8 = 0;
+
+pub(crate) const POISONED: u8 = 2;
+
+impl<R: Wait + Drop, W: WordForm> Waitable for Form<R, W> {
+    ghost use Rattle.saa_word_lock_free.specs.Forms.{TakesAt};
+    ghost use Rattle.saa_word_lock_free.specs.Registered.{IsPolled, IsRegistered, unregistered};
+
+    type Ask = W::Ask;
+
+    type Registration = Registration<W>;
+
+    ghost admits = { TakesAt W.table };
+
+    ghost registers = { λ ask is_sync. IsRegistered is_sync };
+
+    ghost polls = { IsPolled };
+
+    ghost cancels = { λ old new. new ≡ unregistered };
+
+    fn register(
+        &self,
+        registration: &mut Registration<W>,
+        ask: W::Ask,
+        is_sync: bool,
+    ) -> Result<bool, Full> {
+        self.register_at(registration, ask, is_sync)
+    }
+
+    fn start(&self, registration: &mut Registration<W>, ask: W::Ask) -> Result<CallStart, Full> {
+        if !self.register(registration, ask, true)? {
+            return Ok(CallStart::Refused);
+        }
+        match self.poll(registration, How::Try) {
+            Ok(value) => Ok(CallStart::Answered(value)),
+            Err(_not_there) => Ok(CallStart::Joined),
+        }
+    }
+
+    fn poll(&self, registration: &mut Registration<W>, how: How) -> Result<u8, Error> {
+        if !registration.is_registered() {
+            return Err(Error::NotRegistered);
+        }
+        if registration.is_wrong_mode(how) {
+            return Err(Error::WrongMode);
+        }
+        let (kept, is_sync) = registration.take();
+        match kept {
+            Kept::Nothing => unreachable!(),
+            Kept::AtOnce(value, _ask) => Ok(value),
+            Kept::AtPlace(mut borrowed) => {
+                let answer = match how {
+                    How::Sync => self.word().poll(self.rt(), &mut borrowed.value),
+                    How::Async | How::Try => self.word().try_poll(&mut borrowed.value),
+                };
+                self.settle(registration, borrowed, is_sync, answer);
+                answer
+            }
+        }
+    }
+
+    fn finish(&self, registration: &mut Registration<W>) -> Result<u8, Error> {
+        let answer = self.poll(registration, How::Sync);
+        if answer.is_err() {
+            self.cancel_registration(registration);
+        }
+        answer
+    }
+
+    fn cancel_registration(&self, registration: &mut Registration<W>) {
+        let (kept, _is_sync) = registration.take();
+        match kept {
+            Kept::Nothing => {}
+            Kept::AtOnce(value, ask) => {
+                if value == GRANTED {
+                    self.word().give_back(self.rt(), ask);
+                }
+            }
+            Kept::AtPlace(mut borrowed) => {
+                self.word().cancel(self.rt(), &mut borrowed.value);
+                self.give(borrowed);
+            }
+        }
+    }
+}
+
+impl<R: Wait + Clock + Drop, W: WordForm> WaitableUntil for Form<R, W> {
+    fn poll_until(
+        &self,
+        registration: &mut Registration<W>,
+        deadline: Deadline,
+    ) -> Result<u8, Error> {
+        if !registration.is_registered() {
+            return Err(Error::NotRegistered);
+        }
+        if registration.is_wrong_mode(How::Sync) {
+            return Err(Error::WrongMode);
+        }
+        let (kept, is_sync) = registration.take();
+        match kept {
+            Kept::Nothing => unreachable!(),
+            Kept::AtOnce(value, _ask) => Ok(value),
+            Kept::AtPlace(mut borrowed) => {
+                let answer = self
+                    .word()
+                    .poll_until(self.rt(), &mut borrowed.value, deadline);
+                self.settle(registration, borrowed, is_sync, answer);
+                answer
+            }
+        }
+    }
+
+    fn finish_until(
+        &self,
+        registration: &mut Registration<W>,
+        deadline: Deadline,
+    ) -> Result<u8, Error> {
+        let answer = self.poll_until(registration, deadline);
+        if answer.is_err() {
+            self.cancel_registration(registration);
+        }
+        answer
+    }
+}
+
+impl<R: Wait + Drop, W: WordForm> Form<R, W> {
+    ghost use Rattle.saa_word_lock_free.specs.Forms.{IsOut, TakesAt};
+
+    // Registers for what is asked: a visitor asks at once, and where that would have to wait a place joins the queue.
+    pub(crate) fn register_at(
+        &self,
+        registration: &mut Registration<W>,
+        ask: W::Ask,
+        is_sync: bool,
+    ) -> Result<bool, Full>
+        requires { TakesAt W.table self.now registration.old }
+        ensures registered { IsRegistered is_sync registration.old registration.new result }
+        ensures sure { is_busy registration.old ≡ false → W.fits ask → IfOk result (λ is_registered. is_registered ≡ true) }
+        ensures admitted { TakesAt W.table self.now registration.new }
+    {
+        if registration.is_registered() || !W::may_fit(ask) {
+            return Ok(false);
+        }
+        let (told, _visitor) = self.ask_at_once(ask);
+        if let Some(value) = told {
+            *registration = Registration::at_once(value, ask, is_sync);
+            return Ok(true);
+        }
+        match self.borrow() {
+            Ok(borrowed) => {
+                let borrowed = self.join(borrowed, ask, NONE);
+                *registration = Registration::at_place(borrowed, is_sync);
+                Ok(true)
+            }
+            Err(_no_place) => Err(Full),
+        }
+    }
+
+    // Puts a place back where it was kept, if its answer isn't there yet, and else into the pool.
+    fn settle(
+        &self,
+        registration: &mut Registration<W>,
+        borrowed: BorrowedPlace<W::Place>,
+        is_sync: bool,
+        answer: Result<u8, Error>,
+    )
+        requires out { IsOut W.table W.home self.now borrowed }
+        requires idle { registration.old ≡ unregistered }
+        requires rests { is_not_ready (error_of answer) ≡ false → W.rests borrowed.value }
+        requires waits { is_not_ready (error_of answer) ≡ true → W.rests borrowed.value → ⊥ }
+        ensures kept { is_not_ready (error_of answer) ≡ true → registration.new ≡ at_place (W.home borrowed.value) borrowed.seat.table_id borrowed.seat.me.0.key is_sync }
+        ensures given { is_not_ready (error_of answer) ≡ false → registration.new ≡ unregistered }
+        ensures admitted { TakesAt W.table self.now registration.new }
+    {
+        if matches!(answer, Err(Error::NotReady)) {
+            *registration = Registration::at_place(borrowed, is_sync);
+        } else {
+            self.give(borrowed);
+        }
+    }
+}
