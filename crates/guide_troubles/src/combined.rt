@@ -29,31 +29,6 @@ pub fn both<R: Wait + AllocGlobal + RandomSource>(
     block_on(rt, join(Look::at(one), Look::at(other)))
 }
 
-/// What is behind the two, with both taken.
-pub fn together<R: Wait + AllocGlobal + RandomSource>(
-    rt: &R,
-    one: &Mutex<&R, u64>,
-    other: &Mutex<&R, u64>,
-) -> io::Result<(u64, u64)> {
-    let (first, second) = joined(rt, lock_async(one), lock_async(other))?;
-    Ok((read(first), read(second)))
-}
-
-// What two futures tell, waited for together. (It knows nothing of them but that they are futures: with the types of guards in it `join` isn't proved.)
-fn joined<R: Wait + AllocGlobal + RandomSource, A: Future, B: Future>(
-    rt: &R,
-    first: A,
-    second: B,
-) -> io::Result<(A::Output, B::Output)>
-where
-    A::Output: Drop,
-    B::Output: Drop,
-    requires first { A.can_poll first }
-    requires second { B.can_poll second }
-{
-    block_on(rt, join(first, second))
-}
-
 /// A future that looks at what is behind a mutex, and lets go of the guard at once.
 #[derive(Drop)]
 pub struct Look<'a, R: Wait + Drop> {
