@@ -4,9 +4,11 @@
 #![tactic(auto)]
 
 #[cfg(test)]
+mod barriers;
+#[cfg(test)]
 mod bounds;
 #[cfg(test)]
-mod gatherings;
+mod gates;
 #[cfg(test)]
 mod locks;
 #[cfg(test)]

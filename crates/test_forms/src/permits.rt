@@ -5,8 +5,8 @@
 use crate::permits::Call::{
     Acquire, Cancel, Forget, Left, LetGo, Poll, Register, Release, TryAcquire,
 };
-use crate::permits::Told::{Asked, Count, Granted, Is, Nothing, Taken};
-use crate::permits::Who::{First, Second, Third};
+use crate::permits::Told::{Asked, Count, Granted, Is, Nothing};
+use crate::permits::Who::{First, Second};
 use crate::semaphores::{NO_PATIENCE, with_patience};
 use saa_core::ticket::Full;
 use saa_sync::pager::{Error, Pager};
@@ -28,18 +28,14 @@ pub fn left<R: Wait + Drop, const MAX: usize>(semaphore: &SemaphoreOf<R, MAX>) -
 // A permit of a story.
 #[derive(Clone, Copy)]
 enum Who {
-    // The first.
     First,
-    // The second.
     Second,
-    // The third.
-    Third,
 }
 
 // A call at a semaphore, at a permit of it, or at the only pager.
 #[derive(Clone, Copy)]
 enum Call {
-    // A try for a permit, which is kept.
+    // A try for a permit, which is kept where there is one.
     TryAcquire(Who),
     // A call for a permit, which is kept.
     Acquire(Who),
@@ -62,14 +58,12 @@ enum Call {
 // What a call tells.
 #[derive(Clone, Copy, PartialEq)]
 enum Told {
-    // Nothing: what it speaks of went.
+    // Nothing: the pager was cancelled.
     Nothing,
-    // Whether there was something to take, to forget or to release.
+    // Whether there was something to take, to let go, to forget or to release.
     Is(bool),
     // How many permits there are.
     Count(usize),
-    // A call for a permit.
-    Taken(Result<(), Full>),
     // A registration.
     Asked(Result<bool, Full>),
     // A poll.
@@ -82,7 +76,6 @@ struct Desk<'s, R: Wait + Drop> {
     semaphore: &'s Semaphore<R>,
     first: Option<Permit<'s, R>>,
     second: Option<Permit<'s, R>>,
-    third: Option<Permit<'s, R>>,
     pager: Pager<'s, Semaphore<R>>,
 }
 
@@ -92,31 +85,16 @@ impl<'s, R: Wait + Drop> Desk<'s, R> {
         match who {
             First => &mut self.first,
             Second => &mut self.second,
-            Third => &mut self.third,
         }
     }
 
-    // Keeps what a try gave in the place of the permit that was there.
-    fn put(&mut self, who: Who, permit: Option<Permit<'s, R>>) -> Told {
+    // Keeps what a call gave, if it gave one; whether it did.
+    fn keeps(&mut self, who: Who, permit: Option<Permit<'s, R>>) -> bool {
         let is_had = permit.is_some();
-        *self.get(who) = permit;
-        Is(is_had)
-    }
-
-    // Calls for a permit, and keeps it.
-    fn acquire(&mut self, who: Who) -> Told {
-        match self.semaphore.acquire_permit() {
-            Ok(permit) => {
-                *self.get(who) = Some(permit);
-                Taken(Ok(()))
-            }
-            Err(full) => Taken(Err(full)),
+        if is_had {
+            *self.get(who) = permit;
         }
-    }
-
-    fn let_go(&mut self, who: Who) -> Told {
-        *self.get(who) = None;
-        Nothing
+        is_had
     }
 
     fn forget(&mut self, who: Who) -> Told {
@@ -129,24 +107,22 @@ impl<'s, R: Wait + Drop> Desk<'s, R> {
         }
     }
 
-    fn cancel(&mut self) -> Told {
-        self.pager.cancel();
-        Nothing
-    }
-
     // Makes one call.
     fn answer(&mut self, call: Call) -> Told {
         let semaphore = self.semaphore;
         match call {
-            TryAcquire(who) => self.put(who, semaphore.try_acquire_permit()),
-            Acquire(who) => self.acquire(who),
-            LetGo(who) => self.let_go(who),
+            TryAcquire(who) => Is(self.keeps(who, semaphore.try_acquire_permit())),
+            Acquire(who) => Is(self.keeps(who, semaphore.acquire_permit().ok())),
+            LetGo(who) => Is(self.get(who).take().is_some()),
             Forget(who) => self.forget(who),
             Register(count, is_sync) => {
                 Asked(semaphore.register_pager(&mut self.pager, count, is_sync))
             }
             Poll => Granted(self.pager.try_poll()),
-            Cancel => self.cancel(),
+            Cancel => {
+                self.pager.cancel();
+                Nothing
+            }
             Release => Is(semaphore.release()),
             Left => Count(left(semaphore)),
         }
@@ -179,7 +155,6 @@ fn played<R: Wait + Drop>(semaphore: &Semaphore<R>, rows: &[(Call, Told)]) -> Op
         semaphore,
         first: None,
         second: None,
-        third: None,
         pager: Pager::new(),
     };
     first_other(&mut desk, rows)
@@ -205,14 +180,14 @@ static STORIES: [Story; 3] = [
         rows: &[
             (TryAcquire(First), Is(true)),
             (Left, Count(1)),
-            (Acquire(Second), Taken(Ok(()))),
+            (Acquire(Second), Is(true)),
             (Left, Count(0)),
-            (TryAcquire(Third), Is(false)),
-            (Acquire(Third), Taken(Err(Full))),
+            (TryAcquire(First), Is(false)),
+            (Acquire(First), Is(false)),
             (Left, Count(0)),
-            (LetGo(First), Nothing),
+            (LetGo(First), Is(true)),
             (Left, Count(1)),
-            (LetGo(Second), Nothing),
+            (LetGo(Second), Is(true)),
             (Left, Count(2)),
         ],
     },
@@ -222,9 +197,9 @@ static STORIES: [Story; 3] = [
         permits: 2,
         room: 2,
         rows: &[
-            (Acquire(First), Taken(Ok(()))),
+            (Acquire(First), Is(true)),
             (TryAcquire(Second), Is(true)),
-            (TryAcquire(Third), Is(false)),
+            (TryAcquire(First), Is(false)),
             (Register(1, true), Asked(Ok(true))),
             (Forget(First), Is(true)),
             (Poll, Granted(Err(Error::NotReady))),
@@ -243,11 +218,11 @@ static STORIES: [Story; 3] = [
         rows: &[
             (Register(3, false), Asked(Ok(true))),
             (TryAcquire(First), Is(false)),
-            (Acquire(First), Taken(Err(Full))),
+            (Acquire(First), Is(false)),
             (Left, Count(2)),
             (Cancel, Nothing),
             (TryAcquire(First), Is(true)),
-            (LetGo(First), Nothing),
+            (LetGo(First), Is(true)),
             (Left, Count(2)),
         ],
     },
@@ -263,10 +238,10 @@ fn left_beside<R: Wait + Drop>(semaphore: &Semaphore<R>, has_ended: &AtomicBool)
     seen
 }
 
-/// Waits until somebody sleeps, or the other thread has ended; whether the first came first.
-pub fn somebody_sleeps<R: Wait + Drop, const MAX: usize>(
+// Waits until somebody sleeps, or the other thread has ended; whether the first came first.
+fn somebody_sleeps<R: Wait + Drop>(
     rt: &impl Wait,
-    semaphore: &SemaphoreOf<R, MAX>,
+    semaphore: &Semaphore<R>,
     has_ended: &AtomicBool,
 ) -> bool {
     for _ in rt.forever() {
@@ -309,7 +284,7 @@ fn woken_by_permit<R: Wait + Threads + Sync>(
     rt: &R,
     alloc: Global,
 ) -> Result<(Result<(Option<usize>, bool), Full>, usize), AllocError> {
-    let semaphore = with_patience::<_, 63>(rt, alloc, 1, 1, NO_PATIENCE)?;
+    let semaphore = with_patience(rt, alloc, 1, 1, NO_PATIENCE)?;
     let told = go_beside(rt, &semaphore);
     Ok((told, left(&semaphore)))
 }

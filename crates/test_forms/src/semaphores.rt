@@ -1,12 +1,10 @@
 //! The threaded semaphore beside its core, over every list of moves, and tasks that sleep at it and are woken.
 
-ghost use Rattle.std.specs.Prelude.{◌<◌};
-
-use saa_core::semaphore::{SemaphoreAnswer, SemaphoreCall, SemaphoreCore, SemaphoreCoreOf};
+use saa_core::semaphore::{SemaphoreAnswer, SemaphoreCall, SemaphoreCore};
 use saa_core::ticket::{Full, Ticket};
 use saa_sync::Waitable;
 use saa_sync::pager::{Error, Pager};
-use saa_sync::semaphore::{Semaphore, SemaphoreOf};
+use saa_sync::semaphore::Semaphore;
 use saa_sync::spin_policy::{NONE, SpinPolicy};
 use saa_sync::testing::{Counted, WAITER, form_of};
 use std::alloc::{AllocError, AllocGlobal, Global};
@@ -33,18 +31,15 @@ const LITTLE: SpinPolicy = SpinPolicy {
 };
 
 /// A semaphore whose waiters have this patience.
-pub fn with_patience<R: Wait + Drop, const MAX: usize>(
+pub fn with_patience<R: Wait + Drop>(
     rt: R,
     alloc: Global,
     permits: usize,
     room: u16,
     patience: SpinPolicy,
-) -> Result<SemaphoreOf<R, MAX>, AllocError>
-    requires bound { 0 < MAX }
-    requires narrow { MAX < 65536 }
-{
-    let core = SemaphoreCoreOf::<MAX>::with_permits(alloc, permits, room)?;
-    Ok(form_of(rt, alloc, core, room, NONE, patience)?)
+) -> Result<Semaphore<R>, AllocError> {
+    let core = SemaphoreCore::with_permits(alloc, permits, room)?;
+    form_of(rt, alloc, core, room, NONE, patience)
 }
 
 impl<R: Wait + Drop + Copy> Form for Tried<R> {
@@ -67,9 +62,9 @@ impl<R: Wait + Drop + Copy> Form for Tried<R> {
         self.semaphore.counts().is_notified(slot)
     }
 
-    fn call(&self, call: SemaphoreCall, is_short: bool) -> SemaphoreAnswer {
+    fn answers(&self, call: SemaphoreCall, is_short: bool, wanted: SemaphoreAnswer) -> bool {
         let mo = Ordering::SeqCst;
-        match call {
+        let told = match call {
             SemaphoreCall::TryAcquireMany(count) => SemaphoreAnswer::Bool(if is_short {
                 self.semaphore.try_acquire()
             } else {
@@ -85,7 +80,8 @@ impl<R: Wait + Drop + Copy> Form for Tried<R> {
             ),
             SemaphoreCall::IsOpen => SemaphoreAnswer::Bool(self.semaphore.is_open(mo)),
             SemaphoreCall::IsClosed => SemaphoreAnswer::Bool(self.semaphore.is_closed(mo)),
-        }
+        };
+        told == wanted
     }
 
     fn register<'s>(
@@ -119,19 +115,6 @@ impl<R: Wait + Drop + Copy> Form for Tried<R> {
             }
         };
         Ok(if is_granted { Some(Ok(())) } else { None })
-    }
-
-    fn read(place: usize) -> Option<SemaphoreCall> {
-        match place {
-            0 => Some(SemaphoreCall::AvailablePermits),
-            1 => Some(SemaphoreCall::IsOpen),
-            2 => Some(SemaphoreCall::IsClosed),
-            _ => None,
-        }
-    }
-
-    fn is_same_answer(one: SemaphoreAnswer, other: SemaphoreAnswer) -> bool {
-        one == other
     }
 
     fn is_same_value(one: Result<(), Error>, other: Result<(), Error>) -> bool {
@@ -232,6 +215,11 @@ const EVERY_MOVE: Trial<'static, SemaphoreCore> = TrialOf {
     short: &[
         SemaphoreCall::TryAcquireMany(1),
         SemaphoreCall::ReleaseMany(1),
+    ],
+    reads: &[
+        SemaphoreCall::AvailablePermits,
+        SemaphoreCall::IsOpen,
+        SemaphoreCall::IsClosed,
     ],
     asks: &[0, 1, 2, 62, 63, 64, 300],
     waits: &[
@@ -432,54 +420,6 @@ fn sleepers_wake(rt: HostRuntime) {
     same!(rt; first_wrong(&rt).ok(), Some(None));
 }
 
-// A call that joins the line and releases what it asks for then; adds how many seats are rung before that, and a hundred times as
-// many as are rung behind it.
-fn release_within<R: Wait + Drop>(semaphore: &Semaphore<R>, rung: &AtomicU64) -> Result<(), Full> {
-    semaphore.acquire_sync_with(|| {
-        rung.fetch_add(semaphore.counts().notified() as u64, Ordering::SeqCst);
-        semaphore.release();
-        rung.fetch_add(
-            (semaphore.counts().notified() as u64).saturating_mul(100),
-            Ordering::SeqCst,
-        );
-    })
-}
-
-// What a registration for the only permit tells, which is released then, and what the poll after it; and how many seats are rung
-// between the registration and the release, and between that and the poll.
-type Released = (Result<bool, Full>, usize, bool, usize, Result<(), Error>);
-
-fn release_for_pager<R: Wait + Drop>(semaphore: &Semaphore<R>, is_sync: bool) -> Released {
-    let mut pager = Pager::new();
-    let registered = semaphore.register_pager(&mut pager, 1, is_sync);
-    let before = semaphore.counts().notified();
-    let is_released = semaphore.release();
-    let after = semaphore.counts().notified();
-    (registered, before, is_released, after, pager.try_poll())
-}
-
-// What two calls tell, and how many seats they saw rung; and what two pagers tell. Each release rings the only seat, which the next takes
-// over.
-type Seats = ([Result<(), Full>; 2], u64, [Released; 2]);
-
-fn seats_of<R: Wait + Drop>(semaphore: &Semaphore<R>) -> Seats {
-    let rung = AtomicU64::new(0);
-    let answers = [
-        release_within(semaphore, &rung),
-        release_within(semaphore, &rung),
-    ];
-    let released = [
-        release_for_pager(semaphore, true),
-        release_for_pager(semaphore, false),
-    ];
-    (answers, rung.load(Ordering::SeqCst), released)
-}
-
-// The same at a new semaphore with one seat.
-fn seats<R: Wait>(rt: &R, alloc: Global) -> Result<Seats, AllocError> {
-    Ok(seats_of(&Semaphore::with_permits(rt, alloc, 0, 1)?))
-}
-
 // How many threads take all permits in turn, how often each does, and how many lengths of rest it has in between.
 const THREADS: u64 = 4;
 
@@ -531,55 +471,13 @@ fn missing_turns<R: Wait + Threads + Sync>(
     rt: &R,
     alloc: Global,
 ) -> Result<(u64, usize), AllocError> {
-    let semaphore = with_patience::<_, 63>(rt, alloc, 63, 4, NO_PATIENCE)?;
+    let semaphore = with_patience(rt, alloc, 63, 4, NO_PATIENCE)?;
     let (started, taken) = take_turns(rt, &semaphore);
     let missing = started.saturating_mul(ROUNDS).abs_diff(taken);
     Ok((missing, semaphore.available_permits(Ordering::SeqCst)))
 }
 
-// Who waits doesn't go to sleep before its minutes are over.
-const MUCH_PATIENCE: SpinPolicy = SpinPolicy {
-    looks: u32::MAX,
-    yields: u32::MAX,
-};
-
-// Releases one permit once somebody joined the line.
-fn release_behind<R: Wait + Drop>(
-    rt: &impl Wait,
-    semaphore: &Semaphore<R>,
-    joined: &AtomicU64,
-) -> bool {
-    sleepers::await_count(rt, joined, 1);
-    semaphore.release()
-}
-
-// One waits for a permit, and another releases it; whether the one has it, and the other could release it.
-fn wait_and_release<H: Wait + Threads + Sync, R: Wait + Drop + Sync>(
-    rt: &H,
-    form: &Tried<R>,
-) -> (bool, bool) {
-    let joined = AtomicU64::new(0);
-    thread::join(
-        rt,
-        || form.wait_at(Place::Ahead, By::Call, &joined),
-        || release_behind(rt, &form.semaphore, &joined),
-    )
-}
-
-// A task that waits awake keeps nobody out, hears that its seat is rung, and waits no longer then: what both tell, how many sleep, and how
-// many seats are rung.
-fn patient_task<R: Wait + Threads + Sync>(
-    rt: &R,
-    alloc: Global,
-) -> Result<((bool, bool), (usize, usize)), AllocError> {
-    let form = Tried::made(rt, alloc, 0, 1, MUCH_PATIENCE)?;
-    Ok((wait_and_release(rt, &form), form.seats()))
-}
-
 #[test]
-fn seats_are_reset_and_tasks_in_turn_wake(rt: HostRuntime) {
-    let released = (Ok(true), 0, true, 1, Ok(()));
-    same!(rt; seats(&rt, rt.alloc()).ok(), Some(([Ok(()); 2], 200, [released; 2])));
+fn tasks_in_turn_wake(rt: HostRuntime) {
     same!(rt; missing_turns(&rt, rt.alloc()).ok(), Some((0, 63)));
-    same!(rt; patient_task(&rt, rt.alloc()).ok(), Some(((true, true), (0, 1))));
 }

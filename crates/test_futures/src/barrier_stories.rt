@@ -1,15 +1,14 @@
 //! Stories of a barrier's futures and pagers: its calls, how they are made, and what is made for each story.
 
 use crate::barrier_stories::BarrierCall::{
-    Arrive, Ask, IsWoken, LetGo, Missing, OfPager, Poll, PollWith, Register, Rung,
+    Arrive, Ask, Calm, IsWoken, LetGo, Missing, OfPager, Poll, Register, Rung,
 };
 use crate::stories::Told::{Answer, Asked, Count, Is, Nothing};
 use crate::stories::{
     Desk, Futures, Other, PagerCall, Pagers, Story, Tasks, Told, Who, first_of_all, played_at,
 };
 use crate::wakers::slots;
-use crate::{drops, faults, pagers, ready, values, wakes};
-use futures::test::MockTask;
+use crate::{drops, faults, pagers, values, wakes, worked};
 use saa_sync::barrier::Barrier;
 use saa_sync::future::Arrival;
 use saa_sync::testing::Counted;
@@ -28,15 +27,14 @@ pub(crate) enum BarrierCall {
     Ask(Who),
     Poll(Who, Who),
     LetGo(Who),
-    // A future with a callback is made, polled once by this task, and dropped.
-    PollWith(Who),
     // By a call.
     Arrive,
     // A pager is registered, as sync or as async.
     Register(Who, bool),
     OfPager(Who, PagerCall),
-    // Whether a task was woken since its last poll.
+    // Whether a task was woken since its last poll; and a poll of it that polls no future.
     IsWoken(Who),
+    Calm(Who),
 }
 
 // What happens at a new barrier of this size, with room for so many waiters.
@@ -49,7 +47,8 @@ pub(crate) struct BarrierStory {
 
 // The first story in which a row was told otherwise.
 pub(crate) fn first_story<H: Wait + RandomSource + AllocGlobal>(rt: &H) -> io::Result<Other> {
-    let all: [&[BarrierStory]; 6] = [
+    let all: [&[BarrierStory]; 7] = [
+        &worked::AT_A_BARRIER,
         &wakes::AT_A_BARRIER,
         &drops::AT_A_BARRIER,
         &pagers::AT_A_BARRIER,
@@ -66,7 +65,7 @@ struct BarrierDesk<'s, H: Wait + Drop, R: Wait + Drop> {
     rt: H,
     barrier: &'s Barrier<R>,
     tasks: Tasks,
-    futures: Futures<'s, R, Arrival>,
+    futures: Futures<'s, Barrier<R>, Arrival>,
     pagers: Pagers<'s, Barrier<R>>,
 }
 
@@ -89,7 +88,7 @@ impl<'s, H: Wait + RandomSource + AllocGlobal, R: Wait + Drop> BarrierDesk<'s, &
     }
 
     fn ask(&mut self, who: Who) -> Told {
-        self.futures.put(who, self.barrier.wait_async())
+        self.futures.put(who, Some(self.barrier.wait_async()))
     }
 
     fn register(&mut self, who: Who, is_sync: bool) -> Told {
@@ -107,32 +106,23 @@ impl<'s, H: Wait + RandomSource + AllocGlobal, R: Wait + Drop> Desk for BarrierD
             Rung => Count(self.barrier.counts().notified()),
             Ask(who) => self.ask(who),
             Poll(task, who) => self.poll(task, who),
-            LetGo(who) => self.futures.let_go(who),
-            PollWith(task) => polled_with(self.tasks.get(task), self.barrier),
+            LetGo(who) => self.futures.put(who, None),
             Arrive => Answer(Some(self.barrier.wait_sync())),
             Register(who, is_sync) => self.register(who, is_sync),
             OfPager(who, call) => self.pagers.answer(self.rt, &self.tasks, who, call),
             IsWoken(task) => self.tasks.is_woken(task),
+            Calm(task) => self.tasks.entered(task),
         }
     }
 }
 
-// One poll of a new future with a callback.
-fn polled_with<R: Wait + Drop>(task: &MockTask, barrier: &Barrier<R>) -> Told {
-    Answer(ready(task.poll(&mut barrier.wait_async_with(|| {}))))
-}
-
 impl Story for BarrierStory {
-    fn name(&self) -> &'static str {
-        self.name
-    }
-
-    fn first_other<H: Wait + RandomSource + AllocGlobal>(
-        &self,
-        rt: &H,
-    ) -> io::Result<Option<usize>> {
-        let barrier = Barrier::with_count(rt, rt.alloc(), self.size, self.room)?;
-        played(rt, &barrier, self.rows)
+    fn first_other<H: Wait + RandomSource + AllocGlobal>(&self, rt: &H) -> io::Result<Other> {
+        played(
+            rt,
+            &Barrier::with_count(rt, rt.alloc(), self.size, self.room)?,
+            self,
+        )
     }
 }
 
@@ -140,7 +130,10 @@ impl Story for BarrierStory {
 fn played<'s, H: Wait + RandomSource + AllocGlobal, R: Wait + Drop>(
     rt: &'s H,
     barrier: &'s Barrier<R>,
-    rows: &[(BarrierCall, Told)],
-) -> io::Result<Option<usize>> {
-    Ok(played_at(BarrierDesk::new(rt, barrier)?, rows))
+    story: &BarrierStory,
+) -> io::Result<Other> {
+    match played_at(BarrierDesk::new(rt, barrier)?, story.rows) {
+        Some(row) => Ok(Some((story.name, row))),
+        None => Ok(None),
+    }
 }

@@ -1,21 +1,24 @@
 //! Stories of a gate's futures and pagers: its calls, how they are made, and what is made for each story.
 
 use crate::gate_stories::GateCall::{
-    Ask, Await, Enter, EnterBy, EnterWith, IsWoken, LetGo, Make, OfPager, Poll, Register,
+    AnswerUntold, Ask, Await, Calm, Enter, EnterBy, EnterWith, IsWoken, LetGo, Make, OfPager, Poll,
+    PollOverAPermit, Register, Reset, See,
 };
-use crate::stories::Told::{Asked, Is, Moved, Nothing, Passage, Was};
+use crate::stories::Told::{Asked, In, Is, Moved, Nothing, Passage, Was, WasReset};
 use crate::stories::{
     Desk, Futures, Other, PagerCall, Pagers, Story, Tasks, Told, Who, first_of_all, played_at,
 };
-use crate::{drops, faults, pagers, values, wakes};
-use futures::executor::block_on;
+use crate::wakers::{answer_untold, slots};
+use crate::{awaited, drops, faults, pagers, polled, values, wakes, worked};
+use futures::test::MockTask;
 use saa_sync::future::Passing;
-use saa_sync::gate::Gate;
+use saa_sync::gate::{Gate, State};
 use saa_sync::pager::Pager;
 use std::alloc::AllocGlobal;
 use std::io;
 use std::random::RandomSource;
 use std::sync::Wait;
+use std::sync::atomic::Ordering;
 
 // A way to answer all waiters.
 #[derive(Clone, Copy)]
@@ -32,6 +35,9 @@ pub(crate) enum Move {
 #[derive(Clone, Copy)]
 pub(crate) enum GateCall {
     Make(Move),
+    // A look at its state, and a reset.
+    See,
+    Reset,
     Ask(Who),
     Poll(Who, Who),
     LetGo(Who),
@@ -42,11 +48,16 @@ pub(crate) enum GateCall {
     EnterWith,
     // By a call, whose callback answers all waiters, its own task among them.
     EnterBy(Move),
+    // The waiter is answered, and nobody woken.
+    AnswerUntold,
     // A pager is registered, as sync or as async.
     Register(Who, bool),
     OfPager(Who, PagerCall),
-    // Whether a task was woken since its last poll.
+    // Polls of a pager by this task, all in one future of the pager; the gate permits between the first two.
+    PollOverAPermit(Who, Who),
+    // Whether a task was woken since its last poll; and a poll of it that polls no future.
     IsWoken(Who),
+    Calm(Who),
 }
 
 // What happens at a new gate with room for so many waiters.
@@ -58,7 +69,8 @@ pub(crate) struct GateStory {
 
 // The first story in which a row was told otherwise.
 pub(crate) fn first_story<H: Wait + RandomSource + AllocGlobal>(rt: &H) -> io::Result<Other> {
-    let all: [&[GateStory]; 7] = [
+    let all: [&[GateStory]; 9] = [
+        &worked::AT_A_GATE,
         &wakes::AT_A_GATE,
         &drops::AT_A_GATE,
         &pagers::AT_A_GATE,
@@ -66,6 +78,7 @@ pub(crate) fn first_story<H: Wait + RandomSource + AllocGlobal>(rt: &H) -> io::R
         &values::POLLS_AT_A_GATE,
         &values::WAITS_AT_A_GATE,
         &values::AT_A_DECIDED_GATE,
+        &slots::AT_A_GATE,
     ];
     first_of_all(rt, &all)
 }
@@ -76,7 +89,7 @@ struct GateDesk<'s, H: Wait + Drop, R: Wait + Drop> {
     rt: H,
     gate: &'s Gate<R>,
     tasks: Tasks,
-    futures: Futures<'s, R, Passing>,
+    futures: Futures<'s, Gate<R>, Passing>,
     pagers: Pagers<'s, Gate<R>>,
 }
 
@@ -99,7 +112,7 @@ impl<'s, H: Wait + RandomSource + AllocGlobal, R: Wait + Drop> GateDesk<'s, &'s 
     }
 
     fn ask(&mut self, who: Who) -> Told {
-        self.futures.put(who, self.gate.enter_async())
+        self.futures.put(who, Some(self.gate.enter_async()))
     }
 
     fn register(&mut self, who: Who, is_sync: bool) -> Told {
@@ -116,19 +129,35 @@ fn at_a_gate<H: Wait + RandomSource + AllocGlobal, R: Wait + Drop>(
 ) -> Told {
     match call {
         Make(by) => make(gate, by),
-        Await => wait(rt, gate),
+        See => In(gate.state(Ordering::SeqCst)),
+        Reset => WasReset(gate.reset()),
+        Await => Passage(awaited(rt, gate.enter_async())),
         Enter => Passage(Some(gate.enter_sync())),
         EnterWith => Passage(Some(gate.enter_sync_with(|| {}))),
         EnterBy(by) => enter_by(gate, by),
+        AnswerUntold => Is(answer_untold(gate)),
         _ => Nothing,
     }
 }
 
-fn wait<H: Wait + RandomSource + AllocGlobal, R: Wait + Drop>(rt: &H, gate: &Gate<R>) -> Told {
-    match block_on(rt, gate.enter_async()) {
-        Ok(answer) => Passage(Some(answer)),
-        Err(_) => Nothing,
-    }
+// A future of a pager waits until its answer, which wakes its task, and is pending behind it, and wakes its task too; whether all is so.
+fn polled_over_a_permit<R: Wait + Drop>(
+    gate: &Gate<R>,
+    task: &MockTask,
+    pager: &mut Pager<'_, Gate<R>>,
+) -> Told {
+    let mut poll = pager.poll_async();
+    let early = polled(task, &mut poll);
+    let moved = gate.permit();
+    let is_woken = task.is_woken();
+    let late = polled(task, &mut poll);
+    let is_calm = !task.is_woken();
+    let past = polled(task, &mut poll);
+    Is(
+        [early, late, past] == [None, Some(Ok(State::Controlled)), None]
+            && moved == Ok(1)
+            && [is_woken, is_calm, task.is_woken()] == [true; 3],
+    )
 }
 
 // Another pager is registered, and dropped.
@@ -163,25 +192,22 @@ impl<'s, H: Wait + RandomSource + AllocGlobal, R: Wait + Drop> Desk for GateDesk
         match call {
             Ask(who) => self.ask(who),
             Poll(task, who) => self.poll(task, who),
-            LetGo(who) => self.futures.let_go(who),
+            LetGo(who) => self.futures.put(who, None),
             Register(who, is_sync) => self.register(who, is_sync),
             OfPager(who, call) => self.pagers.answer(self.rt, &self.tasks, who, call),
+            PollOverAPermit(task, who) => {
+                polled_over_a_permit(self.gate, self.tasks.get(task), self.pagers.get(who))
+            }
             IsWoken(task) => self.tasks.is_woken(task),
+            Calm(task) => self.tasks.entered(task),
             _ => at_a_gate(self.rt, self.gate, call),
         }
     }
 }
 
 impl Story for GateStory {
-    fn name(&self) -> &'static str {
-        self.name
-    }
-
-    fn first_other<H: Wait + RandomSource + AllocGlobal>(
-        &self,
-        rt: &H,
-    ) -> io::Result<Option<usize>> {
-        played(rt, &Gate::new(rt, rt.alloc(), self.room)?, self.rows)
+    fn first_other<H: Wait + RandomSource + AllocGlobal>(&self, rt: &H) -> io::Result<Other> {
+        played(rt, &Gate::new(rt, rt.alloc(), self.room)?, self)
     }
 }
 
@@ -189,7 +215,10 @@ impl Story for GateStory {
 fn played<'s, H: Wait + RandomSource + AllocGlobal, R: Wait + Drop>(
     rt: &'s H,
     gate: &'s Gate<R>,
-    rows: &[(GateCall, Told)],
-) -> io::Result<Option<usize>> {
-    Ok(played_at(GateDesk::new(rt, gate)?, rows))
+    story: &GateStory,
+) -> io::Result<Other> {
+    match played_at(GateDesk::new(rt, gate)?, story.rows) {
+        Some(row) => Ok(Some((story.name, row))),
+        None => Ok(None),
+    }
 }

@@ -1,7 +1,8 @@
-//! Tests of the named futures: on a core under the mutex, and in tasks, which are polled by hand or by an executor.
+//! Tests of the named futures and of pagers in tasks, which are polled by hand or by an executor.
 //!
 //! A contract says what a poll does to the core and answers. That a poll reaches the core under the mutex, and that an answer
-//! wakes exactly the tasks that it concerns, is shown here; what becomes of wakers is shown by `wakers`.
+//! wakes exactly the tasks that it concerns, is shown here at a gate and at a barrier, and at a semaphore and a lock by the stories of
+//! `test_lock_free`, which are told at the threaded forms too. What becomes of wakers is shown by `wakers`.
 #![tactic(auto)]
 
 #[cfg(test)]
@@ -17,15 +18,9 @@ mod faults;
 #[cfg(test)]
 mod gate_stories;
 #[cfg(test)]
-mod lent;
-#[cfg(test)]
 mod lines;
 #[cfg(test)]
-mod lock_stories;
-#[cfg(test)]
 mod pagers;
-#[cfg(test)]
-mod semaphore_stories;
 #[cfg(test)]
 mod sharing;
 #[cfg(test)]
@@ -36,15 +31,40 @@ mod values;
 mod wakers;
 #[cfg(test)]
 mod wakes;
+#[cfg(test)]
+mod worked;
 
 #[cfg(test)]
 use futures::task::Poll;
-
-// What a poll gave, if it was ready.
 #[cfg(test)]
-fn ready<T>(polled: Poll<T>) -> Option<T> {
-    match polled {
+use futures::test::MockTask;
+#[cfg(test)]
+use futures::{Future, executor};
+#[cfg(test)]
+use std::alloc::AllocGlobal;
+#[cfg(test)]
+use std::random::RandomSource;
+#[cfg(test)]
+use std::sync::Wait;
+
+// What one poll by a task gave, if it was ready. For any future: a poll of a known one is dear to prove.
+#[cfg(test)]
+fn polled<F: Future>(task: &MockTask, future: &mut F) -> Option<F::Output>
+where
+    requires { F.can_poll future.old }
+{
+    match task.poll(future) {
         Poll::Ready(value) => Some(value),
         Poll::Pending => None,
     }
+}
+
+// What an executor is told by a future; nothing where there is no memory for one.
+#[cfg(test)]
+fn awaited<H: Wait + RandomSource + AllocGlobal, F: Future>(rt: &H, future: F) -> Option<F::Output>
+where
+    F::Output: Drop,
+    requires { F.can_poll future }
+{
+    executor::block_on(rt, future).ok()
 }

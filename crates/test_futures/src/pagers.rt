@@ -1,24 +1,15 @@
-//! Pagers that a task polls.
+//! Pagers that a task polls, at a gate and at a barrier. Those of a semaphore and of a lock are told by the stories of `test_lock_free`.
 
 use crate::barrier_stories::{BarrierCall, BarrierStory};
 use crate::gate_stories::{GateCall, GateStory, Move};
-use crate::lock_stories::{LockCall, LockStory};
-use crate::semaphore_stories::SemaphoreCall::{
-    AskOne, Enter, IsWoken, OfPager, Permits, PollOne, PollOverARelease, PollTwice, Register,
-    Release, ReleaseMany,
-};
-use crate::semaphore_stories::{SemaphoreCall, SemaphoreStory};
 use crate::stories::PagerCall::{Await, Cancel, IsRegistered, Poll, PollSync, TryPoll};
-use crate::stories::Told;
 use crate::stories::Told::{
-    Answer, Asked, Count, Granted, Is, Moved, Nothing, Passed, Permit, Tried, Turned, Twice, Was,
+    Answer, Asked, Count, Is, Moved, Nothing, Passage, Passed, Turned, Was,
 };
-use crate::stories::Who::{First, Second};
+use crate::stories::Who::{First, Second, Third};
 use saa_sync::gate::{Error as GateError, State};
-use saa_sync::lock::Mode;
-use saa_sync::pager::Error;
 
-pub(crate) static AT_A_GATE: [GateStory; 3] = [
+pub(crate) static AT_A_GATE: [GateStory; 5] = [
     GateStory {
         name: "a pager's mode",
         room: 4,
@@ -28,7 +19,12 @@ pub(crate) static AT_A_GATE: [GateStory; 3] = [
                 Passed(Some(Err(GateError::NotRegistered))),
             ),
             (GateCall::Register(First, true), Asked(Ok(true))),
+            (
+                GateCall::OfPager(First, Poll(First)),
+                Passed(Some(Err(GateError::WrongMode))),
+            ),
             (GateCall::Make(Move::Open), Was((State::Controlled, 1))),
+            (GateCall::IsWoken(First), Is(false)),
             (
                 GateCall::OfPager(First, Await),
                 Passed(Some(Err(GateError::WrongMode))),
@@ -55,11 +51,42 @@ pub(crate) static AT_A_GATE: [GateStory; 3] = [
         rows: &[
             (GateCall::Register(First, false), Asked(Ok(true))),
             (GateCall::OfPager(First, Poll(First)), Passed(None)),
+            // The poll is dropped.
+            (GateCall::OfPager(First, IsRegistered), Is(true)),
+            (GateCall::IsWoken(First), Is(false)),
             (GateCall::Make(Move::Reject), Moved(Ok(1))),
             (GateCall::IsWoken(First), Is(true)),
             (
                 GateCall::OfPager(First, Poll(First)),
                 Passed(Some(Err(GateError::Rejected))),
+            ),
+            (GateCall::IsWoken(First), Is(false)),
+            (GateCall::OfPager(First, IsRegistered), Is(false)),
+        ],
+    },
+    GateStory {
+        name: "one future of a pager waits until its answer",
+        room: 1,
+        rows: &[
+            (GateCall::Register(First, false), Asked(Ok(true))),
+            (GateCall::PollOverAPermit(First, First), Is(true)),
+            (GateCall::OfPager(First, IsRegistered), Is(false)),
+        ],
+    },
+    // Who cancels answers all others.
+    GateStory {
+        name: "a cancelled pager",
+        room: 2,
+        rows: &[
+            (GateCall::Register(First, false), Asked(Ok(true))),
+            (GateCall::OfPager(First, Poll(First)), Passed(None)),
+            (GateCall::Ask(Second), Nothing),
+            (GateCall::Poll(Second, Second), Passage(None)),
+            (GateCall::OfPager(First, Cancel), Nothing),
+            (GateCall::IsWoken(Second), Is(true)),
+            (
+                GateCall::Poll(Second, Second),
+                Passage(Some(Ok(Err(GateError::SpuriousFailure)))),
             ),
         ],
     },
@@ -85,127 +112,7 @@ pub(crate) static AT_A_GATE: [GateStory; 3] = [
     },
 ];
 
-pub(crate) static AT_A_SEMAPHORE: [SemaphoreStory; 5] = [
-    // There is a permit to release, and the release wakes the task.
-    SemaphoreStory {
-        name: "one future of a pager waits until its answer",
-        permits: Some(0),
-        room: 1,
-        rows: &[
-            (Register(First, 1, false), Asked(Ok(true))),
-            (
-                PollOverARelease(First, First),
-                Twice((None, true), (Some(Ok(())), true)),
-            ),
-        ],
-    },
-    // It waits as sync, and is told so at once.
-    SemaphoreStory {
-        name: "the wrong mode",
-        permits: Some(0),
-        room: 1,
-        rows: &[
-            (Register(First, 1, true), Asked(Ok(true))),
-            (
-                OfPager(First, Poll(First)),
-                Granted(Some(Err(Error::WrongMode))),
-            ),
-            (OfPager(First, IsRegistered), Is(true)),
-            (Release, Is(true)),
-            (IsWoken(First), Is(false)),
-            (OfPager(First, PollSync), Granted(Some(Ok(())))),
-        ],
-    },
-    SemaphoreStory {
-        name: "a dropped poll",
-        permits: Some(0),
-        room: 1,
-        rows: &[
-            (Register(First, 2, false), Asked(Ok(true))),
-            (OfPager(First, Poll(First)), Granted(None)),
-            (OfPager(First, IsRegistered), Is(true)),
-            (IsWoken(First), Is(false)),
-            (ReleaseMany(2), Is(true)),
-            (IsWoken(First), Is(true)),
-            (
-                PollTwice(First, First),
-                Twice((Some(Ok(())), false), (None, true)),
-            ),
-            (OfPager(First, IsRegistered), Is(false)),
-            (Permits, Count(0)),
-        ],
-    },
-    SemaphoreStory {
-        name: "a cancelled pager",
-        permits: Some(1),
-        room: 2,
-        rows: &[
-            (Register(First, 2, false), Asked(Ok(true))),
-            (Register(Second, 1, false), Asked(Ok(true))),
-            (OfPager(First, Poll(First)), Granted(None)),
-            (OfPager(Second, Poll(Second)), Granted(None)),
-            (OfPager(First, Cancel), Nothing),
-            (IsWoken(Second), Is(true)),
-            (OfPager(Second, Poll(Second)), Granted(Some(Ok(())))),
-        ],
-    },
-    // The first task is the old one; the slot's new task is woken alone.
-    SemaphoreStory {
-        name: "a pager's used slot",
-        permits: Some(0),
-        room: 1,
-        rows: &[
-            (Register(First, 1, false), Asked(Ok(true))),
-            (OfPager(First, Poll(First)), Granted(None)),
-            (OfPager(First, Cancel), Nothing),
-            (Enter(First), Nothing),
-            (AskOne(First), Nothing),
-            (PollOne(Second, First), Permit(None)),
-            (IsWoken(First), Is(false)),
-            (Release, Is(true)),
-            (IsWoken(First), Is(false)),
-            (IsWoken(Second), Is(true)),
-            (PollOne(Second, First), Permit(Some(Ok(())))),
-        ],
-    },
-];
-
-pub(crate) static AT_A_LOCK: [LockStory; 2] = [
-    // The lock is poisoned.
-    LockStory {
-        name: "a task that polls",
-        room: 1,
-        rows: &[
-            (LockCall::TryLock, Tried(Ok(()))),
-            (
-                LockCall::Register(First, Mode::WaitShared, false),
-                Asked(Ok(true)),
-            ),
-            (LockCall::OfPager(First, Poll(First)), Turned(None)),
-            (LockCall::Poison, Is(true)),
-            (LockCall::IsWoken(First), Is(true)),
-            (
-                LockCall::OfPager(First, Poll(First)),
-                Turned(Some(Ok(false))),
-            ),
-        ],
-    },
-    // The lock is free.
-    LockStory {
-        name: "an answer at once",
-        room: 0,
-        rows: &[
-            (
-                LockCall::Register(First, Mode::Exclusive, false),
-                Asked(Ok(true)),
-            ),
-            (LockCall::OfPager(First, Await), Turned(Some(Ok(true)))),
-            (LockCall::IsLocked, Is(true)),
-        ],
-    },
-];
-
-pub(crate) static AT_A_BARRIER: [BarrierStory; 2] = [
+pub(crate) static AT_A_BARRIER: [BarrierStory; 4] = [
     // Of two, of which the other arrives in a call.
     BarrierStory {
         name: "a task that polls",
@@ -220,6 +127,48 @@ pub(crate) static AT_A_BARRIER: [BarrierStory; 2] = [
                 BarrierCall::OfPager(First, Poll(First)),
                 Turned(Some(Ok(false))),
             ),
+        ],
+    },
+    // The first task is the old one; the slot's new task is woken alone.
+    BarrierStory {
+        name: "a pager's used slot",
+        size: 2,
+        room: 1,
+        rows: &[
+            (BarrierCall::Register(First, false), Asked(Ok(true))),
+            (BarrierCall::OfPager(First, Poll(First)), Turned(None)),
+            (BarrierCall::OfPager(First, Cancel), Nothing),
+            (BarrierCall::Calm(First), Nothing),
+            (BarrierCall::Ask(First), Nothing),
+            (BarrierCall::Poll(Second, First), Answer(None)),
+            (BarrierCall::IsWoken(First), Is(false)),
+            (BarrierCall::Arrive, Answer(Some(Ok(true)))),
+            (BarrierCall::IsWoken(First), Is(false)),
+            (BarrierCall::IsWoken(Second), Is(true)),
+            (BarrierCall::Poll(Second, First), Answer(Some(Ok(false)))),
+        ],
+    },
+    // One waits before it, and one behind it.
+    BarrierStory {
+        name: "a cancelled pager wakes no other task",
+        size: 4,
+        room: 3,
+        rows: &[
+            (BarrierCall::Ask(First), Nothing),
+            (BarrierCall::Ask(Second), Nothing),
+            (BarrierCall::Poll(First, First), Answer(None)),
+            (BarrierCall::Register(First, false), Asked(Ok(true))),
+            (BarrierCall::OfPager(First, Poll(Third)), Turned(None)),
+            (BarrierCall::Poll(Second, Second), Answer(None)),
+            (BarrierCall::OfPager(First, Cancel), Nothing),
+            (BarrierCall::IsWoken(First), Is(false)),
+            (BarrierCall::IsWoken(Second), Is(false)),
+            (BarrierCall::Missing, Count(2)),
+            (BarrierCall::Register(First, false), Asked(Ok(true))),
+            (BarrierCall::Arrive, Answer(Some(Ok(true)))),
+            (BarrierCall::IsWoken(First), Is(true)),
+            (BarrierCall::IsWoken(Second), Is(true)),
+            (BarrierCall::Poll(Second, Second), Answer(Some(Ok(false)))),
         ],
     },
     // Of one.

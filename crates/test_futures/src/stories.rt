@@ -2,24 +2,15 @@
 //!
 //! A call that stands in a test's text is proved there anew; one that stands in a row of a table is data, and costs no proof.
 
-use crate::{barrier_stories, gate_stories, lent, lock_stories, ready, semaphore_stories};
+use crate::{barrier_stories, gate_stories, polled};
 use futures::executor::block_on;
 use futures::test::MockTask;
-use saa_core::barrier::BarrierCore;
-use saa_core::gate::GateCore;
-use saa_core::lock::LockCore;
-use saa_core::primitive::Primitive;
-use saa_core::semaphore::SemaphoreCore;
 use saa_core::ticket::{Error, Full, How};
 use saa_sync::barrier::Barrier;
-use saa_sync::form::Form as FormOf;
-use saa_sync::future::{
-    Acquiring, AnswerReader, Arrival, ManyPermits, OnePermit, Passing, PollOn, Progress, Turn,
-};
+use saa_sync::future::{Acquiring, AnswerReader};
 use saa_sync::gate::{Error as GateError, Gate, State};
-use saa_sync::lock::{Lock, TryLockError};
 use saa_sync::pager::{Pager, SyncResult, Ticket};
-use saa_sync::semaphore::Semaphore;
+use saa_sync::waits::Pends;
 use std::alloc::AllocGlobal;
 use std::io;
 use std::random::RandomSource;
@@ -29,49 +20,36 @@ use test_asserts::same;
 // What a poll gave, if it was ready.
 pub(crate) type Polled<T> = Option<Result<T, Full>>;
 
-// What a poll of a semaphore's pager gave, if it was ready, and whether its task was woken after it.
-pub(crate) type Woken = (Option<Result<(), Error>>, bool);
-
 // What a call tells. A poll that is pending tells `None`.
 #[derive(Clone, Copy, PartialEq)]
 pub(crate) enum Told {
     // Nothing: a future was made or dropped, or there is none to poll.
     Nothing,
-    // A look, or whether there was something to take or to release.
+    // A look, or whether all was as it must be.
     Is(bool),
-    // How many permits or arrivals there are.
+    // How many arrivals are missing, or seats are rung.
     Count(usize),
-    // A try at a lock.
-    Tried(Result<(), TryLockError>),
-    // A poll that asks for one permit.
-    Permit(Polled<()>),
-    // A poll or a call that asks for many permits or for a lock, or arrives at a barrier.
+    // A poll or a call that arrives at a barrier.
     Answer(Polled<bool>),
     // How many a gate let pass or refused.
     Moved(Result<usize, State>),
+    // A gate's state.
+    In(State),
     // A gate's state before it was opened or sealed, and how many that answered.
     Was((State, usize)),
+    // A gate's state before it was reset, if it was another.
+    WasReset(Option<State>),
     // A poll or a call that enters a gate.
     Passage(Polled<Result<State, GateError>>),
-    // A poll on a core that asks for one permit; one of a future that has ended tells `None`.
-    PermitOn(Option<Progress<()>>),
-    // A poll on a core that asks for many permits or for a lock, or arrives at a barrier.
-    AnswerOn(Option<Progress<bool>>),
-    // A poll on a core that enters a gate.
-    PassageOn(Option<Progress<Result<State, GateError>>>),
     // A registration.
     Asked(Result<bool, Full>),
-    // A poll of a semaphore's pager or of a ticket.
-    Granted(Option<Result<(), Error>>),
-    // A poll of a pager of a lock or of a barrier.
+    // A poll of a barrier's pager.
     Turned(Option<Result<bool, Error>>),
     // A poll of a gate's pager.
     Passed(Option<Result<State, GateError>>),
-    // Two polls of one future of a pager, and whether its task was woken after each. No array: a table of tables can't hold one.
-    Twice(Woken, Woken),
 }
 
-// A task of a story, or a future or a pager of it. There are three tasks and three futures of a kind, and four pagers.
+// A task of a story, or a future or a pager of it. There are three tasks and three futures, and four pagers.
 #[derive(Clone, Copy)]
 pub(crate) enum Who {
     First,
@@ -118,41 +96,15 @@ impl Tasks {
     }
 }
 
-// How a story's answers read, and the core that gives them.
-pub(crate) trait Reader: AnswerReader {
-    // The core.
-    type Core: Primitive;
-}
-
-impl Reader for OnePermit {
-    type Core = SemaphoreCore;
-}
-
-impl Reader for ManyPermits {
-    type Core = SemaphoreCore;
-}
-
-impl Reader for Turn {
-    type Core = LockCore;
-}
-
-impl Reader for Passing {
-    type Core = GateCore;
-}
-
-impl Reader for Arrival {
-    type Core = BarrierCore;
-}
-
-// The futures of a story whose answers read in one way.
+// The futures of a story.
 #[derive(Drop)]
-pub(crate) struct Futures<'s, R: Wait + Drop, Q: Reader> {
-    first: Option<Acquiring<'s, FormOf<R, Q::Core>, Q>>,
-    second: Option<Acquiring<'s, FormOf<R, Q::Core>, Q>>,
-    third: Option<Acquiring<'s, FormOf<R, Q::Core>, Q>>,
+pub(crate) struct Futures<'s, S: Pends + Drop, Q: AnswerReader> {
+    first: Option<Acquiring<'s, S, Q>>,
+    second: Option<Acquiring<'s, S, Q>>,
+    third: Option<Acquiring<'s, S, Q>>,
 }
 
-impl<'s, R: Wait + Drop, Q: Reader> Futures<'s, R, Q> {
+impl<'s, S: Pends + Drop, Q: AnswerReader> Futures<'s, S, Q> {
     pub(crate) fn new() -> Self {
         Futures {
             first: None,
@@ -162,7 +114,7 @@ impl<'s, R: Wait + Drop, Q: Reader> Futures<'s, R, Q> {
     }
 
     // This future.
-    pub(crate) fn get(&mut self, who: Who) -> &mut Option<Acquiring<'s, FormOf<R, Q::Core>, Q>> {
+    fn get(&mut self, who: Who) -> &mut Option<Acquiring<'s, S, Q>> {
         match who {
             Who::First => &mut self.first,
             Who::Second => &mut self.second,
@@ -170,82 +122,25 @@ impl<'s, R: Wait + Drop, Q: Reader> Futures<'s, R, Q> {
         }
     }
 
-    // Has this future in the place of the one that was there.
-    pub(crate) fn put(&mut self, who: Who, future: Acquiring<'s, FormOf<R, Q::Core>, Q>) -> Told {
-        *self.get(who) = Some(future);
-        Told::Nothing
-    }
-
-    // Drops this future.
-    pub(crate) fn let_go(&mut self, who: Who) -> Told {
-        *self.get(who) = None;
+    // Has this future, or none, in the place of the one that was there.
+    pub(crate) fn put(&mut self, who: Who, future: Option<Acquiring<'s, S, Q>>) -> Told {
+        *self.get(who) = future;
         Told::Nothing
     }
 
     // Polls this future in a task; what it gave, if it was ready, and nothing where there is no future.
     pub(crate) fn polled(&mut self, task: &MockTask, who: Who) -> Option<Polled<Q::Output>> {
         match self.get(who) {
-            Some(future) => Some(ready(task.poll(future))),
+            Some(future) => Some(polled(task, future)),
             None => None,
         }
     }
-
-    // Polls this future on a core; nothing where there is no future.
-    pub(crate) fn polled_on(
-        &mut self,
-        who: Who,
-        core: &mut Q::Core,
-    ) -> Option<Option<Progress<Q::Output>>> {
-        match self.get(who) {
-            Some(future) => Some(poll_on(future, core)),
-            None => None,
-        }
-    }
-
-    // Cancels this future on a core.
-    pub(crate) fn cancel_on(&mut self, who: Who, core: &mut Q::Core) -> Told {
-        if let Some(future) = self.get(who) {
-            future.cancel_on(core);
-        }
-        Told::Nothing
-    }
-
-    // Whether this future has ended.
-    pub(crate) fn has_ended(&mut self, who: Who) -> Told {
-        match self.get(who) {
-            Some(future) => Told::Is(future.has_ended()),
-            None => Told::Nothing,
-        }
-    }
-}
-
-// Polls a future that hasn't ended on a core; `None` for one that has.
-fn poll_on<R: Wait + Drop, Q: Reader>(
-    future: &mut Acquiring<'_, FormOf<R, Q::Core>, Q>,
-    core: &mut Q::Core,
-) -> Option<Progress<Q::Output>> {
-    if future.has_ended() {
-        return None;
-    }
-    Some(future.poll_on(core))
 }
 
 // A form whose pagers stories speak of.
 pub(crate) trait Form: SyncResult<Ticket> {
     // What a poll of its pager tells.
     fn told(answer: Option<Self::Result>) -> Told;
-}
-
-impl<R: Wait + Drop> Form for Semaphore<R> {
-    fn told(answer: Option<Result<(), Error>>) -> Told {
-        Told::Granted(answer)
-    }
-}
-
-impl<R: Wait + Drop> Form for Lock<R> {
-    fn told(answer: Option<Result<bool, Error>>) -> Told {
-        Told::Turned(answer)
-    }
 }
 
 impl<R: Wait + Drop> Form for Gate<R> {
@@ -305,16 +200,6 @@ impl<'s, S: Form> Pagers<'s, S> {
         }
     }
 
-    fn cancel(&mut self, who: Who) -> Told {
-        self.get(who).cancel();
-        Told::Nothing
-    }
-
-    fn let_go(&mut self, who: Who) -> Told {
-        *self.get(who) = Pager::new();
-        Told::Nothing
-    }
-
     // Makes one call at this pager.
     pub(crate) fn answer<H: Wait + RandomSource + AllocGlobal>(
         &mut self,
@@ -323,26 +208,36 @@ impl<'s, S: Form> Pagers<'s, S> {
         who: Who,
         call: PagerCall,
     ) -> Told {
+        let pager = self.get(who);
         match call {
-            PagerCall::IsRegistered => Told::Is(self.get(who).is_registered()),
-            PagerCall::TryPoll => S::told(Some(self.get(who).try_poll())),
-            PagerCall::PollSync => S::told(Some(self.get(who).poll_sync())),
-            PagerCall::PollAsync => S::told(Some(self.get(who).poll(How::Async))),
-            PagerCall::Poll(task) => S::told(polled(tasks.get(task), self.get(who))),
-            PagerCall::Await => awaited(rt, self.get(who)),
-            PagerCall::Cancel => self.cancel(who),
-            PagerCall::LetGo => self.let_go(who),
+            PagerCall::IsRegistered => Told::Is(pager.is_registered()),
+            PagerCall::TryPoll => S::told(Some(pager.try_poll())),
+            PagerCall::PollSync => S::told(Some(pager.poll_sync())),
+            PagerCall::PollAsync => S::told(Some(pager.poll(How::Async))),
+            PagerCall::Poll(task) => S::told(polled_once(tasks.get(task), pager)),
+            PagerCall::Await => awaited_as(rt, pager),
+            PagerCall::Cancel => {
+                pager.cancel();
+                Told::Nothing
+            }
+            PagerCall::LetGo => {
+                *pager = Pager::new();
+                Told::Nothing
+            }
         }
     }
 }
 
 // One poll of a pager in a task, by a future that is made for it; what it gave, if it was ready.
-fn polled<S: SyncResult<Ticket>>(task: &MockTask, pager: &mut Pager<'_, S>) -> Option<S::Result> {
-    ready(task.poll(&mut pager.poll_async()))
+fn polled_once<S: SyncResult<Ticket>>(
+    task: &MockTask,
+    pager: &mut Pager<'_, S>,
+) -> Option<S::Result> {
+    polled(task, &mut pager.poll_async())
 }
 
 // Polls a pager as a task of an executor until it is answered; nothing where there is no memory for one.
-fn awaited<H: Wait + RandomSource + AllocGlobal, S: Form>(
+fn awaited_as<H: Wait + RandomSource + AllocGlobal, S: Form>(
     rt: &H,
     pager: &mut Pager<'_, S>,
 ) -> Told {
@@ -363,10 +258,6 @@ pub(crate) trait Desk: Drop {
 
 // Plays a story at a desk, and drops it; the first row that was told otherwise, counted from 0.
 pub(crate) fn played_at<D: Desk>(mut desk: D, story: &[(D::Call, Told)]) -> Option<usize> {
-    first_other(&mut desk, story)
-}
-
-fn first_other<D: Desk>(desk: &mut D, story: &[(D::Call, Told)]) -> Option<usize> {
     for (row, (call, wanted)) in story.iter().enumerate() {
         if desk.answer(*call) != *wanted {
             return Some(row);
@@ -375,94 +266,40 @@ fn first_other<D: Desk>(desk: &mut D, story: &[(D::Call, Told)]) -> Option<usize
     None
 }
 
+// The first story in which a row was told otherwise, and that row.
+pub(crate) type Other = Option<(&'static str, usize)>;
+
 // A story, with what a form is made with for it.
 pub(crate) trait Story {
-    fn name(&self) -> &'static str;
-
-    // Plays it at a new form; the first row that was told otherwise.
-    fn first_other<H: Wait + RandomSource + AllocGlobal>(
-        &self,
-        rt: &H,
-    ) -> io::Result<Option<usize>>;
+    // Plays it at a new form; its name and the first row that was told otherwise.
+    fn first_other<H: Wait + RandomSource + AllocGlobal>(&self, rt: &H) -> io::Result<Other>;
 }
 
 // The first of these stories in which a row was told otherwise, and that row.
-pub(crate) type Other = Option<(&'static str, usize)>;
-
-fn first_story<H: Wait + RandomSource + AllocGlobal, S: Story>(
-    rt: &H,
-    stories: &[S],
-) -> io::Result<Other> {
-    for story in stories {
-        if let Some(row) = story.first_other(rt)? {
-            return Ok(Some((story.name(), row)));
-        }
-    }
-    Ok(None)
-}
-
-// The same of all stories of a form.
 pub(crate) fn first_of_all<H: Wait + RandomSource + AllocGlobal, S: Story>(
     rt: &H,
     all: &[&[S]],
 ) -> io::Result<Other> {
     for stories in all {
-        let first = first_story(rt, stories)?;
-        if first.is_some() {
-            return Ok(first);
+        for story in *stories {
+            let other = story.first_other(rt)?;
+            if other.is_some() {
+                return Ok(other);
+            }
         }
     }
     Ok(None)
 }
 
-// Stories of a form, at which futures are polled in tasks, or on a core that a test locks itself.
-#[derive(Clone, Copy)]
-enum Kind {
-    Semaphore,
-    Lock,
-    Gate,
-    Barrier,
-    SemaphoreCore,
-    LockCore,
-    GateCore,
-    BarrierCore,
-}
-
-static KINDS: [Kind; 8] = [
-    Kind::Semaphore,
-    Kind::Lock,
-    Kind::Gate,
-    Kind::Barrier,
-    Kind::SemaphoreCore,
-    Kind::LockCore,
-    Kind::GateCore,
-    Kind::BarrierCore,
-];
-
-fn first_of_kind<H: Wait + RandomSource + AllocGlobal>(rt: &H, kind: Kind) -> io::Result<Other> {
-    match kind {
-        Kind::Semaphore => semaphore_stories::first_story(rt),
-        Kind::Lock => lock_stories::first_story(rt),
-        Kind::Gate => gate_stories::first_story(rt),
-        Kind::Barrier => barrier_stories::first_story(rt),
-        Kind::SemaphoreCore => first_story(rt, &lent::SEMAPHORE_STORIES),
-        Kind::LockCore => first_story(rt, &lent::LOCK_STORIES),
-        Kind::GateCore => first_story(rt, &lent::GATE_STORIES),
-        Kind::BarrierCore => first_story(rt, &lent::BARRIER_STORIES),
+fn first_at_each<H: Wait + RandomSource + AllocGlobal>(rt: &H) -> io::Result<Other> {
+    let first = gate_stories::first_story(rt)?;
+    if first.is_some() {
+        return Ok(first);
     }
-}
-
-fn first_of_each_kind<H: Wait + RandomSource + AllocGlobal>(rt: &H) -> io::Result<Other> {
-    for kind in &KINDS {
-        let first = first_of_kind(rt, *kind)?;
-        if first.is_some() {
-            return Ok(first);
-        }
-    }
-    Ok(None)
+    barrier_stories::first_story(rt)
 }
 
 #[test]
 fn each_story_is_told(rt: HostRuntime) {
-    same!(rt; first_of_each_kind(&rt).ok(), Some(None));
+    same!(rt; first_at_each(&rt).ok(), Some(None));
 }

@@ -1,20 +1,14 @@
-//! Every value that a primitive can answer, told by a poll of a task, of a pager in each way, by a future, and by a call.
+//! Every value that a gate and a barrier can answer, told by a poll of a task, of a pager in each way, by a future, and by a call.
 //!
 //! Where a story speaks of each poll, four pagers ask, all are answered, and each polls in its way: by a try, as sync, as async,
 //! and by a task, which polled once before.
 
 use crate::barrier_stories::{BarrierCall, BarrierStory};
 use crate::gate_stories::{GateCall, GateStory, Move};
-use crate::lock_stories::{LockCall, LockStory};
-use crate::semaphore_stories::{SemaphoreCall, SemaphoreStory};
 use crate::stories::PagerCall::{Poll, PollAsync, PollSync, TryPoll};
-use crate::stories::Told;
-use crate::stories::Told::{
-    Answer, Asked, Granted, Is, Moved, Nothing, Passage, Passed, Permit, Tried, Turned, Was,
-};
+use crate::stories::Told::{Answer, Asked, Is, Moved, Nothing, Passage, Passed, Turned, Was};
 use crate::stories::Who::{First, Fourth, Second, Third};
 use saa_sync::gate::{Error, State};
-use saa_sync::lock::Mode;
 
 // The rows of each poll at a gate: how it answers, what that tells, and what each poll tells.
 macro_rules! polls_at_a_gate {
@@ -26,6 +20,7 @@ macro_rules! polls_at_a_gate {
             (GateCall::Register(Fourth, false), Asked(Ok(true))),
             (GateCall::OfPager(Fourth, Poll(First)), Passed(None)),
             (GateCall::Make($by), $moved),
+            (GateCall::IsWoken(First), Is(true)),
             (GateCall::OfPager(First, TryPoll), Passed(Some($answer))),
             (GateCall::OfPager(Second, PollSync), Passed(Some($answer))),
             (GateCall::OfPager(Third, PollAsync), Passed(Some($answer))),
@@ -175,154 +170,6 @@ pub(crate) static AT_A_DECIDED_GATE: [GateStory; 2] = [
         name: "all at an open gate",
         room: 0,
         rows: &all_at_a_decided_gate!(Move::Open, State::Open, Ok(State::Open)),
-    },
-];
-
-// The rows of each poll at a lock that one owner has, which is released or poisoned; waiters ask for nothing but the wait.
-macro_rules! polls_at_a_lock {
-    ($by:expr, $is_granted:expr) => {
-        [
-            (LockCall::TryLock, Tried(Ok(()))),
-            (LockCall::Register(First, Mode::WaitShared, true), Asked(Ok(true))),
-            (LockCall::Register(Second, Mode::WaitShared, true), Asked(Ok(true))),
-            (LockCall::Register(Third, Mode::WaitShared, false), Asked(Ok(true))),
-            (LockCall::Register(Fourth, Mode::WaitShared, false), Asked(Ok(true))),
-            (LockCall::OfPager(Fourth, Poll(First)), Turned(None)),
-            ($by, Is(true)),
-            (LockCall::OfPager(First, TryPoll), Turned(Some(Ok($is_granted)))),
-            (LockCall::OfPager(Second, PollSync), Turned(Some(Ok($is_granted)))),
-            (LockCall::OfPager(Third, PollAsync), Turned(Some(Ok($is_granted)))),
-            (LockCall::OfPager(Fourth, Poll(First)), Turned(Some(Ok($is_granted)))),
-        ]
-    };
-}
-
-// The rows of a future that wants the lock, or a share of it, while one owner has it.
-macro_rules! future_at_a_lock {
-    ($ask:expr, $by:expr, $is_granted:expr) => {
-        [
-            (LockCall::TryLock, Tried(Ok(()))),
-            ($ask, Nothing),
-            (LockCall::Poll(First, First), Answer(None)),
-            ($by, Is(true)),
-            (LockCall::Poll(First, First), Answer(Some(Ok($is_granted)))),
-        ]
-    };
-}
-
-pub(crate) static AT_A_LOCK: [LockStory; 10] = [
-    LockStory {
-        name: "a release by each poll",
-        room: 6,
-        rows: &polls_at_a_lock!(LockCall::ReleaseLock, true),
-    },
-    LockStory {
-        name: "poison by each poll",
-        room: 6,
-        rows: &polls_at_a_lock!(LockCall::Poison, false),
-    },
-    LockStory {
-        name: "a writer at a release",
-        room: 1,
-        rows: &future_at_a_lock!(LockCall::Ask(First), LockCall::ReleaseLock, true),
-    },
-    LockStory {
-        name: "a reader at a release",
-        room: 1,
-        rows: &future_at_a_lock!(LockCall::AskShare(First), LockCall::ReleaseLock, true),
-    },
-    LockStory {
-        name: "a writer at poison",
-        room: 1,
-        rows: &future_at_a_lock!(LockCall::Ask(First), LockCall::Poison, false),
-    },
-    LockStory {
-        name: "a reader at poison",
-        room: 1,
-        rows: &future_at_a_lock!(LockCall::AskShare(First), LockCall::Poison, false),
-    },
-    // Calls that want the lock, or a share of it, while one owner has it; two calls after them find it poisoned.
-    LockStory {
-        name: "a writer's call at a release",
-        room: 1,
-        rows: &[
-            (LockCall::TryLock, Tried(Ok(()))),
-            (LockCall::LockBy(true), Answer(Some(Ok(true)))),
-        ],
-    },
-    LockStory {
-        name: "a reader's call at a release",
-        room: 1,
-        rows: &[
-            (LockCall::TryLock, Tried(Ok(()))),
-            (LockCall::ShareBy(true), Answer(Some(Ok(true)))),
-        ],
-    },
-    LockStory {
-        name: "a writer's call at poison",
-        room: 1,
-        rows: &[
-            (LockCall::TryLock, Tried(Ok(()))),
-            (LockCall::LockBy(false), Answer(Some(Ok(false)))),
-            (LockCall::LockNow, Answer(Some(Ok(false)))),
-            (LockCall::ShareNow, Answer(Some(Ok(false)))),
-        ],
-    },
-    LockStory {
-        name: "a reader's call at poison",
-        room: 1,
-        rows: &[
-            (LockCall::TryLock, Tried(Ok(()))),
-            (LockCall::ShareBy(false), Answer(Some(Ok(false)))),
-            (LockCall::LockNow, Answer(Some(Ok(false)))),
-            (LockCall::ShareNow, Answer(Some(Ok(false)))),
-        ],
-    },
-];
-
-pub(crate) static AT_A_SEMAPHORE: [SemaphoreStory; 1] = [
-    // Nothing is available, and one permit comes for the first; the others ask for none. Then two futures ask, one after the other.
-    SemaphoreStory {
-        name: "a grant by each poll",
-        permits: Some(0),
-        room: 6,
-        rows: &[
-            (SemaphoreCall::TryAcquireMany(0), Is(true)),
-            (SemaphoreCall::Register(First, 1, true), Asked(Ok(true))),
-            (SemaphoreCall::TryAcquireMany(0), Is(false)),
-            (SemaphoreCall::Register(Second, 0, true), Asked(Ok(true))),
-            (SemaphoreCall::Register(Third, 0, false), Asked(Ok(true))),
-            (SemaphoreCall::Register(Fourth, 0, false), Asked(Ok(true))),
-            (SemaphoreCall::OfPager(Fourth, Poll(First)), Granted(None)),
-            (SemaphoreCall::Release, Is(true)),
-            (
-                SemaphoreCall::OfPager(First, TryPoll),
-                Granted(Some(Ok(()))),
-            ),
-            (
-                SemaphoreCall::OfPager(Second, PollSync),
-                Granted(Some(Ok(()))),
-            ),
-            (
-                SemaphoreCall::OfPager(Third, PollAsync),
-                Granted(Some(Ok(()))),
-            ),
-            (
-                SemaphoreCall::OfPager(Fourth, Poll(First)),
-                Granted(Some(Ok(()))),
-            ),
-            (SemaphoreCall::AskOne(First), Nothing),
-            (SemaphoreCall::PollOne(First, First), Permit(None)),
-            (SemaphoreCall::Release, Is(true)),
-            (SemaphoreCall::PollOne(First, First), Permit(Some(Ok(())))),
-            (SemaphoreCall::AskMany(First, 1), Nothing),
-            (SemaphoreCall::PollMany(First, First), Answer(None)),
-            (SemaphoreCall::Release, Is(true)),
-            (
-                SemaphoreCall::PollMany(First, First),
-                Answer(Some(Ok(true))),
-            ),
-        ],
     },
 ];
 

@@ -1,18 +1,19 @@
 //! Tests of what becomes of a task's waker: each slot has a place of its own for it, it goes out with the mutex free, and none
 //! stays once an answer is taken.
 
-pub(crate) mod places;
 pub(crate) mod rooms;
 pub(crate) mod slots;
 pub(crate) mod wakers;
 
-use saa_sync::semaphore::Semaphore;
-use saa_sync::testing::{Counted, call_untold};
+use saa_core::Primitive;
+use saa_sync::gate::Gate;
+use saa_sync::testing::call_untold;
 use std::sync::Wait;
 
 // Answers the waiter, and takes the wake that is pending for that, but wakes nobody: the waker stays where it is.
-pub(crate) fn answer_untold<R: Wait + Drop>(semaphore: &Semaphore<R>) -> bool {
-    call_untold(&semaphore, |core| {
-        core.release_many(1) && core.next_answered().is_some()
-    })
+pub(crate) fn answer_untold<R: Wait + Drop>(gate: &Gate<R>) -> bool {
+    call_untold(
+        gate,
+        |core| core.permit() == Ok(1) && core.next_answered().is_some(),
+    )
 }

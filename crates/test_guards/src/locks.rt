@@ -1,38 +1,22 @@
 //! A mutex and a reader-writer lock round a number each, every way to ask for a guard of theirs, and what is had of it. They stand on any lock: the
 //! threaded one, or the lock-free one.
 
-use futures::Future;
-use futures::executor::block_on;
 use futures::task::Poll;
 use futures::test::MockTask;
-use saa_core::lock::LockCore;
 use saa_core::ticket::Full;
 use saa_core_guards::Guard;
 use saa_core_guards::future::{
     MutexFuture, ReadFuture, WriteFuture, lock_async, read_async, write_async,
 };
-use saa_core_guards::guarded::Guarded;
+use saa_core_guards::guarded::{Guarded, lock_of};
 use saa_core_guards::mutex::{Mutex, MutexGuard};
-use saa_core_guards::raw_lock::{RawLockAsync, RawLockUntil};
+use saa_core_guards::raw_lock::{MadeWith, RawLockAsync, RawLockUntil};
 use saa_core_guards::rw_lock::{RwLock, RwLockReadGuard, RwLockWriteGuard};
 use saa_sync::lock::Lock;
-use saa_sync::spin_policy::NONE;
-use saa_sync::testing::{WAITER, form_of};
 use saa_word_lock_free::lock::Lock as LockFree;
 use std::alloc::{AllocError, AllocGlobal};
-use std::random::RandomSource;
 use std::sync::Wait;
-use std::time::{Clock, Duration};
-use test_asserts::same;
-
-// Which lock the two stand on, and whether that is poisoned at first, as no lock of a mutex is but in these tests.
-#[derive(Clone, Copy)]
-pub(crate) enum Kind {
-    Threaded,
-    ThreadedPoisoned,
-    LockFree,
-    LockFreePoisoned,
-}
+use std::time::Duration;
 
 // Which guard is asked for.
 #[derive(Clone, Copy)]
@@ -42,92 +26,63 @@ pub(crate) enum Way {
     Write,
 }
 
-// Who waits for it.
-#[derive(Clone, Copy)]
-pub(crate) enum By {
-    Thread,
-    Task,
-    // A thread, until a time that never comes.
-    Timed,
+// How long the timed call waits, in seconds: none waits so long.
+const LONG: u64 = 50;
+
+// What a call for a guard gives: nothing, or the guard, or that there is no room.
+pub(crate) type Given<'s, L> = Option<Result<Held<'s, L>, Full>>;
+
+// A lock that tests poison, as no lock below a mutex or a reader-writer lock ever is.
+pub(crate) trait Poisoned {
+    fn poison(&self);
 }
 
-// How long a timed call waits, in seconds: none waits so long.
-const LONG: u64 = 50;
+impl<R: Wait + Drop> Poisoned for Lock<R> {
+    fn poison(&self) {
+        let _is_owned = self.try_lock();
+        self.poison_lock();
+    }
+}
+
+impl<R: Wait + Drop> Poisoned for LockFree<R> {
+    fn poison(&self) {
+        let _is_owned = self.try_lock();
+        self.poison_lock();
+    }
+}
 
 // A mutex and a reader-writer lock.
 #[derive(Drop)]
 pub(crate) struct Locks<L: RawLockAsync + RawLockUntil + Drop> {
-    pub(crate) mutex: Mutex<L, u64>,
-    pub(crate) rwlock: RwLock<L, u64>,
-}
-
-// Both threaded locks round this number, with room for so many waiters each.
-pub(crate) fn threaded<H: Wait + Clock + AllocGlobal>(
-    rt: &H,
-    number: u64,
-    room: u16,
-) -> Result<Locks<Lock<&H>>, AllocError> {
-    Ok(Locks {
-        mutex: Guarded::new(rt, rt.alloc(), number, room)?,
-        rwlock: Guarded::new(rt, rt.alloc(), number, room)?,
-    })
-}
-
-// Both lock-free ones.
-pub(crate) fn lock_free<H: Wait + Clock + AllocGlobal>(
-    rt: &H,
-    number: u64,
-    room: u16,
-) -> Result<Locks<LockFree<&H>>, AllocError> {
-    Ok(Locks {
-        mutex: Guarded::new(rt, rt.alloc(), number, room)?,
-        rwlock: Guarded::new(rt, rt.alloc(), number, room)?,
-    })
-}
-
-// A lock of this room that is poisoned.
-fn poisoned<H: Wait + AllocGlobal>(rt: &H, room: u16) -> Result<Lock<&H>, AllocError> {
-    let mut core = LockCore::new(rt.alloc(), room)?;
-    let _is_owned = core.try_lock();
-    core.poison_lock();
-    form_of(rt, rt.alloc(), core, room, NONE, WAITER)
-}
-
-fn poisoned_lock_free<H: Wait + AllocGlobal>(
-    rt: &H,
-    room: u16,
-) -> Result<LockFree<&H>, AllocError> {
-    let lock = LockFree::with_spin_policy(rt, rt.alloc(), room, NONE)?;
-    let _is_owned = lock.try_lock();
-    lock.poison_lock();
-    Ok(lock)
-}
-
-// As `threaded`, with locks that are poisoned.
-pub(crate) fn threaded_poisoned<H: Wait + Clock + AllocGlobal>(
-    rt: &H,
-    number: u64,
-    room: u16,
-) -> Result<Locks<Lock<&H>>, AllocError> {
-    Ok(Locks {
-        mutex: Guarded::of_lock(poisoned(rt, room)?, number),
-        rwlock: Guarded::of_lock(poisoned(rt, room)?, number),
-    })
-}
-
-// As `lock_free`, with locks that are poisoned.
-pub(crate) fn lock_free_poisoned<H: Wait + Clock + AllocGlobal>(
-    rt: &H,
-    number: u64,
-    room: u16,
-) -> Result<Locks<LockFree<&H>>, AllocError> {
-    Ok(Locks {
-        mutex: Guarded::of_lock(poisoned_lock_free(rt, room)?, number),
-        rwlock: Guarded::of_lock(poisoned_lock_free(rt, room)?, number),
-    })
+    mutex: Mutex<L, u64>,
+    rwlock: RwLock<L, u64>,
 }
 
 impl<L: RawLockAsync + RawLockUntil + Drop> Locks<L> {
+    // Both locks round this number, with room for so many waiters each.
+    pub(crate) fn new<'h, H: AllocGlobal>(
+        rt: &'h H,
+        number: u64,
+        room: u16,
+    ) -> Result<Self, AllocError>
+    where
+        L: MadeWith<&'h H>,
+    {
+        Ok(Locks {
+            mutex: Guarded::new(rt, rt.alloc(), number, room)?,
+            rwlock: Guarded::new(rt, rt.alloc(), number, room)?,
+        })
+    }
+
+    // Poisons both.
+    pub(crate) fn poison(&self)
+    where
+        L: Poisoned,
+    {
+        lock_of(&self.mutex).poison();
+        lock_of(&self.rwlock).poison();
+    }
+
     // The guard, by the call that waits for it.
     pub(crate) fn wait(&self, way: Way) -> Result<Held<'_, L>, Full> {
         Ok(match way {
@@ -137,13 +92,22 @@ impl<L: RawLockAsync + RawLockUntil + Drop> Locks<L> {
         })
     }
 
+    // The mutex's guard, by the call that waits for it in time.
+    pub(crate) fn lock_for(&self) -> Given<'_, L> {
+        match self.mutex.lock_for(Duration::from_secs(LONG)) {
+            Ok(Some(guard)) => Some(Ok(Held::Mutex(guard))),
+            Ok(None) => None,
+            Err(full) => Some(Err(full)),
+        }
+    }
+
     // The guard, if it is had at once.
-    pub(crate) fn attempt(&self, way: Way) -> Option<Held<'_, L>> {
-        Some(match way {
+    pub(crate) fn attempt(&self, way: Way) -> Given<'_, L> {
+        Some(Ok(match way {
             Way::Lock => Held::Mutex(self.mutex.try_lock()?),
             Way::Read => Held::Reader(self.rwlock.try_read()?),
             Way::Write => Held::Writer(self.rwlock.try_write()?),
-        })
+        }))
     }
 
     // The future of the guard.
@@ -154,78 +118,6 @@ impl<L: RawLockAsync + RawLockUntil + Drop> Locks<L> {
             Way::Write => Asked::Writer(write_async(&self.rwlock)),
         }
     }
-
-    // The guard, by the call that waits for it in time.
-    fn wait_for(&self, way: Way) -> Option<Held<'_, L>> {
-        let long = Duration::from_secs(LONG);
-        Some(match way {
-            Way::Lock => Held::Mutex(self.mutex.lock_for(long).ok()??),
-            Way::Read => Held::Reader(self.rwlock.read_for(long).ok()??),
-            Way::Write => Held::Writer(self.rwlock.write_for(long).ok()??),
-        })
-    }
-
-    // The guard, by an executor that waits for its future.
-    fn block_on<H: Wait + Clock + RandomSource + AllocGlobal>(
-        &self,
-        rt: &H,
-        way: Way,
-    ) -> Option<Held<'_, L>> {
-        Some(match way {
-            Way::Lock => Held::Mutex(awaited(rt, lock_async(&self.mutex))?),
-            Way::Read => Held::Reader(awaited(rt, read_async(&self.rwlock))?),
-            Way::Write => Held::Writer(awaited(rt, write_async(&self.rwlock))?),
-        })
-    }
-
-    // The guard, waited for by a thread or a task.
-    pub(crate) fn wait_by<H: Wait + Clock + RandomSource + AllocGlobal>(
-        &self,
-        rt: &H,
-        by: By,
-        way: Way,
-    ) -> Option<Held<'_, L>> {
-        match by {
-            By::Thread => self.wait(way).ok(),
-            By::Task => self.block_on(rt, way),
-            By::Timed => self.wait_for(way),
-        }
-    }
-
-    // Writes this number behind both, with no guard.
-    fn set(&mut self, number: u64) {
-        *self.mutex.get_mut() = number;
-        *self.rwlock.get_mut() = number;
-    }
-
-    // The numbers behind both, with no guard.
-    fn get(&mut self) -> (u64, u64) {
-        (*self.mutex.get_mut(), *self.rwlock.get_mut())
-    }
-
-    // The numbers behind both, which nobody uses any more.
-    pub(crate) fn into_inner(self) -> (u64, u64) {
-        let Locks { mutex, rwlock } = self;
-        (mutex.into_inner(), rwlock.into_inner())
-    }
-
-    // Writes this number through a guard of this way, if one is had at once; what the guard showed before.
-    fn put(&self, way: Way, number: u64) -> Option<u64> {
-        let mut held = self.attempt(way)?;
-        let shown = held.shown();
-        held.put(number);
-        Some(shown)
-    }
-}
-
-// The guard that an executor gets of its future.
-fn awaited<H, G: Drop, F>(rt: &H, future: F) -> Option<G>
-where
-    H: Wait + Clock + RandomSource + AllocGlobal,
-    F: Future<Output = Result<G, Full>>,
-    requires { F.can_poll future }
-{
-    block_on(rt, future).ok()?.ok()
 }
 
 // A guard of either lock.
@@ -264,12 +156,14 @@ impl<'s, L: RawLockAsync + RawLockUntil + Drop> Held<'s, L> {
         }
     }
 
-    // Gives it up by the call for that.
-    pub(crate) fn unlock_fair(self) {
+    // Gives a mutex's guard up by the call for that, which is one for all guards; whether it is one.
+    pub(crate) fn unlock_fair(self) -> bool {
         match self {
-            Held::Mutex(guard) => Guard::unlock_fair(guard),
-            Held::Reader(guard) => Guard::unlock_fair(guard),
-            Held::Writer(guard) => Guard::unlock_fair(guard),
+            Held::Mutex(guard) => {
+                Guard::unlock_fair(guard);
+                true
+            }
+            _ => false,
         }
     }
 }
@@ -284,7 +178,7 @@ pub(crate) enum Asked<'s, L: RawLockAsync + RawLockUntil + Drop> {
 
 impl<'s, L: RawLockAsync + RawLockUntil + Drop> Asked<'s, L> {
     // What a poll by this task gives, if it is ready.
-    pub(crate) fn poll(&mut self, task: &MockTask) -> Option<Result<Held<'s, L>, Full>> {
+    pub(crate) fn poll(&mut self, task: &MockTask) -> Given<'s, L> {
         Some(match self {
             Asked::Mutex(future) => match ready(task.poll(future))? {
                 Ok(guard) => Ok(Held::Mutex(guard)),
@@ -308,30 +202,4 @@ fn ready<T>(polled: Poll<T>) -> Option<T> {
         Poll::Ready(value) => Some(value),
         Poll::Pending => None,
     }
-}
-
-// What stands behind both locks at first, what guards show of another number, what stands there once they wrote, and a last number.
-type Numbers = ((u64, u64), [Option<u64>; 3], (u64, u64), (u64, u64));
-
-fn numbers<L: RawLockAsync + RawLockUntil + Drop>(mut locks: Locks<L>) -> Numbers {
-    let first = locks.get();
-    locks.set(6);
-    let shown = [
-        locks.put(Way::Read, 7),
-        locks.put(Way::Lock, 7),
-        locks.put(Way::Write, 7),
-    ];
-    let written = locks.get();
-    locks.set(8);
-    (first, shown, written, locks.into_inner())
-}
-
-// The numbers of both kinds of locks.
-fn numbers_of_both<H: Wait + Clock + AllocGlobal>(rt: &H) -> Result<[Numbers; 2], AllocError> {
-    Ok([numbers(threaded(rt, 5, 0)?), numbers(lock_free(rt, 5, 0)?)])
-}
-
-#[test]
-fn the_numbers_of_locks_that_nobody_else_has(rt: HostRuntime) {
-    same!(rt; numbers_of_both(&rt), Ok([((5, 5), [Some(6); 3], (7, 7), (8, 8)); 2]));
 }

@@ -86,60 +86,28 @@ pub fn put_to_read<L: RawLock + Drop>(rwlock: &RwLock<L, u64>, number: u64) -> R
 
 #[cfg(test)]
 mod tests {
-    use super::{Pair, load, put, put_to_read, read, store, write};
-    use saa_core::ticket::Full;
+    use saa_core_guards::guarded::Guarded;
     use saa_core_guards::mutex::Mutex;
     use saa_core_guards::raw_lock::RawLock;
-    use saa_core_guards::rw_lock::RwLock;
     use saa_sync::lock::Lock;
-    use saa_word_lock_free::lock::Lock as LockFree;
     use std::alloc::{AllocError, AllocGlobal};
     use std::sync::Wait;
     use test_asserts::same;
 
-    // The pairs behind both locks, before 7 and 8 are written there and afterwards.
-    fn loaded<L: RawLock + Drop>(
-        mutex: &Mutex<L, Pair>,
-        rwlock: &RwLock<L, Pair>,
-    ) -> Result<[(u64, u64); 4], Full> {
-        let before = (load(mutex)?, read(rwlock)?);
-        store(mutex, 7)?;
-        write(rwlock, 8)?;
-        Ok([before.0, before.1, load(mutex)?, read(rwlock)?])
+    // What stands behind a lock of either kind, and what does once another number is written there with no guard.
+    fn renewed<L: RawLock + Drop, K>(mut guarded: Guarded<L, u64, K>) -> [u64; 2] {
+        let first = *guarded.get_mut();
+        *guarded.get_mut() = 6;
+        [first, guarded.into_inner()]
     }
 
-    fn pairs<H: Wait + AllocGlobal>(rt: &H) -> Result<Result<[(u64, u64); 4], Full>, AllocError> {
-        let mutex: Mutex<Lock<&H>, Pair> = Mutex::new(rt, rt.alloc(), Pair::new(3), 1)?;
-        let rwlock: RwLock<Lock<&H>, Pair> = RwLock::new(rt, rt.alloc(), Pair::new(4), 1)?;
-        Ok(loaded(&mutex, &rwlock))
-    }
-
-    fn lock_free_pairs<H: Wait + AllocGlobal>(
-        rt: &H,
-    ) -> Result<Result<[(u64, u64); 4], Full>, AllocError> {
-        let mutex: Mutex<LockFree<&H>, Pair> = Mutex::new(rt, rt.alloc(), Pair::new(3), 1)?;
-        let rwlock: RwLock<LockFree<&H>, Pair> = RwLock::new(rt, rt.alloc(), Pair::new(4), 1)?;
-        Ok(loaded(&mutex, &rwlock))
+    fn renewed_mutex<H: Wait + AllocGlobal>(rt: &H) -> Result<[u64; 2], AllocError> {
+        let mutex: Mutex<Lock<&H>, u64> = Mutex::new(rt, rt.alloc(), 5, 0)?;
+        Ok(renewed(mutex))
     }
 
     #[test]
-    fn a_pair_behind_each_lock(rt: HostRuntime) {
-        same!(rt; pairs(&rt), Ok(Ok([(3, 3), (4, 4), (7, 7), (8, 8)])));
-        same!(rt; lock_free_pairs(&rt), Ok(Ok([(3, 3), (4, 4), (7, 7), (8, 8)])));
-    }
-
-    // What is shown once it is put behind both locks, and what stands there in the end.
-    type Shown = ([Result<u64, Full>; 2], [u64; 2]);
-
-    fn shown<H: Wait + AllocGlobal>(rt: &H) -> Result<Shown, AllocError> {
-        let mutex: Mutex<Lock<&H>, u64> = Mutex::new(rt, rt.alloc(), 3, 0)?;
-        let rwlock: RwLock<LockFree<&H>, u64> = RwLock::new(rt, rt.alloc(), 3, 0)?;
-        let shown = [put(&mutex, 5), put_to_read(&rwlock, 6)];
-        Ok((shown, [mutex.into_inner(), rwlock.into_inner()]))
-    }
-
-    #[test]
-    fn a_number_that_was_put_is_shown(rt: HostRuntime) {
-        same!(rt; shown(&rt), Ok(([Ok(5), Ok(6)], [5, 6])));
+    fn a_number_that_nobody_else_has(rt: HostRuntime) {
+        same!(rt; renewed_mutex(&rt), Ok([5, 6]));
     }
 }

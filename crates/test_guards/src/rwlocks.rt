@@ -1,11 +1,11 @@
 //! The reader-writer lock in one thread: readers share it, a writer is alone.
 
 use crate::locks::Way::{Read, Write};
-use crate::stories::Act::{Ends, Lowers, Puts, Shows, Tries, UnlocksFairly, Waits};
+use crate::stories::Act::{Ends, Lowers, Puts, Shows, Tries, Waits};
 use crate::stories::Who::{Crowd, One, Three, Two};
 use crate::stories::{FULL, Row, Story};
 
-pub(crate) const STORIES: [Story; 5] = [
+pub(crate) const STORIES: [Story; 4] = [
     Story {
         name: "readers share and a writer is alone",
         number: 0,
@@ -33,13 +33,6 @@ pub(crate) const STORIES: [Story; 5] = [
         room: 4,
         crowd: 0,
         rows: &LOWERED,
-    },
-    Story {
-        name: "a fair unlock lets the next waiter in",
-        number: 5,
-        room: 0,
-        crowd: 0,
-        rows: &UNLOCKED_FAIRLY,
     },
 ];
 
@@ -103,13 +96,4 @@ const LOWERED: [Row; 12] = [
     (One, Puts(2)),
     (One, Ends),
     (One, Tries(Read, Some(Ok(2)))),
-];
-
-const UNLOCKED_FAIRLY: [Row; 6] = [
-    (One, Tries(Read, Some(Ok(5)))),
-    (One, UnlocksFairly),
-    (One, Tries(Write, Some(Ok(5)))),
-    (One, Puts(6)),
-    (One, UnlocksFairly),
-    (One, Tries(Read, Some(Ok(6)))),
 ];

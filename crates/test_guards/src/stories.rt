@@ -2,13 +2,13 @@
 //!
 //! A call that stands in a test's text is proved there anew; one that stands in a row of a table is data, and costs no proof.
 
-use crate::locks::{
-    Asked, Held, Kind, Locks, Way, lock_free, lock_free_poisoned, threaded, threaded_poisoned,
-};
+use crate::locks::{Asked, Given, Held, Locks, Poisoned, Way};
 use crate::{mutexes, poisoned, rooms, rwlocks, tasks};
 use futures::test::MockTask;
 use saa_core::ticket::Full;
 use saa_core_guards::raw_lock::{RawLockAsync, RawLockUntil};
+use saa_sync::lock::Lock;
+use saa_word_lock_free::lock::Lock as LockFree;
 use std::alloc::AllocGlobal;
 use std::io;
 use std::random::RandomSource;
@@ -90,8 +90,8 @@ impl<'s, L: RawLockAsync + RawLockUntil + Drop> Place<'s, L> {
     }
 
     // Keeps the guard that was given; what was told.
-    fn keep(&mut self, told: Option<Result<Held<'s, L>, Full>>) -> Told {
-        match told? {
+    fn keep(&mut self, given: Given<'s, L>) -> Told {
+        match given? {
             Ok(held) => {
                 let shown = held.shown();
                 self.held = Some(held);
@@ -99,10 +99,6 @@ impl<'s, L: RawLockAsync + RawLockUntil + Drop> Place<'s, L> {
             }
             Err(full) => Some(Err(full)),
         }
-    }
-
-    fn try_it(&mut self, told: Option<Held<'s, L>>) -> Told {
-        self.keep(Some(Ok(told?)))
     }
 
     fn ask(&mut self, asked: Asked<'s, L>) -> Told {
@@ -144,10 +140,7 @@ impl<'s, L: RawLockAsync + RawLockUntil + Drop> Place<'s, L> {
 
     fn unlock(&mut self) -> bool {
         match self.held.take() {
-            Some(held) => {
-                held.unlock_fair();
-                true
-            }
+            Some(held) => held.unlock_fair(),
             None => false,
         }
     }
@@ -164,7 +157,7 @@ impl<'s, L: RawLockAsync + RawLockUntil + Drop> Place<'s, L> {
     fn does(&mut self, locks: &'s Locks<L>, act: Act) -> bool {
         match act {
             Act::Waits(way, wanted) => self.keep(Some(locks.wait(way))) == wanted,
-            Act::Tries(way, wanted) => self.try_it(locks.attempt(way)) == wanted,
+            Act::Tries(way, wanted) => self.keep(locks.attempt(way)) == wanted,
             Act::Asks(way, wanted) => self.ask(locks.ask(way)) == wanted,
             Act::Polls(wanted) => self.poll() == wanted,
             Act::IsWoken(wanted) => self.task.is_woken() == wanted,
@@ -178,137 +171,101 @@ impl<'s, L: RawLockAsync + RawLockUntil + Drop> Place<'s, L> {
     }
 }
 
-// Both locks, and the tasks that use them.
-#[derive(Drop)]
-pub(crate) struct Stage<'s, L: RawLockAsync + RawLockUntil + Drop> {
+// The places of these tasks of so many, from one up to another.
+fn places_of(who: Who, all: usize) -> (usize, usize) {
+    match who {
+        Who::One => (0, 1),
+        Who::Two => (1, 2),
+        Who::Three => (2, 3),
+        Who::Four => (3, 4),
+        Who::Crowd => (FEW, all),
+    }
+}
+
+// Plays a row; whether all is told as it must be.
+fn plays<'s, L: RawLockAsync + RawLockUntil + Drop>(
     locks: &'s Locks<L>,
-    places: Vec<Place<'s, L>>,
-}
-
-impl<'s, L: RawLockAsync + RawLockUntil + Drop> Stage<'s, L> {
-    // The tasks of a story with so large a crowd.
-    pub(crate) fn new<H: RandomSource + AllocGlobal>(
-        rt: &H,
-        locks: &'s Locks<L>,
-        crowd: u16,
-    ) -> io::Result<Self> {
-        let mut places = Vec::new(rt.alloc());
-        for _place in 0..FEW + usize::from(crowd) {
-            places.push(Place::new(rt)?)?;
-        }
-        Ok(Stage { locks, places })
-    }
-
-    // The places of these tasks, from one up to another.
-    fn places_of(&self, who: Who) -> (usize, usize) {
-        match who {
-            Who::One => (0, 1),
-            Who::Two => (1, 2),
-            Who::Three => (2, 3),
-            Who::Four => (3, 4),
-            Who::Crowd => (FEW, self.places.len()),
-        }
-    }
-
-    // Has the task at this place do this; whether it is told what it must be.
-    fn does(&mut self, place: usize, act: Act) -> bool {
-        match self.places.get_mut(place) {
-            Some(place) => place.does(self.locks, act),
+    places: &mut Vec<Place<'s, L>>,
+    row: Row,
+) -> bool {
+    let (from, to) = places_of(row.0, places.len());
+    for place in from..to {
+        let is_right = match places.get_mut(place) {
+            Some(place) => place.does(locks, row.1),
             None => false,
+        };
+        if !is_right {
+            return false;
         }
     }
-
-    // What the task here is told whose future is polled.
-    pub(crate) fn poll(&mut self, who: Who) -> Told {
-        let (first, _) = self.places_of(who);
-        match self.places.get_mut(first) {
-            Some(place) => place.poll(),
-            None => Some(Ok(NOTHING)),
-        }
-    }
-
-    // Plays a row; whether all is told as it must be.
-    pub(crate) fn plays(&mut self, row: Row) -> bool {
-        let (from, to) = self.places_of(row.0);
-        for place in from..to {
-            if !self.does(place, row.1) {
-                return false;
-            }
-        }
-        true
-    }
-
-    // Plays these rows; the first that was told otherwise, counted from 0.
-    pub(crate) fn first_other(&mut self, rows: &[Row]) -> Option<usize> {
-        for (place, row) in rows.iter().enumerate() {
-            if !self.plays(*row) {
-                return Some(place);
-            }
-        }
-        None
-    }
+    true
 }
 
-// The first of these rows that was told otherwise at these locks.
-fn first_at<H: RandomSource + AllocGlobal, L: RawLockAsync + RawLockUntil + Drop>(
+// The tasks of a story with so large a crowd.
+fn tasks_of<'s, H: RandomSource + AllocGlobal, L: RawLockAsync + RawLockUntil + Drop>(
+    rt: &H,
+    crowd: u16,
+) -> io::Result<Vec<Place<'s, L>>> {
+    let mut places = Vec::new(rt.alloc());
+    for _place in 0..FEW + usize::from(crowd) {
+        places.push(Place::new(rt)?)?;
+    }
+    Ok(places)
+}
+
+// The first row of a story that was told otherwise at these new locks, counted from 0.
+fn first_row<H: RandomSource + AllocGlobal, L: RawLockAsync + RawLockUntil + Poisoned + Drop>(
     rt: &H,
     locks: &Locks<L>,
+    are_poisoned: bool,
     story: &Story,
 ) -> io::Result<Option<usize>> {
-    let mut stage = Stage::new(rt, locks, story.crowd)?;
-    Ok(stage.first_other(story.rows))
-}
-
-// The first row of a story that was told otherwise, at locks of this kind.
-fn first_row<H: Wait + Clock + RandomSource + AllocGlobal>(
-    rt: &H,
-    kind: Kind,
-    story: &Story,
-) -> io::Result<Option<usize>> {
-    let (number, room) = (story.number, story.room);
-    match kind {
-        Kind::Threaded => first_at(rt, &threaded(rt, number, room)?, story),
-        Kind::ThreadedPoisoned => first_at(rt, &threaded_poisoned(rt, number, room)?, story),
-        Kind::LockFree => first_at(rt, &lock_free(rt, number, room)?, story),
-        Kind::LockFreePoisoned => first_at(rt, &lock_free_poisoned(rt, number, room)?, story),
+    if are_poisoned {
+        locks.poison();
     }
-}
-
-// The first of these stories in which a row was told otherwise, and that row.
-fn first_story<H: Wait + Clock + RandomSource + AllocGlobal>(
-    rt: &H,
-    kind: Kind,
-    stories: &[Story],
-) -> io::Result<Option<(&'static str, usize)>> {
-    for story in stories {
-        if let Some(row) = first_row(rt, kind, story)? {
-            return Ok(Some((story.name, row)));
+    let mut places = tasks_of(rt, story.crowd)?;
+    for (place, row) in story.rows.iter().enumerate() {
+        if !plays(locks, &mut places, *row) {
+            return Ok(Some(place));
         }
     }
     Ok(None)
 }
 
-// The stories, and of which kind the locks are: each story is told at both.
-const ALL: [(Kind, &[Story]); 10] = [
-    (Kind::Threaded, &mutexes::STORIES),
-    (Kind::Threaded, &rwlocks::STORIES),
-    (Kind::Threaded, &tasks::STORIES),
-    (Kind::Threaded, &rooms::STORIES),
-    (Kind::ThreadedPoisoned, &poisoned::STORIES),
-    (Kind::LockFree, &mutexes::STORIES),
-    (Kind::LockFree, &rwlocks::STORIES),
-    (Kind::LockFree, &tasks::STORIES),
-    (Kind::LockFree, &rooms::STORIES),
-    (Kind::LockFreePoisoned, &poisoned::STORIES),
+// The stories, and whether the locks are poisoned.
+static ALL: [(bool, &[Story]); 5] = [
+    (false, &mutexes::STORIES),
+    (false, &rwlocks::STORIES),
+    (false, &tasks::STORIES),
+    (false, &rooms::STORIES),
+    (true, &poisoned::STORIES),
 ];
 
-// The same of all stories.
-fn first_of_all<H: Wait + Clock + RandomSource + AllocGlobal>(
+// The first of all stories in which a row was told otherwise, and that row, each at new locks of one kind. (Each kind by itself: the borrow checker
+// covers no function that makes any lock and knows a story.)
+fn first_threaded<H: Wait + Clock + RandomSource + AllocGlobal>(
     rt: &H,
-) -> io::Result<Option<(usize, (&'static str, usize))>> {
-    for (place, (kind, stories)) in ALL.iter().enumerate() {
-        if let Some(first) = first_story(rt, *kind, stories)? {
-            return Ok(Some((place, first)));
+) -> io::Result<Option<(&'static str, usize)>> {
+    for (are_poisoned, stories) in &ALL {
+        for story in *stories {
+            let locks: Locks<Lock<&H>> = Locks::new(rt, story.number, story.room)?;
+            if let Some(row) = first_row(rt, &locks, *are_poisoned, story)? {
+                return Ok(Some((story.name, row)));
+            }
+        }
+    }
+    Ok(None)
+}
+
+fn first_lock_free<H: Wait + Clock + RandomSource + AllocGlobal>(
+    rt: &H,
+) -> io::Result<Option<(&'static str, usize)>> {
+    for (are_poisoned, stories) in &ALL {
+        for story in *stories {
+            let locks: Locks<LockFree<&H>> = Locks::new(rt, story.number, story.room)?;
+            if let Some(row) = first_row(rt, &locks, *are_poisoned, story)? {
+                return Ok(Some((story.name, row)));
+            }
         }
     }
     Ok(None)
@@ -316,5 +273,6 @@ fn first_of_all<H: Wait + Clock + RandomSource + AllocGlobal>(
 
 #[test]
 fn stories_are_told(rt: HostRuntime) {
-    same!(rt; first_of_all(&rt).ok(), Some(None));
+    same!(rt; first_threaded(&rt).ok(), Some(None));
+    same!(rt; first_lock_free(&rt).ok(), Some(None));
 }

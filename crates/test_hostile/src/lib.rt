@@ -15,6 +15,4 @@ mod model;
 #[cfg(test)]
 mod orders;
 #[cfg(test)]
-mod threaded;
-#[cfg(test)]
 mod tickets;

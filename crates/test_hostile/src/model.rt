@@ -283,11 +283,6 @@ impl Model {
         Ok(true)
     }
 
-    /// Whether a poll of this name as sync would wait.
-    pub fn would_wait(&self, name: u16) -> bool {
-        matches!(self.entry(name), Entry::Waiting { is_sync: true, .. })
-    }
-
     /// Polls a name for its answer.
     pub fn poll(&mut self, name: u16, how: How) -> Result<u8, Error> {
         match self.entry(name) {

@@ -1,12 +1,11 @@
 //! The locks of the stories: the lock-free one and the threaded one, by the calls that both have under the same names.
 
-use crate::locks::Call::*;
-use crate::locks::{Call, End};
+use crate::calls::Call::*;
+use crate::calls::{Ask, Call, End};
+use crate::forms::{AnyForm, Asks, Pages};
 use crate::told::{Tells, Told};
-use crate::waits::{Pages, polled_twice};
-use futures::test::MockTask;
 use saa_core_spec::request::Full;
-use saa_core_waits::{Acquiring, Pager, Pends};
+use saa_core_waits::{Acquiring, AcquiringWith, Pager};
 use saa_sync::future::lock as threaded_future;
 use saa_sync::lock::Lock as Threaded;
 use saa_sync::pager::Ticket;
@@ -15,93 +14,30 @@ use saa_word_lock_free::lock::Lock as LockFree;
 use saa_word_lock_free::registration::Registration;
 use saa_word_threads::lock::{Lock as Word, Mode};
 use std::sync::Wait;
-use std::sync::atomic::Ordering;
+use std::sync::atomic::Ordering::SeqCst;
 use std::time::{Clock, Duration, Instant};
 
-/// A lock as stories call it. Each call is answered by what it tells, and `Nothing` where it is of another kind.
-pub(crate) trait AnyLock {
-    /// Readings.
-    fn look(&self, call: Call) -> Told;
-
-    /// Tries.
-    fn at_once(&self, call: Call) -> Told;
-
-    /// Ends a turn so.
-    fn end(&self, end: End) -> Told;
-
-    /// The same by the call with a receipt.
-    fn end_witnessed(&self, end: End) -> Told;
-
-    /// Clears the lock of poison.
-    fn clear(&self) -> Told;
-
-    /// Calls that may block.
-    fn wait_for(&self, call: Call) -> Told;
-
-    /// The same with a callback: alone, or for a share.
-    fn wait_with<F: FnOnce() + Drop>(&self, is_shared: bool, begin_wait: F) -> Told
-        requires { F.pre begin_wait };
-
-    /// Timed calls, which wait so long or until then.
-    fn wait_in_time(&self, call: Call, long: Duration, end: Instant) -> Told;
-}
-
-/// A lock at which stories ask by futures.
-pub(crate) trait TurnFutures<Q>: Pends {
-    fn ask(&self, is_shared: bool) -> Acquiring<'_, Self, Q>;
-
-    /// What a future with a callback tells a task that polls it, twice at most.
-    fn ask_with<F: FnOnce() + Drop>(&self, task: &MockTask, is_shared: bool, begin_wait: F) -> Told
-        requires { (callback : F) → F.pre callback };
-}
-
-impl<R: Wait + Clock + Drop> AnyLock for LockFree<R> {
-    fn look(&self, call: Call) -> Told {
+impl<R: Wait + Clock + Drop> AnyForm for LockFree<R> {
+    fn call(&self, call: Call) -> Told {
         match call {
-            IsFree => self.is_free(Ordering::SeqCst).told(),
-            IsLocked => self.is_locked(Ordering::SeqCst).told(),
-            IsShared => self.is_shared(Ordering::SeqCst).told(),
-            IsPoisoned => self.is_poisoned(Ordering::SeqCst).told(),
-            _ => Told::Nothing,
-        }
-    }
-
-    fn at_once(&self, call: Call) -> Told {
-        match call {
+            IsFree => self.is_free(SeqCst).told(),
+            IsLocked => self.is_locked(SeqCst).told(),
+            IsShared => self.is_shared(SeqCst).told(),
+            IsPoisoned => self.is_poisoned(SeqCst).told(),
             TryLock => self.try_lock().told(),
             TryShare => self.try_share().told(),
-            TryWitnessed(mode) => self.try_witnessed(mode).0.told(),
-            _ => Told::Nothing,
-        }
-    }
-
-    fn end(&self, end: End) -> Told {
-        match end {
-            End::Release => self.release_lock().told(),
-            End::ReleaseShare => self.release_share().told(),
-            End::Downgrade => self.downgrade().told(),
-            End::Poison => self.poison_lock().told(),
-        }
-    }
-
-    fn end_witnessed(&self, end: End) -> Told {
-        let (is_ended, _receipt) = match end {
-            End::Release => self.release_lock_witnessed(),
-            End::ReleaseShare => self.release_share_witnessed(),
-            End::Downgrade => self.downgrade_witnessed(),
-            End::Poison => self.poison_lock_witnessed(),
-        };
-        is_ended.told()
-    }
-
-    fn clear(&self) -> Told {
-        self.clear_poison().told()
-    }
-
-    fn wait_for(&self, call: Call) -> Told {
-        match call {
+            ReleaseLock => self.release_lock().told(),
+            ReleaseShare => self.release_share().told(),
+            Downgrade => self.downgrade().told(),
+            PoisonLock => self.poison_lock().told(),
+            ClearPoison => self.clear_poison().told(),
             TakeLock => self.lock_sync().told(),
             TakeShare => self.share_sync().told(),
+            TryMode(mode) => self.try_witnessed(mode).0.told(),
+            Witnessed(End::Release) => self.release_lock_witnessed().0.told(),
+            Witnessed(End::ReleaseShare) => self.release_share_witnessed().0.told(),
+            Witnessed(End::Downgrade) => self.downgrade_witnessed().0.told(),
+            Witnessed(End::Poison) => self.poison_lock_witnessed().0.told(),
             TakeWitnessed(mode) => match self.take_witnessed(mode) {
                 Ok((value, _receipt)) => Told::Count(usize::from(value)),
                 Err(_no_place) => Told::Full,
@@ -110,15 +46,7 @@ impl<R: Wait + Clock + Drop> AnyLock for LockFree<R> {
         }
     }
 
-    fn wait_with<F: FnOnce() + Drop>(&self, is_shared: bool, begin_wait: F) -> Told {
-        if is_shared {
-            self.share_sync_with(begin_wait).told()
-        } else {
-            self.lock_sync_with(begin_wait).told()
-        }
-    }
-
-    fn wait_in_time(&self, call: Call, long: Duration, end: Instant) -> Told {
+    fn call_in_time(&self, call: Call, long: Duration, end: Instant) -> Told {
         match call {
             LockFor => self.lock_sync_for(long).told(),
             LockUntil => self.lock_sync_until(end).told(),
@@ -127,39 +55,61 @@ impl<R: Wait + Clock + Drop> AnyLock for LockFree<R> {
             _ => Told::Nothing,
         }
     }
+
+    fn wait_with<F: FnOnce() + Drop>(&self, count: Option<usize>, begin_wait: F) -> Told {
+        match count {
+            Some(_) => self.share_sync_with(begin_wait).told(),
+            None => self.lock_sync_with(begin_wait).told(),
+        }
+    }
 }
 
-impl<R: Wait + Clock + Drop> Pages<Registration<Word>, Mode> for LockFree<R> {
+impl<R: Wait + Clock + Drop> Pages<Registration<Word>> for LockFree<R> {
     fn enroll<'s>(
         &'s self,
         pager: &mut Pager<'s, Self, Registration<Word>>,
-        mode: Mode,
+        ask: Ask,
         is_sync: bool,
     ) -> Result<bool, Full> {
+        let Ask::Turn(mode) = ask else {
+            return Ok(false);
+        };
         self.register_pager(pager, mode, is_sync)
+    }
+
+    fn with_permit<'s>(
+        &'s self,
+        _call: Call,
+        _long: Duration,
+        _end: Instant,
+        _pager: &mut Pager<'s, Self, Registration<Word>>,
+    ) -> Told {
+        Told::Nothing
     }
 }
 
-impl<R: Wait + Drop> TurnFutures<lock_free_future::Turn> for LockFree<R> {
-    fn ask(&self, is_shared: bool) -> Acquiring<'_, Self, lock_free_future::Turn> {
-        if is_shared {
-            self.share_async()
-        } else {
-            self.lock_async()
-        }
+impl<R: Wait + Drop> Asks<lock_free_future::Turn, lock_free_future::Turn> for LockFree<R> {
+    fn ask_one(&self) -> Acquiring<'_, Self, lock_free_future::Turn> {
+        self.lock_async()
     }
 
-    fn ask_with<F: FnOnce() + Drop>(
+    fn ask_many(&self, _count: usize) -> Acquiring<'_, Self, lock_free_future::Turn> {
+        self.share_async()
+    }
+
+    fn ask_one_with<F: FnOnce() + Drop>(
         &self,
-        task: &MockTask,
-        is_shared: bool,
         begin_wait: F,
-    ) -> Told {
-        if is_shared {
-            polled_twice(task, self.share_async_with(begin_wait))
-        } else {
-            polled_twice(task, self.lock_async_with(begin_wait))
-        }
+    ) -> AcquiringWith<'_, Self, lock_free_future::Turn, F> {
+        self.lock_async_with(begin_wait)
+    }
+
+    fn ask_many_with<F: FnOnce() + Drop>(
+        &self,
+        _count: usize,
+        begin_wait: F,
+    ) -> AcquiringWith<'_, Self, lock_free_future::Turn, F> {
+        self.share_async_with(begin_wait)
     }
 }
 
@@ -177,64 +127,32 @@ fn numbered(told: Result<bool, Full>) -> Told {
     }
 }
 
-// It has no calls with receipts, and answers these by its plain ones; there is none for a wait mode.
-impl<R: Wait + Clock + Drop> AnyLock for Threaded<R> {
-    fn look(&self, call: Call) -> Told {
+// It has no calls with receipts, and answers the ones that take by its plain ones; there is none for a wait mode.
+impl<R: Wait + Clock + Drop> AnyForm for Threaded<R> {
+    fn call(&self, call: Call) -> Told {
         match call {
-            IsFree => self.is_free(Ordering::SeqCst).told(),
-            IsLocked => self.is_locked(Ordering::SeqCst).told(),
-            IsShared => self.is_shared(Ordering::SeqCst).told(),
-            IsPoisoned => self.is_poisoned(Ordering::SeqCst).told(),
-            _ => Told::Nothing,
-        }
-    }
-
-    fn at_once(&self, call: Call) -> Told {
-        match call {
+            IsFree => self.is_free(SeqCst).told(),
+            IsLocked => self.is_locked(SeqCst).told(),
+            IsShared => self.is_shared(SeqCst).told(),
+            IsPoisoned => self.is_poisoned(SeqCst).told(),
             TryLock => self.try_lock().told(),
             TryShare => self.try_share().told(),
-            TryWitnessed(Mode::Exclusive) => self.try_lock().told(),
-            TryWitnessed(Mode::Shared) => self.try_share().told(),
-            _ => Told::Nothing,
-        }
-    }
-
-    fn end(&self, end: End) -> Told {
-        match end {
-            End::Release => self.release_lock().told(),
-            End::ReleaseShare => self.release_share().told(),
-            End::Downgrade => self.downgrade().told(),
-            End::Poison => self.poison_lock().told(),
-        }
-    }
-
-    fn end_witnessed(&self, end: End) -> Told {
-        self.end(end)
-    }
-
-    fn clear(&self) -> Told {
-        self.clear_poison().told()
-    }
-
-    fn wait_for(&self, call: Call) -> Told {
-        match call {
+            ReleaseLock => self.release_lock().told(),
+            ReleaseShare => self.release_share().told(),
+            Downgrade => self.downgrade().told(),
+            PoisonLock => self.poison_lock().told(),
+            ClearPoison => self.clear_poison().told(),
             TakeLock => self.lock_sync().told(),
             TakeShare => self.share_sync().told(),
+            TryMode(Mode::Exclusive) => self.try_lock().told(),
+            TryMode(Mode::Shared) => self.try_share().told(),
             TakeWitnessed(Mode::Exclusive) => numbered(self.lock_sync()),
             TakeWitnessed(Mode::Shared) => numbered(self.share_sync()),
             _ => Told::Nothing,
         }
     }
 
-    fn wait_with<F: FnOnce() + Drop>(&self, is_shared: bool, begin_wait: F) -> Told {
-        if is_shared {
-            self.share_sync_with(begin_wait).told()
-        } else {
-            self.lock_sync_with(begin_wait).told()
-        }
-    }
-
-    fn wait_in_time(&self, call: Call, long: Duration, end: Instant) -> Told {
+    fn call_in_time(&self, call: Call, long: Duration, end: Instant) -> Told {
         match call {
             LockFor => self.lock_sync_for(long).told(),
             LockUntil => self.lock_sync_until(end).told(),
@@ -243,38 +161,60 @@ impl<R: Wait + Clock + Drop> AnyLock for Threaded<R> {
             _ => Told::Nothing,
         }
     }
+
+    fn wait_with<F: FnOnce() + Drop>(&self, count: Option<usize>, begin_wait: F) -> Told {
+        match count {
+            Some(_) => self.share_sync_with(begin_wait).told(),
+            None => self.lock_sync_with(begin_wait).told(),
+        }
+    }
 }
 
-impl<R: Wait + Clock + Drop> Pages<Ticket, Mode> for Threaded<R> {
+impl<R: Wait + Clock + Drop> Pages<Ticket> for Threaded<R> {
     fn enroll<'s>(
         &'s self,
         pager: &mut Pager<'s, Self, Ticket>,
-        mode: Mode,
+        ask: Ask,
         is_sync: bool,
     ) -> Result<bool, Full> {
+        let Ask::Turn(mode) = ask else {
+            return Ok(false);
+        };
         self.register_pager(pager, mode, is_sync)
+    }
+
+    fn with_permit<'s>(
+        &'s self,
+        _call: Call,
+        _long: Duration,
+        _end: Instant,
+        _pager: &mut Pager<'s, Self, Ticket>,
+    ) -> Told {
+        Told::Nothing
     }
 }
 
-impl<R: Wait + Drop> TurnFutures<threaded_future::Turn> for Threaded<R> {
-    fn ask(&self, is_shared: bool) -> Acquiring<'_, Self, threaded_future::Turn> {
-        if is_shared {
-            self.share_async()
-        } else {
-            self.lock_async()
-        }
+impl<R: Wait + Drop> Asks<threaded_future::Turn, threaded_future::Turn> for Threaded<R> {
+    fn ask_one(&self) -> Acquiring<'_, Self, threaded_future::Turn> {
+        self.lock_async()
     }
 
-    fn ask_with<F: FnOnce() + Drop>(
+    fn ask_many(&self, _count: usize) -> Acquiring<'_, Self, threaded_future::Turn> {
+        self.share_async()
+    }
+
+    fn ask_one_with<F: FnOnce() + Drop>(
         &self,
-        task: &MockTask,
-        is_shared: bool,
         begin_wait: F,
-    ) -> Told {
-        if is_shared {
-            polled_twice(task, self.share_async_with(begin_wait))
-        } else {
-            polled_twice(task, self.lock_async_with(begin_wait))
-        }
+    ) -> AcquiringWith<'_, Self, threaded_future::Turn, F> {
+        self.lock_async_with(begin_wait)
+    }
+
+    fn ask_many_with<F: FnOnce() + Drop>(
+        &self,
+        _count: usize,
+        begin_wait: F,
+    ) -> AcquiringWith<'_, Self, threaded_future::Turn, F> {
+        self.share_async_with(begin_wait)
     }
 }

@@ -1,7 +1,7 @@
 //! The same of the lock, where poison ends waits too.
 
-use crate::locks::Call::*;
-use crate::locks::{End, Story};
+use crate::calls::Call::*;
+use crate::calls::{End, Of, Story};
 use crate::told::Told::{Count, Full, Late, No, NotReady, Nothing, Pending, Yes};
 use crate::waits::FutureCall::{LetGo as LetGoFuture, Poll};
 use crate::waits::PagerCall::{Async, Cancel, LetGo, Sync, Try as TryPoll, Until};
@@ -12,6 +12,7 @@ use saa_word_threads::lock::Mode::{Exclusive, Shared, WaitExclusive, WaitShared}
 pub(crate) static STORIES: [Story; 3] = [
     Story {
         name: "calls that wait",
+        of: Of::Turns,
         room: 1,
         rows: &[
             (TryLock, Yes),
@@ -34,7 +35,7 @@ pub(crate) static STORIES: [Story; 3] = [
             (ReleaseShare, Yes),
             (Room, Count(1)),
             (TryLock, Yes),
-            (Register(First, Exclusive, true), Yes),
+            (Await(First, Exclusive, true), Yes),
             (TakeWitnessed(Exclusive), Full),
             (LockWith(End::Release), Full),
             (AskShareWith(First, End::Release), Full),
@@ -44,6 +45,7 @@ pub(crate) static STORIES: [Story; 3] = [
     },
     Story {
         name: "poison is an answer",
+        of: Of::Turns,
         room: 1,
         rows: &[
             (TryLock, Yes),
@@ -59,32 +61,32 @@ pub(crate) static STORIES: [Story; 3] = [
             (ClearPoison, Yes),
             (Room, Count(1)),
             (TryLock, Yes),
-            (Register(First, Shared, true), Yes),
+            (Await(First, Shared, true), Yes),
             (PoisonLock, Yes),
             (ClearPoison, Yes),
             (Room, Count(0)),
             (OfPager(First, Sync), No),
             (Room, Count(1)),
             (TryLock, Yes),
-            (Register(First, Exclusive, false), Yes),
+            (Await(First, Exclusive, false), Yes),
             (PoisonLock, Yes),
             (OfPager(First, Cancel), Nothing),
             (ClearPoison, Yes),
             (Room, Count(1)),
             (TryLock, Yes),
             (AskShare(First), Nothing),
-            (Of(First, Poll(First)), Pending),
+            (OfShare(First, Poll(First)), Pending),
             (PoisonLock, Yes),
             (IsWoken(First), Yes),
-            (Of(First, LetGoFuture), Nothing),
+            (OfShare(First, LetGoFuture), Nothing),
             (ClearPoison, Yes),
             (IsFree, Yes),
             (Room, Count(1)),
             // What is answered at once has no place.
             (TryLock, Yes),
             (PoisonLock, Yes),
-            (Register(First, Exclusive, true), Yes),
-            (Register(Second, Shared, true), Yes),
+            (Await(First, Exclusive, true), Yes),
+            (Await(Second, Shared, true), Yes),
             (ClearPoison, Yes),
             (Room, Count(1)),
             // It has nothing to give back: the lock is another's by then.
@@ -99,17 +101,18 @@ pub(crate) static STORIES: [Story; 3] = [
     },
     Story {
         name: "pagers and futures",
+        of: Of::Turns,
         room: 2,
         rows: &[
             (TryLock, Yes),
-            (Register(First, Exclusive, true), Yes),
-            (Register(Second, Shared, false), Yes),
+            (Await(First, Exclusive, true), Yes),
+            (Await(Second, Shared, false), Yes),
             (Room, Count(0)),
             (LetGoAway(First), Nothing),
             (Room, Count(1)),
             (OfPager(Second, LetGo), Nothing),
             (Room, Count(2)),
-            (Register(First, Exclusive, true), Yes),
+            (Await(First, Exclusive, true), Yes),
             (OfPager(First, Until), Late),
             (ReleaseLock, Yes),
             (Room, Count(1)),
@@ -118,19 +121,19 @@ pub(crate) static STORIES: [Story; 3] = [
             (Room, Count(2)),
             (TryLock, Yes),
             (AskLock(First), Nothing),
-            (Of(First, Poll(First)), Pending),
+            (OfLock(First, Poll(First)), Pending),
             (AskShare(Second), Nothing),
-            (Of(Second, Poll(Second)), Pending),
+            (OfShare(Second, Poll(Second)), Pending),
             (Room, Count(0)),
             (ReleaseLock, Yes),
             (IsWoken(First), Yes),
             (IsWoken(Second), No),
             // Dropped with a grant that no poll took: it goes to the next.
-            (Of(First, LetGoFuture), Nothing),
+            (OfLock(First, LetGoFuture), Nothing),
             (IsWoken(Second), Yes),
             (IsShared, Yes),
             (Room, Count(1)),
-            (Of(Second, LetGoFuture), Nothing),
+            (OfShare(Second, LetGoFuture), Nothing),
             (IsFree, Yes),
             (Room, Count(2)),
         ],
@@ -140,24 +143,25 @@ pub(crate) static STORIES: [Story; 3] = [
 /// Told at the lock-free form alone, where a wait mode takes a place in any case: the threaded one answers at once where it can.
 pub(crate) static WAIT_MODES: [Story; 1] = [Story {
     name: "wait modes",
+    of: Of::Turns,
     room: 1,
     rows: &[
         (TakeWitnessed(WaitExclusive), Count(0)),
         (Room, Count(1)),
-        (Register(First, WaitExclusive, true), Yes),
+        (Await(First, WaitExclusive, true), Yes),
         (Room, Count(0)),
         (OfPager(First, Sync), Yes),
         (Room, Count(1)),
-        (Register(First, WaitShared, false), Yes),
+        (Await(First, WaitShared, false), Yes),
         (OfPager(First, LetGo), Nothing),
         (Room, Count(1)),
         (TryLock, Yes),
-        (Register(First, WaitShared, false), Yes),
+        (Await(First, WaitShared, false), Yes),
         (OfPager(First, TryPoll), NotReady),
         (TakeWitnessed(WaitShared), Full),
         (OfPager(First, Cancel), Nothing),
         (Room, Count(1)),
-        (Register(First, WaitShared, false), Yes),
+        (Await(First, WaitShared, false), Yes),
         (Downgrade, Yes),
         (OfPager(First, Async), Yes),
         (ReleaseShare, Yes),

@@ -1,13 +1,14 @@
 //! No place is lost: after whatever ends a wait, as many can wait as before, and one more can't.
 
-use crate::semaphores::Call::*;
-use crate::semaphores::{Story, first_other};
+use crate::calls::Call::*;
+use crate::calls::{Of, Story};
+use crate::desk::first_other;
+use crate::lock_room;
 use crate::told::Kind::{LockFree, Threaded};
 use crate::told::Told::{Count, Full, Late, No, NotReady, Nothing, Pending, WrongMode, Yes};
 use crate::waits::FutureCall::{LetGo as LetGoFuture, Poll};
 use crate::waits::PagerCall::{Async, Cancel, For, LetGo, Sync, Task, Try as TryPoll, Until};
 use crate::waits::Who::{First, Second, Third};
-use crate::{lock_room, locks};
 use std::test::Fail;
 use test_asserts::same;
 
@@ -15,7 +16,7 @@ use test_asserts::same;
 static STORIES: [Story; 8] = [
     Story {
         name: "timed calls that are late",
-        permits: 0,
+        of: Of::Permits(0),
         room: 1,
         rows: &[
             (Room, Count(1)),
@@ -35,7 +36,7 @@ static STORIES: [Story; 8] = [
     },
     Story {
         name: "calls that are granted once they wait",
-        permits: 0,
+        of: Of::Permits(0),
         room: 1,
         rows: &[
             (GrantedFor(3), Yes),
@@ -58,7 +59,7 @@ static STORIES: [Story; 8] = [
     },
     Story {
         name: "calls that are granted at once",
-        permits: 63,
+        of: Of::Permits(63),
         room: 1,
         rows: &[
             (Acquire, Yes),
@@ -82,7 +83,7 @@ static STORIES: [Story; 8] = [
     },
     Story {
         name: "calls that are full",
-        permits: 0,
+        of: Of::Permits(0),
         room: 1,
         rows: &[
             (Register(First, 1, true), Yes),
@@ -120,7 +121,7 @@ static STORIES: [Story; 8] = [
     },
     Story {
         name: "pagers",
-        permits: 0,
+        of: Of::Permits(0),
         room: 1,
         rows: &[
             (Register(First, 1, true), Yes),
@@ -176,7 +177,7 @@ static STORIES: [Story; 8] = [
     },
     Story {
         name: "futures",
-        permits: 0,
+        of: Of::Permits(0),
         room: 1,
         rows: &[
             // One that no task has polled has no place.
@@ -222,7 +223,7 @@ static STORIES: [Story; 8] = [
     },
     Story {
         name: "room for two",
-        permits: 0,
+        of: Of::Permits(0),
         room: 2,
         rows: &[
             (Room, Count(2)),
@@ -256,7 +257,7 @@ static STORIES: [Story; 8] = [
     },
     Story {
         name: "room for four",
-        permits: 0,
+        of: Of::Permits(0),
         room: 4,
         rows: &[
             (Room, Count(4)),
@@ -280,8 +281,8 @@ static STORIES: [Story; 8] = [
 fn no_place_is_lost(rt: HostRuntime) -> Result<(), Fail> {
     same!(rt; first_other(&rt, LockFree, &STORIES)?, None);
     same!(rt; first_other(&rt, Threaded, &STORIES)?, None);
-    same!(rt; locks::first_other(&rt, LockFree, &lock_room::STORIES)?, None);
-    same!(rt; locks::first_other(&rt, Threaded, &lock_room::STORIES)?, None);
-    same!(rt; locks::first_other(&rt, LockFree, &lock_room::WAIT_MODES)?, None);
+    same!(rt; first_other(&rt, LockFree, &lock_room::STORIES)?, None);
+    same!(rt; first_other(&rt, Threaded, &lock_room::STORIES)?, None);
+    same!(rt; first_other(&rt, LockFree, &lock_room::WAIT_MODES)?, None);
     Ok(())
 }

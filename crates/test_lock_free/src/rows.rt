@@ -1,7 +1,8 @@
 //! Each public call of the semaphores once: granted, and with each of its errors.
 
-use crate::semaphores::Call::*;
-use crate::semaphores::{Story, first_other, first_others_of_two};
+use crate::calls::Call::*;
+use crate::calls::{Of, Story};
+use crate::desk::first_other;
 use crate::told::Kind::{LockFree, Threaded};
 use crate::told::Told::{
     Count, Full, Late, No, NotReady, NotRegistered, Nothing, Pending, WrongMode, Yes,
@@ -18,7 +19,7 @@ use test_asserts::same;
 static STORIES: [Story; 7] = [
     Story {
         name: "readings, tries and releases",
-        permits: 63,
+        of: Of::Permits(63),
         room: 0,
         rows: &[
             (IsOpen, Yes),
@@ -49,7 +50,7 @@ static STORIES: [Story; 7] = [
     },
     Story {
         name: "with no room a call that needn't wait works, and one that has to is full",
-        permits: 10,
+        of: Of::Permits(10),
         room: 0,
         rows: &[
             (Acquire, Yes),
@@ -100,7 +101,7 @@ static STORIES: [Story; 7] = [
     },
     Story {
         name: "timed calls",
-        permits: 4,
+        of: Of::Permits(4),
         room: 1,
         rows: &[
             (AcquireFor, Yes),
@@ -126,7 +127,7 @@ static STORIES: [Story; 7] = [
     },
     Story {
         name: "permits give themselves back",
-        permits: 1,
+        of: Of::Permits(1),
         room: 1,
         rows: &[
             (TakePermit(false), Count(0)),
@@ -151,14 +152,14 @@ static STORIES: [Story; 7] = [
             (Permits, Count(0)),
             (Release, Yes),
             // The waiter has what the permit gives back.
-            (PassPermit(First), Yes),
+            (PassPermit(First), Count(0)),
             (OfPager(First, Sync), Yes),
             (Permits, Count(0)),
         ],
     },
     Story {
         name: "pagers",
-        permits: 1,
+        of: Of::Permits(1),
         room: 2,
         rows: &[
             (OfPager(First, TryPoll), NotRegistered),
@@ -212,7 +213,7 @@ static STORIES: [Story; 7] = [
     },
     Story {
         name: "what a pager was granted and didn't take is given back",
-        permits: 3,
+        of: Of::Permits(3),
         room: 1,
         rows: &[
             (Register(First, 3, true), Yes),
@@ -233,7 +234,7 @@ static STORIES: [Story; 7] = [
     },
     Story {
         name: "futures",
-        permits: 3,
+        of: Of::Permits(3),
         room: 1,
         rows: &[
             (AskOne(First), Nothing),
@@ -275,7 +276,7 @@ static STORIES: [Story; 7] = [
 static TOO_MANY: [Story; 2] = [
     Story {
         name: "more than there are, with no room",
-        permits: 0,
+        of: Of::Permits(0),
         room: 0,
         rows: &[
             (AcquireMany(64), No),
@@ -289,7 +290,7 @@ static TOO_MANY: [Story; 2] = [
     },
     Story {
         name: "more than there are, while all places are out",
-        permits: 0,
+        of: Of::Permits(0),
         room: 1,
         rows: &[
             (Register(First, 1, false), Yes),
@@ -302,9 +303,9 @@ static TOO_MANY: [Story; 2] = [
 ];
 
 // A bound of 2.
-static OF_TWO: Story = Story {
+static OF_TWO: [Story; 1] = [Story {
     name: "a bound of its own",
-    permits: 5,
+    of: Of::Few(5),
     room: 1,
     rows: &[
         (Permits, Count(2)),
@@ -326,13 +327,14 @@ static OF_TWO: Story = Story {
         (AcquireWitnessed(2), Count(0)),
         (Permits, Count(0)),
     ],
-};
+}];
 
 #[test]
 fn semaphores_answer(rt: HostRuntime) -> Result<(), Fail> {
     same!(rt; first_other(&rt, LockFree, &STORIES)?, None);
     same!(rt; first_other(&rt, Threaded, &STORIES)?, None);
-    same!(rt; first_others_of_two(&rt, &OF_TWO)?, [None; 2]);
+    same!(rt; first_other(&rt, LockFree, &OF_TWO)?, None);
+    same!(rt; first_other(&rt, Threaded, &OF_TWO)?, None);
     Ok(())
 }
 

@@ -1,9 +1,8 @@
 //! Orders and wakes: waiters are granted in the order of joining, none is passed, and an answer wakes the last task that polled, and no other.
 
-use crate::locks;
-use crate::locks::Call as L;
-use crate::semaphores::Call::*;
-use crate::semaphores::{Story, first_other};
+use crate::calls::Call::*;
+use crate::calls::{Of, Story};
+use crate::desk::first_other;
 use crate::told::Kind::{LockFree, Threaded};
 use crate::told::Told::{Count, Late, No, NotReady, Nothing, Pending, WouldBlock, Yes};
 use crate::waits::FutureCall::{LetGo as LetGoFuture, Poll};
@@ -16,7 +15,7 @@ use test_asserts::same;
 static AT_A_SEMAPHORE: [Story; 8] = [
     Story {
         name: "grants come in the order of joining",
-        permits: 0,
+        of: Of::Permits(0),
         room: 6,
         rows: &[
             (Register(Second, 1, true), Yes),
@@ -44,7 +43,7 @@ static AT_A_SEMAPHORE: [Story; 8] = [
     },
     Story {
         name: "no later call passes a waiter",
-        permits: 0,
+        of: Of::Permits(0),
         room: 4,
         rows: &[
             (Try(0), Yes),
@@ -81,7 +80,7 @@ static AT_A_SEMAPHORE: [Story; 8] = [
     },
     Story {
         name: "who leaves lets those behind pass",
-        permits: 0,
+        of: Of::Permits(0),
         room: 4,
         rows: &[
             (Register(First, 3, true), Yes),
@@ -125,7 +124,7 @@ static AT_A_SEMAPHORE: [Story; 8] = [
     },
     Story {
         name: "futures that are dropped leave the queue",
-        permits: 0,
+        of: Of::Permits(0),
         room: 3,
         rows: &[
             (AskOne(First), Nothing),
@@ -148,7 +147,7 @@ static AT_A_SEMAPHORE: [Story; 8] = [
     },
     Story {
         name: "one answer wakes one task once",
-        permits: 0,
+        of: Of::Permits(0),
         room: 3,
         rows: &[
             (AskMany(First, 2), Nothing),
@@ -177,7 +176,7 @@ static AT_A_SEMAPHORE: [Story; 8] = [
     },
     Story {
         name: "the last task that polled is woken",
-        permits: 0,
+        of: Of::Permits(0),
         room: 1,
         rows: &[
             (AskOne(First), Nothing),
@@ -217,7 +216,7 @@ static AT_A_SEMAPHORE: [Story; 8] = [
     },
     Story {
         name: "a task is not woken by what others were granted",
-        permits: 1,
+        of: Of::Permits(1),
         room: 2,
         rows: &[
             // Answered at once it keeps no waker.
@@ -241,7 +240,7 @@ static AT_A_SEMAPHORE: [Story; 8] = [
     },
     Story {
         name: "a callback runs once it waits, and never else",
-        permits: 1,
+        of: Of::Permits(1),
         room: 1,
         rows: &[
             (AcquireWith, Yes),
@@ -256,113 +255,117 @@ static AT_A_SEMAPHORE: [Story; 8] = [
     },
 ];
 
-static AT_A_LOCK: [locks::Story; 4] = [
-    locks::Story {
+static AT_A_LOCK: [Story; 4] = [
+    Story {
         name: "owners and sharers come in the order of joining",
+        of: Of::Turns,
         room: 6,
         rows: &[
-            (L::TryShare, Yes),
-            (L::Register(First, Exclusive, true), Yes),
-            (L::TryShare, WouldBlock),
-            (L::TryLock, WouldBlock),
-            (L::ShareFor, Late),
-            (L::Register(Second, Shared, true), Yes),
-            (L::AskShare(First), Nothing),
-            (L::Of(First, Poll(First)), Pending),
-            (L::Register(Third, Exclusive, false), Yes),
-            (L::OfPager(Second, TryPoll), NotReady),
-            (L::ReleaseShare, Yes),
-            (L::IsLocked, Yes),
-            (L::OfPager(First, TryPoll), Yes),
-            (L::OfPager(Second, TryPoll), NotReady),
-            (L::IsWoken(First), No),
-            (L::ReleaseLock, Yes),
+            (TryShare, Yes),
+            (Await(First, Exclusive, true), Yes),
+            (TryShare, WouldBlock),
+            (TryLock, WouldBlock),
+            (ShareFor, Late),
+            (Await(Second, Shared, true), Yes),
+            (AskShare(First), Nothing),
+            (OfShare(First, Poll(First)), Pending),
+            (Await(Third, Exclusive, false), Yes),
+            (OfPager(Second, TryPoll), NotReady),
+            (ReleaseShare, Yes),
+            (IsLocked, Yes),
+            (OfPager(First, TryPoll), Yes),
+            (OfPager(Second, TryPoll), NotReady),
+            (IsWoken(First), No),
+            (ReleaseLock, Yes),
             // Both sharers, and not the owner behind.
-            (L::IsShared, Yes),
-            (L::IsWoken(First), Yes),
-            (L::OfPager(Second, TryPoll), Yes),
-            (L::Of(First, Poll(First)), Yes),
-            (L::OfPager(Third, TryPoll), NotReady),
-            (L::TryShare, WouldBlock),
-            (L::ReleaseShare, Yes),
-            (L::OfPager(Third, TryPoll), NotReady),
-            (L::ReleaseShare, Yes),
-            (L::OfPager(Third, TryPoll), Yes),
-            (L::IsLocked, Yes),
-            (L::Room, Count(5)),
+            (IsShared, Yes),
+            (IsWoken(First), Yes),
+            (OfPager(Second, TryPoll), Yes),
+            (OfShare(First, Poll(First)), Yes),
+            (OfPager(Third, TryPoll), NotReady),
+            (TryShare, WouldBlock),
+            (ReleaseShare, Yes),
+            (OfPager(Third, TryPoll), NotReady),
+            (ReleaseShare, Yes),
+            (OfPager(Third, TryPoll), Yes),
+            (IsLocked, Yes),
+            (Room, Count(6)),
         ],
     },
-    locks::Story {
+    Story {
         name: "a downgrade lets in sharers, up to an owner",
+        of: Of::Turns,
         room: 6,
         rows: &[
-            (L::TryLock, Yes),
-            (L::Register(First, Shared, true), Yes),
-            (L::AskLock(First), Nothing),
-            (L::Of(First, Poll(First)), Pending),
-            (L::Register(Second, Shared, true), Yes),
-            (L::Downgrade, Yes),
-            (L::OfPager(First, TryPoll), Yes),
-            (L::OfPager(Second, TryPoll), NotReady),
-            (L::IsWoken(First), No),
+            (TryLock, Yes),
+            (Await(First, Shared, true), Yes),
+            (AskLock(First), Nothing),
+            (OfLock(First, Poll(First)), Pending),
+            (Await(Second, Shared, true), Yes),
+            (Downgrade, Yes),
+            (OfPager(First, TryPoll), Yes),
+            (OfPager(Second, TryPoll), NotReady),
+            (IsWoken(First), No),
             // Who leaves lets those behind pass.
-            (L::Of(First, LetGoFuture), Nothing),
-            (L::OfPager(Second, TryPoll), Yes),
-            (L::ReleaseShare, Yes),
-            (L::ReleaseShare, Yes),
-            (L::ReleaseShare, Yes),
-            (L::IsFree, Yes),
+            (OfLock(First, LetGoFuture), Nothing),
+            (OfPager(Second, TryPoll), Yes),
+            (ReleaseShare, Yes),
+            (ReleaseShare, Yes),
+            (ReleaseShare, Yes),
+            (IsFree, Yes),
         ],
     },
-    locks::Story {
+    Story {
         name: "poison answers and wakes all",
+        of: Of::Turns,
         room: 6,
         rows: &[
-            (L::TryLock, Yes),
-            (L::Register(First, Exclusive, true), Yes),
-            (L::Register(Second, Shared, false), Yes),
-            (L::OfPager(Second, Task(Second)), Pending),
-            (L::Register(Third, WaitExclusive, true), Yes),
-            (L::AskLock(First), Nothing),
-            (L::Of(First, Poll(First)), Pending),
-            (L::IsWoken(Second), No),
-            (L::PoisonLock, Yes),
-            (L::IsWoken(First), Yes),
-            (L::IsWoken(Second), Yes),
-            (L::ClearPoison, Yes),
-            (L::TryLock, Yes),
+            (TryLock, Yes),
+            (Await(First, Exclusive, true), Yes),
+            (Await(Second, Shared, false), Yes),
+            (OfPager(Second, Task(Second)), Pending),
+            (Await(Third, WaitExclusive, true), Yes),
+            (AskLock(First), Nothing),
+            (OfLock(First, Poll(First)), Pending),
+            (IsWoken(Second), No),
+            (PoisonLock, Yes),
+            (IsWoken(First), Yes),
+            (IsWoken(Second), Yes),
+            (ClearPoison, Yes),
+            (TryLock, Yes),
             // Each is told, though the lock is clear again.
-            (L::OfPager(First, Sync), No),
-            (L::OfPager(Second, Task(Second)), No),
-            (L::OfPager(Third, Sync), No),
-            (L::Of(First, Poll(First)), No),
-            (L::IsLocked, Yes),
+            (OfPager(First, Sync), No),
+            (OfPager(Second, Task(Second)), No),
+            (OfPager(Third, Sync), No),
+            (OfLock(First, Poll(First)), No),
+            (IsLocked, Yes),
         ],
     },
-    locks::Story {
+    Story {
         name: "the last task that polled is woken",
+        of: Of::Turns,
         room: 2,
         rows: &[
-            (L::TryLock, Yes),
-            (L::AskLock(First), Nothing),
-            (L::Of(First, Poll(First)), Pending),
-            (L::AskShare(Second), Nothing),
-            (L::Of(Second, Poll(Third)), Pending),
-            (L::Of(First, Poll(Second)), Pending),
-            (L::Calm(First), Nothing),
-            (L::ReleaseLock, Yes),
-            (L::IsWoken(First), No),
-            (L::IsWoken(Second), Yes),
-            (L::IsWoken(Third), No),
-            (L::Calm(Second), Nothing),
-            (L::Of(First, Poll(First)), Yes),
-            (L::ReleaseLock, Yes),
-            (L::IsWoken(Second), No),
-            (L::IsWoken(Third), Yes),
-            (L::Of(First, LetGoFuture), Nothing),
-            (L::Of(Second, Poll(Second)), Yes),
-            (L::IsShared, Yes),
-            (L::Room, Count(2)),
+            (TryLock, Yes),
+            (AskLock(First), Nothing),
+            (OfLock(First, Poll(First)), Pending),
+            (AskShare(Second), Nothing),
+            (OfShare(Second, Poll(Third)), Pending),
+            (OfLock(First, Poll(Second)), Pending),
+            (Calm(First), Nothing),
+            (ReleaseLock, Yes),
+            (IsWoken(First), No),
+            (IsWoken(Second), Yes),
+            (IsWoken(Third), No),
+            (Calm(Second), Nothing),
+            (OfLock(First, Poll(First)), Yes),
+            (ReleaseLock, Yes),
+            (IsWoken(Second), No),
+            (IsWoken(Third), Yes),
+            (OfLock(First, LetGoFuture), Nothing),
+            (OfShare(Second, Poll(Second)), Yes),
+            (IsShared, Yes),
+            (Room, Count(2)),
         ],
     },
 ];
@@ -371,7 +374,7 @@ static AT_A_LOCK: [locks::Story; 4] = [
 fn waiters_come_in_order(rt: HostRuntime) -> Result<(), Fail> {
     same!(rt; first_other(&rt, LockFree, &AT_A_SEMAPHORE)?, None);
     same!(rt; first_other(&rt, Threaded, &AT_A_SEMAPHORE)?, None);
-    same!(rt; locks::first_other(&rt, LockFree, &AT_A_LOCK)?, None);
-    same!(rt; locks::first_other(&rt, Threaded, &AT_A_LOCK)?, None);
+    same!(rt; first_other(&rt, LockFree, &AT_A_LOCK)?, None);
+    same!(rt; first_other(&rt, Threaded, &AT_A_LOCK)?, None);
     Ok(())
 }

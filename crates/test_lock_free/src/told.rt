@@ -6,7 +6,7 @@ use saa_core_spec::request::Full;
 use saa_word_threads::lock::TryLockError;
 
 /// Which form a story is told at.
-#[derive(Clone, Copy, Debug, Eq, PartialEq)]
+#[derive(Clone, Copy)]
 pub(crate) enum Kind {
     LockFree,
     Threaded,

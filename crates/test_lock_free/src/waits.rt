@@ -3,7 +3,6 @@
 use crate::told::{Tells, Told};
 use futures::test::MockTask;
 use saa_core_spec::polling::How;
-use saa_core_spec::request::Full;
 use saa_core_waits::{Acquiring, AcquiringWith, AnswerReader, Pager, Pends, Timed};
 use std::alloc::AllocGlobal;
 use std::io;
@@ -90,17 +89,6 @@ pub(crate) enum PagerCall {
     Cancel,
     // It is dropped, and a new one has its place.
     LetGo,
-}
-
-/// A form at which pagers are registered, by registrations of the type `T`.
-pub(crate) trait Pages<T: Drop, A>: Timed<T> {
-    /// Registers a pager for what is asked, to be polled as sync or as async.
-    fn enroll<'s>(
-        &'s self,
-        pager: &mut Pager<'s, Self, T>,
-        ask: A,
-        is_sync: bool,
-    ) -> Result<bool, Full>;
 }
 
 /// The pagers of a story.

@@ -1,23 +1,16 @@
-//! Every public name of `saa`, used by a test that stands on `saa` alone: a name that is gone doesn't compile here.
+//! Every public name of `saa`, passed on by a crate that stands on `saa` alone: a name that is gone doesn't compile here.
+//!
+//! What the names do is shown by other tests. `dealt` states a contract with definitions that `saa` passes on, and calls forms in its turn.
 #![tactic(auto)]
 
 #[cfg(test)]
-mod cores;
-#[cfg(test)]
-mod forms;
-#[cfg(test)]
-mod futures_by_name;
-#[cfg(test)]
-mod laws;
-#[cfg(test)]
-mod lock_free_forms;
-#[cfg(test)]
-mod parts;
-#[cfg(test)]
-mod word_guards;
-#[cfg(test)]
-mod word_locks;
-#[cfg(test)]
-mod word_semaphores;
-#[cfg(test)]
-mod words;
+mod dealt;
+pub mod lock_free;
+pub mod parts;
+pub mod word;
+
+pub use saa::{
+    Barrier, Full, Gate, Guard, Lock, Lowers, Mutex, MutexGuard, Pager, Permit, PermitOf, RwLock,
+    RwLockReadGuard, RwLockWriteGuard, Semaphore, SemaphoreOf, TryLockError, Turn, ValueMut,
+    ValueRef, Writing, lock_async, read_async, write_async,
+};

@@ -1,4 +1,4 @@
-//! Each future, awaited by `block_on` while another thread has what it asks for, and lets it have that only once its task sleeps.
+//! A future of each kind, awaited by `block_on` while another thread has what it asks for, and lets it have that only once its task sleeps.
 //!
 //! The task polls it twice before it sleeps, as where a poll gets no waker and asks for another one, and once when it was woken. So a
 //! future is noticed that is told too soon, that takes another poll for a wake, or that keeps no waker and has its task polled all the
@@ -8,11 +8,11 @@
 use crate::anew;
 use crate::came::{Came, anew_if, only_if, row};
 use crate::forms::{Forms, NEW, What};
-use crate::paged::paged;
 use crate::watch::Watch;
 use futures::future::ready;
 use saa_sync::gate::State;
-use saa_sync::lock_api::{lock_async, read_async, write_async};
+use saa_sync::lock_api::lock_async;
+use saa_sync::pager::Pager;
 use std::alloc::{AllocGlobal, Global};
 use std::io;
 use std::random::RandomSource;
@@ -21,26 +21,11 @@ use std::sync::Wait;
 use std::thread::{self, Threads};
 
 // What is awaited, in the order of the rows.
-static ROWS: [(&str, What); 19] = [
+static ROWS: [(&str, What); 4] = [
     ("a permit awaited", What::Permit),
-    ("a permit awaited with a callback", What::PermitWith),
-    ("two permits awaited", What::TwoPermits),
-    ("two permits awaited with a callback", What::TwoPermitsWith),
-    ("a lock awaited", What::Turn),
-    ("a lock awaited with a callback", What::TurnWith),
-    ("a share awaited", What::Share),
-    ("a share awaited with a callback", What::ShareWith),
-    ("a gate awaited", What::Gate),
-    ("a gate awaited with a callback", What::GateWith),
-    ("a barrier awaited", What::Barrier),
-    ("a barrier awaited with a callback", What::BarrierWith),
-    ("a semaphore's pager awaited", What::SemaphorePager),
-    ("a lock's pager awaited", What::LockPager),
-    ("a gate's pager awaited", What::GatePager),
-    ("a barrier's pager awaited", What::BarrierPager),
+    ("a gate awaited with a callback", What::Gate),
+    ("a semaphore's pager awaited", What::Pager),
     ("a mutex awaited", What::Mutex),
-    ("a reader awaited", What::Reader),
-    ("a writer awaited", What::Writer),
 ];
 
 /// Awaits each, and prints a line for each.
@@ -112,8 +97,8 @@ fn awaited<R: RandomSource + AllocGlobal + Wait>(
     what: What,
     watch: &Watch,
 ) -> Came {
-    if let Some(came) = paged(rt, forms, what, watch) {
-        return came;
+    if matches!(what, What::Pager) {
+        return paged(rt, forms, watch);
     }
     match is_answered(rt, forms, what, watch) {
         Some(is_right) => only_if(is_right),
@@ -130,66 +115,31 @@ fn is_answered<R: RandomSource + AllocGlobal + Wait>(
 ) -> Option<bool> {
     match what {
         What::Permit => Some(watch.awaited(rt, forms.semaphore.acquire_async())? == Ok(())),
-        What::TwoPermits => {
-            Some(watch.awaited(rt, forms.semaphore.acquire_many_async(2))? == Ok(true))
-        }
-        What::Turn => Some(watch.awaited(rt, forms.lock.lock_async())? == Ok(true)),
-        What::Share => Some(watch.awaited(rt, forms.lock.share_async())? == Ok(true)),
         What::Gate => {
-            Some(watch.awaited(rt, forms.gate.enter_async())? == Ok(Ok(State::Controlled)))
+            let entry = forms.gate.enter_async_with(|| watch.join());
+            Some(watch.awaited(rt, entry)? == Ok(Ok(State::Controlled)))
         }
-        What::Barrier => Some(watch.awaited(rt, forms.barrier.wait_async())? == Ok(false)),
-        What::Mutex | What::Reader | What::Writer => is_shown(rt, forms, what, watch),
-        _ => is_answered_with(rt, forms, what, watch),
-    }
-}
-
-// The same of a future with a callback.
-fn is_answered_with<R: RandomSource + AllocGlobal + Wait>(
-    rt: &R,
-    forms: &Forms<'_, R>,
-    what: What,
-    watch: &Watch,
-) -> Option<bool> {
-    let join = || watch.join();
-    match what {
-        What::PermitWith => {
-            Some(watch.awaited(rt, forms.semaphore.acquire_async_with(join))? == Ok(()))
-        }
-        What::TwoPermitsWith => Some(
-            watch.awaited(rt, forms.semaphore.acquire_many_async_with(2, join))? == Ok(true),
-        ),
-        What::TurnWith => Some(watch.awaited(rt, forms.lock.lock_async_with(join))? == Ok(true)),
-        What::ShareWith => Some(watch.awaited(rt, forms.lock.share_async_with(join))? == Ok(true)),
-        What::GateWith => Some(
-            watch.awaited(rt, forms.gate.enter_async_with(join))? == Ok(Ok(State::Controlled)),
-        ),
-        What::BarrierWith => {
-            Some(watch.awaited(rt, forms.barrier.wait_async_with(join))? == Ok(false))
-        }
-        _ => Some(false),
-    }
-}
-
-// Whether a guard shows what the other wrote; nothing where it was refused to await it.
-fn is_shown<R: RandomSource + AllocGlobal + Wait>(
-    rt: &R,
-    forms: &Forms<'_, R>,
-    what: What,
-    watch: &Watch,
-) -> Option<bool> {
-    Some(match what {
+        // A guard shows what the other wrote.
         What::Mutex => match watch.awaited(rt, lock_async(&forms.mutex))? {
-            Ok(guard) => *guard == NEW,
-            Err(_full) => false,
+            Ok(guard) => Some(*guard == NEW),
+            Err(_full) => Some(false),
         },
-        What::Reader => match watch.awaited(rt, read_async(&forms.rwlock))? {
-            Ok(guard) => *guard == NEW,
-            Err(_full) => false,
-        },
-        _ => match watch.awaited(rt, write_async(&forms.rwlock))? {
-            Ok(guard) => *guard == NEW,
-            Err(_full) => false,
-        },
-    })
+        What::Pager => Some(false),
+    }
+}
+
+// Registers a pager and polls it until it is answered, anew where that was refused: it stays registered then.
+fn paged<R: RandomSource + AllocGlobal + Wait>(
+    rt: &R,
+    forms: &Forms<'_, R>,
+    watch: &Watch,
+) -> Came {
+    let mut pager = Pager::new();
+    if forms.semaphore.register_pager(&mut pager, 1, false) != Ok(true) {
+        return Came::Wrong;
+    }
+    match watch.awaited(rt, pager.poll_async()) {
+        Some(answer) => only_if(answer == Ok(())),
+        None => anew_if(watch.awaited(rt, pager.poll_async()) == Some(Ok(()))),
+    }
 }

@@ -9,7 +9,6 @@ mod came;
 mod forms;
 mod journalled;
 mod made;
-mod paged;
 mod watch;
 
 use std::alloc::Global;

@@ -111,20 +111,20 @@ const BEYOND: u64 = 2;
 // How often the main thread looks whether a task that must sleep has ended.
 const TURNS: u32 = 1_000;
 
-/// What the sleepers count.
+// What the sleepers count.
 #[derive(Drop)]
-pub struct Counts {
-    /// How many were started.
-    pub started: AtomicU64,
-    /// How many of those joined the line.
-    pub joined: AtomicU64,
-    /// How many of those have what they waited for.
-    pub ended: AtomicU64,
+struct Counts {
+    // How many were started.
+    started: AtomicU64,
+    // How many of those joined the line.
+    joined: AtomicU64,
+    // How many of those have what they waited for.
+    ended: AtomicU64,
 }
 
 impl Counts {
-    /// Nobody was started.
-    pub fn new() -> Counts {
+    // Nobody was started.
+    fn new() -> Counts {
         Counts {
             started: AtomicU64::new(0),
             joined: AtomicU64::new(0),
@@ -132,18 +132,18 @@ impl Counts {
         }
     }
 
-    /// Waits until all that were started wait in the line.
-    pub fn await_joined<R: Wait>(&self, rt: &R) {
+    // Waits until all that were started wait in the line.
+    fn await_joined<R: Wait>(&self, rt: &R) {
         await_count(rt, &self.joined, self.started.load(Ordering::SeqCst));
     }
 
-    /// Waits until all that were started have what they waited for.
-    pub fn await_ended<R: Wait>(&self, rt: &R) {
+    // Waits until all that were started have what they waited for.
+    fn await_ended<R: Wait>(&self, rt: &R) {
         await_count(rt, &self.ended, self.started.load(Ordering::SeqCst));
     }
 
-    /// Looks often whether one has ended already.
-    pub fn none_ended(&self) -> bool {
+    // Looks often whether one has ended already.
+    fn none_ended(&self) -> bool {
         for _turn in 0..TURNS {
             if self.ended.load(Ordering::SeqCst) != 0 {
                 return false;
@@ -161,43 +161,16 @@ pub fn first_wrong<F: Made, R: Threads + Wait + Sync>(
     cases: &[Case],
 ) -> Result<Option<(usize, u64)>, AllocError> {
     for (place, case) in cases.iter().enumerate() {
-        if let Some(count) = wrong_count::<F, R>(rt, lent, alloc, case)? {
-            return Ok(Some((place, count)));
+        for count in case.counts {
+            for wakes in case.wakes {
+                let form = F::made(lent, alloc, case.size, case.room, case.patience)?;
+                if !all_wake(rt, &form, case, *count, *wakes) {
+                    return Ok(Some((place, *count)));
+                }
+            }
         }
     }
     Ok(None)
-}
-
-// The first number of sleepers of a case at which it goes wrong.
-fn wrong_count<F: Made, R: Threads + Wait + Sync>(
-    rt: &R,
-    lent: F::Lent,
-    alloc: Global,
-    case: &Case,
-) -> Result<Option<u64>, AllocError> {
-    for count in case.counts {
-        if !is_right::<F, R>(rt, lent, alloc, case, *count)? {
-            return Ok(Some(*count));
-        }
-    }
-    Ok(None)
-}
-
-// Whether so many sleepers wake in each way of a case.
-fn is_right<F: Made, R: Threads + Wait + Sync>(
-    rt: &R,
-    lent: F::Lent,
-    alloc: Global,
-    case: &Case,
-    count: u64,
-) -> Result<bool, AllocError> {
-    for wakes in case.wakes {
-        let form = F::made(lent, alloc, case.size, case.room, case.patience)?;
-        if !all_wake(rt, &form, case, count, *wakes) {
-            return Ok(false);
-        }
-    }
-    Ok(true)
 }
 
 // Whether so many sleepers wake at a new form.
@@ -328,8 +301,8 @@ fn come_out<F: Sleepers>(form: &F, head: Ticket, end: End) -> u64 {
     }
 }
 
-/// Waits until so many sleep.
-pub fn await_asleep<F: Sleepers, R: Wait>(rt: &R, form: &F, wanted: u64) {
+// Waits until so many sleep.
+fn await_asleep<F: Sleepers, R: Wait>(rt: &R, form: &F, wanted: u64) {
     for _ in rt.forever() {
         if form.seats().0 as u64 >= wanted {
             return;
@@ -338,8 +311,8 @@ pub fn await_asleep<F: Sleepers, R: Wait>(rt: &R, form: &F, wanted: u64) {
     }
 }
 
-/// Waits until a counter is so large.
-pub fn await_count<R: Wait>(rt: &R, counter: &AtomicU64, wanted: u64) {
+// Waits until a counter is so large.
+fn await_count<R: Wait>(rt: &R, counter: &AtomicU64, wanted: u64) {
     for _ in rt.forever() {
         if counter.load(Ordering::SeqCst) >= wanted {
             return;

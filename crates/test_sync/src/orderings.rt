@@ -1,18 +1,13 @@
 //! Every ordering on every call that only reads, of every form, in every state that the call tells apart.
 
-use crate::barriers::BarrierCall;
-use crate::gates::GateCall;
-use crate::locks::LockCall;
-use crate::semaphores::SemaphoreCall;
-use crate::stories::Story;
-use crate::stories::Told::{Asked, Is, Tried, Was};
-use crate::stories::Who::{One, Two};
 use saa_sync::barrier::Barrier;
 use saa_sync::gate::{Gate, State};
 use saa_sync::lock::Lock;
 use saa_sync::semaphore::Semaphore;
 use std::sync::Wait;
 use std::sync::atomic::Ordering;
+use std::test::Fail;
+use test_asserts::{holds, same};
 
 static ORDERINGS: [Ordering; 5] = [
     Ordering::Relaxed,
@@ -23,7 +18,7 @@ static ORDERINGS: [Ordering; 5] = [
 ];
 
 // Whether a lock is told to be this in every ordering: free, locked, shared, poisoned.
-pub(crate) fn lock_is<R: Wait + Drop>(lock: &Lock<R>, wanted: [bool; 4]) -> bool {
+fn lock_is<R: Wait + Drop>(lock: &Lock<R>, wanted: [bool; 4]) -> bool {
     for mo in &ORDERINGS {
         let told = [
             lock.is_free(*mo),
@@ -39,7 +34,7 @@ pub(crate) fn lock_is<R: Wait + Drop>(lock: &Lock<R>, wanted: [bool; 4]) -> bool
 }
 
 // Whether a semaphore is told to have so many permits in every ordering.
-pub(crate) fn semaphore_has<R: Wait + Drop>(semaphore: &Semaphore<R>, permits: usize) -> bool {
+fn semaphore_has<R: Wait + Drop>(semaphore: &Semaphore<R>, permits: usize) -> bool {
     for mo in &ORDERINGS {
         let told = (
             semaphore.available_permits(*mo),
@@ -54,7 +49,7 @@ pub(crate) fn semaphore_has<R: Wait + Drop>(semaphore: &Semaphore<R>, permits: u
 }
 
 // Whether a gate is told to be in this state in every ordering.
-pub(crate) fn gate_is<R: Wait + Drop>(gate: &Gate<R>, state: State) -> bool {
+fn gate_is<R: Wait + Drop>(gate: &Gate<R>, state: State) -> bool {
     for mo in &ORDERINGS {
         if gate.state(*mo) != state {
             return false;
@@ -64,7 +59,7 @@ pub(crate) fn gate_is<R: Wait + Drop>(gate: &Gate<R>, state: State) -> bool {
 }
 
 // Whether a barrier is told to wait for so many in every ordering.
-pub(crate) fn barrier_misses<R: Wait + Drop>(barrier: &Barrier<R>, count: usize) -> bool {
+fn barrier_misses<R: Wait + Drop>(barrier: &Barrier<R>, count: usize) -> bool {
     for mo in &ORDERINGS {
         if barrier.count(*mo) != count {
             return false;
@@ -73,57 +68,48 @@ pub(crate) fn barrier_misses<R: Wait + Drop>(barrier: &Barrier<R>, count: usize)
     true
 }
 
-pub(crate) static LOCKS: [Story<LockCall>; 1] = [Story {
-    name: "a lock is read in every ordering",
-    number: None,
-    room: 1,
-    rows: &[
-        (LockCall::ReadsAs([true, false, false, false]), Is(true)),
-        (LockCall::TryShare, Tried(Ok(()))),
-        (LockCall::ReadsAs([false, false, true, false]), Is(true)),
-        (LockCall::ReleaseShare, Is(true)),
-        (LockCall::TryLock, Tried(Ok(()))),
-        (LockCall::ReadsAs([false, true, false, false]), Is(true)),
-        (LockCall::PoisonLock, Is(true)),
-        (LockCall::ReadsAs([false, false, false, true]), Is(true)),
-    ],
-}];
+// Free, locked, shared, and poisoned.
+#[test]
+fn a_lock_reads_alike_in_every_ordering(rt: HostRuntime) -> Result<(), Fail> {
+    let lock = Lock::new(&rt, rt.alloc(), 0)?;
+    holds!(rt; lock_is(&lock, [true, false, false, false]) && lock.try_lock().is_ok());
+    holds!(rt; lock_is(&lock, [false, true, false, false]) && lock.downgrade());
+    holds!(rt; lock_is(&lock, [false, false, true, false]) && lock.release_share());
+    holds!(rt; lock.try_lock().is_ok() && lock.poison_lock());
+    holds!(rt; lock_is(&lock, [false, false, false, true]));
+    Ok(())
+}
 
-pub(crate) static SEMAPHORES: [Story<SemaphoreCall>; 1] = [Story {
-    name: "a semaphore is read in every ordering",
-    number: None,
-    room: 1,
-    rows: &[
-        (SemaphoreCall::ReadsAs(63), Is(true)),
-        (SemaphoreCall::TryAcquireMany(62), Is(true)),
-        (SemaphoreCall::ReadsAs(1), Is(true)),
-        (SemaphoreCall::TryAcquire, Is(true)),
-        (SemaphoreCall::ReadsAs(0), Is(true)),
-    ],
-}];
+// With two permits, with one, and with none.
+#[test]
+fn a_semaphore_reads_alike_in_every_ordering(rt: HostRuntime) -> Result<(), Fail> {
+    let semaphore = Semaphore::with_permits(&rt, rt.alloc(), 2, 0)?;
+    for left in [2, 1, 0] {
+        holds!(rt; semaphore_has(&semaphore, left));
+        same!(rt; semaphore.try_acquire(), left != 0);
+    }
+    Ok(())
+}
 
-pub(crate) static GATES: [Story<GateCall>; 1] = [Story {
-    name: "a gate is read in every ordering",
-    number: None,
-    room: 1,
-    rows: &[
-        (GateCall::ReadsAs(State::Controlled), Is(true)),
-        (GateCall::Seal, Was((State::Controlled, 0))),
-        (GateCall::ReadsAs(State::Sealed), Is(true)),
-        (GateCall::Open, Was((State::Sealed, 0))),
-        (GateCall::ReadsAs(State::Open), Is(true)),
-    ],
-}];
+// Controlled, sealed, and open.
+#[test]
+fn a_gate_reads_alike_in_every_ordering(rt: HostRuntime) -> Result<(), Fail> {
+    let gate = Gate::new(&rt, rt.alloc(), 0)?;
+    holds!(rt; gate_is(&gate, State::Controlled));
+    let _before = gate.seal();
+    holds!(rt; gate_is(&gate, State::Sealed));
+    let _before = gate.open();
+    holds!(rt; gate_is(&gate, State::Open));
+    Ok(())
+}
 
-pub(crate) static BARRIERS: [Story<BarrierCall>; 1] = [Story {
-    name: "a barrier is read in every ordering",
-    number: Some(3),
-    room: 2,
-    rows: &[
-        (BarrierCall::ReadsAs(3), Is(true)),
-        (BarrierCall::Register(One, true), Asked(Ok(true))),
-        (BarrierCall::ReadsAs(2), Is(true)),
-        (BarrierCall::Register(Two, false), Asked(Ok(true))),
-        (BarrierCall::ReadsAs(1), Is(true)),
-    ],
-}];
+// For none, for some, and for more than there may be.
+#[test]
+fn a_barrier_reads_alike_in_every_ordering(rt: HostRuntime) -> Result<(), Fail> {
+    for size in [0, 1, 2, 63, 64, usize::MAX] {
+        let barrier = Barrier::with_count(&rt, rt.alloc(), size, 0)?;
+        holds!(rt; barrier_misses(&barrier, size.min(63)));
+    }
+    same!(rt; (Lock::<&HostRuntime>::MAX_SHARED_OWNERS, Barrier::<&HostRuntime>::MAX_TASKS), (62, 63));
+    Ok(())
+}

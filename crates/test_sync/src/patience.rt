@@ -6,5 +6,6 @@ mod hints;
 mod meetings;
 mod order;
 mod releases;
+mod seen;
 mod turns;
 mod waiters;

@@ -1,14 +1,13 @@
 //! Each timed call in one thread: granted at once, time that is up, and what stays behind.
 
 use crate::clock::BROKEN;
-use crate::forms::Form::Semaphore;
 use crate::forms::Time::{Ever, Later, Past, Short, Zero};
 use crate::forms::{MADE, Made};
 use crate::stories::Act::{
     Available, Count, DropPermit, IsFree, Open, PoisonLock, Register, Release, ReleaseLock,
-    ReleaseShare, Seal, Waiting,
+    ReleaseMany, ReleaseShare, Seal, Waiting,
 };
-use crate::stories::Ask::{Acquire, AcquireMany, Arrive, Enter, Lock, Permit, PollPermit, Share};
+use crate::stories::Ask::{Acquire, AcquireMany, Arrive, Enter, Lock, Permit, Poll, Share};
 use crate::stories::Row::{Does, Has, In, InEach};
 use crate::stories::Sign::Clock;
 use crate::stories::{Row, Story};
@@ -26,11 +25,20 @@ pub(crate) const ALONE: Story = Story {
     after: &[],
 };
 
-pub(crate) static STORIES: [Story; 6] = [
+pub(crate) static STORIES: [Story; 7] = [
     Story {
         name: "permits in time",
         made: Made { permits: 3, ..MADE },
         rows: &PERMITS,
+        ..ALONE
+    },
+    Story {
+        name: "any permits in time",
+        made: Made {
+            permits: 65_535,
+            ..MADE
+        },
+        rows: &ANY_PERMITS,
         ..ALONE
     },
     Story {
@@ -67,7 +75,7 @@ pub(crate) static STORIES: [Story; 6] = [
 const PERMITS: [Row; 14] = [
     In(Zero, Acquire(Ok(Some(())))),
     In(Zero, AcquireMany(1, Ok(Some(true)))),
-    In(Ever, AcquireMany(1_001, Ok(Some(false)))),
+    In(Ever, AcquireMany(65_536, Ok(Some(false)))),
     In(Zero, AcquireMany(2, Ok(None))),
     Does(Available(1)),
     In(Past, AcquireMany(1_000, Ok(None))),
@@ -80,6 +88,29 @@ const PERMITS: [Row; 14] = [
     In(Past, Permit(Ok(false))),
     Does(DropPermit),
     Does(Available(1)),
+];
+
+// Some of all there are, and then the rest; and all at once.
+const ANY_PERMITS: [Row; 19] = [
+    In(Zero, AcquireMany(65_536, Ok(Some(false)))),
+    In(Past, AcquireMany(usize::MAX, Ok(Some(false)))),
+    In(Zero, AcquireMany(0, Ok(Some(true)))),
+    Does(Available(65_535)),
+    In(Zero, AcquireMany(1_001, Ok(Some(true)))),
+    Does(Available(64_534)),
+    In(Short, AcquireMany(64_535, Ok(None))),
+    In(Past, AcquireMany(65_535, Ok(None))),
+    Does(Available(64_534)),
+    In(Past, AcquireMany(31_766, Ok(Some(true)))),
+    Does(Available(32_768)),
+    In(Past, AcquireMany(32_769, Ok(None))),
+    In(Zero, AcquireMany(32_767, Ok(Some(true)))),
+    Does(Available(1)),
+    Does(ReleaseMany(65_534)),
+    In(Past, AcquireMany(65_535, Ok(Some(true)))),
+    In(Short, AcquireMany(1, Ok(None))),
+    In(Past, AcquireMany(65_536, Ok(Some(false)))),
+    Does(Available(0)),
 ];
 
 const BROKEN_CLOCK: [Row; 8] = [
@@ -101,13 +132,13 @@ const NO_PERMITS: [Row; 14] = [
     InEach(AcquireMany(0, Ok(Some(true)))),
     Does(Available(1)),
     In(Zero, Acquire(Ok(Some(())))),
-    Does(Register(Semaphore, true)),
+    Does(Register(true)),
     In(Zero, AcquireMany(0, Ok(None))),
     In(Short, AcquireMany(0, Ok(None))),
     In(Past, AcquireMany(0, Ok(None))),
-    Does(Waiting(Semaphore)),
+    Does(Waiting),
     Does(Release),
-    In(Zero, PollPermit(Some(Ok(())))),
+    In(Zero, Poll(Some(Ok(())))),
     Does(Available(0)),
 ];
 

@@ -11,12 +11,12 @@ use crate::forms::{Form, LONG, Made, Time};
 use crate::order::LOOKING;
 use crate::stories::Row::{Has, In, Lasts};
 use crate::stories::Sign::{Awaited, Clock as Set, Leaps, Parked, Pauses, Reached, Rests};
-use crate::stories::{Ask, Kind, Place, Row, Scene};
+use crate::stories::{Ask, Kind, NO_OTHERS, Others, REAL, Roles, Row, Scene, clock_of, played};
 use crate::table;
 use std::alloc::AllocGlobal;
 use std::io;
 use std::sync::Wait;
-use std::thread::{self, Threads};
+use std::thread::Threads;
 use std::time::Clock;
 use test_asserts::same;
 
@@ -24,8 +24,8 @@ use test_asserts::same;
 #[derive(Clone, Copy)]
 pub(crate) struct Call {
     pub(crate) name: &'static str,
-    // Where it waits; none says that it does at the mutex or the reader-writer lock.
-    pub(crate) at: Option<Form>,
+    // Where it waits.
+    pub(crate) at: Form,
     pub(crate) made: Made,
     // What the holder does before, and the caller.
     pub(crate) before: &'static [Row],
@@ -51,7 +51,7 @@ pub(crate) struct Call {
 // A call that is never refused and leaves nothing, of which a row says the rest.
 pub(crate) const CALL: Call = Call {
     name: "",
-    at: Some(Semaphore),
+    at: Semaphore,
     made: LOOKING,
     before: &[],
     first: &[],
@@ -98,26 +98,13 @@ const AN_HOUR: u64 = 3_600_000_000_000;
 
 const NEARLY: u64 = AN_HOUR - LONG;
 
-// What the caller does before its call, and in the end; and what the holder waits for before it lets its own pagers go.
-const WHEN_ASKED: &[Row] = &[Has(Awaited(1))];
+// What the caller waits for before its call, and what it tells in the end.
+const WHEN_ASKED: &[Row] = &[ONCE_MORE];
 
 const DONE: [Row; 1] = [Has(Reached(2))];
 
-// What a caller does before its call that needs nothing: the sign is there already.
-const AT_ONCE: Row = Has(Awaited(1));
-
-const WHEN_ENDED: [Row; 1] = [Has(Awaited(2))];
-
-// The first row of the holder that was told otherwise, and the first of the caller.
-type Others = (Option<usize>, Option<usize>);
-
-// Where a call waits.
-fn place_of(at: Option<Form>) -> Place {
-    match at {
-        Some(form) => Place::At(form),
-        None => Place::Guarded,
-    }
-}
+// A sign that is there already once a call may begin.
+const ONCE_MORE: Row = Has(Awaited(1));
 
 // The one time or the other.
 fn time_of(kind: Kind, duration: Time, instant: Time) -> Time {
@@ -127,122 +114,106 @@ fn time_of(kind: Kind, duration: Time, instant: Time) -> Time {
     }
 }
 
-// The holder of a call that is granted finds it asleep before.
-fn grants<C: Wait + Clock + Drop>(scene: &Scene<'_, C>, call: &Call) -> Option<usize> {
-    let finds = [Has(Reached(1)), Has(Parked(place_of(call.at))), Has(Rests)];
-    let parts = [call.before, &finds, call.grants, &WHEN_ENDED];
-    scene.first_other(&parts, call.grants)
+// By which clock a call is played.
+fn step_of(play: Play) -> u64 {
+    match play {
+        Play::Passed | Play::Aged => 0,
+        _ => REAL,
+    }
 }
 
-// The caller of a call that waits; it finds this afterwards.
-fn calls<C: Wait + Clock + Drop>(
-    scene: &Scene<'_, C>,
-    call: &Call,
-    before: Row,
-    asks: Row,
-    found: &'static [Row],
-) -> Option<usize> {
-    let asked = [before, asks];
-    let parts = [WHEN_ASKED, call.first, &asked, found, &DONE];
-    scene.first_other(&parts, &[])
+// When the time of a call is up whose clock is set.
+fn end_of(play: Play) -> u64 {
+    match play {
+        Play::Aged => AN_HOUR,
+        _ => LONG,
+    }
 }
 
-// The holder of a call that is late looks when that has ended.
-fn outlasts<C: Wait + Clock + Drop>(scene: &Scene<'_, C>, call: &Call) -> Option<usize> {
-    let parts = [call.before, &[Has(Reached(1))], &WHEN_ENDED, call.alone];
-    scene.first_other(&parts, call.grants)
+// What the holder has and does while the call waits: it finds one that is granted asleep before; and it has the time of one be nearly up, a
+// nanosecond before its end, where that waits still.
+fn finds_of(play: Play, at: Form) -> [Row; 5] {
+    let (begins, parked) = (Has(Reached(1)), Has(Parked(at)));
+    let nearly = Has(Set(end_of(play).saturating_sub(1)));
+    match play {
+        Play::Granted => [begins, parked, Has(Rests), ONCE_MORE, ONCE_MORE],
+        Play::Passed | Play::Aged => [begins, parked, nearly, Has(Pauses), parked],
+        Play::Late | Play::Free(_) => [begins, ONCE_MORE, ONCE_MORE, ONCE_MORE, ONCE_MORE],
+    }
 }
 
-// The holder of a call has its time be nearly up, a nanosecond before its end, where it waits still, and sets it to be up once others
-// wait behind it.
-fn passes<C: Wait + Clock + Drop>(scene: &Scene<'_, C>, call: &Call, end: u64) -> Option<usize> {
-    let parked = Has(Parked(place_of(call.at)));
-    let finds = [
-        Has(Reached(1)),
-        parked,
-        Has(Set(end.saturating_sub(1))),
-        Has(Pauses),
-        parked,
-    ];
-    let ends = [Has(Set(end)), Has(Awaited(2))];
-    let parts = [call.before, &finds, call.behind, &ends, call.passed];
-    scene.first_other(&parts, call.grants)
+// What ends the call, and what the holder waits for before it looks and lets its own pager go.
+fn ends_of(play: Play) -> [Row; 2] {
+    let ends = match play {
+        Play::Passed | Play::Aged => Has(Set(end_of(play))),
+        _ => ONCE_MORE,
+    };
+    [ends, Has(Awaited(2))]
 }
 
-// The caller of a call that has an hour. A duration begins before its clock shows how late it is, and an instant is told anyhow.
-fn calls_aged<C: Wait + Clock + Drop>(
-    scene: &Scene<'_, C>,
-    call: &Call,
-    kind: Kind,
-) -> Option<usize> {
+// What the holder does before, meanwhile, and once the call has ended.
+fn holder(call: &Call, play: Play) -> (&'static [Row], &'static [Row], &'static [Row]) {
+    match play {
+        Play::Granted => (call.before, call.grants, &[]),
+        Play::Late => (call.before, &[], call.alone),
+        Play::Passed | Play::Aged => (call.before, call.behind, call.passed),
+        Play::Free(_) => (&[], &[], &[]),
+    }
+}
+
+// The call, and what comes before it: where its clock ages, a duration begins before that shows how late it is, and an instant is told anyhow.
+fn asked_of(call: &Call, kind: Kind, play: Play) -> [Row; 2] {
     let ages = match kind {
         Kind::For => Has(Leaps(NEARLY)),
         Kind::Until => Has(Set(NEARLY)),
     };
-    let asks = In(time_of(kind, Hour, Hence), call.late);
-    calls(scene, call, ages, asks, call.left)
-}
-
-// A call that is answered at once.
-fn is_answered<C: Wait + Clock + Drop>(
-    scene: &Scene<'_, C>,
-    call: &Call,
-    time: Time,
-) -> Option<usize> {
-    let asks = [In(time, call.at_once)];
-    scene.first_other(&[call.freed, call.first, &asks, call.found], &[])
-}
-
-// Plays a call at new forms.
-fn played<H: Threads + Sync, C: Wait + Clock + Drop + Sync>(
-    rt: &H,
-    scene: &Scene<'_, C>,
-    call: &Call,
-    kind: Kind,
-    play: Play,
-) -> Others {
-    let long = In(time_of(kind, Long, Later), call.late);
-    let hour = In(time_of(kind, Hour, Hence), call.granted);
+    let hour = time_of(kind, Hour, Hence);
     match play {
-        Play::Granted => thread::join(
-            rt,
-            || grants(scene, call),
-            || calls(scene, call, AT_ONCE, hour, call.had),
-        ),
-        Play::Late => thread::join(
-            rt,
-            || outlasts(scene, call),
-            || calls(scene, call, AT_ONCE, Lasts(kind, call.late), call.left),
-        ),
-        Play::Passed => thread::join(
-            rt,
-            || passes(scene, call, LONG),
-            || calls(scene, call, AT_ONCE, long, call.left),
-        ),
-        Play::Aged => thread::join(
-            rt,
-            || passes(scene, call, AN_HOUR),
-            || calls_aged(scene, call, kind),
-        ),
-        Play::Free(false) => (None, is_answered(scene, call, time_of(kind, Zero, Past))),
-        Play::Free(true) => (None, is_answered(scene, call, time_of(kind, Ever, Hence))),
+        Play::Granted => [ONCE_MORE, In(hour, call.granted)],
+        Play::Late => [ONCE_MORE, Lasts(kind, call.late)],
+        Play::Passed => [ONCE_MORE, In(time_of(kind, Long, Later), call.late)],
+        Play::Aged => [ages, In(hour, call.late)],
+        Play::Free(false) => [ONCE_MORE, In(time_of(kind, Zero, Past), call.at_once)],
+        Play::Free(true) => [ONCE_MORE, In(time_of(kind, Ever, Hence), call.at_once)],
     }
 }
 
-// Plays a call on the clock that it is played on.
+// What the caller does before the call, and finds behind it.
+fn caller(call: &Call, play: Play) -> (&'static [Row], &'static [Row]) {
+    match play {
+        Play::Granted => (&[], call.had),
+        Play::Free(_) => (call.freed, call.found),
+        _ => (&[], call.left),
+    }
+}
+
+// Plays a call at new forms, on the clock that it is played on.
 fn others<H: Wait + Clock + Threads + Sync + AllocGlobal>(
     rt: &H,
     call: &Call,
     kind: Kind,
     play: Play,
 ) -> io::Result<Others> {
-    let (clock, made) = match play {
-        Play::Granted | Play::Late => (OnClock::real(rt), call.made),
-        Play::Passed | Play::Aged => (OnClock::new(rt, 0), call.made),
-        Play::Free(_) => (OnClock::real(rt), call.free),
+    let clock = clock_of(rt, step_of(play));
+    let made = match play {
+        Play::Free(_) => call.free,
+        _ => call.made,
     };
     let scene = Scene::new(&clock, rt.alloc(), made)?;
-    Ok(played(rt, &scene, call, kind, play))
+    let (finds, ends) = (finds_of(play, call.at), ends_of(play));
+    let asked = asked_of(call, kind, play);
+    let (before, meanwhile, behind) = holder(call, play);
+    let (freed, found) = caller(call, play);
+    let rows = [before, &finds, meanwhile, &ends, behind];
+    let beside = [WHEN_ASKED, freed, call.first, &asked, found, &DONE];
+    let roles = Roles {
+        rows: &rows,
+        rescue: call.grants,
+        beside: &beside,
+        third: &[],
+        after: &[],
+    };
+    Ok(played(rt, &scene, roles))
 }
 
 // What was told otherwise first of a call: how it was told how long, how it was played, and which rows.
@@ -251,12 +222,13 @@ type First = Option<(Kind, Play, Others)>;
 fn first_play<H: Wait + Clock + Threads + Sync + AllocGlobal>(
     rt: &H,
     call: &Call,
-    kind: Kind,
 ) -> io::Result<First> {
-    for play in PLAYS {
-        let others = others(rt, call, kind, play)?;
-        if others != (None, None) {
-            return Ok(Some((kind, play, others)));
+    for kind in [Kind::For, Kind::Until] {
+        for play in PLAYS {
+            let others = others(rt, call, kind, play)?;
+            if others != NO_OTHERS {
+                return Ok(Some((kind, play, others)));
+            }
         }
     }
     Ok(None)
@@ -265,14 +237,11 @@ fn first_play<H: Wait + Clock + Threads + Sync + AllocGlobal>(
 // The first of all calls that was told otherwise.
 fn first_call<H: Wait + Clock + Threads + Sync + AllocGlobal>(
     rt: &H,
-    calls: &[Call],
 ) -> io::Result<Option<(&'static str, First)>> {
-    for call in calls {
-        for kind in [Kind::For, Kind::Until] {
-            let first = first_play(rt, call, kind)?;
-            if first != None {
-                return Ok(Some((call.name, first)));
-            }
+    for call in &table::CALLS {
+        let first = first_play(rt, call)?;
+        if first != None {
+            return Ok(Some((call.name, first)));
         }
     }
     Ok(None)
@@ -280,15 +249,5 @@ fn first_call<H: Wait + Clock + Threads + Sync + AllocGlobal>(
 
 #[test]
 fn every_call_ends_in_time(rt: HostRuntime) {
-    same!(rt; first_call(&rt, &table::CALLS).ok(), Some(None));
-}
-
-#[test]
-fn every_call_for_a_guard_ends_in_time(rt: HostRuntime) {
-    same!(rt; first_call(&rt, &table::GUARDS).ok(), Some(None));
-}
-
-#[test]
-fn every_poll_of_a_pager_ends_in_time(rt: HostRuntime) {
-    same!(rt; first_call(&rt, &table::POLLS).ok(), Some(None));
+    same!(rt; first_call(&rt).ok(), Some(None));
 }

@@ -4,31 +4,26 @@ use crate::clock::OnClock;
 use saa_core::barrier::BarrierCore;
 use saa_core::gate::GateCore;
 use saa_core::lock::LockCore;
+use saa_core::primitive::Primitive;
 use saa_core::semaphore::SemaphoreCoreOf;
 use saa_core::ticket::Full;
 use saa_sync::barrier::Barrier;
 use saa_sync::gate::{Error as GateError, Gate, State};
-use saa_sync::lock::{Lock, Mode, TryLockError};
-use saa_sync::lock_api::{Mutex, MutexGuard, RwLock, RwLockReadGuard, RwLockWriteGuard};
-use saa_sync::pager::{Error, Pager, Ticket};
+use saa_sync::lock::Lock;
 use saa_sync::permit::PermitOf;
 use saa_sync::semaphore::SemaphoreOf;
 use saa_sync::spin_policy::{DEFAULT, NONE, SpinPolicy};
-use saa_sync::testing::{
-    Counted, WAITER, counts_of_mutex, counts_of_rwlock, form_of, mutex_on, rwlock_on,
-};
-use saa_sync::timed::Timed;
+use saa_sync::testing::{Counted, WAITER, form_of};
 use std::alloc::{AllocError, Global};
 use std::io;
-use std::mem::forget;
 use std::sync::Wait;
 use std::time::{Clock, Duration, Instant};
 
-// The semaphore of all stories: more permits than the 63 that are usual.
-pub(crate) type Permits<R> = SemaphoreOf<R, 1000>;
+// The semaphore of all stories, of the widest bound there is.
+pub(crate) type Permits<R> = SemaphoreOf<R, 65535>;
 
 // One permit of it.
-pub(crate) type OnePermit<'s, R> = PermitOf<'s, R, 1000>;
+pub(crate) type OnePermit<'s, R> = PermitOf<'s, R, 65535>;
 
 // A while, in nanoseconds: 10 milliseconds and a half, and some.
 pub(crate) const LONG: u64 = 10_500_777;
@@ -58,15 +53,7 @@ pub(crate) enum Span {
     Until(Instant),
 }
 
-// Which guard is asked for.
-#[derive(Clone, Copy)]
-pub(crate) enum Way {
-    Lock,
-    Read,
-    Write,
-}
-
-// One of the forms that have pagers.
+// One of the forms.
 #[derive(Clone, Copy)]
 pub(crate) enum Form {
     Semaphore,
@@ -86,8 +73,6 @@ pub(crate) struct Made {
     pub(crate) patience: SpinPolicy,
     // The patience of calls that aren't registered.
     pub(crate) unregistered: SpinPolicy,
-    // Whether the locks are poisoned at first, those of the mutex and the reader-writer lock too, as no program can make them.
-    pub(crate) is_poisoned: bool,
 }
 
 // The usual patience, with room for one, no permits, and a barrier of two.
@@ -97,18 +82,15 @@ pub(crate) const MADE: Made = Made {
     room: 1,
     patience: WAITER,
     unregistered: DEFAULT,
-    is_poisoned: false,
 };
 
-// The forms, with the number 5 behind the mutex and the reader-writer lock, and the instants that a wait may end at.
+// The forms, and the instants that a wait may end at.
 #[derive(Drop)]
 pub(crate) struct Forms<R: Wait + Clock + Drop> {
     pub(crate) semaphore: Permits<R>,
     pub(crate) lock: Lock<R>,
     pub(crate) gate: Gate<R>,
     pub(crate) barrier: Barrier<R>,
-    mutex: Mutex<R, u32>,
-    rwlock: RwLock<R, u32>,
     past: Instant,
     later: Instant,
     hence: Instant,
@@ -120,33 +102,13 @@ fn turns_of<R: Wait + Copy + Drop>(
     alloc: Global,
     made: Made,
 ) -> Result<(Permits<R>, Lock<R>), AllocError> {
-    let permits = SemaphoreCoreOf::<1000>::with_permits(alloc, made.permits, made.room)?;
-    let permits = form_of(
-        clock,
-        alloc,
-        permits,
-        made.room,
-        made.unregistered,
-        made.patience,
-    )?;
-    Ok((permits, lock_of(clock, alloc, made)?))
-}
-
-// What a lock stands on, or the turns of a guarded value.
-fn lock_of<R: Wait + Drop>(clock: R, alloc: Global, made: Made) -> Result<Lock<R>, AllocError> {
-    let mut core = LockCore::new(alloc, made.room)?;
-    if made.is_poisoned {
-        let _is_owned = core.try_lock();
-        core.poison_lock();
-    }
-    form_of(
-        clock,
-        alloc,
-        core,
-        made.room,
-        made.unregistered,
-        made.patience,
-    )
+    let permits = SemaphoreCoreOf::<65535>::with_permits(alloc, made.permits, made.room)?;
+    let lock = LockCore::new(alloc, made.room)?;
+    let (unregistered, patience) = (made.unregistered, made.patience);
+    Ok((
+        form_of(clock, alloc, permits, made.room, unregistered, patience)?,
+        form_of(clock, alloc, lock, made.room, unregistered, patience)?,
+    ))
 }
 
 // A gate and a barrier on this clock, whose calls never look.
@@ -156,21 +118,11 @@ fn gatherings_of<R: Wait + Copy + Drop>(
     made: Made,
 ) -> Result<(Gate<R>, Barrier<R>), AllocError> {
     let gate = GateCore::new(alloc, made.room)?;
-    let gate = form_of(clock, alloc, gate, made.room, NONE, made.patience)?;
     let barrier = BarrierCore::with_count(alloc, made.count, made.room)?;
-    let barrier = form_of(clock, alloc, barrier, made.room, NONE, made.patience)?;
-    Ok((gate, barrier))
-}
-
-// A mutex and a reader-writer lock on this clock.
-fn values_of<R: Wait + Copy + Drop>(
-    clock: R,
-    alloc: Global,
-    made: Made,
-) -> Result<(Mutex<R, u32>, RwLock<R, u32>), AllocError> {
-    let mutex = lock_of(clock, alloc, made)?;
-    let rwlock = lock_of(clock, alloc, made)?;
-    Ok((mutex_on(mutex, 5), rwlock_on(rwlock, 5)))
+    Ok((
+        form_of(clock, alloc, gate, made.room, NONE, made.patience)?,
+        form_of(clock, alloc, barrier, made.room, NONE, made.patience)?,
+    ))
 }
 
 // An instant so long behind another one.
@@ -192,14 +144,11 @@ pub(crate) fn forms_of<R: Wait + Clock + Drop>(
     let hence = behind(past, Duration::from_secs(HOUR))?;
     let (semaphore, lock) = turns_of(clock, alloc, made)?;
     let (gate, barrier) = gatherings_of(clock, alloc, made)?;
-    let (mutex, rwlock) = values_of(clock, alloc, made)?;
     Ok(Forms {
         semaphore,
         lock,
         gate,
         barrier,
-        mutex,
-        rwlock,
         past,
         later,
         hence,
@@ -270,217 +219,18 @@ impl<R: Wait + Clock + Drop> Forms<R> {
         }
     }
 
-    // The guard of the mutex.
-    fn take_alone(&self, span: Span) -> Result<Option<Held<'_, R>>, Full> {
-        let told = match span {
-            Span::For(duration) => self.mutex.lock_for(duration)?,
-            Span::Until(end) => self.mutex.lock_until(end)?,
-        };
-        match told {
-            Some(guard) => Ok(Some(Held::Mutex(guard))),
-            None => Ok(None),
-        }
-    }
-
-    // A reader's guard.
-    fn take_to_read(&self, span: Span) -> Result<Option<Held<'_, R>>, Full> {
-        let told = match span {
-            Span::For(duration) => self.rwlock.read_for(duration)?,
-            Span::Until(end) => self.rwlock.read_until(end)?,
-        };
-        match told {
-            Some(guard) => Ok(Some(Held::Reader(guard))),
-            None => Ok(None),
-        }
-    }
-
-    // A writer's guard.
-    fn take_to_write(&self, span: Span) -> Result<Option<Held<'_, R>>, Full> {
-        let told = match span {
-            Span::For(duration) => self.rwlock.write_for(duration)?,
-            Span::Until(end) => self.rwlock.write_until(end)?,
-        };
-        match told {
-            Some(guard) => Ok(Some(Held::Writer(guard))),
-            None => Ok(None),
-        }
-    }
-
-    // A guard in time.
-    pub(crate) fn take(&self, way: Way, span: Span) -> Result<Option<Held<'_, R>>, Full> {
-        match way {
-            Way::Lock => self.take_alone(span),
-            Way::Read => self.take_to_read(span),
-            Way::Write => self.take_to_write(span),
-        }
-    }
-
-    // A guard by the call that waits for ever.
-    pub(crate) fn hold(&self, way: Way) -> Result<Held<'_, R>, Full> {
-        Ok(match way {
-            Way::Lock => Held::Mutex(self.mutex.lock()?),
-            Way::Read => Held::Reader(self.rwlock.read()?),
-            Way::Write => Held::Writer(self.rwlock.write()?),
-        })
-    }
-
-    // So many readers take the value, and keep it; how many of them could.
-    pub(crate) fn kept_to_read(&self, count: usize) -> usize {
-        for kept in 0..count {
-            match self.rwlock.read_for(Duration::ZERO) {
-                Ok(Some(guard)) => forget(guard),
-                _ => return kept,
-            }
-        }
-        count
-    }
-
-    // How many sleep at a form.
-    pub(crate) fn asleep(&self, form: Form) -> usize {
+    // How many sleep at a form, and how many look at it that aren't registered.
+    pub(crate) fn parked(&self, form: Form) -> (usize, u64) {
         match form {
-            Form::Semaphore => self.semaphore.counts().parked(),
-            Form::Lock => self.lock.counts().parked(),
-            Form::Gate => self.gate.counts().parked(),
-            Form::Barrier => self.barrier.counts().parked(),
-        }
-    }
-
-    // How many sleep at the mutex and the reader-writer lock, and how many look at them.
-    pub(crate) fn guards_asleep(&self) -> usize {
-        let mutex = counts_of_mutex(&self.mutex).parked();
-        mutex.saturating_add(counts_of_rwlock(&self.rwlock).parked())
-    }
-
-    pub(crate) fn guard_lookers(&self) -> u64 {
-        let mutex = counts_of_mutex(&self.mutex).lookers();
-        mutex.saturating_add(counts_of_rwlock(&self.rwlock).lookers())
-    }
-
-    // Whether a try for a permit, or for a share, is refused.
-    pub(crate) fn is_refused(&self, form: Form) -> bool {
-        match form {
-            Form::Semaphore => !self.semaphore.try_acquire(),
-            _ => self.lock.try_share() == Err(TryLockError::WouldBlock),
-        }
-    }
-
-    // Whether somebody waits at the semaphore.
-    pub(crate) fn is_waited_at(&self) -> bool {
-        !self.semaphore.try_acquire_many(0)
-    }
-
-    // How many calls look at the semaphore or the lock, and aren't registered.
-    pub(crate) fn lookers(&self, form: Form) -> u64 {
-        match form {
-            Form::Semaphore => self.semaphore.counts().lookers(),
-            Form::Lock => self.lock.counts().lookers(),
-            Form::Gate | Form::Barrier => 0,
+            Form::Semaphore => parked_at(&self.semaphore),
+            Form::Lock => parked_at(&self.lock),
+            Form::Gate => parked_at(&self.gate),
+            Form::Barrier => parked_at(&self.barrier),
         }
     }
 }
 
-// A guard.
-#[derive(Drop)]
-pub(crate) enum Held<'s, R: Wait + Drop> {
-    Mutex(MutexGuard<'s, R, u32>),
-    Reader(RwLockReadGuard<'s, R, u32>),
-    Writer(RwLockWriteGuard<'s, R, u32>),
-}
-
-impl<R: Wait + Drop> Held<'_, R> {
-    // The number that it shows.
-    pub(crate) fn shown(&self) -> u32 {
-        match self {
-            Held::Mutex(guard) => **guard,
-            Held::Reader(guard) => **guard,
-            Held::Writer(guard) => **guard,
-        }
-    }
-
-    // Writes this number; whether it may.
-    pub(crate) fn put(&mut self, number: u32) -> bool {
-        match self {
-            Held::Mutex(guard) => **guard = number,
-            Held::Reader(_) => return false,
-            Held::Writer(guard) => **guard = number,
-        }
-        true
-    }
-}
-
-// The pagers of one thread.
-#[derive(Drop)]
-pub(crate) struct Pagers<'s, R: Wait + Clock + Drop> {
-    pub(crate) semaphore: Pager<'s, Permits<R>>,
-    pub(crate) lock: Pager<'s, Lock<R>>,
-    pub(crate) gate: Pager<'s, Gate<R>>,
-    pub(crate) barrier: Pager<'s, Barrier<R>>,
-}
-
-impl<'s, R: Wait + Clock + Drop> Pagers<'s, R> {
-    pub(crate) fn new() -> Self {
-        Pagers {
-            semaphore: Pager::new(),
-            lock: Pager::new(),
-            gate: Pager::new(),
-            barrier: Pager::new(),
-        }
-    }
-
-    // Registers the pager of this form, at the lock for a share.
-    pub(crate) fn register(
-        &mut self,
-        forms: &'s Forms<R>,
-        form: Form,
-        is_sync: bool,
-    ) -> Result<bool, Full> {
-        match form {
-            Form::Semaphore => forms
-                .semaphore
-                .register_pager(&mut self.semaphore, 1, is_sync),
-            Form::Lock => forms
-                .lock
-                .register_pager(&mut self.lock, Mode::Shared, is_sync),
-            Form::Gate => forms.gate.register_pager(&mut self.gate, is_sync),
-            Form::Barrier => forms.barrier.register_pager(&mut self.barrier, is_sync),
-        }
-    }
-
-    // Whether the pager of this form is registered.
-    pub(crate) fn is_registered(&mut self, form: Form) -> bool {
-        match form {
-            Form::Semaphore => self.semaphore.is_registered(),
-            Form::Lock => self.lock.is_registered(),
-            Form::Gate => self.gate.is_registered(),
-            Form::Barrier => self.barrier.is_registered(),
-        }
-    }
-
-    // Whether the pager of this form waits yet.
-    pub(crate) fn waits(&mut self, form: Form) -> bool {
-        match form {
-            Form::Semaphore => self.semaphore.try_poll() == Err(Error::NotReady),
-            Form::Lock => self.lock.try_poll() == Err(Error::NotReady),
-            Form::Gate => self.gate.try_poll() == Err(GateError::NotReady),
-            Form::Barrier => self.barrier.try_poll() == Err(Error::NotReady),
-        }
-    }
-
-    // Drops the pager of this form, and has an idle one in its place.
-    pub(crate) fn let_go(&mut self, form: Form) {
-        match form {
-            Form::Semaphore => self.semaphore = Pager::new(),
-            Form::Lock => self.lock = Pager::new(),
-            Form::Gate => self.gate = Pager::new(),
-            Form::Barrier => self.barrier = Pager::new(),
-        }
-    }
-}
-
-// What a pager is told in time.
-pub(crate) fn polled<S: Timed<Ticket>>(pager: &mut Pager<'_, S>, span: Span) -> Option<S::Result> {
-    match span {
-        Span::For(duration) => pager.poll_sync_for(duration),
-        Span::Until(end) => pager.poll_sync_until(end),
-    }
+fn parked_at<R: Wait + Drop, P: Primitive>(form: &saa_sync::form::Form<R, P>) -> (usize, u64) {
+    let counts = form.counts();
+    (counts.parked(), counts.lookers())
 }

@@ -3,16 +3,13 @@
 //! A poll of a pager has its slot already, and is never told so.
 
 use crate::calls::ALONE;
-use crate::forms::Form::{Barrier, Gate, Lock, Semaphore};
 use crate::forms::Time::{Ever, Past, Zero};
-use crate::forms::{MADE, Made, Way};
+use crate::forms::{MADE, Made};
 use crate::stories::Act::{
-    Available, Count, DropGuards, DropPermit, Hold, IsFree, IsLocked, LetPass, Open, Put, Register,
-    Release, ReleaseLock, ReleaseShare, TryLock, TryShare, Waiting,
+    Available, Count, DropPermit, IsFree, IsLocked, LetPass, Open, Register, Release, ReleaseLock,
+    ReleaseShare, TryShare, Waiting,
 };
-use crate::stories::Ask::{
-    Acquire, AcquireMany, Arrive, Enter, Permit, PollPassing, PollPermit, PollTurn, Share, Take,
-};
+use crate::stories::Ask::{Acquire, AcquireMany, Arrive, Enter, Permit, Poll, Share};
 use crate::stories::Row::{Does, In, InEach};
 use crate::stories::{Ask, Row, Story};
 use saa_core::ticket::Full;
@@ -28,17 +25,7 @@ const ROOMLESS: Story = Story {
     ..ALONE
 };
 
-// Room for one, which a pager has.
-const TAKEN: Story = Story {
-    made: Made {
-        count: 3,
-        room: 1,
-        ..MADE
-    },
-    ..ROOMLESS
-};
-
-pub(crate) static STORIES: [Story; 15] = [
+pub(crate) static STORIES: [Story; 8] = [
     Story {
         name: "no room for a permit",
         rows: &ONE_PERMIT,
@@ -78,45 +65,12 @@ pub(crate) static STORIES: [Story; 15] = [
         rows: &ARRIVAL,
         ..ROOMLESS
     },
-    Story {
-        name: "no room at a mutex",
-        rows: &MUTEX,
-        ..ROOMLESS
-    },
-    Story {
-        name: "no room to read",
-        rows: &TO_READ,
-        ..ROOMLESS
-    },
-    Story {
-        name: "no room to write beside a reader",
-        rows: &TO_WRITE,
-        ..ROOMLESS
-    },
-    Story {
-        name: "no room to write beside a writer",
-        rows: &TO_WRITE_ANEW,
-        ..ROOMLESS
-    },
+    // A pager has it.
     Story {
         name: "a waiter for a permit has the room",
+        made: MADE,
         rows: &BESIDE_A_WAITER,
-        ..TAKEN
-    },
-    Story {
-        name: "a waiter for a share has the room",
-        rows: &BESIDE_A_WAITING_SHARER,
-        ..TAKEN
-    },
-    Story {
-        name: "a waiter at the gate has the room",
-        rows: &BEHIND_A_PASSING,
-        ..TAKEN
-    },
-    Story {
-        name: "a waiter at the barrier has the room",
-        rows: &BEHIND_AN_ARRIVAL,
-        ..TAKEN
+        ..ROOMLESS
     },
 ];
 
@@ -171,75 +125,15 @@ const PASSING: [Row; 4] = [
 
 const ARRIVAL: [Row; 2] = [InEach(Arrive(Err(Full))), Does(Count(2))];
 
-const MUTEX: [Row; 5] = [
-    Does(Hold(Way::Lock, 5)),
-    InEach(Take(Way::Lock, Err(Full))),
-    Does(Put(6)),
-    Does(DropGuards),
-    In(Past, Take(Way::Lock, Ok(Some(6)))),
-];
-
-const TO_READ: [Row; 5] = [
-    Does(Hold(Way::Write, 5)),
-    InEach(Take(Way::Read, Err(Full))),
-    Does(Put(6)),
-    Does(DropGuards),
-    In(Past, Take(Way::Write, Ok(Some(6)))),
-];
-
-const TO_WRITE: [Row; 5] = [
-    Does(Hold(Way::Read, 5)),
-    InEach(Take(Way::Write, Err(Full))),
-    In(Zero, Take(Way::Read, Ok(Some(5)))),
-    Does(DropGuards),
-    In(Past, Take(Way::Write, Ok(Some(5)))),
-];
-
-const TO_WRITE_ANEW: [Row; 5] = [
-    Does(Hold(Way::Write, 5)),
-    InEach(Take(Way::Write, Err(Full))),
-    Does(Put(6)),
-    Does(DropGuards),
-    In(Past, Take(Way::Read, Ok(Some(6)))),
-];
-
 // One that asks for no permit waits there as any other, and so has no room either.
 const BESIDE_A_WAITER: [Row; 9] = [
-    Does(Register(Semaphore, true)),
+    Does(Register(true)),
     InEach(Acquire(Err(Full))),
     InEach(AcquireMany(2, Err(Full))),
     InEach(AcquireMany(0, Err(Full))),
     InEach(Permit(Err(Full))),
-    Does(Waiting(Semaphore)),
+    Does(Waiting),
     Does(Release),
-    In(Zero, PollPermit(Some(Ok(())))),
+    In(Zero, Poll(Some(Ok(())))),
     Does(Available(0)),
-];
-
-const BESIDE_A_WAITING_SHARER: [Row; 9] = [
-    Does(TryLock),
-    Does(Register(Lock, true)),
-    InEach(Ask::Lock(Err(Full))),
-    InEach(Share(Err(Full))),
-    Does(Waiting(Lock)),
-    Does(ReleaseLock),
-    In(Zero, PollTurn(Some(Ok(true)))),
-    Does(ReleaseShare),
-    Does(IsFree),
-];
-
-// A call that left would have told the pager so.
-const BEHIND_A_PASSING: [Row; 5] = [
-    Does(Register(Gate, true)),
-    InEach(Enter(Err(Full))),
-    Does(Waiting(Gate)),
-    Does(LetPass(1)),
-    In(Zero, PollPassing(Some(Ok(State::Controlled)))),
-];
-
-const BEHIND_AN_ARRIVAL: [Row; 4] = [
-    Does(Register(Barrier, true)),
-    InEach(Arrive(Err(Full))),
-    Does(Count(2)),
-    Does(Waiting(Barrier)),
 ];

@@ -4,12 +4,10 @@
 //! is the runtime's, by which a call is told only that it isn't early. So no test depends on how fast the machine is. Every test joins its
 //! threads, and ends by itself.
 //!
-//! What is told is in tables of rows (`calls`, `pagers`, `guards`, `full`, `order`, `crowd`), which `stories` plays; and each call has a
-//! row of `table`, which `every` plays.
+//! What is told is in tables of rows (`calls`, `pagers`, `full`, `order`, `crowd`), which `stories` plays; and each call has a row of
+//! `table`, which `every` plays. What no form has of its own is told at the semaphore.
 #![tactic(auto)]
 
-#[cfg(test)]
-mod bound;
 #[cfg(test)]
 mod calls;
 #[cfg(test)]
@@ -34,5 +32,3 @@ mod races;
 mod stories;
 #[cfg(test)]
 mod table;
-#[cfg(test)]
-mod whole;

@@ -1,16 +1,13 @@
 //! A call that ends in time registers at once, where one that may wait for ever looks first; and one that leaves tells those that look.
 
 use crate::calls::ALONE;
-use crate::forms::Form::{Lock, Semaphore};
+use crate::forms::Form::Semaphore;
 use crate::forms::Time::{Hour, Long, Zero};
 use crate::forms::{MADE, Made};
-use crate::stories::Act::{
-    AcquirePlain, Available, IsFree, IsLocked, LockPlain, Refused, Register, Release, ReleaseLock,
-    ReleaseMany, ReleaseShare, SharePlain, TryShare,
-};
-use crate::stories::Row::{Does, Has, In};
+use crate::stories::Act::{AcquirePlain, Available, Refused, Register, Release, ReleaseMany};
+use crate::stories::Row::{Does, Has, In, Lasts};
 use crate::stories::Sign::{Asleep, Awaited, Clock, Looks, Pauses, Reached, Read, Waits};
-use crate::stories::{Act, Ask, LATE, Row, Story};
+use crate::stories::{Ask, Kind, LATE, REAL, Row, Story};
 use saa_sync::spin_policy::{NONE, SpinPolicy};
 
 // Waiters sleep at once, and calls that aren't registered look on, and register in no test's time.
@@ -50,21 +47,7 @@ const YIELDING: Made = Made {
     ..LOOKING
 };
 
-pub(crate) static STORIES: [Story; 7] = [
-    Story {
-        name: "a call for the lock is queued beside a sharer, and the plain one that comes later looks",
-        rows: &QUEUED_FOR_THE_LOCK,
-        rescue: &[Does(ReleaseShare)],
-        beside: &[
-            Has(Awaited(1)),
-            In(Hour, Ask::Lock(Ok(Some(true)))),
-            Does(IsLocked),
-            Does(ReleaseLock),
-        ],
-        third: &[Has(Awaited(2)), Does(LockPlain), Does(ReleaseLock)],
-        after: &[Does(IsFree)],
-        ..STILL
-    },
+pub(crate) static STORIES: [Story; 8] = [
     Story {
         name: "a call for permits is queued beside one that is there, and the plain one that comes later looks",
         made: Made {
@@ -84,7 +67,12 @@ pub(crate) static STORIES: [Story; 7] = [
     Story {
         name: "a call that looks at its seat doesn't sleep and sees the ring",
         made: AWAKE,
-        rows: &[Has(Waits), Has(Pauses), Does(Act::Asleep(0)), Does(Release)],
+        rows: &[
+            Has(Waits),
+            Has(Pauses),
+            Has(Asleep(Semaphore, 0)),
+            Does(Release),
+        ],
         rescue: &[Does(Release)],
         beside: &[In(Hour, Ask::Acquire(Ok(Some(()))))],
         after: &[Does(Available(0))],
@@ -96,7 +84,12 @@ pub(crate) static STORIES: [Story; 7] = [
             unregistered: NONE,
             ..YIELDING
         },
-        rows: &[Has(Waits), Has(Pauses), Does(Act::Asleep(0)), Does(Release)],
+        rows: &[
+            Has(Waits),
+            Has(Pauses),
+            Has(Asleep(Semaphore, 0)),
+            Does(Release),
+        ],
         rescue: &[Does(Release)],
         beside: &[Does(AcquirePlain)],
         after: &[Does(Available(0))],
@@ -118,58 +111,80 @@ pub(crate) static STORIES: [Story; 7] = [
         rescue: &[Does(Release)],
         beside: &[
             Has(Awaited(1)),
-            Does(Register(Semaphore, true)),
-            In(Hour, Ask::PollPermit(Some(Ok(())))),
+            Does(Register(true)),
+            In(Hour, Ask::Poll(Some(Ok(())))),
         ],
         after: &[Does(Available(0))],
         ..STILL
     },
-    // The share that is looked for is kept from its call by nothing but the one that is late.
+    // The permit that is looked for is kept from its call by nothing but the one that is late.
     Story {
         name: "a call that is late tells one that looks",
+        made: Made {
+            permits: 1,
+            ..LOOKING
+        },
         rows: &LATE_BESIDE_ONE_THAT_LOOKS,
-        beside: &[Has(Awaited(1)), In(Long, Ask::Lock(Ok(None)))],
-        third: &[Has(Awaited(2)), Does(SharePlain)],
-        after: &[Does(ReleaseShare), Does(ReleaseShare), Does(IsFree)],
+        beside: &[In(Long, Ask::AcquireMany(300, Ok(None)))],
+        third: &[Has(Awaited(1)), Does(AcquirePlain)],
+        after: &[Does(Available(0))],
+        ..STILL
+    },
+    // No wait ends early by the runtime's clock, where its waiter yields for as long as there is time, or looks a million times first.
+    Story {
+        name: "a wait that yields lasts as long as it has",
+        step: REAL,
+        made: YIELDING,
+        rows: &LASTS,
+        ..STILL
+    },
+    Story {
+        name: "a wait that looks lasts as long as it has",
+        step: REAL,
+        made: Made {
+            patience: SpinPolicy {
+                looks: 1_000_000,
+                yields: 0,
+            },
+            ..AWAKE
+        },
+        rows: &LASTS,
         ..STILL
     },
 ];
 
-const QUEUED_FOR_THE_LOCK: [Row; 7] = [
-    Does(TryShare),
-    Has(Reached(1)),
-    Has(Asleep(Lock, 1)),
-    Does(Refused(Lock)),
-    Has(Reached(2)),
-    Has(Looks(Lock)),
-    Does(ReleaseShare),
-];
-
 const QUEUED_FOR_PERMITS: [Row; 5] = [
     Has(Asleep(Semaphore, 1)),
-    Does(Refused(Semaphore)),
+    Does(Refused),
     Has(Reached(1)),
-    Has(Looks(Semaphore)),
+    Has(Looks),
     Does(ReleaseMany(299)),
 ];
 
 // The seat was rung for the one that waited there before.
 const RINGS_TWICE: [Row; 8] = [
-    Does(Register(Semaphore, true)),
+    Does(Register(true)),
     Does(Release),
-    In(Zero, Ask::PollPermit(Some(Ok(())))),
+    In(Zero, Ask::Poll(Some(Ok(())))),
     Has(Reached(1)),
     Has(Waits),
     Has(Read(100)),
-    Does(Act::Asleep(0)),
+    Has(Asleep(Semaphore, 0)),
     Does(Release),
 ];
 
-const LATE_BESIDE_ONE_THAT_LOOKS: [Row; 6] = [
-    Does(TryShare),
+const LATE_BESIDE_ONE_THAT_LOOKS: [Row; 4] = [
+    Has(Asleep(Semaphore, 1)),
     Has(Reached(1)),
-    Has(Asleep(Lock, 1)),
-    Has(Reached(2)),
-    Has(Looks(Lock)),
+    Has(Looks),
     Has(Clock(LATE)),
+];
+
+// Its slot is free again behind it, and nothing was taken.
+const LASTS: [Row; 5] = [
+    Lasts(Kind::For, Ask::Acquire(Ok(None))),
+    Lasts(Kind::Until, Ask::AcquireMany(2, Ok(None))),
+    Has(Asleep(Semaphore, 0)),
+    Does(ReleaseMany(2)),
+    Does(Available(2)),
 ];

@@ -1,72 +1,33 @@
-//! Pagers that are waited for in time.
+//! Pagers that are waited for in time, by a poll that is written once for all forms.
 
 use crate::calls::ALONE;
-use crate::forms::Form::{Barrier, Gate, Lock, Semaphore};
-use crate::forms::Time::{Ever, Past, Short, Zero};
+use crate::forms::Time::{Ever, Past, Short};
 use crate::forms::{MADE, Made};
-use crate::stories::Act::{
-    ArriveLast, Available, IsRegistered, Open, PoisonLock, Register, Reject, Release, TryLock,
-};
-use crate::stories::Ask::{PollArrival, PollPassing, PollPermit, PollTurn};
+use crate::stories::Act::{Available, IsRegistered, Register, Release};
+use crate::stories::Ask::Poll;
 use crate::stories::Row::{Does, In};
 use crate::stories::{Row, Story};
-use saa_sync::gate::{Error as GateError, State};
 use saa_sync::pager::Error;
 
-pub(crate) static STORIES: [Story; 3] = [
-    Story {
-        name: "a pager whose time is up stays registered",
-        made: Made { room: 2, ..MADE },
-        rows: &PERMITS,
-        ..ALONE
-    },
-    Story {
-        name: "pagers of a lock and of a gate",
-        rows: &TURNS_AND_PASSINGS,
-        ..ALONE
-    },
-    Story {
-        name: "a pager of a barrier",
-        made: Made { room: 2, ..MADE },
-        rows: &ARRIVALS,
-        ..ALONE
-    },
-];
+pub(crate) static STORIES: [Story; 1] = [Story {
+    name: "a pager whose time is up stays registered",
+    made: Made { room: 2, ..MADE },
+    rows: &PERMITS,
+    ..ALONE
+}];
 
 const PERMITS: [Row; 12] = [
-    In(Ever, PollPermit(Some(Err(Error::NotRegistered)))),
-    Does(Register(Semaphore, true)),
-    In(Short, PollPermit(None)),
-    In(Past, PollPermit(None)),
-    Does(IsRegistered(Semaphore, true)),
+    In(Ever, Poll(Some(Err(Error::NotRegistered)))),
+    Does(Register(true)),
+    In(Short, Poll(None)),
+    In(Past, Poll(None)),
+    Does(IsRegistered(true)),
     Does(Release),
     // The answer is there, and is taken whatever the time.
-    In(Past, PollPermit(Some(Ok(())))),
-    Does(IsRegistered(Semaphore, false)),
-    In(Past, PollPermit(Some(Err(Error::NotRegistered)))),
-    Does(Register(Semaphore, false)),
-    In(Ever, PollPermit(Some(Err(Error::WrongMode)))),
+    In(Past, Poll(Some(Ok(())))),
+    Does(IsRegistered(false)),
+    In(Past, Poll(Some(Err(Error::NotRegistered)))),
+    Does(Register(false)),
+    In(Ever, Poll(Some(Err(Error::WrongMode)))),
     Does(Available(0)),
-];
-
-const TURNS_AND_PASSINGS: [Row; 12] = [
-    Does(TryLock),
-    Does(Register(Lock, true)),
-    In(Zero, PollTurn(None)),
-    Does(PoisonLock),
-    In(Past, PollTurn(Some(Ok(false)))),
-    Does(Register(Gate, true)),
-    In(Zero, PollPassing(None)),
-    Does(Reject(1)),
-    In(Zero, PollPassing(Some(Err(GateError::Rejected)))),
-    Does(Open(State::Controlled)),
-    Does(Register(Gate, true)),
-    In(Past, PollPassing(Some(Ok(State::Open)))),
-];
-
-const ARRIVALS: [Row; 4] = [
-    Does(Register(Barrier, true)),
-    In(Past, PollArrival(None)),
-    Does(ArriveLast),
-    In(Zero, PollArrival(Some(Ok(false)))),
 ];

@@ -3,14 +3,13 @@
 //! A call that stands in a test's text is proved there anew; one that stands in a row of a table is data, and costs no proof.
 
 use crate::clock::OnClock;
-use crate::forms::{
-    Form, Forms, Held, Made, OnePermit, Pagers, Span, Time, Way, behind, forms_of, polled,
-};
-use crate::{calls, crowd, full, guards, order, pagers};
+use crate::forms::{Form, Forms, Made, OnePermit, Permits, Span, Time, behind, forms_of};
+use crate::{calls, crowd, full, order, pagers};
 use saa_core::ticket::Full;
-use saa_sync::gate::{Error as GateError, State};
-use saa_sync::pager::Error;
-use saa_sync::testing::{Counted, call_untold};
+use saa_sync::gate::{Error as GateError, Gate, State};
+use saa_sync::lock::Lock;
+use saa_sync::pager::{Error, Pager};
+use saa_sync::testing::call_untold;
 use std::alloc::{AllocGlobal, Global};
 use std::io;
 use std::sync::Wait;
@@ -52,13 +51,8 @@ pub(crate) enum Ask {
     Share(Result<Option<bool>, Full>),
     Enter(Result<Option<Result<State, GateError>>, Full>),
     Arrive(Result<Option<bool>, Full>),
-    // A poll of the thread's pager of the semaphore, the lock, the gate or the barrier.
-    PollPermit(Option<Result<(), Error>>),
-    PollTurn(Option<Result<bool, Error>>),
-    PollPassing(Option<Result<State, GateError>>),
-    PollArrival(Option<Result<bool, Error>>),
-    // A guard that is had stays with the thread, and shows this.
-    Take(Way, Result<Option<u32>, Full>),
+    // A poll of the thread's pager, which is one of the semaphore.
+    Poll(Option<Result<(), Error>>),
 }
 
 // A call that does not end in time, or no call that waits.
@@ -67,19 +61,16 @@ pub(crate) enum Act {
     Release,
     ReleaseMany(usize),
     Available(usize),
-    Asleep(usize),
     DropPermit,
     // A permit is asked for or released as the time of the others is up; they aren't woken by this release.
     AcquireLate,
     ReleaseLate,
+    // A try for a permit is refused.
+    Refused,
+    // A call that may wait for ever, and is granted.
+    AcquirePlain,
     TryLock,
     TryShare,
-    // A try for a permit, or for a share, is refused.
-    Refused(Form),
-    // Calls that may wait for ever, and are granted.
-    AcquirePlain,
-    LockPlain,
-    SharePlain,
     ReleaseLock,
     ReleaseShare,
     PoisonLock,
@@ -92,25 +83,11 @@ pub(crate) enum Act {
     // The gate is asked for as the time of the others is up; they tell all.
     EnterLate,
     Count(usize),
-    ArriveLast,
-    Register(Form, bool),
-    IsRegistered(Form, bool),
-    // A pager has no answer yet, and isn't waited for.
-    Waiting(Form),
-    LetGo(Form),
-    // A guard by the call that waits for ever shows this.
-    Hold(Way, u32),
-    // So many readers have the value, and keep it.
-    KeepToRead(usize),
-    Put(u32),
-    DropGuards,
-}
-
-// Where a call waits: at a form, or at the mutex or the reader-writer lock.
-#[derive(Clone, Copy)]
-pub(crate) enum Place {
-    At(Form),
-    Guarded,
+    Register(bool),
+    IsRegistered(bool),
+    // The pager has no answer yet, and isn't waited for.
+    Waiting,
+    LetGo,
 }
 
 // How threads meet.
@@ -125,10 +102,10 @@ pub(crate) enum Sign {
     // So many sleep at this form; it is waited for.
     Asleep(Form, usize),
     // The call that waits here is parked, and nobody looks; it is waited for. The clock is hardly read then.
-    Parked(Place),
+    Parked(Form),
     Rests,
-    // Somebody looks at this form, and isn't registered; it is waited for.
-    Looks(Form),
+    // Somebody looks at the semaphore, and isn't registered; it is waited for.
+    Looks,
     // Somebody waits at the semaphore, or the clock was read so often; it is waited for.
     Waits,
     Read(u64),
@@ -138,6 +115,9 @@ pub(crate) enum Sign {
 
 // How late the clock is set for the time of all to be up, in nanoseconds.
 pub(crate) const LATE: u64 = 1_000_000_000;
+
+// The step of the runtime's clock.
+pub(crate) const REAL: u64 = u64::MAX;
 
 // All times but those of some nanoseconds; a call that waits where it is to tell at once is told otherwise at the first.
 const EACH: [Time; 7] = [
@@ -168,7 +148,7 @@ const FEW: u64 = 8;
 #[derive(Clone, Copy)]
 pub(crate) struct Story {
     pub(crate) name: &'static str,
-    // How much later each reading of the clock is than the last, in nanoseconds.
+    // How much later each reading of the clock is than the last, in nanoseconds; or the clock is the runtime's.
     pub(crate) step: u64,
     pub(crate) made: Made,
     // What three threads do at the same time, and what is done once they have ended.
@@ -184,26 +164,13 @@ pub(crate) struct Story {
 #[derive(Drop)]
 struct Desk<'s, R: Wait + Clock + Drop> {
     forms: &'s Forms<R>,
-    pagers: Pagers<'s, R>,
+    pager: Pager<'s, Permits<R>>,
     permit: Option<OnePermit<'s, R>>,
-    held: Option<Held<'s, R>>,
-    // The guard that was had before.
-    older: Option<Held<'s, R>>,
 }
 
 impl<'s, R: Wait + Clock + Drop> Desk<'s, R> {
-    fn new(forms: &'s Forms<R>) -> Self {
-        Desk {
-            forms,
-            pagers: Pagers::new(),
-            permit: None,
-            held: None,
-            older: None,
-        }
-    }
-
     // Keeps a permit, if there is one; whether there is.
-    fn keep_permit(&mut self, told: Result<Option<OnePermit<'s, R>>, Full>) -> Result<bool, Full> {
+    fn keep(&mut self, told: Result<Option<OnePermit<'s, R>>, Full>) -> Result<bool, Full> {
         match told? {
             Some(permit) => {
                 self.permit = Some(permit);
@@ -213,35 +180,18 @@ impl<'s, R: Wait + Clock + Drop> Desk<'s, R> {
         }
     }
 
-    // Keeps a guard, if there is one; what it shows.
-    fn keep(&mut self, told: Result<Option<Held<'s, R>>, Full>) -> Result<Option<u32>, Full> {
-        match told? {
-            Some(held) => {
-                let shown = held.shown();
-                self.older = self.held.take();
-                self.held = Some(held);
-                Ok(Some(shown))
-            }
-            None => Ok(None),
-        }
-    }
-
     // Makes a call that ends in time; whether it tells what it must.
     fn asks(&mut self, span: Span, ask: Ask) -> bool {
         let forms = self.forms;
         match ask {
             Ask::Acquire(wanted) => forms.acquire(span) == wanted,
             Ask::AcquireMany(count, wanted) => forms.acquire_many(count, span) == wanted,
-            Ask::Permit(wanted) => self.keep_permit(forms.permit(span)) == wanted,
+            Ask::Permit(wanted) => self.keep(forms.permit(span)) == wanted,
             Ask::Lock(wanted) => forms.lock(span) == wanted,
             Ask::Share(wanted) => forms.share(span) == wanted,
             Ask::Enter(wanted) => forms.enter(span) == wanted,
             Ask::Arrive(wanted) => forms.arrive(span) == wanted,
-            Ask::PollPermit(wanted) => polled(&mut self.pagers.semaphore, span) == wanted,
-            Ask::PollTurn(wanted) => polled(&mut self.pagers.lock, span) == wanted,
-            Ask::PollPassing(wanted) => polled(&mut self.pagers.gate, span) == wanted,
-            Ask::PollArrival(wanted) => polled(&mut self.pagers.barrier, span) == wanted,
-            Ask::Take(way, wanted) => self.keep(forms.take(way, span)) == wanted,
+            Ask::Poll(wanted) => polled(&mut self.pager, span) == wanted,
         }
     }
 
@@ -255,84 +205,107 @@ impl<'s, R: Wait + Clock + Drop> Desk<'s, R> {
         true
     }
 
-    fn put(&mut self, number: u32) -> bool {
-        match &mut self.held {
-            Some(held) => held.put(number),
-            None => false,
-        }
-    }
-
-    fn drop_guards(&mut self) -> bool {
-        self.older = None;
-        self.held.take().is_some()
-    }
-
-    fn let_go(&mut self, form: Form) -> bool {
-        self.pagers.let_go(form);
-        true
-    }
-
     // Makes another call; whether it tells what it must.
     fn does<C: Wait + Clock + Drop>(&mut self, clock: &OnClock<C>, act: Act) -> bool {
         let forms = self.forms;
         match act {
-            Act::Release => forms.semaphore.release(),
-            Act::ReleaseMany(count) => forms.semaphore.release_many(count),
-            Act::Available(count) => forms.semaphore.available_permits(Ordering::SeqCst) == count,
-            Act::Asleep(count) => forms.asleep(Form::Semaphore) == count,
-            Act::DropPermit => self.permit.take().is_some(),
-            Act::AcquireLate => forms
-                .semaphore
-                .acquire_sync_with(|| clock.set(LATE))
-                .is_ok(),
-            Act::ReleaseLate => release_late(forms, clock),
-            Act::TryLock => forms.lock.try_lock().is_ok(),
-            Act::TryShare => forms.lock.try_share().is_ok(),
-            Act::Refused(form) => forms.is_refused(form),
-            Act::AcquirePlain => forms.semaphore.acquire_sync().is_ok(),
-            Act::LockPlain => forms.lock.lock_sync() == Ok(true),
-            Act::SharePlain => forms.lock.share_sync() == Ok(true),
-            Act::ReleaseLock => forms.lock.release_lock(),
-            Act::ReleaseShare => forms.lock.release_share(),
-            Act::PoisonLock => forms.lock.poison_lock(),
-            Act::IsFree => forms.lock.is_free(Ordering::SeqCst),
-            Act::IsLocked => forms.lock.is_locked(Ordering::SeqCst),
-            Act::Open(state) => forms.gate.open() == (state, 0),
-            Act::Seal => forms.gate.seal() == (State::Open, 0),
-            Act::LetPass(count) => forms.gate.permit() == Ok(count),
-            Act::Reject(count) => forms.gate.reject() == Ok(count),
-            Act::EnterLate => enter_late(forms, clock),
+            Act::TryLock
+            | Act::TryShare
+            | Act::ReleaseLock
+            | Act::ReleaseShare
+            | Act::PoisonLock
+            | Act::IsFree
+            | Act::IsLocked => at_lock(&forms.lock, act),
+            Act::Open(_) | Act::Seal | Act::LetPass(_) | Act::Reject(_) | Act::EnterLate => {
+                at_gate(&forms.gate, clock, act)
+            }
             Act::Count(count) => forms.barrier.count(Ordering::SeqCst) == count,
-            Act::ArriveLast => forms.barrier.wait_sync() == Ok(true),
-            Act::Register(form, is_sync) => self.pagers.register(forms, form, is_sync) == Ok(true),
-            Act::IsRegistered(form, wanted) => self.pagers.is_registered(form) == wanted,
-            Act::Waiting(form) => self.pagers.waits(form),
-            Act::LetGo(form) => self.let_go(form),
-            Act::Hold(way, number) => self.keep(forms.hold(way).map(Some)) == Ok(Some(number)),
-            Act::KeepToRead(count) => forms.kept_to_read(count) == count,
-            Act::Put(number) => self.put(number),
-            Act::DropGuards => self.drop_guards(),
+            Act::DropPermit => self.permit.take().is_some(),
+            Act::Register(_) | Act::IsRegistered(_) | Act::Waiting | Act::LetGo => {
+                by_pager(&forms.semaphore, &mut self.pager, act)
+            }
+            _ => at_semaphore(&forms.semaphore, clock, act),
         }
     }
 }
 
-// Releases a permit as time is up, and wakes nobody.
-fn release_late<R: Wait + Clock + Drop, C: Wait + Clock + Drop>(
-    forms: &Forms<R>,
-    clock: &OnClock<C>,
-) -> bool {
-    call_untold(&forms.semaphore, |core| {
-        clock.set(LATE);
-        core.release()
-    })
+// What a pager is told in time.
+fn polled<R: Wait + Clock + Drop>(
+    pager: &mut Pager<'_, Permits<R>>,
+    span: Span,
+) -> Option<Result<(), Error>> {
+    match span {
+        Span::For(duration) => pager.poll_sync_for(duration),
+        Span::Until(end) => pager.poll_sync_until(end),
+    }
 }
 
-// Enters as time is up; whether a waiter that left told so.
-fn enter_late<R: Wait + Clock + Drop, C: Wait + Clock + Drop>(
-    forms: &Forms<R>,
-    clock: &OnClock<C>,
+fn by_pager<'s, R: Wait + Drop>(
+    semaphore: &'s Permits<R>,
+    pager: &mut Pager<'s, Permits<R>>,
+    act: Act,
 ) -> bool {
-    forms.gate.enter_sync_with(|| clock.set(LATE)) == Ok(Err(GateError::SpuriousFailure))
+    match act {
+        Act::Register(is_sync) => semaphore.register_pager(pager, 1, is_sync) == Ok(true),
+        Act::IsRegistered(wanted) => pager.is_registered() == wanted,
+        Act::Waiting => pager.try_poll() == Err(Error::NotReady),
+        _ => {
+            *pager = Pager::new();
+            true
+        }
+    }
+}
+
+fn at_semaphore<R: Wait + Drop, C: Wait + Clock + Drop>(
+    semaphore: &Permits<R>,
+    clock: &OnClock<C>,
+    act: Act,
+) -> bool {
+    match act {
+        Act::Release => semaphore.release(),
+        Act::ReleaseMany(count) => semaphore.release_many(count),
+        Act::Available(count) => semaphore.available_permits(Ordering::SeqCst) == count,
+        Act::AcquireLate => semaphore.acquire_sync_with(|| clock.set(LATE)).is_ok(),
+        // It wakes nobody.
+        Act::ReleaseLate => call_untold(semaphore, |core| {
+            clock.set(LATE);
+            core.release()
+        }),
+        Act::Refused => !semaphore.try_acquire(),
+        Act::AcquirePlain => semaphore.acquire_sync().is_ok(),
+        _ => false,
+    }
+}
+
+fn at_lock<R: Wait + Drop>(lock: &Lock<R>, act: Act) -> bool {
+    match act {
+        Act::TryLock => lock.try_lock().is_ok(),
+        Act::TryShare => lock.try_share().is_ok(),
+        Act::ReleaseLock => lock.release_lock(),
+        Act::ReleaseShare => lock.release_share(),
+        Act::PoisonLock => lock.poison_lock(),
+        Act::IsFree => lock.is_free(Ordering::SeqCst),
+        Act::IsLocked => lock.is_locked(Ordering::SeqCst),
+        _ => false,
+    }
+}
+
+fn at_gate<R: Wait + Drop, C: Wait + Clock + Drop>(
+    gate: &Gate<R>,
+    clock: &OnClock<C>,
+    act: Act,
+) -> bool {
+    match act {
+        Act::Open(state) => gate.open() == (state, 0),
+        Act::Seal => gate.seal() == (State::Open, 0),
+        Act::LetPass(count) => gate.permit() == Ok(count),
+        Act::Reject(count) => gate.reject() == Ok(count),
+        // A waiter that leaves meanwhile tells so.
+        Act::EnterLate => {
+            gate.enter_sync_with(|| clock.set(LATE)) == Ok(Err(GateError::SpuriousFailure))
+        }
+        _ => false,
+    }
 }
 
 // What a thread of a story does, one table after another.
@@ -358,29 +331,19 @@ impl<'c, C: Wait + Clock + Drop> Scene<'c, C> {
         })
     }
 
-    // Says that it is so far.
-    fn reach(&self, number: u64) {
-        self.reached.store(number, Ordering::SeqCst);
-    }
-
     // Whether it is so far.
     fn has_reached(&self, wanted: u64) -> bool {
         self.reached.load(Ordering::SeqCst) >= wanted
-    }
-
-    // Whether it was told otherwise, so that nobody waits for it any more.
-    fn has_failed(&self) -> bool {
-        self.has_failed.load(Ordering::SeqCst)
     }
 
     // Whether a sign is there that is waited for.
     fn is_there(&self, sign: Sign) -> bool {
         match sign {
             Sign::Awaited(number) => self.has_reached(number),
-            Sign::Asleep(form, count) => self.forms.asleep(form) == count,
-            Sign::Parked(place) => self.is_parked(place) || self.is_looked_at(place),
-            Sign::Looks(form) => self.forms.lookers(form) != 0,
-            Sign::Waits => self.forms.is_waited_at(),
+            Sign::Asleep(form, count) => self.forms.parked(form).0 == count,
+            Sign::Parked(form) => self.forms.parked(form) != (0, 0),
+            Sign::Looks => self.forms.parked(Form::Semaphore).1 != 0,
+            Sign::Waits => !self.forms.semaphore.try_acquire_many(0),
             Sign::Read(count) => self.clock.readings() >= count,
             _ => true,
         }
@@ -395,7 +358,9 @@ impl<'c, C: Wait + Clock + Drop> Scene<'c, C> {
             if self.is_there(sign) {
                 return true;
             }
-            if self.has_failed() || self.is_over(sign) || self.is_too_long_since(start) {
+            // The story was told otherwise, or the call has ended that should be parked.
+            let is_over = matches!(sign, Sign::Parked(_)) && self.has_reached(2);
+            if self.has_failed.load(Ordering::SeqCst) || is_over || self.is_too_long_since(start) {
                 return false;
             }
             thread::sleep(self.clock.rt(), Duration::from_micros(GLANCE));
@@ -403,34 +368,10 @@ impl<'c, C: Wait + Clock + Drop> Scene<'c, C> {
         unreachable!()
     }
 
-    // Whether the call has ended that a sign is of.
-    fn is_over(&self, sign: Sign) -> bool {
-        match sign {
-            Sign::Parked(_place) => self.has_reached(2),
-            _ => false,
-        }
-    }
-
     fn is_too_long_since(&self, start: Instant) -> bool {
         match start.elapsed(self.clock.rt()) {
             Ok(elapsed) => elapsed >= Duration::from_secs(TOO_LONG),
             Err(_unread) => true,
-        }
-    }
-
-    // Whether a call is parked here.
-    fn is_parked(&self, place: Place) -> bool {
-        match place {
-            Place::At(form) => self.forms.asleep(form) == 1,
-            Place::Guarded => self.forms.guards_asleep() == 1,
-        }
-    }
-
-    // Whether somebody looks where a call should wait.
-    fn is_looked_at(&self, place: Place) -> bool {
-        match place {
-            Place::At(form) => self.forms.lookers(form) != 0,
-            Place::Guarded => self.forms.guard_lookers() != 0,
         }
     }
 
@@ -447,10 +388,10 @@ impl<'c, C: Wait + Clock + Drop> Scene<'c, C> {
         match sign {
             Sign::Clock(now) => self.clock.set(now),
             Sign::Leaps(then) => self.clock.leap(then),
-            Sign::Reached(number) => self.reach(number),
+            Sign::Reached(number) => self.reached.store(number, Ordering::SeqCst),
             Sign::Pauses => thread::sleep(self.clock.rt(), Duration::from_millis(PAUSE)),
             Sign::Rests => return self.rests(),
-            Sign::Parked(place) => return self.comes(sign) && !self.is_looked_at(place),
+            Sign::Parked(form) => return self.comes(sign) && self.forms.parked(form) == (1, 0),
             _ => return self.comes(sign),
         }
         true
@@ -483,7 +424,11 @@ impl<'c, C: Wait + Clock + Drop> Scene<'c, C> {
     // The first of a thread's rows that was told otherwise, counted from 0. Then nobody waits for it any more, and what would let others go
     // on is done at least.
     pub(crate) fn first_other(&self, parts: Parts<'_>, rescue: &[Row]) -> Option<usize> {
-        let mut desk = Desk::new(&self.forms);
+        let mut desk = Desk {
+            forms: &self.forms,
+            pager: Pager::new(),
+            permit: None,
+        };
         let other = first_of(self, &mut desk, parts);
         if other.is_some() {
             self.has_failed.store(true, Ordering::SeqCst);
@@ -531,27 +476,48 @@ fn first_at<'s, 'c, C: Wait + Clock + Drop>(
     None
 }
 
+// What the three threads of a story do, the first of them more where it is told otherwise; and what is done afterwards.
+#[derive(Clone, Copy)]
+pub(crate) struct Roles<'p> {
+    pub(crate) rows: Parts<'p>,
+    pub(crate) rescue: &'p [Row],
+    pub(crate) beside: Parts<'p>,
+    pub(crate) third: Parts<'p>,
+    pub(crate) after: Parts<'p>,
+}
+
 // The first row of each thread that was told otherwise, and the first one afterwards.
-type Others = ((Option<usize>, Option<usize>), Option<usize>, Option<usize>);
+pub(crate) type Others = ((Option<usize>, Option<usize>), Option<usize>, Option<usize>);
+
+// What a story tells whose every row is told what it must.
+pub(crate) const NO_OTHERS: Others = ((None, None), None, None);
 
 // Plays a story whose forms are made.
-fn played<H: Threads + Sync, C: Wait + Clock + Drop + Sync>(
+pub(crate) fn played<H: Threads + Sync, C: Wait + Clock + Drop + Sync>(
     rt: &H,
     scene: &Scene<'_, C>,
-    story: Story,
+    roles: Roles<'_>,
 ) -> Others {
     let (beside, own) = thread::join(
         rt,
         || {
             thread::join(
                 rt,
-                || scene.first_other(&[story.beside], &[]),
-                || scene.first_other(&[story.third], &[]),
+                || scene.first_other(roles.beside, &[]),
+                || scene.first_other(roles.third, &[]),
             )
         },
-        || scene.first_other(&[story.rows], story.rescue),
+        || scene.first_other(roles.rows, roles.rescue),
     );
-    (beside, own, scene.first_other(&[story.after], &[]))
+    (beside, own, scene.first_other(roles.after, &[]))
+}
+
+// A clock of this step.
+pub(crate) fn clock_of<R: Wait + Clock + Drop>(rt: R, step: u64) -> OnClock<R> {
+    match step {
+        REAL => OnClock::real(rt),
+        _ => OnClock::new(rt, step),
+    }
 }
 
 // Plays a story.
@@ -559,51 +525,42 @@ fn others<H: Wait + Clock + Threads + Sync + AllocGlobal>(
     rt: &H,
     story: Story,
 ) -> io::Result<Others> {
-    let clock = OnClock::new(rt, story.step);
+    let clock = clock_of(rt, story.step);
     let scene = Scene::new(&clock, rt.alloc(), story.made)?;
-    Ok(played(rt, &scene, story))
+    let roles = Roles {
+        rows: &[story.rows],
+        rescue: story.rescue,
+        beside: &[story.beside],
+        third: &[story.third],
+        after: &[story.after],
+    };
+    Ok(played(rt, &scene, roles))
 }
 
-// The first of these stories in which something was told otherwise, and what.
+// The first of all stories in which something was told otherwise, and what.
 fn first_story<H: Wait + Clock + Threads + Sync + AllocGlobal>(
     rt: &H,
-    stories: &[Story],
+    tables: &[&[Story]],
 ) -> io::Result<Option<(&'static str, Others)>> {
-    for story in stories {
-        let others = others(rt, *story)?;
-        if others != ((None, None), None, None) {
-            return Ok(Some((story.name, others)));
+    for stories in tables {
+        for story in *stories {
+            let others = others(rt, *story)?;
+            if others != NO_OTHERS {
+                return Ok(Some((story.name, others)));
+            }
         }
     }
     Ok(None)
 }
 
 #[test]
-fn calls_are_told_in_time(rt: HostRuntime) {
-    same!(rt; first_story(&rt, &calls::STORIES).ok(), Some(None));
-}
-
-#[test]
-fn pagers_are_told_in_time(rt: HostRuntime) {
-    same!(rt; first_story(&rt, &pagers::STORIES).ok(), Some(None));
-}
-
-#[test]
-fn guards_are_had_in_time(rt: HostRuntime) {
-    same!(rt; first_story(&rt, &guards::STORIES).ok(), Some(None));
-}
-
-#[test]
-fn full_rooms_are_told(rt: HostRuntime) {
-    same!(rt; first_story(&rt, &full::STORIES).ok(), Some(None));
-}
-
-#[test]
-fn whoever_is_late_is_passed(rt: HostRuntime) {
-    same!(rt; first_story(&rt, &crowd::STORIES).ok(), Some(None));
-}
-
-#[test]
-fn calls_in_time_register_at_once(rt: HostRuntime) {
-    same!(rt; first_story(&rt, &order::STORIES).ok(), Some(None));
+fn all_are_told_in_time(rt: HostRuntime) {
+    let tables: [&[Story]; 5] = [
+        &calls::STORIES,
+        &pagers::STORIES,
+        &full::STORIES,
+        &crowd::STORIES,
+        &order::STORIES,
+    ];
+    same!(rt; first_story(&rt, &tables).ok(), Some(None));
 }

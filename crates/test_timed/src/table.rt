@@ -2,19 +2,17 @@
 //! once.
 
 use crate::every::{CALL, Call};
-use crate::forms::Form::{Barrier, Gate, Lock, Semaphore};
-use crate::forms::Time::{Past, Zero};
-use crate::forms::{Made, Way};
+use crate::forms::Form::{Barrier, Gate, Lock};
+use crate::forms::Made;
+use crate::forms::Time::Zero;
 use crate::order::LOOKING;
 use crate::stories::Act::{
-    Available, Count, DropGuards, DropPermit, Hold, IsFree, IsLocked, IsRegistered, LetGo, LetPass,
-    Open, PoisonLock, Put, Register, Reject, Release, ReleaseLock, ReleaseMany, ReleaseShare, Seal,
-    TryLock, TryShare, Waiting,
+    Available, Count, DropPermit, IsFree, IsLocked, IsRegistered, LetGo, LetPass, Open, PoisonLock,
+    Register, Reject, Release, ReleaseLock, ReleaseMany, ReleaseShare, Seal, TryLock, TryShare,
+    Waiting,
 };
 use crate::stories::Ask;
-use crate::stories::Ask::{
-    AcquireMany, Arrive, Enter, Permit, PollArrival, PollPassing, PollPermit, PollTurn, Take,
-};
+use crate::stories::Ask::{AcquireMany, Arrive, Enter, Permit, Poll};
 use crate::stories::Row::{Does, In};
 use saa_sync::gate::{Error as GateError, State};
 
@@ -35,7 +33,7 @@ pub(crate) static CALLS: [Call; 11] = [
     ONE_PERMIT,
     // 250 are there of the 300 that it asks for, and the one behind it asks for one.
     Call {
-        name: "300 permits of 1,000",
+        name: "300 permits",
         made: Made {
             permits: 250,
             ..LOOKING
@@ -53,8 +51,8 @@ pub(crate) static CALLS: [Call; 11] = [
             Does(ReleaseMany(50)),
             Does(Available(300)),
         ],
-        behind: &[Does(Register(Semaphore, true))],
-        passed: &[In(Zero, PollPermit(Some(Ok(())))), Does(Available(249))],
+        behind: &[Does(Register(true))],
+        passed: &[In(Zero, Poll(Some(Ok(())))), Does(Available(249))],
         free: Made {
             permits: 301,
             ..LOOKING
@@ -66,15 +64,15 @@ pub(crate) static CALLS: [Call; 11] = [
     // A waiter is before it, and what is there behind both stays.
     Call {
         name: "no permits behind a waiter",
-        before: &[Does(Register(Semaphore, true))],
+        before: &[Does(Register(true))],
         grants: &[Does(ReleaseMany(3))],
         granted: AcquireMany(0, Ok(Some(true))),
         had: &[Does(Available(2))],
         late: AcquireMany(0, Ok(None)),
         alone: &[
-            Does(Waiting(Semaphore)),
+            Does(Waiting),
             Does(Release),
-            In(Zero, PollPermit(Some(Ok(())))),
+            In(Zero, Poll(Some(Ok(())))),
             Does(Available(0)),
         ],
         behind: &[],
@@ -102,158 +100,34 @@ pub(crate) static CALLS: [Call; 11] = [
         ..A_PASSING
     },
     AN_ARRIVAL,
-    // The holder's pager arrives last, and is told so by its registration.
+    // A pager whose time is up stays registered, and is dropped then.
     Call {
-        name: "an arrival before a pager's",
-        made: LOOKING,
-        before: &[],
-        grants: &[Does(Register(Barrier, true))],
-        had: &[Does(Count(2))],
-        alone: &[Does(Count(2))],
-        passed: &[Does(Count(2))],
-        ..AN_ARRIVAL
-    },
-];
-
-pub(crate) static GUARDS: [Call; 4] = [
-    A_MUTEX,
-    Call {
-        name: "to read",
-        before: &[Does(Hold(Way::Write, 5))],
-        granted: Take(Way::Read, Ok(Some(5))),
-        had: &[
-            In(Past, Take(Way::Read, Ok(Some(5)))),
-            Does(DropGuards),
-            In(Past, Take(Way::Write, Ok(Some(5)))),
-        ],
-        late: Take(Way::Read, Ok(None)),
-        alone: &[Does(DropGuards), In(Past, Take(Way::Write, Ok(Some(5))))],
-        passed: &[Does(DropGuards), In(Past, Take(Way::Write, Ok(Some(5))))],
-        at_once: Take(Way::Read, Ok(Some(5))),
-        found: &[
-            In(Past, Take(Way::Read, Ok(Some(5)))),
-            Does(DropGuards),
-            In(Past, Take(Way::Write, Ok(Some(5)))),
-        ],
-        ..A_MUTEX
-    },
-    // A reader keeps it waiting, and others read beside that one as soon as it is late.
-    Call {
-        name: "to write",
-        before: &[Does(Hold(Way::Read, 5))],
-        granted: Take(Way::Write, Ok(Some(5))),
-        had: &[
-            Does(Put(6)),
-            Does(DropGuards),
-            In(Past, Take(Way::Read, Ok(Some(6)))),
-        ],
-        late: Take(Way::Write, Ok(None)),
-        alone: &[
-            In(Past, Take(Way::Read, Ok(Some(5)))),
-            Does(DropGuards),
-            In(Past, Take(Way::Write, Ok(Some(5)))),
-        ],
-        passed: &[
-            In(Past, Take(Way::Read, Ok(Some(5)))),
-            Does(DropGuards),
-            In(Past, Take(Way::Write, Ok(Some(5)))),
-        ],
-        at_once: Take(Way::Write, Ok(Some(5))),
-        found: &[
-            Does(Put(6)),
-            Does(DropGuards),
-            In(Past, Take(Way::Read, Ok(Some(6)))),
-        ],
-        ..A_MUTEX
-    },
-    // A writer keeps another one waiting.
-    Call {
-        name: "to write behind a writer",
-        before: &[Does(Hold(Way::Write, 5)), Does(Put(7))],
-        granted: Take(Way::Write, Ok(Some(7))),
-        had: &[Does(DropGuards), In(Past, Take(Way::Read, Ok(Some(7))))],
-        late: Take(Way::Write, Ok(None)),
-        alone: &[
-            In(Past, Take(Way::Read, Ok(None))),
-            Does(DropGuards),
-            In(Past, Take(Way::Read, Ok(Some(7)))),
-        ],
-        passed: &[Does(DropGuards), In(Past, Take(Way::Read, Ok(Some(7))))],
-        at_once: Take(Way::Write, Ok(Some(5))),
-        found: &[Does(DropGuards), In(Past, Take(Way::Read, Ok(Some(5))))],
-        ..A_MUTEX
-    },
-];
-
-// A pager whose time is up stays registered, and is dropped then.
-pub(crate) static POLLS: [Call; 4] = [
-    Call {
-        name: "a pager of a semaphore",
-        first: &[Does(Register(Semaphore, true))],
-        granted: PollPermit(Some(Ok(()))),
-        late: PollPermit(None),
+        name: "a pager",
+        first: &[Does(Register(true))],
+        granted: Poll(Some(Ok(()))),
+        late: Poll(None),
         left: &[
-            Does(IsRegistered(Semaphore, true)),
-            Does(LetGo(Semaphore)),
-            Does(IsRegistered(Semaphore, false)),
+            Does(IsRegistered(true)),
+            Does(LetGo),
+            Does(IsRegistered(false)),
         ],
-        at_once: PollPermit(Some(Ok(()))),
+        at_once: Poll(Some(Ok(()))),
         ..ONE_PERMIT
     },
-    Call {
-        name: "a pager of a lock",
-        first: &[Does(Register(Lock, true))],
-        granted: PollTurn(Some(Ok(true))),
-        late: PollTurn(None),
-        left: &[
-            Does(IsRegistered(Lock, true)),
-            Does(LetGo(Lock)),
-            Does(IsRegistered(Lock, false)),
-        ],
-        at_once: PollTurn(Some(Ok(true))),
-        ..A_SHARE
-    },
-    Call {
-        name: "a pager of a gate",
-        first: &[Does(Register(Gate, true))],
-        granted: PollPassing(Some(Ok(State::Controlled))),
-        late: PollPassing(None),
-        left: &[
-            Does(IsRegistered(Gate, true)),
-            Does(LetGo(Gate)),
-            Does(IsRegistered(Gate, false)),
-        ],
-        at_once: PollPassing(Some(Ok(State::Open))),
-        ..A_PASSING
-    },
-    Call {
-        name: "a pager of a barrier",
-        first: &[Does(Register(Barrier, true))],
-        granted: PollArrival(Some(Ok(false))),
-        late: PollArrival(None),
-        left: &[
-            Does(IsRegistered(Barrier, true)),
-            Does(LetGo(Barrier)),
-            Does(IsRegistered(Barrier, false)),
-        ],
-        at_once: PollArrival(Some(Ok(true))),
-        ..AN_ARRIVAL
-    },
 ];
 
-// A sharer keeps it waiting, and one behind it wants a share, which it has as soon as the call is late.
+// A sharer keeps it waiting, and others share the lock again as soon as the call is late.
 const A_LOCK: Call = Call {
     name: "a lock alone",
-    at: Some(Lock),
+    at: Lock,
     before: &[Does(TryShare)],
     grants: &[Does(ReleaseShare)],
     granted: Ask::Lock(Ok(Some(true))),
     had: &[Does(IsLocked), Does(ReleaseLock), Does(IsFree)],
     late: Ask::Lock(Ok(None)),
     alone: &[Does(ReleaseShare), Does(IsFree)],
-    behind: &[Does(Register(Lock, true))],
     passed: &[
-        In(Zero, PollTurn(Some(Ok(true)))),
+        Does(TryShare),
         Does(ReleaseShare),
         Does(ReleaseShare),
         Does(IsFree),
@@ -263,24 +137,17 @@ const A_LOCK: Call = Call {
     ..CALL
 };
 
-// The owner keeps it waiting, and one behind it as well.
+// The owner keeps it waiting.
 const A_SHARE: Call = Call {
     name: "a share of a lock",
-    at: Some(Lock),
+    at: Lock,
     before: &[Does(TryLock)],
     grants: &[Does(ReleaseLock)],
     granted: Ask::Share(Ok(Some(true))),
     had: &[Does(ReleaseShare), Does(IsFree)],
     late: Ask::Share(Ok(None)),
     alone: &[Does(IsLocked), Does(ReleaseLock), Does(IsFree)],
-    behind: &[Does(Register(Lock, true))],
-    passed: &[
-        Does(Waiting(Lock)),
-        Does(ReleaseLock),
-        In(Zero, PollTurn(Some(Ok(true)))),
-        Does(ReleaseShare),
-        Does(IsFree),
-    ],
+    passed: &[Does(IsLocked), Does(ReleaseLock), Does(IsFree)],
     at_once: Ask::Share(Ok(Some(true))),
     found: &[Does(ReleaseShare), Does(IsFree)],
     ..CALL
@@ -292,11 +159,11 @@ const ONE_PERMIT: Call = Call {
     grants: &[Does(Release)],
     had: &[Does(Available(0)), Does(Release), Does(Available(1))],
     alone: &[Does(Available(0)), Does(Release), Does(Available(1))],
-    behind: &[Does(Register(Semaphore, true))],
+    behind: &[Does(Register(true))],
     passed: &[
-        Does(Waiting(Semaphore)),
+        Does(Waiting),
         Does(Release),
-        In(Zero, PollPermit(Some(Ok(())))),
+        In(Zero, Poll(Some(Ok(())))),
         Does(Available(0)),
     ],
     free: Made {
@@ -307,74 +174,37 @@ const ONE_PERMIT: Call = Call {
     ..CALL
 };
 
-// A controlled gate keeps it waiting, and the one behind it is told that it left.
+// A controlled gate keeps it waiting.
 const A_PASSING: Call = Call {
     name: "a passing",
-    at: Some(Gate),
+    at: Gate,
     grants: &[Does(LetPass(1))],
     granted: Enter(Ok(Some(Ok(State::Controlled)))),
     had: &[Does(LetPass(0))],
     late: Enter(Ok(None)),
     alone: &[Does(LetPass(0))],
-    behind: &[Does(Register(Gate, true))],
-    passed: &[
-        In(Zero, PollPassing(Some(Err(GateError::SpuriousFailure)))),
-        Does(LetPass(0)),
-    ],
+    passed: &[Does(LetPass(0))],
     freed: &[Does(Open(State::Controlled))],
     at_once: Enter(Ok(Some(Ok(State::Open)))),
     found: &[Does(Seal)],
     ..CALL
 };
 
-// Two of three have arrived, of which the other stays.
+// The other of two hasn't arrived.
 const AN_ARRIVAL: Call = Call {
     name: "an arrival",
-    at: Some(Barrier),
-    made: Made {
-        count: 3,
-        ..LOOKING
-    },
-    before: &[Does(Register(Barrier, true))],
+    at: Barrier,
     grants: &[In(Zero, Arrive(Ok(Some(true))))],
     granted: Arrive(Ok(Some(false))),
-    had: &[Does(Count(3))],
+    had: &[Does(Count(2))],
     late: Arrive(Ok(None)),
-    alone: &[Does(Count(2)), Does(Waiting(Barrier))],
-    passed: &[Does(Count(2)), Does(Waiting(Barrier))],
+    alone: &[Does(Count(2)), In(Zero, Arrive(Ok(None)))],
+    passed: &[Does(Count(2)), In(Zero, Arrive(Ok(None)))],
     free: Made {
         count: 1,
         ..LOOKING
     },
     at_once: Arrive(Ok(Some(true))),
     found: &[Does(Count(1))],
-    ..CALL
-};
-
-// Another guard keeps it waiting.
-const A_MUTEX: Call = Call {
-    name: "a mutex",
-    at: None,
-    before: &[Does(Hold(Way::Lock, 5))],
-    grants: &[Does(DropGuards)],
-    granted: Take(Way::Lock, Ok(Some(5))),
-    had: &[
-        Does(Put(6)),
-        Does(DropGuards),
-        In(Past, Take(Way::Lock, Ok(Some(6)))),
-    ],
-    late: Take(Way::Lock, Ok(None)),
-    alone: &[
-        In(Past, Take(Way::Lock, Ok(None))),
-        Does(DropGuards),
-        In(Past, Take(Way::Lock, Ok(Some(5)))),
-    ],
-    passed: &[Does(DropGuards), In(Past, Take(Way::Lock, Ok(Some(5))))],
-    at_once: Take(Way::Lock, Ok(Some(5))),
-    found: &[
-        Does(Put(6)),
-        Does(DropGuards),
-        In(Past, Take(Way::Lock, Ok(Some(6)))),
-    ],
     ..CALL
 };

@@ -1,7 +1,5 @@
-//! Worked schedules of the machine of words, move by move; and its single steps, on a row of words beside the abstract state.
+//! Worked schedules of the machine of words.
 #![tactic(auto)]
 
 #[cfg(test)]
 mod schedules;
-#[cfg(test)]
-mod steps;

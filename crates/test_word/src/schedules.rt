@@ -261,92 +261,6 @@ fn schedules_are_played(rt: HostRuntime) {
     same!(rt; first_story(rt.alloc(), &modes::STORIES).ok(), Some(None));
 }
 
-// Each call, and whether a semaphore and a lock take it.
-static TAKES: [(WordCall, bool, bool); 20] = [
-    (WordCall::Try(usize::MAX), true, false),
-    (WordCall::Register(0), true, false),
-    (WordCall::Release(1), true, false),
-    (WordCall::Available, true, false),
-    (WordCall::TryLock, false, true),
-    (WordCall::TryShare, false, true),
-    (WordCall::RegisterMode(Mode::Exclusive), false, true),
-    (WordCall::RegisterMode(Mode::WaitShared), false, true),
-    (WordCall::ReleaseLock, false, true),
-    (WordCall::ReleaseShare, false, true),
-    (WordCall::Downgrade, false, true),
-    (WordCall::PoisonLock, false, true),
-    (WordCall::ClearPoison, false, true),
-    (WordCall::IsFree, false, true),
-    (WordCall::IsLocked, false, true),
-    (WordCall::IsShared, false, true),
-    (WordCall::IsPoisoned, false, true),
-    (WordCall::TryPoll, true, true),
-    (WordCall::Poll, true, true),
-    (WordCall::Cancel, true, true),
-];
-
-// The first call that one of them takes otherwise.
-fn first_taken_otherwise(alloc: Global) -> Result<Option<usize>, AllocError> {
-    let semaphore = Machine::semaphore(alloc, 0, 0)?;
-    let lock = Machine::lock(alloc, 0)?;
-    for (place, (call, is_permits, is_modes)) in TAKES.iter().enumerate() {
-        if semaphore.takes(*call) != *is_permits || lock.takes(*call) != *is_modes {
-            return Ok(Some(place));
-        }
-    }
-    Ok(None)
-}
-
-#[test]
-fn what_each_machine_takes(rt: HostRuntime) {
-    same!(rt; first_taken_otherwise(rt.alloc()).ok(), Some(None));
-}
-
-// How many are withheld, and the main word of that.
-static WITHHELD: [(usize, u64); 6] = [
-    (0, 0),
-    (1, 1),
-    (62, 62),
-    (63, 63),
-    (64, 63),
-    (usize::MAX, 63),
-];
-
-// The main word where so many are withheld, and how many places there are.
-fn without_places(alloc: Global, withheld: usize) -> Result<(u64, u16), AllocError> {
-    let mut machine = Machine::semaphore(alloc, withheld, 0)?;
-    machine.run(&[], &mut []);
-    Ok((machine.word(), machine.places()))
-}
-
-// The main word at a bound where so many are withheld.
-fn word_at(alloc: Global, bound: u16, withheld: usize) -> Result<u64, AllocError>
-    requires { 0 < bound }
-{
-    Ok(Machine::semaphore_of(alloc, bound, withheld, 0)?.word())
-}
-
-// The main words at a bound with nothing withheld, all, and more than there are.
-fn words_at(alloc: Global, bound: u16) -> Result<[u64; 3], AllocError>
-    requires { 0 < bound }
-{
-    Ok([
-        word_at(alloc, bound, 0)?,
-        word_at(alloc, bound, usize::from(bound))?,
-        word_at(alloc, bound, usize::MAX)?,
-    ])
-}
-
-#[test]
-fn as_many_are_withheld_as_there_are(rt: HostRuntime) {
-    for (withheld, word) in WITHHELD {
-        same!(rt; without_places(rt.alloc(), withheld).ok(), Some((word, 0)));
-    }
-    same!(rt; words_at(rt.alloc(), 1).ok(), Some([0, 1, 1]));
-    same!(rt; words_at(rt.alloc(), 1_000).ok(), Some([0, 1_000, 1_000]));
-    same!(rt; words_at(rt.alloc(), 65_535).ok(), Some([0, 65_535, 65_535]));
-}
-
 static MOVES: [Move; 21] = [
     Move::Start(0, WordCall::Register(3)),
     Move::Start(1, WordCall::Release(3)),
@@ -371,16 +285,13 @@ static MOVES: [Move; 21] = [
     Move::Go(0),
 ];
 
-// What each of these moves does at a semaphore of no permit, one by one and at once, and the main word behind them.
-fn one_by_one(alloc: Global) -> Result<([Step; 21], u64), AllocError> {
-    let mut played = Played::new(alloc, Made::Semaphore(63), 3)?;
-    let mut steps = [Step::Busy; 21];
-    for i in 0..MOVES.len() {
-        steps[i] = played.make(MOVES[i]);
-    }
-    Ok((steps, played.machine.word()))
-}
+// What each of these moves does.
+static DONE: [Step; 21] = [
+    GOING, GOING, GOING, IDLE, GOING, GOING, YES, GOING, WAITS, GOING, GOING, GOING, BUSY, GOING,
+    GOING, GOING, GOING, YES, IDLE, TAKEN, IDLE,
+];
 
+// What these moves do at once at a semaphore of no permit, and the main word behind them.
 fn at_once(alloc: Global) -> Result<([Step; 21], u64), AllocError> {
     let mut machine = Machine::semaphore(alloc, 63, 3)?;
     let mut steps = [Step::Busy; 21];
@@ -388,33 +299,7 @@ fn at_once(alloc: Global) -> Result<([Step; 21], u64), AllocError> {
     Ok((steps, machine.word()))
 }
 
-// Whether both are the same, and five of the moves do what they must.
-fn are_the_same(alloc: Global) -> Result<bool, AllocError> {
-    let (steps, word) = at_once(alloc)?;
-    let picked = [steps[3], steps[8], steps[12], steps[19], steps[20]];
-    Ok(one_by_one(alloc)? == (steps, word) && picked == [IDLE, WAITS, BUSY, TAKEN, IDLE])
-}
-
-// Moves of a lock at once: what each does, and the main word behind them.
-fn at_a_lock(alloc: Global) -> Result<([Step; 7], u64), AllocError> {
-    let moves = [
-        Move::Start(0, WordCall::TryLock),
-        Move::Go(0),
-        Move::Go(0),
-        Move::Start(1, WordCall::IsLocked),
-        Move::Start(1, WordCall::Cancel),
-        Move::Go(1),
-        Move::Go(1),
-    ];
-    let mut steps = [Step::Waits; 7];
-    let mut lock = Machine::lock(alloc, 2)?;
-    lock.run(&moves, &mut steps);
-    Ok((steps, lock.word()))
-}
-
 #[test]
-fn run_does_what_go_does(rt: HostRuntime) {
-    same!(rt; are_the_same(rt.alloc()).ok(), Some(true));
-    let steps = [GOING, GOING, OWNED, GOING, BUSY, YES, IDLE];
-    same!(rt; at_a_lock(rt.alloc()).ok(), Some((steps, 63)));
+fn moves_are_made_at_once(rt: HostRuntime) {
+    same!(rt; at_once(rt.alloc()).ok(), Some((DONE, 63)));
 }

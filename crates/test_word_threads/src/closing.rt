@@ -1,36 +1,21 @@
-//! A semaphore and a lock are closed with all their places, of which some waited, and with none: the words are those of what was held.
+//! A semaphore and a lock are closed: with all their places, of which some waited, and on receipts of what places and visitors had seen before their last
+//! calls. The words are those of what was held.
 
 ghost use Rattle.std.specs.Prelude.{All};
 ghost use Rattle.saa_word_threads.specs.Locks.{IsDealtBy as IsDealtByLock, IsLeftOf as IsLeftOfLock};
 ghost use Rattle.saa_word_threads.specs.Semaphores.{IsDealtBy, IsLeftOf};
 
 use saa_word_threads::lock::{Left as LockLeft, Lock, Mode, Place as LockPlace};
-use saa_word_threads::semaphore::{Left, Place, SemaphoreOf, Words};
+use saa_word_threads::receipt::Receipt;
+use saa_word_threads::semaphore::{Left, Place, Semaphore};
 use std::alloc::{AllocError, AllocGlobal};
 use std::sync::Wait;
 use test_asserts::same;
 
-// The main word, and the answers of three places and of none.
-type Shown = (u64, [Option<u64>; 4]);
-
-fn shown(words: &Words) -> Shown {
-    (
-        words.main(),
-        [
-            words.answer(0),
-            words.answer(1),
-            words.answer(2),
-            words.answer(3),
-        ],
-    )
-}
-
-const NO_ANSWERS: [Option<u64>; 4] = [Some(0), Some(0), Some(0), None];
-
 // A place leaves a semaphore, beside others that have left it.
-fn leave<const MAX: usize>(
+fn leave(
     rt: &impl Wait,
-    semaphore: &SemaphoreOf<MAX>,
+    semaphore: &Semaphore,
     place: Place,
     lefts: &mut Vec<Left>,
 ) -> Result<(), AllocError>
@@ -57,81 +42,84 @@ fn leave_lock(
     Ok(())
 }
 
-// Two places wait behind a third, which then gives back what it took. One takes its answer; the other's is given back as it leaves.
-fn semaphore_story<R: Wait + AllocGlobal>(rt: &R) -> Result<([bool; 5], Shown), AllocError> {
-    let (semaphore, mut places) = SemaphoreOf::<63>::new(rt.alloc(), 5, 3)?;
-    let Some(mut third) = places.pop() else {
-        unreachable!()
-    };
-    let Some(mut second) = places.pop() else {
-        unreachable!()
-    };
-    let Some(mut first) = places.pop() else {
+// A place waits behind another one, which then gives back what it took: its answer is given back as it leaves. Whether each call is made, and the main word.
+fn semaphore_story<R: Wait + AllocGlobal>(rt: &R) -> Result<([bool; 3], u64), AllocError> {
+    let (semaphore, mut places) = Semaphore::new(rt.alloc(), 5, 2)?;
+    let (Some(mut second), Some(mut first)) = (places.pop(), places.pop()) else {
         unreachable!()
     };
     let told = [
         semaphore.try_acquire_many(rt, &mut first, 50),
         semaphore.register(rt, &mut second, 20),
-        semaphore.register(rt, &mut third, 3),
-        semaphore.release_many(rt, &mut first, 50),
-        semaphore.poll(rt, &mut second).is_ok(),
+        semaphore.release_many(rt, &mut first, 30),
     ];
     let mut lefts = Vec::new(rt.alloc());
     leave(rt, &semaphore, second, &mut lefts)?;
     leave(rt, &semaphore, first, &mut lefts)?;
-    leave(rt, &semaphore, third, &mut lefts)?;
-    Ok((told, shown(&semaphore.close_all(lefts))))
+    Ok((told, semaphore.close_all(lefts).main()))
 }
 
-// Two places wait for a share while a third has the lock. Both are granted, and one gives its share back.
-fn lock_story<R: Wait + AllocGlobal>(rt: &R) -> Result<([bool; 7], Shown), AllocError> {
-    let (lock, mut places) = Lock::new(rt.alloc(), 3)?;
-    let Some(mut third) = places.pop() else {
-        unreachable!()
-    };
-    let Some(mut second) = places.pop() else {
-        unreachable!()
-    };
-    let Some(mut first) = places.pop() else {
+// A place waits for a share while another one has the lock, and is granted it. Whether each call is made, and the main word.
+fn lock_story<R: Wait + AllocGlobal>(rt: &R) -> Result<([bool; 4], u64), AllocError> {
+    let (lock, mut places) = Lock::new(rt.alloc(), 2)?;
+    let (Some(mut second), Some(mut first)) = (places.pop(), places.pop()) else {
         unreachable!()
     };
     let told = [
         lock.try_lock(rt, &mut first).is_ok(),
         lock.register(rt, &mut second, Mode::Shared),
-        lock.register(rt, &mut third, Mode::Shared),
         lock.release_lock(rt, &mut first),
         lock.poll(rt, &mut second) == Ok(true),
-        lock.poll(rt, &mut third) == Ok(true),
-        lock.release_share(rt, &mut third),
     ];
     let mut lefts = Vec::new(rt.alloc());
     leave_lock(rt, &lock, first, &mut lefts)?;
-    leave_lock(rt, &lock, third, &mut lefts)?;
     leave_lock(rt, &lock, second, &mut lefts)?;
-    Ok((told, shown(&lock.close_all(lefts))))
+    Ok((told, lock.close_all(lefts).main()))
 }
 
-// The words of a semaphore and of a lock at which no place was, or left.
-fn alone<R: Wait + AllocGlobal>(rt: &R) -> Result<[Shown; 3], AllocError> {
-    let (none, _places) = SemaphoreOf::<63>::new(rt.alloc(), 7, 0)?;
-    let (semaphore, _places) = SemaphoreOf::<63>::new(rt.alloc(), 7, 3)?;
-    let (lock, _places) = Lock::new(rt.alloc(), 3)?;
-    Ok([
-        shown(&none.close_all(Vec::new(rt.alloc()))),
-        shown(&semaphore.close_all(Vec::new(rt.alloc()))),
-        shown(&lock.close_all(Vec::new(rt.alloc()))),
-    ])
+// A place takes 40 of 63 permits and gives a receipt, then gives back 30; a visitor takes 9, and gives one too. What they are told, and the main word.
+fn semaphore_receipts<R: Wait + AllocGlobal>(rt: &R) -> Result<([bool; 3], u64), AllocError> {
+    let (semaphore, mut places) = Semaphore::new(rt.alloc(), 0, 1)?;
+    let Some(mut place) = places.pop() else {
+        unreachable!()
+    };
+    let taken = semaphore.try_acquire_many(rt, &mut place, 40);
+    let mut receipt: Receipt = semaphore.receipt(&mut place);
+    let given = semaphore.release_many(rt, &mut place, 30);
+    let (by_visitor, mut visitor) = semaphore.try_acquire_many_once(rt, 9);
+    let other = semaphore.receipt_by(&mut visitor);
+    semaphore.join_receipt(&mut receipt, other);
+    let _left = semaphore.leave(rt, place);
+    Ok((
+        [taken, given, by_visitor],
+        semaphore.close_on(receipt).main(),
+    ))
+}
+
+// A place has a share, and gives a receipt; a visitor finds the lock taken, and gives one, to which the first is joined. What they are told, and the main
+// word.
+fn lock_receipts<R: Wait + AllocGlobal>(rt: &R) -> Result<([bool; 2], u64), AllocError> {
+    let (lock, mut places) = Lock::new(rt.alloc(), 1)?;
+    let Some(mut place) = places.pop() else {
+        unreachable!()
+    };
+    let taken = lock.try_share(rt, &mut place).is_ok();
+    let first = lock.receipt(&mut place);
+    let (found, mut visitor) = lock.try_lock_once(rt);
+    let mut receipt = lock.receipt_by(&mut visitor);
+    lock.join_receipt(&mut receipt, first);
+    let _left = lock.leave(rt, place);
+    Ok(([taken, found.is_err()], lock.close_on(receipt).main()))
 }
 
 #[test]
-fn closes_with_all_places(rt: HostRuntime) {
-    // 5 are withheld, and 20 were granted and kept.
-    same!(rt; semaphore_story(&rt).ok(), Some(([true; 5], (25, NO_ANSWERS))));
+fn closes_with_all_places_and_on_receipts(rt: HostRuntime) {
+    // 5 are withheld, and 20 are out.
+    same!(rt; semaphore_story(&rt).ok(), Some(([true; 3], 25)));
     // One share is out.
-    same!(rt; lock_story(&rt).ok(), Some(([true; 7], (1, NO_ANSWERS))));
-}
-
-#[test]
-fn closes_with_no_place(rt: HostRuntime) {
-    same!(rt; alone(&rt).ok(), Some([(7, [None; 4]), (7, NO_ANSWERS), (0, NO_ANSWERS)]));
+    same!(rt; lock_story(&rt).ok(), Some(([true; 4], 1)));
+    // 40 less 30, and 9 more, are out.
+    same!(rt; semaphore_receipts(&rt).ok(), Some(([true; 3], 19)));
+    // One share is out.
+    same!(rt; lock_receipts(&rt).ok(), Some(([true; 2], 1)));
 }

@@ -11,17 +11,11 @@ mod asleep;
 #[cfg(test)]
 mod beside;
 #[cfg(test)]
-mod bounds;
-#[cfg(test)]
 mod closing;
-#[cfg(test)]
-mod compared;
 #[cfg(test)]
 mod crowd;
 #[cfg(test)]
 mod exclusion;
-#[cfg(test)]
-mod gate;
 #[cfg(test)]
 mod linearized;
 #[cfg(test)]
@@ -36,10 +30,6 @@ mod parking;
 mod pauses;
 #[cfg(test)]
 mod public_waits;
-#[cfg(test)]
-mod queue;
-#[cfg(test)]
-mod receipts;
 #[cfg(test)]
 mod rows;
 #[cfg(test)]

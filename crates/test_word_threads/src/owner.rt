@@ -108,26 +108,20 @@ impl<'l> Owner<'l> {
         self.make(rt, call) == Told::Is(true)
     }
 
-    /// Asks in a mode, and waits for the answer; whether it is granted.
-    fn asks(&mut self, rt: &impl Wait, mode: Mode) -> bool {
-        self.is(rt, Call::Register(mode)) && self.make(rt, Call::Poll) == Told::Polled(Ok(true))
-    }
-
-    /// Takes the lock alone by a wait, a registration that is polled, or a try.
-    pub fn lock(&mut self, rt: &impl Wait, way: u32) -> bool {
+    /// Takes a share or the lock alone by a wait, a registration that is polled, or a try.
+    pub fn takes(&mut self, rt: &impl Wait, shares: bool, way: u32) -> bool {
+        let (wait, mode, tries) = if shares {
+            (Call::Share, Mode::Shared, Call::TryShare)
+        } else {
+            (Call::Lock, Mode::Exclusive, Call::TryLock)
+        };
         match way % 3 {
-            0 => self.is(rt, Call::Lock),
-            1 => self.asks(rt, Mode::Exclusive),
-            _ => self.make(rt, Call::TryLock) == Told::Tried(Ok(())),
-        }
-    }
-
-    /// Takes a share by a wait, a registration that is polled, or a try.
-    pub fn share(&mut self, rt: &impl Wait, way: u32) -> bool {
-        match way % 3 {
-            0 => self.is(rt, Call::Share),
-            1 => self.asks(rt, Mode::Shared),
-            _ => self.make(rt, Call::TryShare) == Told::Tried(Ok(())),
+            0 => self.is(rt, wait),
+            1 => {
+                self.is(rt, Call::Register(mode))
+                    && self.make(rt, Call::Poll) == Told::Polled(Ok(true))
+            }
+            _ => self.make(rt, tries) == Told::Tried(Ok(())),
         }
     }
 

@@ -5,15 +5,12 @@
 //! held once more between the write and the wake, where the waiter has to sleep still.
 
 ghost use Rattle.saa_word_threads.specs.Locks.{IsDealtBy};
-ghost use Rattle.saa_word_threads.specs.Semaphores.{IsDealtBy as IsDealtBySemaphore};
 
 use crate::asleep::{is_asleep, own_number};
 use crate::tally::Tally;
 use saa_word_threads::lock::{Lock, Mode, Place};
-use saa_word_threads::semaphore::{Place as PermitPlace, Semaphore};
 use saa_word_threads::testing::{
-    DEFAULT, Made, Moment, Watch, acquire_with_policy, is_answered, is_parked, is_parked_at,
-    release_share_watched, wait_with_policy,
+    DEFAULT, Made, Moment, Watch, is_answered, is_parked, release_share_watched, wait_with_policy,
 };
 use std::alloc::AllocError;
 use std::sync::Wait;
@@ -26,15 +23,15 @@ const WAITER: u16 = 1;
 
 const OWNER: u16 = 0;
 
-// What a call with the spin policy of a wait does before it joins: it looks once, and 16 and 100 times more; it rests for 8, 16, .. 1,024 turns, which
-// are 2,040, and for 1,024 eight times more; it yields 100 times; it takes nothing.
-const ASKED: [u64; 4] = [117, 10_232, 100, 0];
+/// What a call with the spin policy of a wait does before it joins: it looks once, and 16 and 100 times more; it rests for 8, 16, .. 1,024 turns, which
+/// are 2,040, and for 1,024 eight times more; it yields 100 times; it takes nothing.
+pub const ASKED: [u64; 4] = [117, 10_232, 100, 0];
 
 // What a waiter does before it parks: it looks 500 times, spins and then yields as often, and parks once.
 const ASLEEP: [u64; 5] = [500, 500, 500, 1, 0];
 
-// The same once it was woken.
-const WOKEN: [u64; 5] = [500, 500, 500, 1, 1];
+/// What a waiter does before it parks and is woken: it looks 500 times, spins and then yields as often, parks once, and comes back.
+pub const WOKEN: [u64; 5] = [500, 500, 500, 1, 1];
 
 // Far more looks, or yields, than a waiter has before it parks.
 const MANY: u64 = 50_000;
@@ -238,87 +235,7 @@ fn parked<R: Wait + Threads + Sync + AllocGlobal>(
     Ok((ended, lock.close(left).main()))
 }
 
-// Waits for 5 permits, and gives them back; whether both is done.
-fn acquire(rt: &impl Wait, semaphore: &Semaphore, tally: &Tally, mut place: PermitPlace) -> bool
-    requires { IsDealtBySemaphore semaphore.now place }
-{
-    acquire_with_policy(semaphore, rt, tally, &mut place, 5, DEFAULT)
-        && semaphore.release_many(rt, &mut place, 5)
-}
-
-// Gives 5 permits back once the waiter parks, or surely never will.
-fn release(rt: &impl Wait, semaphore: &Semaphore, tally: &Tally, mut place: PermitPlace) -> bool
-    requires { IsDealtBySemaphore semaphore.now place }
-{
-    for _turn in rt.forever() {
-        let [looks, _spins, yields, _parks, _backs] = tally.of_waiting();
-        if is_parked_at(semaphore, WAITER) || looks > MANY || yields > MANY {
-            break;
-        }
-        yield_now();
-    }
-    semaphore.release_many(rt, &mut place, 5)
-}
-
-// The same of the two beside one another at a new semaphore of which all permits are withheld: whether both calls are granted, what is counted
-// of the waiter, and the main word in the end.
-type Acquired = ([bool; 2], ([u64; 4], [u64; 5]), u64);
-
-fn acquired<R: Wait + Threads + Sync + AllocGlobal>(rt: &R) -> Result<Acquired, AllocError> {
-    let (semaphore, mut places) = Semaphore::new(rt.alloc(), 63, 3)?;
-    let (Some(witness), Some(waiter), Some(owner)) = (places.pop(), places.pop(), places.pop())
-    else {
-        unreachable!()
-    };
-    let tally = Tally::new();
-    let (released, granted) = thread::join(
-        rt,
-        || release(rt, &semaphore, &tally, owner),
-        || acquire(rt, &semaphore, &tally, waiter),
-    );
-    let left = semaphore.leave(rt, witness);
-    let counts = (tally.of_asking(), tally.of_waiting());
-    Ok(([released, granted], counts, semaphore.close(left).main()))
-}
-
-// Gives a share back beside a place that is registered, and isn't parked: how often an answer is written, and how often a place is woken.
-fn answered(rt: &impl Wait, lock: &Lock, mut owner: Place, mut waiter: Place) -> Option<[u64; 2]>
-    requires owner { IsDealtBy lock.now owner }
-    requires waiter { IsDealtBy lock.now waiter }
-{
-    let tally = Tally::new();
-    let is_right = lock.try_share(rt, &mut owner).is_ok()
-        && lock.register(rt, &mut waiter, Mode::Exclusive)
-        && release_share_watched(lock, rt, &tally, &mut owner)
-        && lock.try_poll(&mut waiter) == Ok(true);
-    if is_right {
-        Some(tally.of_answering())
-    } else {
-        None
-    }
-}
-
-// The same at a new lock.
-fn unparked<R: Wait + AllocGlobal>(rt: &R) -> Result<Option<[u64; 2]>, AllocError> {
-    let (lock, mut places) = Lock::new(rt.alloc(), 2)?;
-    let (Some(waiter), Some(owner)) = (places.pop(), places.pop()) else {
-        unreachable!()
-    };
-    Ok(answered(rt, &lock, owner, waiter))
-}
-
 #[test]
 fn a_waiter_parks_and_is_woken_behind_its_answer(rt: HostRuntime) {
     same!(rt; parked(&rt, rt).ok(), Some((AS_WANTED, 0)));
-}
-
-#[test]
-fn a_waiter_for_permits_looks_and_parks(rt: HostRuntime) {
-    let wanted = ([true, true], (ASKED, WOKEN), 58);
-    same!(rt; acquired(&rt).ok(), Some(wanted));
-}
-
-#[test]
-fn a_place_that_is_not_parked_is_not_woken(rt: HostRuntime) {
-    same!(rt; unparked(&rt).ok(), Some(Some([1, 0])));
 }

@@ -1,36 +1,34 @@
 //! Worked rows of the word's semaphore as tables: what calls answer, and which words they leave.
 
-ghost use Rattle.std.specs.Prelude.{◌<◌};
 ghost use Rattle.saa_word_threads.specs.Dealt.{AreNew};
 ghost use Rattle.saa_word_threads.specs.Semaphores.{table_of};
 
-use crate::bounds;
-use crate::worker::{Call, Told, Worker, all_leave, last_of, words_of, workers_of};
-use saa_word_threads::semaphore::{Error, Place, SemaphoreOf, Words};
+use crate::worker::{Call, Told, Worker, last_of, words_of, workers_of};
+use saa_word_threads::semaphore::{Error, Place, Semaphore, SemaphoreOf, Words};
 use std::alloc::{AllocError, AllocGlobal, Global};
 use std::sync::Wait;
 use test_asserts::same;
 
-/// The number of a place, its call, and what it must be told.
-pub type Row = (usize, Call, Told);
+// The number of a place, its call, and what it must be told.
+type Row = (usize, Call, Told);
 
-/// What happens at a new semaphore.
+// What happens at a new semaphore.
 #[derive(Clone, Copy)]
-pub struct Story {
-    pub name: &'static str,
+struct Story {
+    name: &'static str,
     // How many permits are withheld, and how many places make calls; one more leaves at the end.
-    pub withheld: usize,
-    pub places: u16,
-    pub rows: &'static [Row],
+    withheld: usize,
+    places: u16,
+    rows: &'static [Row],
     // Whether the places leave too.
-    pub all_leave: bool,
+    all_leave: bool,
     // What words must be then.
-    pub words: &'static [(Word, Option<u64>)],
+    words: &'static [(Word, Option<u64>)],
 }
 
-/// A word of a semaphore.
+// A word of a semaphore.
 #[derive(Clone, Copy)]
-pub enum Word {
+enum Word {
     Main,
     // The line word and the answer of a place.
     Line(u16),
@@ -74,7 +72,7 @@ const RELEASED: Story = Story {
     ],
 };
 
-static STORIES: [Story; 9] = [
+static STORIES: [Story; 10] = [
     Story {
         name: "a release that fits later",
         withheld: 0,
@@ -125,6 +123,24 @@ static STORIES: [Story; 9] = [
         words: &[(Word::Main, Some(63))],
         ..WITHHELD
     },
+    Story {
+        name: "the last but one of as many places as there can be",
+        withheld: 62,
+        places: 65_534,
+        rows: &[
+            (65_533, Call::Register(2), Told::Bool(true)),
+            (0, Call::Release(1), Told::Bool(true)),
+            (65_533, Call::Poll, Told::Polled(Ok(()))),
+        ],
+        words: &[
+            (Word::Main, Some(63)),
+            (Word::Line(65_534), Some(0)),
+            (Word::Answer(65_534), Some(0)),
+            (Word::Line(65_535), None),
+            (Word::Answer(65_535), None),
+        ],
+        ..WITHHELD
+    },
     RELEASED,
     Story {
         name: "words of a waiter and of one that is answered",
@@ -170,29 +186,15 @@ static STORIES: [Story; 9] = [
     },
 ];
 
-// Makes a call of a place; whether it is told so. The workers are the last first.
-fn is_told<const MAX: usize>(
-    rt: &impl Wait,
-    workers: &mut Vec<Worker<'_, MAX>>,
-    place: usize,
-    call: Call,
-    wanted: Told,
-) -> bool {
-    let at = workers.len().wrapping_sub(place).wrapping_sub(1);
-    match workers.get_mut(at) {
-        Some(worker) => worker.is_told(rt, call, wanted),
-        None => false,
-    }
-}
-
-// The first of these rows that was told otherwise, counted from 0.
-fn first_row<const MAX: usize>(
-    rt: &impl Wait,
-    workers: &mut Vec<Worker<'_, MAX>>,
-    rows: &[Row],
-) -> Option<usize> {
+// The first of these rows that was told otherwise, counted from 0. The workers are the last first.
+fn first_row(rt: &impl Wait, workers: &mut Vec<Worker<'_, 63>>, rows: &[Row]) -> Option<usize> {
     for (row, (place, call, wanted)) in rows.iter().enumerate() {
-        if !is_told(rt, workers, *place, *call, *wanted) {
+        let at = workers.len().wrapping_sub(*place).wrapping_sub(1);
+        let is_told = match workers.get_mut(at) {
+            Some(worker) => worker.is_told(rt, *call, *wanted),
+            None => false,
+        };
+        if !is_told {
             return Some(row);
         }
     }
@@ -200,10 +202,10 @@ fn first_row<const MAX: usize>(
 }
 
 // Plays the rows of a story with a worker for each of these places.
-fn told_of<const MAX: usize>(
+fn told_of(
     rt: &impl Wait,
     alloc: Global,
-    semaphore: &SemaphoreOf<MAX>,
+    semaphore: &Semaphore,
     places: Vec<Place>,
     story: &Story,
 ) -> Result<Option<usize>, AllocError>
@@ -212,23 +214,22 @@ fn told_of<const MAX: usize>(
     let mut workers = workers_of(alloc, semaphore, places)?;
     let other = first_row(rt, &mut workers, story.rows);
     if story.all_leave {
-        all_leave(rt, workers);
+        for worker in workers {
+            worker.leave(rt);
+        }
     }
     Ok(other)
-}
-
-fn number_of(words: &Words, word: Word) -> Option<u64> {
-    match word {
-        Word::Main => Some(words.main()),
-        Word::Line(place) => words.line(place),
-        Word::Answer(place) => words.answer(place),
-    }
 }
 
 // The first of these words that is otherwise, counted from 0.
 fn first_word(words: &Words, wanted: &[(Word, Option<u64>)]) -> Option<usize> {
     for (place, (name, number)) in wanted.iter().enumerate() {
-        if number_of(words, *name) != *number {
+        let told = match *name {
+            Word::Main => Some(words.main()),
+            Word::Line(place) => words.line(place),
+            Word::Answer(place) => words.answer(place),
+        };
+        if told != *number {
             return Some(place);
         }
     }
@@ -236,15 +237,9 @@ fn first_word(words: &Words, wanted: &[(Word, Option<u64>)]) -> Option<usize> {
 }
 
 // What a story tells otherwise at a new semaphore.
-fn other_of<R: Wait + AllocGlobal, const MAX: usize>(
-    rt: &R,
-    story: &Story,
-) -> Result<Other, AllocError>
-    requires bound { 0 < MAX }
-    requires narrow { MAX < 65536 }
-{
+fn other_of<R: Wait + AllocGlobal>(rt: &R, story: &Story) -> Result<Other, AllocError> {
     let count = story.places.saturating_add(1);
-    let (semaphore, mut places) = SemaphoreOf::<MAX>::new(rt.alloc(), story.withheld, count)?;
+    let (semaphore, mut places) = Semaphore::new(rt.alloc(), story.withheld, count)?;
     let witness = last_of(&semaphore, &mut places);
     let row = told_of(rt, rt.alloc(), &semaphore, places, story)?;
     match words_of(rt, semaphore, witness) {
@@ -253,18 +248,10 @@ fn other_of<R: Wait + AllocGlobal, const MAX: usize>(
     }
 }
 
-// The first of some stories in which something was told otherwise, and what.
-type First = Option<(&'static str, Other)>;
-
-fn first_story<R: Wait + AllocGlobal, const MAX: usize>(
-    rt: &R,
-    stories: &[Story],
-) -> Result<First, AllocError>
-    requires bound { 0 < MAX }
-    requires narrow { MAX < 65536 }
-{
-    for story in stories {
-        let other = other_of::<R, MAX>(rt, story)?;
+// The first story in which something was told otherwise, and what.
+fn first_story<R: Wait + AllocGlobal>(rt: &R) -> Result<Option<(&'static str, Other)>, AllocError> {
+    for story in &STORIES {
+        let other = other_of(rt, story)?;
         if other != ALL_RIGHT {
             return Ok(Some((story.name, other)));
         }
@@ -272,75 +259,8 @@ fn first_story<R: Wait + AllocGlobal, const MAX: usize>(
     Ok(None)
 }
 
-// The same at each number of permits.
-fn first_stories<R: Wait + AllocGlobal>(
-    rt: &R,
-) -> Result<(First, First, First, First), AllocError> {
-    Ok((
-        first_story::<R, 63>(rt, &STORIES)?,
-        first_story::<R, 1>(rt, &bounds::OF_ONE)?,
-        first_story::<R, 1_000>(rt, &bounds::OF_A_THOUSAND)?,
-        first_story::<R, 65_535>(rt, &bounds::OF_THE_MOST)?,
-    ))
-}
-
-// The main word; and the line words and the answers of the first place and of the last, and where there is no place.
-type Shown = (u64, [Option<u64>; 4], [Option<u64>; 4]);
-
-fn shown(words: &Words, last: u16, beyond: u16) -> Shown {
-    (
-        words.main(),
-        [
-            words.line(0),
-            words.line(last),
-            words.line(beyond),
-            words.line(u16::MAX),
-        ],
-        [
-            words.answer(0),
-            words.answer(last),
-            words.answer(beyond),
-            words.answer(u16::MAX),
-        ],
-    )
-}
-
-// How many places a semaphore has of which so many are wanted, and if there is one, whether the last may register, its number, and the
-// words once it has left.
-type Dealt = (usize, Option<(bool, u16, Shown)>);
-
-fn dealt<R: Wait + AllocGlobal>(rt: &R, count: u16) -> Result<Dealt, AllocError> {
-    let (semaphore, mut places) = SemaphoreOf::<63>::new(rt.alloc(), 5, count)?;
-    let dealt = places.len();
-    let Some(mut place) = last_of(&semaphore, &mut places) else {
-        return Ok((dealt, None));
-    };
-    let is_made = semaphore.register(rt, &mut place, 58);
-    let left = semaphore.leave(rt, place);
-    let number = left.place();
-    let words = semaphore.close(left);
-    Ok((dealt, Some((is_made, number, shown(&words, number, count)))))
-}
-
-// None, one and the most.
-fn all_dealt<R: Wait + AllocGlobal>(rt: &R) -> Result<[Dealt; 3], AllocError> {
-    Ok([dealt(rt, 0)?, dealt(rt, 1)?, dealt(rt, 65_535)?])
-}
-
 #[test]
 fn rows_are_told(rt: HostRuntime) {
-    same!(rt; first_stories(&rt).ok(), Some((None, None, None, None)));
+    same!(rt; first_story(&rt).ok(), Some(None));
     same!(rt; SemaphoreOf::<1_000>::MAX_PERMITS, 1_000);
-}
-
-#[test]
-fn as_many_places_as_were_wanted(rt: HostRuntime) {
-    let words = [Some(0), Some(0), None, None];
-    let shown = (5, words, words);
-    let wanted = [
-        (0, None),
-        (1, Some((true, 0, shown))),
-        (65_535, Some((true, 65_534, shown))),
-    ];
-    same!(rt; all_dealt(&rt).ok(), Some(wanted));
 }

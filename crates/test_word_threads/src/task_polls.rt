@@ -1,15 +1,13 @@
 //! Polls of tasks, at places of the word's lock and semaphore: which tasks are woken, when, and how often.
 //!
-//! Each task is polled by hand, and says whether it was woken since its last poll began; but for one, which an executor polls. A waker that goes wakes its
-//! task, which is how it is seen to go.
+//! Each task is polled by hand, and says whether it was woken since its last poll began. A waker that goes wakes its task, which is how it is seen to go.
+//! That an executor is woken so is shown at the forms above (`test_lock_free`).
 
 ghost use Rattle.saa_word_threads.specs.Locks.{IsDealtBy};
 ghost use Rattle.saa_word_threads.specs.Semaphores.{IsDealtBy as IsDealtBySemaphore};
 
-use crate::tally::Tally;
 use crate::timed_polls::{Asked, TIL_PARKED};
 use futures::Future;
-use futures::executor::block_on;
 use futures::task::{Context, Poll};
 use futures::test::MockTask;
 use saa_word_threads::lock::{Error, Lock, Mode, Place};
@@ -22,95 +20,24 @@ use std::io;
 use std::random::RandomSource;
 use std::sync::Wait;
 use std::sync::atomic::{AtomicU64, Ordering};
-use std::thread::{self, Threads, yield_now};
 use test_asserts::same;
 
 // The number of the place that waits.
 const WAITER: u16 = 1;
 
-// The place that waits, as the future of its answer, beside a watch.
+// Looks on at a lock. As the waiter is answered, its task isn't woken before, and its answer is written then: counts the moments that it sees, and what is
+// wrong. At another moment it may give back a share, with no place.
 #[derive(Drop)]
-struct Waiter<'l, W> {
-    lock: &'l Lock,
-    watch: &'l W,
-    place: Place,
-    ghost dealt: { IsDealtBy lock.now place },
-}
-
-impl<W: Watch> Future for Waiter<'_, W> {
-    type Output = Result<bool, Error>;
-
-    fn poll(&mut self, cx: &mut Context<'_>) -> Poll<Result<bool, Error>> {
-        poll_task_watched(self.lock, self.watch, &mut self.place, cx)
-    }
-}
-
-impl<W: Watch> Waiter<'_, W> {
-    // Polls it once for a task. `None`: it is pending.
-    fn poll_for(&mut self, task: &MockTask) -> Option<Result<bool, Error>> {
-        match task.poll(self) {
-            Poll::Ready(told) => Some(told),
-            Poll::Pending => None,
-        }
-    }
-
-    // Whether it is pending then.
-    fn is_pending_for(&mut self, task: &MockTask) -> bool {
-        self.poll_for(task).is_none()
-    }
-
-    // Asks for the lock.
-    fn register(&mut self, rt: &impl Wait) -> bool {
-        self.lock.register(rt, &mut self.place, Mode::Exclusive)
-    }
-
-    fn cancel(&mut self, rt: &impl Wait) {
-        self.lock.cancel(rt, &mut self.place);
-    }
-
-    // Polls it as a thread whose time is up once it has parked.
-    fn park_in_time(&mut self, rt: &impl Wait) -> Result<bool, Error> {
-        let limit = Asked::times(TIL_PARKED);
-        poll_within(self.lock, rt, self.watch, &mut self.place, &limit)
-    }
-
-    // Gives back the lock.
-    fn release(&mut self, rt: &impl Wait) -> bool {
-        self.lock.release_lock(rt, &mut self.place)
-    }
-}
-
-// Forgets that a task was woken: polls nothing for it.
-fn calm(task: &MockTask) {
-    task.enter(|_cx| ());
-}
-
-// Gives back a share at this moment, with no place.
-#[derive(Drop)]
-struct Gives<'l, R> {
+struct Sees<'l, R> {
     rt: &'l R,
     lock: &'l Lock,
-    when: Moment,
-}
-
-impl<R: Wait> Watch for Gives<'_, R> {
-    fn at(&self, moment: Moment) {
-        if moment == self.when {
-            self.lock.release_share_once(self.rt);
-        }
-    }
-}
-
-// Looks on as the waiter is answered: its task isn't woken before, and its answer is written then. Counts the moments that it sees, and what is wrong.
-#[derive(Drop)]
-struct Sees<'l> {
-    lock: &'l Lock,
     task: &'l MockTask,
+    gives: Option<Moment>,
     seen: AtomicU64,
     wrong: AtomicU64,
 }
 
-impl Sees<'_> {
+impl<R> Sees<'_, R> {
     // The task isn't woken, and the answer is written or not.
     fn see(&self, is_written: bool) {
         self.seen.fetch_add(1, Ordering::SeqCst);
@@ -120,318 +47,315 @@ impl Sees<'_> {
     }
 }
 
-impl Watch for Sees<'_> {
+impl<R: Wait> Watch for Sees<'_, R> {
     fn at(&self, moment: Moment) {
         match moment {
             Moment::Writes(_) => self.see(false),
             Moment::Answers(_) | Moment::Wakes(_) => self.see(true),
             _ => {}
         }
-    }
-}
-
-// What happens to a place that waits for a lock of which there is a share, and to the tasks that poll it. Each is a list of what has to be so.
-
-// It is answered: one task that polled is woken behind the write, and once.
-fn answered<'x, R: Wait>(
-    rt: &R,
-    lock: &'x Lock,
-    task: &'x MockTask,
-    mut owner: Place,
-    place: Place,
-) -> [bool; 6]
-    requires owner { IsDealtBy lock.now owner }
-    requires place { IsDealtBy lock.now place }
-{
-    let tally = Tally::new();
-    let mut waiter = Waiter {
-        lock,
-        watch: &tally,
-        place,
-    };
-    let sees = Sees {
-        lock,
-        task,
-        seen: AtomicU64::new(0),
-        wrong: AtomicU64::new(0),
-    };
-    let idle = waiter.poll_for(task) == Some(Err(Error::NotRegistered));
-    let waits = waiter.register(rt) && waiter.is_pending_for(task) && !task.is_woken();
-    let gives = release_share_watched(lock, rt, &sees, &mut owner);
-    let counts = [
-        sees.seen.load(Ordering::SeqCst),
-        sees.wrong.load(Ordering::SeqCst),
-    ];
-    let woken = task.is_woken();
-    let granted = waiter.poll_for(task) == Some(Ok(true)) && !task.is_woken();
-    let given = waiter.release(rt);
-    [
-        idle,
-        waits,
-        gives && counts == [3, 0],
-        woken,
-        granted,
-        given,
-    ]
-}
-
-// Two tasks poll it: the last is woken by the answer, the first by the second poll alone.
-fn polled_by_two<R: Wait>(
-    rt: &R,
-    lock: &Lock,
-    one: &MockTask,
-    two: &MockTask,
-    mut owner: Place,
-    place: Place,
-) -> [bool; 6]
-    requires owner { IsDealtBy lock.now owner }
-    requires place { IsDealtBy lock.now place }
-{
-    let tally = Tally::new();
-    let mut waiter = Waiter {
-        lock,
-        watch: &tally,
-        place,
-    };
-    let waits = waiter.register(rt) && waiter.is_pending_for(one) && waiter.is_pending_for(two);
-    let replaced = one.is_woken() && !two.is_woken();
-    calm(one);
-    let gives = lock.release_share(rt, &mut owner);
-    let woken = two.is_woken() && !one.is_woken();
-    let granted = waiter.poll_for(two) == Some(Ok(true));
-    let given = waiter.release(rt);
-    [waits, replaced, gives, woken, granted, given]
-}
-
-// It cancels, and leaves the line: its waker goes, and nobody is answered then.
-fn cancelled<R: Wait>(
-    rt: &R,
-    lock: &Lock,
-    task: &MockTask,
-    mut owner: Place,
-    place: Place,
-) -> [bool; 6]
-    requires owner { IsDealtBy lock.now owner }
-    requires place { IsDealtBy lock.now place }
-{
-    let tally = Tally::new();
-    let mut waiter = Waiter {
-        lock,
-        watch: &tally,
-        place,
-    };
-    let waits = waiter.register(rt) && waiter.is_pending_for(task);
-    waiter.cancel(rt);
-    let gone = task.is_woken();
-    let told = waiter.poll_for(task) == Some(Err(Error::NotRegistered));
-    let gives = release_share_watched(lock, rt, &tally, &mut owner);
-    let silent = tally.of_answering() == [0, 0] && !task.is_woken();
-    let free = lock.is_free(&mut owner);
-    [waits, gone, told, gives, silent, free]
-}
-
-// It parks as a thread once a task has polled it, until its time is up: the task is woken by the answer still.
-fn parked_between<R: Wait>(
-    rt: &R,
-    lock: &Lock,
-    task: &MockTask,
-    mut owner: Place,
-    place: Place,
-) -> [bool; 6]
-    requires owner { IsDealtBy lock.now owner }
-    requires place { IsDealtBy lock.now place }
-{
-    let tally = Tally::new();
-    let mut waiter = Waiter {
-        lock,
-        watch: &tally,
-        place,
-    };
-    let waits = waiter.register(rt) && waiter.is_pending_for(task);
-    let late = waiter.park_in_time(rt) == Err(Error::NotReady) && !task.is_woken();
-    let gives = lock.release_share(rt, &mut owner);
-    let woken = task.is_woken();
-    let granted = waiter.park_in_time(rt) == Ok(true);
-    let given = waiter.release(rt);
-    [waits, late, gives, woken, granted, given]
-}
-
-// The owner poisons the lock: the task is woken and told so.
-fn poisoned<R: Wait>(
-    rt: &R,
-    lock: &Lock,
-    task: &MockTask,
-    mut owner: Place,
-    place: Place,
-) -> [bool; 6]
-    requires owner { IsDealtBy lock.now owner }
-    requires place { IsDealtBy lock.now place }
-{
-    let tally = Tally::new();
-    let mut waiter = Waiter {
-        lock,
-        watch: &tally,
-        place,
-    };
-    let alone = lock.release_share(rt, &mut owner) && lock.try_lock(rt, &mut owner).is_ok();
-    let waits = waiter.register(rt) && waiter.is_pending_for(task);
-    let poisons = lock.poison_lock(rt, &mut owner);
-    let woken = task.is_woken();
-    let told = waiter.poll_for(task) == Some(Ok(false));
-    let clears = lock.clear_poison(rt, &mut owner);
-    [alone, waits, poisons, woken, told, clears]
-}
-
-// It is answered in the middle of a poll: right before its waker is kept, or right behind. That poll finds the answer.
-fn answered_meanwhile<'x, R: Wait>(
-    rt: &'x R,
-    lock: &'x Lock,
-    when: Moment,
-    task: &MockTask,
-    mut owner: Place,
-    place: Place,
-) -> [bool; 6]
-    requires owner { IsDealtBy lock.now owner }
-    requires place { IsDealtBy lock.now place }
-{
-    let gives = Gives { rt, lock, when };
-    let mut waiter = Waiter {
-        lock,
-        watch: &gives,
-        place,
-    };
-    let waits = waiter.register(rt);
-    let granted = waiter.poll_for(task) == Some(Ok(true));
-    calm(task);
-    let given = waiter.release(rt);
-    let free = lock.is_free(&mut owner);
-    [waits, granted, given, free, !task.is_woken(), true]
-}
-
-#[derive(Clone, Copy)]
-enum Story {
-    Answered,
-    PolledByTwo,
-    Cancelled,
-    ParkedBetween,
-    Poisoned,
-    AnsweredMeanwhile(Moment),
-}
-
-// What is so in a story, at a new lock of which one place has a share.
-fn told<R: Wait + RandomSource + AllocGlobal>(rt: &R, story: Story) -> io::Result<[bool; 6]> {
-    let (one, two) = (MockTask::new(rt)?, MockTask::new(rt)?);
-    let (lock, mut places) = Lock::new(rt.alloc(), 2)?;
-    let (Some(waiter), Some(mut owner)) = (places.pop(), places.pop()) else {
-        unreachable!()
-    };
-    if lock.try_share(rt, &mut owner).is_err() {
-        return Ok([false; 6]);
-    }
-    Ok(match story {
-        Story::Answered => answered(rt, &lock, &one, owner, waiter),
-        Story::PolledByTwo => polled_by_two(rt, &lock, &one, &two, owner, waiter),
-        Story::Cancelled => cancelled(rt, &lock, &one, owner, waiter),
-        Story::ParkedBetween => parked_between(rt, &lock, &one, owner, waiter),
-        Story::Poisoned => poisoned(rt, &lock, &one, owner, waiter),
-        Story::AnsweredMeanwhile(when) => {
-            answered_meanwhile(rt, &lock, when, &one, owner, waiter)
+        if self.gives == Some(moment) {
+            self.lock.release_share_once(self.rt);
         }
-    })
+    }
 }
 
-// The place of a semaphore, as the future of its answer. Tells whether it was pending.
+// The place that waits, as the future of its answer, and the owner, beside a watch.
 #[derive(Drop)]
-struct Permits<'s> {
-    semaphore: &'s Semaphore,
-    polls: &'s AtomicU64,
-    place: PermitPlace,
-    ghost dealt: { IsDealtBySemaphore semaphore.now place },
+struct Places<'l, R> {
+    lock: &'l Lock,
+    sees: &'l Sees<'l, R>,
+    waiter: Place,
+    owner: Place,
+    ghost waits: { IsDealtBy lock.now waiter },
+    ghost owns: { IsDealtBy lock.now owner },
 }
 
-impl Future for Permits<'_> {
-    type Output = bool;
+impl<R: Wait> Future for Places<'_, R> {
+    type Output = Result<bool, Error>;
 
-    fn poll(&mut self, cx: &mut Context<'_>) -> Poll<bool> {
-        match self.semaphore.poll_task(&mut self.place, cx) {
-            Poll::Ready(told) => Poll::Ready(told.is_ok()),
-            Poll::Pending => {
-                self.polls.fetch_add(1, Ordering::SeqCst);
-                Poll::Pending
+    fn poll(&mut self, cx: &mut Context<'_>) -> Poll<Result<bool, Error>> {
+        poll_task_watched(self.lock, self.sees, &mut self.waiter, cx)
+    }
+}
+
+// What happens.
+#[derive(Clone, Copy)]
+enum Act {
+    // The waiter asks for the lock, is polled for the first task or for the second, cancels, or gives the lock back.
+    Asks,
+    Polls,
+    PollsForSecond,
+    Cancels,
+    Releases,
+    // It is polled as a thread whose time is up once it has parked.
+    Parks,
+    // The owner gives back a share, takes the lock, poisons it, or clears it.
+    Gives,
+    Locks,
+    Poisons,
+    Clears,
+    // The tasks forget that they were woken.
+    Calms,
+}
+
+// What is told of it.
+#[derive(Clone, Copy, PartialEq)]
+enum Told {
+    Is(bool),
+    Polled(Result<bool, Error>),
+    Pending,
+    // Of a share that is given back: how many moments of an answer were seen, and how many were wrong.
+    Gave(bool, [u64; 2]),
+}
+
+const YES: Told = Told::Is(true);
+
+// A share that nobody waits for is given back; or one whose waiter is answered, and its task woken.
+const GIVEN: Told = Told::Gave(true, [0, 0]);
+
+const ANSWERED: Told = Told::Gave(true, [3, 0]);
+
+const NOT_REGISTERED: Told = Told::Polled(Err(Error::NotRegistered));
+
+impl<R: Wait> Places<'_, R> {
+    // Polls for a task.
+    fn polled(&mut self, task: &MockTask) -> Told {
+        match task.poll(self) {
+            Poll::Ready(told) => Told::Polled(told),
+            Poll::Pending => Told::Pending,
+        }
+    }
+
+    // Gives back a share.
+    fn gives(&mut self) -> Told {
+        let sees = self.sees;
+        let is_given = release_share_watched(self.lock, sees.rt, sees, &mut self.owner);
+        let seen = sees.seen.swap(0, Ordering::SeqCst);
+        Told::Gave(is_given, [seen, sees.wrong.load(Ordering::SeqCst)])
+    }
+
+    // Does this.
+    fn make(&mut self, act: Act, two: &MockTask) -> Told {
+        let (lock, rt, one) = (self.lock, self.sees.rt, self.sees.task);
+        match act {
+            Act::Asks => Told::Is(lock.register(rt, &mut self.waiter, Mode::Exclusive)),
+            Act::Polls => self.polled(one),
+            Act::PollsForSecond => self.polled(two),
+            Act::Cancels => {
+                lock.cancel(rt, &mut self.waiter);
+                YES
+            }
+            Act::Releases => Told::Is(lock.release_lock(rt, &mut self.waiter)),
+            Act::Parks => {
+                let limit = Asked::times(TIL_PARKED);
+                Told::Polled(poll_within(lock, rt, self.sees, &mut self.waiter, &limit))
+            }
+            Act::Gives => self.gives(),
+            Act::Locks => Told::Is(lock.try_lock(rt, &mut self.owner).is_ok()),
+            Act::Poisons => Told::Is(lock.poison_lock(rt, &mut self.owner)),
+            Act::Clears => Told::Is(lock.clear_poison(rt, &mut self.owner)),
+            Act::Calms => {
+                one.enter(|_cx| ());
+                two.enter(|_cx| ());
+                YES
             }
         }
     }
 }
 
-// Gives 5 permits back once a poll was pending.
-fn give(rt: &impl Wait, semaphore: &Semaphore, polls: &AtomicU64) -> bool {
-    for _turn in rt.forever() {
-        if polls.load(Ordering::SeqCst) > 0 {
-            break;
-        }
-        yield_now();
-    }
-    semaphore.release_many_once(rt, 5).0
+// What happens, what is told of it, and whether each task is woken behind it.
+type Row = (Act, Told, [bool; 2]);
+
+// What happens to a place that waits for a lock of which there is a share, which may be given back at a moment of a poll.
+struct Story {
+    name: &'static str,
+    gives: Option<Moment>,
+    rows: &'static [Row],
 }
 
-// An executor waits for 5 permits of a new semaphore of which all are withheld, and another thread gives them back: whether both is done, and how
-// often a poll was pending.
-fn awaited<R: Wait + RandomSource + AllocGlobal + Threads + Sync>(
+static STORIES: [Story; 7] = [
+    Story {
+        name: "one task that polled is woken behind the write, and once",
+        gives: None,
+        rows: &[
+            (Act::Polls, NOT_REGISTERED, [false, false]),
+            (Act::Asks, YES, [false, false]),
+            (Act::Polls, Told::Pending, [false, false]),
+            (Act::Gives, ANSWERED, [true, false]),
+            (Act::Polls, Told::Polled(Ok(true)), [false, false]),
+            (Act::Releases, YES, [false, false]),
+        ],
+    },
+    Story {
+        name: "the last task is woken by the answer, and the first by the second poll alone",
+        gives: None,
+        rows: &[
+            (Act::Asks, YES, [false, false]),
+            (Act::PollsForSecond, Told::Pending, [false, false]),
+            (Act::Polls, Told::Pending, [false, true]),
+            (Act::Calms, YES, [false, false]),
+            (Act::Gives, ANSWERED, [true, false]),
+            (Act::Polls, Told::Polled(Ok(true)), [false, false]),
+            (Act::Releases, YES, [false, false]),
+        ],
+    },
+    Story {
+        name: "a waker goes as its place cancels, and nobody is answered then",
+        gives: None,
+        rows: &[
+            (Act::Asks, YES, [false, false]),
+            (Act::Polls, Told::Pending, [false, false]),
+            (Act::Cancels, YES, [true, false]),
+            (Act::Polls, NOT_REGISTERED, [false, false]),
+            (Act::Gives, GIVEN, [false, false]),
+            (Act::Locks, YES, [false, false]),
+        ],
+    },
+    Story {
+        name: "a thread that parks until its time is up leaves the waker of a task",
+        gives: None,
+        rows: &[
+            (Act::Asks, YES, [false, false]),
+            (Act::Polls, Told::Pending, [false, false]),
+            (
+                Act::Parks,
+                Told::Polled(Err(Error::NotReady)),
+                [false, false],
+            ),
+            (Act::Gives, ANSWERED, [true, false]),
+            (Act::Parks, Told::Polled(Ok(true)), [true, false]),
+            (Act::Releases, YES, [true, false]),
+        ],
+    },
+    Story {
+        name: "poison answers a task",
+        gives: None,
+        rows: &[
+            (Act::Gives, GIVEN, [false, false]),
+            (Act::Locks, YES, [false, false]),
+            (Act::Asks, YES, [false, false]),
+            (Act::Polls, Told::Pending, [false, false]),
+            (Act::Poisons, YES, [true, false]),
+            (Act::Polls, Told::Polled(Ok(false)), [false, false]),
+            (Act::Clears, YES, [false, false]),
+        ],
+    },
+    // The poll finds the answer, and leaves no waker.
+    Story {
+        name: "an answer comes right before a waker is kept",
+        gives: Some(Moment::Keeps),
+        rows: &[
+            (Act::Asks, YES, [false, false]),
+            (Act::Polls, Told::Polled(Ok(true)), [true, false]),
+            (Act::Calms, YES, [false, false]),
+            (Act::Releases, YES, [false, false]),
+            (Act::Locks, YES, [false, false]),
+        ],
+    },
+    Story {
+        name: "an answer comes right behind",
+        gives: Some(Moment::Polls),
+        rows: &[
+            (Act::Asks, YES, [false, false]),
+            (Act::Polls, Told::Polled(Ok(true)), [true, false]),
+            (Act::Calms, YES, [false, false]),
+            (Act::Releases, YES, [false, false]),
+            (Act::Locks, YES, [false, false]),
+        ],
+    },
+];
+
+// The first of these rows that is otherwise, counted from 0.
+fn first_other<R: Wait>(places: &mut Places<'_, R>, two: &MockTask, rows: &[Row]) -> Option<usize> {
+    for (number, (act, wanted, are_woken)) in rows.iter().enumerate() {
+        let told = places.make(*act, two);
+        let woken = [places.sees.task.is_woken(), two.is_woken()];
+        if told != *wanted || woken != *are_woken {
+            return Some(number);
+        }
+    }
+    None
+}
+
+// The same of a story, at a new lock of which the owner has a share.
+fn other_of<R: Wait + RandomSource + AllocGlobal>(
     rt: &R,
-) -> io::Result<(bool, bool, u64)> {
+    story: &Story,
+) -> io::Result<Option<usize>> {
+    let (one, two) = (MockTask::new(rt)?, MockTask::new(rt)?);
+    let (lock, mut places) = Lock::new(rt.alloc(), 2)?;
+    let (Some(waiter), Some(mut owner)) = (places.pop(), places.pop()) else {
+        unreachable!()
+    };
+    let is_shared = lock.try_share(rt, &mut owner).is_ok();
+    let sees = Sees {
+        rt,
+        lock: &lock,
+        task: &one,
+        gives: story.gives,
+        seen: AtomicU64::new(0),
+        wrong: AtomicU64::new(u64::from(!is_shared)),
+    };
+    let mut places = Places {
+        lock: &lock,
+        sees: &sees,
+        waiter,
+        owner,
+    };
+    places.make(Act::Calms, &two);
+    Ok(first_other(&mut places, &two, story.rows))
+}
+
+// The first story with such a row, and that row.
+fn first_story<R: Wait + RandomSource + AllocGlobal>(
+    rt: &R,
+) -> io::Result<Option<(&'static str, usize)>> {
+    for story in &STORIES {
+        if let Some(row) = other_of(rt, story)? {
+            return Ok(Some((story.name, row)));
+        }
+    }
+    Ok(None)
+}
+
+// A place of a semaphore, as the future of its answer.
+#[derive(Drop)]
+struct Permits<'s> {
+    semaphore: &'s Semaphore,
+    place: PermitPlace,
+    ghost dealt: { IsDealtBySemaphore semaphore.now place },
+}
+
+impl Future for Permits<'_> {
+    type Output = Result<(), Error>;
+
+    fn poll(&mut self, cx: &mut Context<'_>) -> Poll<Result<(), Error>> {
+        self.semaphore.poll_task(&mut self.place, cx)
+    }
+}
+
+// A task polls a place of a semaphore whose permits are all withheld, until 5 are given back: whether it is pending, then woken, and granted.
+fn permits_told<R: Wait + RandomSource + AllocGlobal>(rt: &R) -> io::Result<[bool; 5]> {
+    let task = MockTask::new(rt)?;
     let (semaphore, mut places) = Semaphore::new(rt.alloc(), 63, 1)?;
     let Some(mut place) = places.pop() else {
         unreachable!()
     };
-    let polls = AtomicU64::new(0);
-    semaphore.register(rt, &mut place, 5);
-    let future = Permits {
+    let asks = semaphore.register(rt, &mut place, 5);
+    let mut future = Permits {
         semaphore: &semaphore,
-        polls: &polls,
         place,
     };
-    let (gives, granted) = thread::join(
-        rt,
-        || give(rt, &semaphore, &polls),
-        || block_on(rt, future).unwrap_or(false),
-    );
-    Ok((gives, granted, polls.load(Ordering::SeqCst)))
+    let waits = matches!(task.poll(&mut future), Poll::Pending);
+    let gives = !task.is_woken() && semaphore.release_many_once(rt, 5).0;
+    let is_woken = task.is_woken();
+    let is_granted = matches!(task.poll(&mut future), Poll::Ready(Ok(())));
+    Ok([asks, waits, gives, is_woken, is_granted])
 }
 
 #[test]
-fn an_executor_is_woken_by_the_answer(rt: HostRuntime) {
-    same!(rt; awaited(&rt).ok(), Some((true, true, 1)));
-}
-
-const ALL: Option<[bool; 6]> = Some([true; 6]);
-
-#[test]
-fn the_task_of_a_waiter_is_woken_once_its_answer_is_written(rt: HostRuntime) {
-    same!(rt; told(&rt, Story::Answered).ok(), ALL);
-}
-
-#[test]
-fn the_last_task_that_polled_is_woken(rt: HostRuntime) {
-    same!(rt; told(&rt, Story::PolledByTwo).ok(), ALL);
-}
-
-#[test]
-fn a_waker_goes_as_its_place_cancels(rt: HostRuntime) {
-    same!(rt; told(&rt, Story::Cancelled).ok(), ALL);
-}
-
-#[test]
-fn a_poll_in_time_leaves_the_waker_of_a_task(rt: HostRuntime) {
-    same!(rt; told(&rt, Story::ParkedBetween).ok(), ALL);
-}
-
-#[test]
-fn poison_answers_a_task(rt: HostRuntime) {
-    same!(rt; told(&rt, Story::Poisoned).ok(), ALL);
-}
-
-#[test]
-fn no_answer_is_lost_beside_a_poll(rt: HostRuntime) {
-    same!(rt; told(&rt, Story::AnsweredMeanwhile(Moment::Keeps)).ok(), ALL);
-    same!(rt; told(&rt, Story::AnsweredMeanwhile(Moment::Polls)).ok(), ALL);
+fn tasks_are_woken_once_their_answers_are_written(rt: HostRuntime) {
+    same!(rt; first_story(&rt).ok(), Some(None));
+    same!(rt; permits_told(&rt).ok(), Some([true; 5]));
 }

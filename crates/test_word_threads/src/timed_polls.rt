@@ -1,19 +1,14 @@
-//! Polls that wait until a time, at places of the word's lock and semaphore.
+//! Polls that wait until a time, at places of the word's lock. One that parks, at a semaphore, is in `public_waits`.
 //!
 //! Where a poll has to end in time its limit counts how often it is asked, so that nothing rests on a clock; a poll that has to be answered is given
 //! an hour, which no test lasts.
 
-ghost use Rattle.saa_word_threads.specs.Locks.{IsDealtBy};
-ghost use Rattle.saa_word_threads.specs.Semaphores.{IsDealtBy as IsDealtBySemaphore};
-
 use crate::tally::Tally;
 use saa_word_threads::lock::{Error, Lock, Mode, Place};
-use saa_word_threads::semaphore::{Place as PermitPlace, Semaphore};
-use saa_word_threads::testing::{Limit, is_parked, is_parked_at, poll_within};
+use saa_word_threads::testing::{Limit, is_parked, poll_within};
 use std::alloc::{AllocError, AllocGlobal};
 use std::sync::Wait;
 use std::sync::atomic::{AtomicU64, Ordering};
-use std::thread::{self, Threads, yield_now};
 use std::time::{Clock, Duration, Instant};
 use test_asserts::same;
 
@@ -53,10 +48,11 @@ impl Limit for Asked {
 // and once the lock was given back; and whether each other call was granted.
 type Told = ([Result<bool, Error>; 6], [bool; 4]);
 
-fn polls<R: Wait + Clock>(rt: &R, lock: &Lock, mut owner: Place, mut waiter: Place) -> Told
-    requires owner { IsDealtBy lock.now owner }
-    requires waiter { IsDealtBy lock.now waiter }
-{
+fn polled<R: Wait + Clock + AllocGlobal>(rt: &R) -> Result<Told, AllocError> {
+    let (lock, mut places) = Lock::new(rt.alloc(), 2)?;
+    let (Some(mut waiter), Some(mut owner)) = (places.pop(), places.pop()) else {
+        unreachable!()
+    };
     let hour = Duration::from_secs(3600);
     let now = Instant::now(rt);
     let idle = lock.poll_for(rt, &mut owner, hour);
@@ -72,19 +68,10 @@ fn polls<R: Wait + Clock>(rt: &R, lock: &Lock, mut owner: Place, mut waiter: Pla
     let released = lock.release_lock(rt, &mut owner);
     let granted = lock.poll_for(rt, &mut waiter, hour);
     let given = lock.release_lock(rt, &mut waiter);
-    (
+    Ok((
         [idle, at_once, none, past, short, granted],
         [asks, waits, released, given],
-    )
-}
-
-// The same at a new lock.
-fn polled<R: Wait + Clock + AllocGlobal>(rt: &R) -> Result<Told, AllocError> {
-    let (lock, mut places) = Lock::new(rt.alloc(), 2)?;
-    let (Some(waiter), Some(owner)) = (places.pop(), places.pop()) else {
-        unreachable!()
-    };
-    Ok(polls(rt, &lock, owner, waiter))
+    ))
 }
 
 // A place whose time is up once it has parked cancels: what the poll is told, what is counted of the wait, whether the mark is set afterwards, whether the
@@ -119,45 +106,6 @@ fn ended<R: Wait + AllocGlobal>(rt: &R, asked: u64) -> Result<Ended, AllocError>
     ))
 }
 
-// Waits for 5 permits, for an hour at most, and gives them back; whether both is done.
-fn acquire<R: Wait + Clock>(rt: &R, semaphore: &Semaphore, mut place: PermitPlace) -> bool
-    requires { IsDealtBySemaphore semaphore.now place }
-{
-    semaphore.register(rt, &mut place, 5)
-        && semaphore
-            .poll_for(rt, &mut place, Duration::from_secs(3600))
-            .is_ok()
-        && semaphore.release_many(rt, &mut place, 5)
-}
-
-// Gives 5 permits back once the waiter parks.
-fn release(rt: &impl Wait, semaphore: &Semaphore, mut place: PermitPlace) -> bool
-    requires { IsDealtBySemaphore semaphore.now place }
-{
-    for _turn in rt.forever() {
-        if is_parked_at(semaphore, WAITER) {
-            break;
-        }
-        yield_now();
-    }
-    semaphore.release_many(rt, &mut place, 5)
-}
-
-// The two beside one another at a new semaphore of which all permits are withheld.
-fn woken<R: Wait + Clock + Threads + Sync + AllocGlobal>(
-    rt: &R,
-) -> Result<(bool, bool), AllocError> {
-    let (semaphore, mut places) = Semaphore::new(rt.alloc(), 63, 2)?;
-    let (Some(waiter), Some(owner)) = (places.pop(), places.pop()) else {
-        unreachable!()
-    };
-    Ok(thread::join(
-        rt,
-        || release(rt, &semaphore, owner),
-        || acquire(rt, &semaphore, waiter),
-    ))
-}
-
 #[test]
 fn a_poll_ends_with_its_answer_or_in_time(rt: HostRuntime) {
     let not_ready = Err(Error::NotReady);
@@ -172,28 +120,18 @@ fn a_poll_ends_with_its_answer_or_in_time(rt: HostRuntime) {
     same!(rt; polled(&rt).ok(), Some((told, [true; 4])));
 }
 
-#[test]
-fn a_poll_whose_time_is_up_is_no_longer_marked_and_leaves_the_line(rt: HostRuntime) {
-    let late = Err(Error::NotReady);
-    let parked: Ended = (
-        late,
-        [500, 500, 500, 1, 1],
-        [true, true, false],
-        (Some(0), Some(0)),
-    );
-    same!(rt; ended(&rt, TIL_PARKED).ok(), Some(parked));
-    let yielded: Ended = (
-        late,
-        [500, 500, 100, 0, 0],
-        [true, true, false],
-        (Some(0), Some(0)),
-    );
-    same!(rt; ended(&rt, 101).ok(), Some(yielded));
-    let at_once: Ended = (late, [0; 5], [true, true, false], (Some(0), Some(0)));
-    same!(rt; ended(&rt, 0).ok(), Some(at_once));
-}
+// So often a limit is asked in three waits, until it says that the time is up, and what is counted of each wait.
+static ENDS: [(u64, [u64; 5]); 3] = [
+    (TIL_PARKED, [500, 500, 500, 1, 1]),
+    (101, [500, 500, 100, 0, 0]),
+    (0, [0; 5]),
+];
 
 #[test]
-fn a_poll_in_time_is_woken_where_it_parks(rt: HostRuntime) {
-    same!(rt; woken(&rt).ok(), Some((true, true)));
+fn a_poll_whose_time_is_up_is_no_longer_marked_and_leaves_the_line(rt: HostRuntime) {
+    for (asked, counts) in ENDS {
+        let late = Err(Error::NotReady);
+        let wanted: Ended = (late, counts, [true, true, false], (Some(0), Some(0)));
+        same!(rt; ended(&rt, asked).ok(), Some(wanted));
+    }
 }

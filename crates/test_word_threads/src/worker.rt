@@ -132,13 +132,6 @@ pub fn main_of<const MAX: usize>(
     Some(semaphore.close(left).main())
 }
 
-/// All workers leave, and so each cancels.
-pub fn all_leave<const MAX: usize>(rt: &impl Wait, workers: Vec<Worker<'_, MAX>>) {
-    for worker in workers {
-        worker.leave(rt);
-    }
-}
-
 /// A worker of each of the places that a semaphore dealt, the last first.
 pub fn workers_of<'s, const MAX: usize>(
     alloc: Global,

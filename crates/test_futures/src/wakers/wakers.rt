@@ -1,15 +1,15 @@
 //! Wakers go out with the lock free: a wake lasts until another thread has taken the lock many times.
 
-use crate::ready;
+use crate::polled;
 use crate::stories::Told;
-use crate::stories::Told::{Granted, Is, Nothing, Permit};
+use crate::stories::Told::{Moved, Nothing, Passage, Passed};
 use crate::wakers::answer_untold;
 use futures::Future;
 use futures::task::{Doorbell, Poll as Polled, Solo};
 use futures::test::MockTask;
-use saa_sync::future::Acquire;
+use saa_sync::future::Enter;
+use saa_sync::gate::Gate;
 use saa_sync::pager::Pager;
-use saa_sync::semaphore::Semaphore;
 use std::alloc::AllocGlobal;
 use std::fs::Files;
 use std::io::{PipeReader, PipeWriter, Read, Write};
@@ -71,7 +71,7 @@ impl Slow {
 // Waits until the other thread is at its call, takes the lock many times, and only then makes room in the pipe.
 fn lock_then_read<R: Wait + Drop>(
     rt: &impl Wait,
-    semaphore: &Semaphore<R>,
+    gate: &Gate<R>,
     has_begun: &AtomicBool,
     reader: &PipeReader,
 ) -> bool {
@@ -82,7 +82,7 @@ fn lock_then_read<R: Wait + Drop>(
         yield_now();
     }
     for _turn in 0..TURNS {
-        let _available = semaphore.available_permits(Ordering::SeqCst);
+        let _state = gate.state(Ordering::SeqCst);
         yield_now();
     }
     let mut bytes = [0u8; 4096];
@@ -90,43 +90,19 @@ fn lock_then_read<R: Wait + Drop>(
     end.read(&mut bytes).is_ok()
 }
 
-// What brings a waker out of a semaphore.
-#[derive(Drop)]
-enum Cause<'s, R: Wait + Drop> {
-    Release,
-    ReleaseMany(usize),
-    // A future is dropped.
-    LetGo(Acquire<'s, R>),
-    // A pager is cancelled.
-    Cancel(Pager<'s, Semaphore<R>>),
-    // Another task takes the answer that is there.
-    Take(Acquire<'s, R>),
-    TakeByPager(Pager<'s, Semaphore<R>>),
-}
-
-impl<R: Wait + Drop> Cause<'_, R> {
-    // Whether an answer has to be there.
-    fn is_answered(&self) -> bool {
-        matches!(self, Cause::Take(_) | Cause::TakeByPager(_))
-    }
-
-    // Brings the waker out; what that tells.
-    fn bring<H: RandomSource + AllocGlobal>(self, rt: &H, semaphore: &Semaphore<R>) -> Told {
-        match self {
-            Cause::Release => Is(semaphore.release()),
-            Cause::ReleaseMany(count) => Is(semaphore.release_many(count)),
-            Cause::LetGo(future) => {
-                drop(future);
-                Nothing
-            }
-            Cause::Cancel(mut pager) => {
-                pager.cancel();
-                Nothing
-            }
-            Cause::Take(mut future) => Permit(told_another(rt, &mut future)),
-            Cause::TakeByPager(mut pager) => Granted(told_another(rt, &mut pager.poll_async())),
-        }
-    }
+// What brings the waker of a slow task out of a gate: it goes out with the lock free, and so its wake lasts until somebody reads from the
+// pipe.
+#[derive(Clone, Copy, PartialEq)]
+pub(crate) enum Out {
+    Answer,
+    // A quick task is answered too, whose waker is taken out together with that of the slow one, and first.
+    AnswerOfTwo,
+    // The future or the pager is dropped or cancelled.
+    Future,
+    Pager,
+    // Another task takes the answer of the future or the pager, at whose slot the waker is left.
+    FuturesAnswer,
+    PagersAnswer,
 }
 
 // What another task is told that polls a future.
@@ -137,159 +113,112 @@ fn told_another<H: RandomSource + AllocGlobal, F: Future>(
 where
     requires { F.can_poll future.old }
 {
-    ready(MockTask::new(rt).ok()?.poll(future))
+    polled(&MockTask::new(rt).ok()?, future)
+}
+
+// Brings the waker out; what that tells.
+fn bring<'s, H: RandomSource + AllocGlobal, R: Wait + Drop>(
+    rt: &H,
+    gate: &'s Gate<R>,
+    future: &mut Enter<'s, R>,
+    pager: &mut Pager<'s, Gate<R>>,
+    out: Out,
+) -> Told {
+    match out {
+        Out::Answer | Out::AnswerOfTwo => Moved(gate.permit()),
+        Out::Future => {
+            *future = gate.enter_async();
+            Nothing
+        }
+        Out::Pager => {
+            pager.cancel();
+            Nothing
+        }
+        Out::FuturesAnswer => Passage(told_another(rt, future)),
+        Out::PagersAnswer => Passed(told_another(rt, &mut pager.poll_async())),
+    }
 }
 
 // Brings a waker out, while another thread takes the lock many times before it reads; what the one is told, and whether the other
 // has read.
 fn bring_beside<'s, H: Threads + Wait + RandomSource + AllocGlobal + Sync, R: Wait + Drop + Sync>(
     rt: &H,
-    semaphore: &'s Semaphore<R>,
+    gate: &'s Gate<R>,
     reader: &PipeReader,
-    cause: Cause<'s, R>,
+    future: &mut Enter<'s, R>,
+    pager: &mut Pager<'s, Gate<R>>,
+    out: Out,
 ) -> (Told, bool) {
     let has_begun = AtomicBool::new(false);
     thread::join(
         rt,
         || {
             has_begun.store(true, Ordering::SeqCst);
-            cause.bring(rt, semaphore)
+            bring(rt, gate, future, pager, out)
         },
-        || lock_then_read(rt, semaphore, &has_begun, reader),
+        || lock_then_read(rt, gate, &has_begun, reader),
     )
 }
 
-// Brings the waker of a slow task out while that sleeps; whether it slept, the waiter was answered first where that is wanted, this was
-// told, and the other thread has read.
-fn bring_out<'s, H: Threads + Wait + RandomSource + AllocGlobal + Sync, R: Wait + Drop + Sync>(
+// The slow task polls a future, or a pager, and its waker is brought out while it sleeps; whether it slept, the waiter was answered first
+// where that is wanted, this was told, the other thread has read, and a future that is answered tells its task so. It joins by the first
+// poll.
+fn is_out_at<H: Threads + Wait + RandomSource + AllocGlobal + Sync, R: Wait + Drop + Sync>(
     rt: &H,
-    semaphore: &'s Semaphore<R>,
+    gate: &Gate<R>,
     slow: &mut Slow,
-    cause: Cause<'s, R>,
-    wanted: Told,
+    (out, wanted): (Out, Told),
 ) -> bool {
-    if slow.fill().is_err() {
+    let mut future = gate.enter_async();
+    let mut pager = Pager::new();
+    let is_by_pager = matches!(out, Out::Pager | Out::PagersAnswer);
+    let has_joined = !is_by_pager || gate.register_pager(&mut pager, false) == Ok(true);
+    let is_early = if is_by_pager {
+        slow.poll(&mut pager.poll_async())
+    } else {
+        slow.poll(&mut future)
+    };
+    if is_early || !has_joined || slow.fill().is_err() {
         return false;
     }
     let Some(asleep) = slow.task.sleep() else {
         return false;
     };
-    let is_answered = !cause.is_answered() || answer_untold(semaphore);
-    let (told, has_read) = bring_beside(rt, semaphore, &slow.reader, cause);
+    let is_taken = matches!(out, Out::FuturesAnswer | Out::PagersAnswer);
+    let is_answered = !is_taken || answer_untold(gate);
+    let (told, has_read) = bring_beside(rt, gate, &slow.reader, &mut future, &mut pager, out);
     asleep.end();
-    is_answered && told == wanted && has_read
+    let is_late = !matches!(out, Out::Answer | Out::AnswerOfTwo) || slow.poll(&mut future);
+    is_answered && told == wanted && has_read && is_late
 }
 
-// A future waits, and is answered by a release of one permit, or of so many.
-fn release_to<H: Threads + Wait + RandomSource + AllocGlobal + Sync, R: Wait + Drop + Sync>(
+// The same behind a quick task, which is woken by the same step where both are answered.
+fn is_out_behind<H: Threads + Wait + RandomSource + AllocGlobal + Sync, R: Wait + Drop + Sync>(
     rt: &H,
-    semaphore: &Semaphore<R>,
-    slow: &mut Slow,
-    many: Option<usize>,
-) -> bool {
-    let mut one = semaphore.acquire_async();
-    let is_early = slow.poll(&mut one);
-    let cause = match many {
-        Some(count) => Cause::ReleaseMany(count),
-        None => Cause::Release,
-    };
-    let is_brought = bring_out(rt, semaphore, slow, cause, Is(true));
-    let is_late = slow.poll(&mut one);
-    !is_early && is_brought && is_late
-}
-
-// The same of a slow task behind a quick one, which is woken by the same release.
-fn release_two<H: Threads + Wait + RandomSource + AllocGlobal + Sync, R: Wait + Drop + Sync>(
-    rt: &H,
-    semaphore: &Semaphore<R>,
+    gate: &Gate<R>,
     slow: &mut Slow,
     quick: &MockTask,
+    out: (Out, Told),
 ) -> bool {
-    let mut one = semaphore.acquire_async();
-    let early = ready(quick.poll(&mut one));
-    let is_behind = release_to(rt, semaphore, slow, Some(2));
+    let mut one = gate.enter_async();
+    let early = polled(quick, &mut one);
+    let is_behind = is_out_at(rt, gate, slow, out);
     let is_woken = quick.is_woken();
-    let late = ready(quick.poll(&mut one));
-    [early, late] == [None, Some(Ok(()))] && is_woken && is_behind
+    early.is_none() && is_woken && polled(quick, &mut one).is_some() && is_behind
 }
 
-// A future waits, and is dropped, or another task takes its answer. It joins by its first poll.
-fn leave_by_future<H: Threads + Wait + RandomSource + AllocGlobal + Sync, R: Wait + Drop + Sync>(
-    rt: &H,
-    semaphore: &Semaphore<R>,
-    slow: &mut Slow,
-    is_taken: bool,
-) -> bool {
-    let mut one = semaphore.acquire_async();
-    let is_early = slow.poll(&mut one);
-    let (cause, told) = if is_taken {
-        (Cause::Take(one), Permit(Some(Ok(()))))
-    } else {
-        (Cause::LetGo(one), Nothing)
-    };
-    let is_brought = bring_out(rt, semaphore, slow, cause, told);
-    !is_early && is_brought
-}
-
-// A pager waits, and is cancelled, or another task takes its answer.
-fn leave_by_pager<H: Threads + Wait + RandomSource + AllocGlobal + Sync, R: Wait + Drop + Sync>(
-    rt: &H,
-    semaphore: &Semaphore<R>,
-    slow: &mut Slow,
-    is_taken: bool,
-) -> bool {
-    let mut pager = Pager::new();
-    let has_joined = semaphore.register_pager(&mut pager, 1, false) == Ok(true);
-    let is_early = slow.poll(&mut pager.poll_async());
-    let (cause, told) = if is_taken {
-        (Cause::TakeByPager(pager), Granted(Some(Ok(()))))
-    } else {
-        (Cause::Cancel(pager), Nothing)
-    };
-    let is_brought = bring_out(rt, semaphore, slow, cause, told);
-    has_joined && !is_early && is_brought
-}
-
-// What brings out the waker of a slow task: it goes out with the lock free, and so its wake lasts until somebody reads from the pipe.
-#[derive(Clone, Copy)]
-pub(crate) enum Out {
-    Release,
-    // A release answers a quick task too, whose waker is taken out together with that of the slow one, and first.
-    ReleaseOfTwo,
-    // The future or the pager is dropped or cancelled.
-    Future,
-    Pager,
-    // Another task takes the answer of the future or the pager, at whose slot the waker is left.
-    FuturesAnswer,
-    PagersAnswer,
-}
-
-// Whether all is as it must be at a semaphore.
-fn is_out_at<H: Threads + Wait + RandomSource + AllocGlobal + Sync, R: Wait + Drop + Sync>(
-    rt: &H,
-    semaphore: &Semaphore<R>,
-    slow: &mut Slow,
-    quick: &MockTask,
-    out: Out,
-) -> bool {
-    match out {
-        Out::Release => release_to(rt, semaphore, slow, None),
-        Out::ReleaseOfTwo => release_two(rt, semaphore, slow, quick),
-        Out::Future => leave_by_future(rt, semaphore, slow, false),
-        Out::Pager => leave_by_pager(rt, semaphore, slow, false),
-        Out::FuturesAnswer => leave_by_future(rt, semaphore, slow, true),
-        Out::PagersAnswer => leave_by_pager(rt, semaphore, slow, true),
-    }
-}
-
-// The same at a new semaphore of no permit, with room for so many waiters.
+// The same at a new gate, with room for so many waiters: behind a quick task where both are answered, or alone.
 pub(crate) fn is_out<H: Files + Threads + Wait + RandomSource + AllocGlobal + Sync>(
     rt: &H,
     quick: &MockTask,
     room: u16,
-    out: Out,
+    out: (Out, Told),
 ) -> io::Result<bool> {
     let mut slow = Slow::new(rt)?;
-    let semaphore = Semaphore::with_permits(rt, rt.alloc(), 0, room)?;
-    Ok(is_out_at(rt, &semaphore, &mut slow, quick, out))
+    let gate = Gate::new(rt, rt.alloc(), room)?;
+    if out.0 == Out::AnswerOfTwo {
+        Ok(is_out_behind(rt, &gate, &mut slow, quick, out))
+    } else {
+        Ok(is_out_at(rt, &gate, &mut slow, out))
+    }
 }

@@ -1,10 +1,8 @@
-//! How often each call looks before it registers, how many turns it takes at the mutex, and how long a waiter stays awake: just as its
-//! patience says.
+//! How often each call looks before it registers, and how many turns it takes at the mutex: just as its patience says.
 
-use saa_core::Primitive;
+use crate::patience::seen::{FEW, FEW_RESTS, What, await_said, count_of, lock_of};
 use saa_core::barrier::BarrierCore;
 use saa_core::gate::GateCore;
-use saa_core::lock::LockCore;
 use saa_core::semaphore::SemaphoreCore;
 use saa_core::ticket::Full;
 use saa_sync::barrier::Barrier;
@@ -15,11 +13,9 @@ use saa_sync::pager::Pager;
 use saa_sync::semaphore::Semaphore;
 use saa_sync::spin_policy::{DEFAULT, NONE, SpinPolicy};
 use saa_sync::testing::{
-    Counted, Form, WAITER, call_untold, counts_of_mutex, counts_of_rwlock, form_of, mutex_on,
-    rwlock_on,
+    Counted, WAITER, counts_of_mutex, counts_of_rwlock, form_of, mutex_on, rwlock_on,
 };
 use std::alloc::{AllocError, Global};
-use std::mem::forget;
 use std::sync::Wait;
 use std::sync::atomic::{AtomicBool, Ordering};
 use std::test::Fail;
@@ -28,32 +24,14 @@ use std::thread::{Threads, yield_now};
 use std::time::{Clock, Duration, Instant};
 use test_asserts::same;
 
-// Nine looks, and four that yield.
-const FEW: SpinPolicy = SpinPolicy {
-    looks: 9,
-    yields: 4,
-};
-
-// How many spin hints the rests of nine looks are: 8 after the first, twice as many after each further one, and 1,024 at most. And how
-// often the call yields then.
-const FEW_RESTS: (u64, u64) = (8 + 16 + 32 + 64 + 128 + 256 + 512 + 1_024 + 1_024, 4);
-
-// Stays awake for the whole test, by looks or by yields.
+// Looks on for the whole test.
 const LOOKS_ON: SpinPolicy = SpinPolicy {
     looks: u32::MAX,
     yields: 0,
 };
 
-const YIELDS_ON: SpinPolicy = SpinPolicy {
-    looks: 0,
-    yields: u32::MAX,
-};
-
 // How often a test gives way to a call before it says what it sees. A call needs a few turns of its thread.
 const MOST_TURNS: u32 = 3_000_000;
-
-// How often a test gives way to a waiter that has to stay awake.
-const AWAKE_TURNS: u32 = 20_000;
 
 // A long time, in seconds.
 const LONG: u64 = 1_000;
@@ -81,25 +59,16 @@ fn forms_of<R: Wait + Copy + Drop>(
     let barrier = BarrierCore::with_count(alloc, 2, 1)?;
     Ok(Forms {
         semaphore: permits,
-        lock: turns_of(rt, alloc, patience)?,
-        mutex: mutex_on(turns_of(rt, alloc, patience)?, 5),
-        rwlock: rwlock_on(turns_of(rt, alloc, patience)?, 5),
-        gate: gate,
+        lock: lock_of(rt, alloc, 1, patience, NONE)?,
+        mutex: mutex_on(lock_of(rt, alloc, 1, patience, NONE)?, 5),
+        rwlock: rwlock_on(lock_of(rt, alloc, 1, patience, NONE)?, 5),
+        gate,
         barrier: form_of(rt, alloc, barrier, 1, NONE, NONE)?,
     })
 }
 
-// What a lock stands on whose waiters park at once.
-fn turns_of<R: Wait + Drop>(
-    rt: R,
-    alloc: Global,
-    patience: SpinPolicy,
-) -> Result<Form<R, LockCore>, AllocError> {
-    form_of(rt, alloc, LockCore::new(alloc, 1)?, 1, patience, NONE)
-}
-
 // A call that may block.
-#[derive(Clone, Copy, Debug, Eq, PartialEq)]
+#[derive(Clone, Copy)]
 enum Call {
     Acquire,
     AcquireMany,
@@ -142,23 +111,9 @@ fn long() -> Duration {
 // Makes the call, and gives back what it takes; whether it was granted.
 fn make_call<R: Wait + Clock + Drop>(forms: &Forms<R>, call: Call) -> bool {
     match call {
-        Call::Acquire => forms.semaphore.acquire_sync() == Ok(()) && forms.semaphore.release(),
-        Call::AcquireMany => forms.semaphore.acquire_many_sync(63) == Ok(true)
-            && forms.semaphore.release_many(63),
-        Call::AcquireWith => forms.semaphore.acquire_sync_with(|| ()) == Ok(())
-            && forms.semaphore.release(),
-        Call::AcquireManyWith => forms.semaphore.acquire_many_sync_with(63, || ()) == Ok(true)
-            && forms.semaphore.release_many(63),
-        Call::AcquireFor => forms.semaphore.acquire_sync_for(long()) == Ok(Some(()))
-            && forms.semaphore.release(),
-        Call::AcquirePermit => forms.semaphore.acquire_permit().is_ok(),
-        Call::Lock => forms.lock.lock_sync() == Ok(true) && forms.lock.release_lock(),
-        Call::Share => forms.lock.share_sync() == Ok(true) && forms.lock.release_share(),
-        Call::LockWith => forms.lock.lock_sync_with(|| ()) == Ok(true) && forms.lock.release_lock(),
-        Call::ShareWith => forms.lock.share_sync_with(|| ()) == Ok(true)
-            && forms.lock.release_share(),
-        Call::LockFor => forms.lock.lock_sync_for(long()) == Ok(Some(true))
-            && forms.lock.release_lock(),
+        Call::Lock | Call::Share | Call::LockWith | Call::ShareWith | Call::LockFor => {
+            call_lock(&forms.lock, call)
+        }
         Call::MutexLock => forms.mutex.lock().is_ok(),
         Call::MutexLockFor => matches!(forms.mutex.lock_for(long()), Ok(Some(_))),
         Call::Read => forms.rwlock.read().is_ok(),
@@ -166,112 +121,100 @@ fn make_call<R: Wait + Clock + Drop>(forms: &Forms<R>, call: Call) -> bool {
         Call::ReadFor => matches!(forms.rwlock.read_for(long()), Ok(Some(_))),
         Call::Enter => forms.gate.enter_sync().is_ok(),
         Call::Arrive => forms.barrier.wait_sync() == Ok(false),
+        Call::AcquirePermit => forms.semaphore.acquire_permit().is_ok(),
+        _ => call_semaphore(&forms.semaphore, call),
     }
 }
 
-// How often calls looked at the form of this call, how many spin hints they gave and how often they yielded meanwhile, how many turns
-// they took at its mutex, and how many of its waiters are parked.
-fn looked_at<R: Wait + Drop>(forms: &Forms<R>, call: Call) -> u64 {
+// The same of a semaphore.
+fn call_semaphore<R: Wait + Clock + Drop>(semaphore: &Semaphore<R>, call: Call) -> bool {
+    let (is_granted, count) = match call {
+        Call::AcquireMany => (semaphore.acquire_many_sync(63) == Ok(true), 63),
+        Call::AcquireWith => (semaphore.acquire_sync_with(|| ()) == Ok(()), 1),
+        Call::AcquireManyWith => (semaphore.acquire_many_sync_with(63, || ()) == Ok(true), 63),
+        Call::AcquireFor => (semaphore.acquire_sync_for(long()) == Ok(Some(())), 1),
+        _ => (semaphore.acquire_sync() == Ok(()), 1),
+    };
+    is_granted && semaphore.release_many(count)
+}
+
+// The same of a lock.
+fn call_lock<R: Wait + Clock + Drop>(lock: &Lock<R>, call: Call) -> bool {
+    let (is_granted, is_shared) = match call {
+        Call::Share => (lock.share_sync() == Ok(true), true),
+        Call::ShareWith => (lock.share_sync_with(|| ()) == Ok(true), true),
+        Call::LockWith => (lock.lock_sync_with(|| ()) == Ok(true), false),
+        Call::LockFor => (lock.lock_sync_for(long()) == Ok(Some(true)), false),
+        _ => (lock.lock_sync() == Ok(true), false),
+    };
+    let is_released = if is_shared {
+        lock.release_share()
+    } else {
+        lock.release_lock()
+    };
+    is_granted && is_released
+}
+
+// This count of the form of this call.
+fn count_at<R: Wait + Drop>(forms: &Forms<R>, call: Call, what: What) -> u64 {
     match call {
         Call::Lock | Call::Share | Call::LockWith | Call::ShareWith | Call::LockFor => {
-            forms.lock.counts().looked()
+            count_of(forms.lock.counts(), what)
         }
-        Call::MutexLock | Call::MutexLockFor => counts_of_mutex(&forms.mutex).looked(),
-        Call::Read | Call::Write | Call::ReadFor => counts_of_rwlock(&forms.rwlock).looked(),
-        Call::Enter => forms.gate.counts().looked(),
-        Call::Arrive => forms.barrier.counts().looked(),
-        _ => forms.semaphore.counts().looked(),
+        Call::MutexLock | Call::MutexLockFor => count_of(counts_of_mutex(&forms.mutex), what),
+        Call::Read | Call::Write | Call::ReadFor => count_of(counts_of_rwlock(&forms.rwlock), what),
+        Call::Enter => count_of(forms.gate.counts(), what),
+        Call::Arrive => count_of(forms.barrier.counts(), what),
+        _ => count_of(forms.semaphore.counts(), what),
     }
 }
 
-fn rested_at<R: Wait + Drop>(forms: &Forms<R>, call: Call) -> (u64, u64) {
-    match call {
-        Call::Lock | Call::Share | Call::LockWith | Call::ShareWith | Call::LockFor => {
-            forms.lock.counts().rested()
-        }
-        Call::MutexLock | Call::MutexLockFor => counts_of_mutex(&forms.mutex).rested(),
-        Call::Read | Call::Write | Call::ReadFor => counts_of_rwlock(&forms.rwlock).rested(),
-        Call::Enter => forms.gate.counts().rested(),
-        Call::Arrive => forms.barrier.counts().rested(),
-        _ => forms.semaphore.counts().rested(),
-    }
-}
-
-fn turns_at<R: Wait + Drop>(forms: &Forms<R>, call: Call) -> u64 {
-    match call {
-        Call::Lock | Call::Share | Call::LockWith | Call::ShareWith | Call::LockFor => {
-            forms.lock.counts().turns()
-        }
-        Call::MutexLock | Call::MutexLockFor => counts_of_mutex(&forms.mutex).turns(),
-        Call::Read | Call::Write | Call::ReadFor => counts_of_rwlock(&forms.rwlock).turns(),
-        Call::Enter => forms.gate.counts().turns(),
-        Call::Arrive => forms.barrier.counts().turns(),
-        _ => forms.semaphore.counts().turns(),
-    }
-}
-
-fn asleep_at<R: Wait + Drop>(forms: &Forms<R>, call: Call) -> usize {
-    match call {
-        Call::Lock | Call::Share | Call::LockWith | Call::ShareWith | Call::LockFor => {
-            forms.lock.counts().parked()
-        }
-        Call::MutexLock | Call::MutexLockFor => counts_of_mutex(&forms.mutex).parked(),
-        Call::Read | Call::Write | Call::ReadFor => counts_of_rwlock(&forms.rwlock).parked(),
-        Call::Enter => forms.gate.counts().parked(),
-        Call::Arrive => forms.barrier.counts().parked(),
-        _ => forms.semaphore.counts().parked(),
-    }
-}
-
-// Gives way until calls have looked so often. Takes no turn at the mutex, so that each look that is due to try can.
-fn await_looks<R: Wait + Drop>(forms: &Forms<R>, call: Call, looks: u64) {
+// Gives way until a count of the call's form is so large.
+fn await_count<R: Wait + Drop>(forms: &Forms<R>, call: Call, what: What, least: u64) {
     for _turn in 0..MOST_TURNS {
-        if looked_at(forms, call) >= looks {
+        if count_at(forms, call, what) >= least {
             return;
         }
         yield_now();
     }
 }
 
-// Gives way until the call has joined the queue and is parked.
-fn await_sleeper<R: Wait + Drop>(forms: &Forms<R>, call: Call) {
-    for _turn in 0..MOST_TURNS {
-        if asleep_at(forms, call) == 1 {
-            return;
-        }
-        yield_now();
-    }
-}
+// What is seen of a call beside a holder: how often calls looked so far, how many spin hints they gave and how often they yielded; how many
+// turns the holder and the call took at the mutex until that was parked, and how many waiters are parked then.
+type Seen = [u64; 5];
 
-// What is seen of a call beside a holder: how often calls looked so far, and how they rested; how many turns the holder and the call took
-// at the mutex until that was parked, how many waiters are parked then, and whether the holder had all that the call may ask for.
-type Seen = (u64, (u64, u64), u64, usize, bool);
+fn seen_at<R: Wait + Drop>(forms: &Forms<R>, call: Call, turns_before: u64) -> Seen {
+    [
+        count_at(forms, call, What::Looked),
+        count_at(forms, call, What::Spins),
+        count_at(forms, call, What::Yields),
+        count_at(forms, call, What::Turns).wrapping_sub(turns_before),
+        count_at(forms, call, What::Parked),
+    ]
+}
 
 // Takes all that calls may ask for, by calls that may show what they leave, lets the call come, and ends that once the call has looked so
-// often and is parked. While no call looks none shows it, so the call that comes is misled by nothing.
+// often and is parked; also whether this had all that the call may ask for. While no call looks none shows it, so the call that comes is
+// misled by nothing. Nothing takes a turn at the mutex before all looks are over, so that each look that is due to try can.
 fn hold_and_see<R: Wait + Drop>(
     forms: &Forms<R>,
     call: Call,
     looks: u64,
     may_come: &AtomicBool,
-) -> Seen {
-    let before = turns_at(forms, call);
+) -> (Seen, bool) {
+    let before = count_at(forms, call, What::Turns);
     let has_all = forms.semaphore.acquire_many_sync(63) == Ok(true)
         && forms.lock.lock_sync() == Ok(true);
     let held = forms.mutex.lock();
     let written = forms.rwlock.write();
     let is_held = has_all && held.is_ok() && written.is_ok();
     may_come.store(true, Ordering::SeqCst);
-    await_looks(forms, call, looks);
-    await_sleeper(forms, call);
-    let looked = looked_at(forms, call);
-    let rested = rested_at(forms, call);
-    let turns = turns_at(forms, call).wrapping_sub(before);
-    let asleep = asleep_at(forms, call);
+    await_count(forms, call, What::Looked, looks);
+    await_count(forms, call, What::Parked, 1);
+    let seen = seen_at(forms, call, before);
     drop(held);
     drop(written);
-    let is_ended = let_in(forms, call);
-    (looked, rested, turns, asleep, is_held && is_ended)
+    (seen, let_in(forms, call) && is_held)
 }
 
 // Ends what keeps the call from what it asks for.
@@ -284,68 +227,59 @@ fn let_in<R: Wait + Drop>(forms: &Forms<R>, call: Call) -> bool {
     }
 }
 
-// Makes the call once it may come.
-fn call_once_let<R: Wait + Clock + Drop>(
-    rt: &impl Wait,
-    forms: &Forms<R>,
-    call: Call,
-    may_come: &AtomicBool,
-) -> bool {
-    for _ in rt.forever() {
-        if may_come.load(Ordering::SeqCst) {
-            break;
-        }
-        yield_now();
-    }
-    make_call(forms, call)
-}
-
-// What is seen of a call beside a holder, which looks until calls have looked so often there in all; and whether it was granted then.
-fn seen_once<R>(rt: &R, forms: &Forms<&R>, call: Call, looks: u64) -> (Seen, bool)
+// What is seen of a call beside a holder, which looks until calls have looked so often there in all; and whether that held, and the call was
+// granted then.
+fn seen_once<R>(rt: &R, forms: &Forms<&R>, call: Call, looks: u64) -> (Seen, [bool; 2])
 where
     R: Wait + Clock + Threads + Sync,
 {
     let may_come = AtomicBool::new(false);
-    let (is_granted, seen) = thread::join(
+    let (is_granted, (seen, is_held)) = thread::join(
         rt,
-        || call_once_let(rt, forms, call, &may_come),
+        || {
+            await_said(rt, &may_come);
+            make_call(forms, call)
+        },
         || hold_and_see(forms, call, looks, &may_come),
     );
-    (seen, is_granted)
+    (seen, [is_held, is_granted])
 }
 
-// What is seen of a call beside a holder, twice at the same forms of this patience, and whether it was granted both times. The hint that
-// the first call leaves says that the form is held, and is of no use to the second.
-fn seen<R>(
-    rt: &R,
-    alloc: Global,
-    patience: SpinPolicy,
-    call: Call,
-) -> Result<([Seen; 2], bool), AllocError>
+// Whether a call of this patience looks, rests, takes turns and parks beside a holder as it should, twice at the same forms. The hint that the
+// first call leaves says that the form is held, and is of no use to the second.
+fn is_right<R>(rt: &R, alloc: Global, patience: SpinPolicy, call: Call) -> Result<bool, AllocError>
 where
     R: Wait + Clock + Threads + Sync,
 {
     let forms = forms_of(rt, alloc, patience)?;
-    let looks = wanted(patience, call).0;
-    let (first, is_first_granted) = seen_once(rt, &forms, call, looks);
-    let (second, is_granted) = seen_once(rt, &forms, call, looks.saturating_mul(2));
-    Ok(([first, second], is_first_granted && is_granted))
+    let once = wanted(patience, call);
+    // Looks and rests are counted from the start, and turns from the holder's.
+    let twice = [
+        once[0].saturating_mul(2),
+        once[1].saturating_mul(2),
+        once[2].saturating_mul(2),
+        once[3],
+        once[4],
+    ];
+    let first = seen_once(rt, &forms, call, once[0]);
+    let second = seen_once(rt, &forms, call, twice[0]);
+    Ok(first == (once, [true; 2]) && second == (twice, [true; 2]))
 }
 
 // How often a call of few looks looks, how it rests, and how many turns are taken at its form's mutex until it is parked: the holder takes
 // one, at a gate and at a barrier none, the registration one, and the waiter one that finds no answer before it parks. A call that looks takes two
 // more: it tries before its first look, and again at it, since no other call kept the hint up meanwhile; then the hint says that it is in
 // vain. One of no patience, or that never looks, tries nothing.
-fn wanted(patience: SpinPolicy, call: Call) -> (u64, (u64, u64), u64) {
+fn wanted(patience: SpinPolicy, call: Call) -> Seen {
     let turns = if matches!(call, Call::Enter | Call::Arrive) {
         2
     } else {
         3
     };
-    if patience == FEW && looks_first(call) {
-        (13, FEW_RESTS, turns + 2)
+    if patience.looks != 0 && looks_first(call) {
+        [13, FEW_RESTS.0, FEW_RESTS.1, turns + 2, 1]
     } else {
-        (0, (0, 0), turns)
+        [0, 0, 0, turns, 1]
     }
 }
 
@@ -371,22 +305,14 @@ static CALLS: [Call; 18] = [
     Call::ReadFor,
 ];
 
-// The first call that looks or takes turns oftener or less than it should, or that doesn't park then, and what was seen of it.
-fn first_wrong<R>(
-    rt: &R,
-    alloc: Global,
-    patience: SpinPolicy,
-) -> Result<Option<(Call, [Seen; 2])>, AllocError>
+// The first of the calls, counted from 0, that looks or takes turns oftener or less than it should, or that doesn't park then.
+fn first_wrong<R>(rt: &R, alloc: Global, patience: SpinPolicy) -> Result<Option<usize>, AllocError>
 where
     R: Wait + Clock + Threads + Sync,
 {
-    for call in &CALLS {
-        let (seen, is_granted) = seen(rt, alloc, patience, *call)?;
-        let (looks, (spins, yields), turns) = wanted(patience, *call);
-        let rested_twice = (spins.saturating_mul(2), yields.saturating_mul(2));
-        let twice = (looks.saturating_mul(2), rested_twice, turns, 1, true);
-        if !is_granted || seen != [(looks, (spins, yields), turns, 1, true), twice] {
-            return Ok(Some((*call, seen)));
+    for (place, call) in CALLS.iter().enumerate() {
+        if !is_right(rt, alloc, patience, *call)? {
+            return Ok(Some(place));
         }
     }
     Ok(None)
@@ -396,101 +322,6 @@ where
 fn each_call_looks_as_often_as_its_patience_says(rt: HostRuntime) -> Result<(), Fail> {
     same!(rt; first_wrong(&rt, rt.alloc(), FEW)?, None);
     same!(rt; first_wrong(&rt, rt.alloc(), NONE)?, None);
-    Ok(())
-}
-
-// A try, which never looks for a while.
-#[derive(Clone, Copy, Debug, Eq, PartialEq)]
-enum Try {
-    Acquire,
-    AcquireMany,
-    AcquirePermit,
-    Lock,
-    Share,
-    MutexLock,
-    Read,
-    Write,
-}
-
-static TRIES: [(Try, Call); 8] = [
-    (Try::Acquire, Call::Acquire),
-    (Try::AcquireMany, Call::AcquireMany),
-    (Try::AcquirePermit, Call::AcquirePermit),
-    (Try::Lock, Call::Lock),
-    (Try::Share, Call::Share),
-    (Try::MutexLock, Call::MutexLock),
-    (Try::Read, Call::Read),
-    (Try::Write, Call::Write),
-];
-
-// Makes a try, and keeps what it takes for as long as the forms are there; whether it was granted.
-fn make_try<R: Wait + Drop>(forms: &Forms<R>, one: Try) -> bool {
-    match one {
-        Try::Acquire => forms.semaphore.try_acquire(),
-        Try::AcquireMany => forms.semaphore.try_acquire_many(63),
-        Try::AcquirePermit => match forms.semaphore.try_acquire_permit() {
-            Some(permit) => {
-                permit.forget();
-                true
-            }
-            None => false,
-        },
-        Try::Lock => forms.lock.try_lock().is_ok(),
-        Try::Share => forms.lock.try_share().is_ok(),
-        Try::MutexLock => keeps(forms.mutex.try_lock()),
-        Try::Read => keeps(forms.rwlock.try_read()),
-        Try::Write => keeps(forms.rwlock.try_write()),
-    }
-}
-
-// Whether there is a guard, which keeps its turn.
-fn keeps<G: Drop>(guard: Option<G>) -> bool {
-    match guard {
-        Some(guard) => {
-            forget(guard);
-            true
-        }
-        None => false,
-    }
-}
-
-// How many turns a try takes where it is granted, and where an owner has all that it asks for; and whether it was granted so.
-fn turns_of_try<R: Wait + Copy + Drop>(
-    rt: R,
-    alloc: Global,
-    one: Try,
-    at: Call,
-) -> Result<([u64; 2], [bool; 3]), AllocError> {
-    let forms = forms_of(rt, alloc, FEW)?;
-    let start = turns_at(&forms, at);
-    let is_granted = make_try(&forms, one);
-    let granted = turns_at(&forms, at);
-    let other = forms_of(rt, alloc, FEW)?;
-    let owns = make_try(&other, owner_of(one));
-    let held = turns_at(&other, at);
-    let is_refused = !make_try(&other, one);
-    let refused = turns_at(&other, at);
-    Ok((
-        [granted.wrapping_sub(start), refused.wrapping_sub(held)],
-        [is_granted, owns, is_refused],
-    ))
-}
-
-// The try that keeps this one from what it asks for.
-fn owner_of(one: Try) -> Try {
-    match one {
-        Try::Acquire | Try::AcquirePermit => Try::AcquireMany,
-        Try::Share => Try::Lock,
-        Try::Read => Try::Write,
-        other => other,
-    }
-}
-
-#[test]
-fn a_try_takes_one_turn_at_the_mutex(rt: HostRuntime) -> Result<(), Fail> {
-    for (one, at) in &TRIES {
-        same!(rt; turns_of_try(&rt, rt.alloc(), *one, *at)?, ([1, 1], [true; 3]));
-    }
     Ok(())
 }
 
@@ -509,89 +340,11 @@ fn patience_is_what_is_said_of_it(rt: HostRuntime) {
     same!(rt; WAITER, said);
 }
 
-// A lock whose calls register at once, and whose waiters stay awake for so long.
-fn lock_of<R: Wait + Drop>(
-    rt: R,
-    alloc: Global,
-    waiter: SpinPolicy,
-) -> Result<Lock<R>, AllocError> {
-    let core = LockCore::new(alloc, 1)?;
-    Ok(form_of(rt, alloc, core, 1, NONE, waiter)?)
-}
-
-// Whether a locked lock has a waiter: then its number is larger than that of one owner alone.
-fn has_waiter(core: &mut LockCore) -> bool {
-    core.word() > 63
-}
-
-// Gives way until the lock has a waiter.
-fn await_waiter<R: Wait + Drop>(lock: &Lock<R>) -> bool {
-    for _turn in 0..MOST_TURNS {
-        if call_untold(&lock, has_waiter) {
-            return true;
-        }
-        yield_now();
-    }
-    false
-}
-
-// Whether no waiter is parked for a while.
-fn stays_awake<R: Wait + Drop>(lock: &Lock<R>) -> bool {
-    for _turn in 0..AWAKE_TURNS {
-        if lock.counts().parked() != 0 {
-            return false;
-        }
-        yield_now();
-    }
-    true
-}
-
-// Whether a call waits in the queue, and stays awake there; then it is let in.
-fn see_awake<R: Wait + Drop>(lock: &Lock<R>) -> [bool; 3] {
-    let waits = await_waiter(lock);
-    [waits, stays_awake(lock), lock.release_lock()]
-}
-
-// Takes the lock in one of two ways; whether it was granted.
-fn take<R: Wait + Clock + Drop>(lock: &Lock<R>, is_timed: bool) -> bool {
-    if is_timed {
-        lock.lock_sync_for(long()) == Ok(Some(true))
-    } else {
-        lock.lock_sync() == Ok(true)
-    }
-}
-
-// Whether a waiter of this patience stays awake beside an owner, and is granted then.
-fn awake_beside<R>(
-    rt: &R,
-    alloc: Global,
-    waiter: SpinPolicy,
-    is_timed: bool,
-) -> Result<([bool; 3], bool), AllocError>
-where
-    R: Wait + Clock + Threads + Sync,
-{
-    let lock = lock_of(rt, alloc, waiter)?;
-    let is_owned = lock.try_lock().is_ok();
-    let (is_granted, seen) = thread::join(rt, || take(&lock, is_timed), || see_awake(&lock));
-    Ok((seen, is_owned && is_granted))
-}
-
-#[test]
-fn a_waiter_stays_awake_as_long_as_its_patience_says(rt: HostRuntime) -> Result<(), Fail> {
-    let awake = ([true; 3], true);
-    same!(rt; awake_beside(&rt, rt.alloc(), LOOKS_ON, false)?, awake);
-    same!(rt; awake_beside(&rt, rt.alloc(), YIELDS_ON, false)?, awake);
-    same!(rt; awake_beside(&rt, rt.alloc(), LOOKS_ON, true)?, awake);
-    same!(rt; awake_beside(&rt, rt.alloc(), YIELDS_ON, true)?, awake);
-    Ok(())
-}
-
 // What calls of no time tell beside an owner, where a waiter of this form would look for a minute before it parks; and whether the lock
 // can be taken once the owner has gone.
 #[test]
 fn a_call_of_no_time_does_not_spin(rt: HostRuntime) -> Result<(), Fail> {
-    let lock = lock_of(&rt, rt.alloc(), LOOKS_ON)?;
+    let lock = lock_of(&rt, rt.alloc(), 1, NONE, LOOKS_ON)?;
     same!(rt; lock.try_lock(), Ok(()));
     let past = Instant::now(&rt)?;
     same!(rt; lock.lock_sync_for(Duration::ZERO), Ok(None));

@@ -1,23 +1,16 @@
 //! Whatever lets a call have what it asks for is seen by one that looks, and never registers.
 
+use crate::patience::seen::{ENDLESS, What, await_least, await_said, give_way};
 use futures::test::MockTask;
 use saa_sync::lock::{Lock, Mode};
 use saa_sync::pager::Pager;
-use saa_sync::spin_policy::SpinPolicy;
-use saa_sync::testing::Counted;
 use std::alloc::AllocGlobal;
 use std::random::RandomSource;
 use std::sync::Wait;
 use std::sync::atomic::{AtomicBool, Ordering};
-use std::thread::{Threads, yield_now};
+use std::thread::Threads;
 use std::{io, thread};
 use test_asserts::same;
-
-// Looks on, and registers in no test's time.
-const ENDLESS: SpinPolicy = SpinPolicy {
-    looks: 0,
-    yields: u32::MAX,
-};
 
 // How often one who lets a call in gives way before, so that the call mostly has looked by then.
 const TURNS: u32 = 200;
@@ -34,18 +27,12 @@ enum Obstacle {
     Dropped,
 }
 
-// Tells that the call may come, waits until it looks, and a while more.
-fn let_come<R: Wait + Drop>(rt: &impl Wait, lock: &Lock<R>, may_come: &AtomicBool) {
+// Tells that the call may come, waits until it looks, and a while more; whether it looks.
+fn let_come<R: Wait + Drop>(lock: &Lock<R>, may_come: &AtomicBool) -> bool {
     may_come.store(true, Ordering::SeqCst);
-    for _ in rt.forever() {
-        if lock.counts().lookers() != 0 {
-            break;
-        }
-        yield_now();
-    }
-    for _turn in 0..TURNS {
-        yield_now();
-    }
+    let looks = await_least(lock, What::Lookers, 1);
+    give_way(TURNS);
+    looks
 }
 
 // Keeps the call from its share, lets it come, and ends that.
@@ -58,25 +45,25 @@ fn obstruct<H: Wait + RandomSource + AllocGlobal, R: Wait + Drop>(
     match obstacle {
         Obstacle::Released | Obstacle::Lowered | Obstacle::Poisoned => {
             let is_owned = lock.try_lock().is_ok();
-            let_come(rt, lock, may_come);
-            Ok(is_owned && end_turn(lock, obstacle))
+            let looks = let_come(lock, may_come);
+            Ok(end_turn(lock, obstacle) && is_owned && looks)
         }
         Obstacle::Cancelled => {
             let is_shared = lock.try_share().is_ok();
             let mut pager = Pager::new();
             let has_joined = lock.register_pager(&mut pager, Mode::Exclusive, true) == Ok(true);
-            let_come(rt, lock, may_come);
+            let looks = let_come(lock, may_come);
             pager.cancel();
-            Ok(is_shared && has_joined)
+            Ok(is_shared && has_joined && looks)
         }
         Obstacle::Dropped => {
             let is_shared = lock.try_share().is_ok();
             let task = MockTask::new(rt)?;
             let mut asked = lock.lock_async();
             let has_joined = task.poll(&mut asked).is_pending();
-            let_come(rt, lock, may_come);
+            let looks = let_come(lock, may_come);
             drop(asked);
-            Ok(is_shared && has_joined)
+            Ok(is_shared && has_joined && looks)
         }
     }
 }
@@ -92,12 +79,7 @@ fn end_turn<R: Wait + Drop>(lock: &Lock<R>, obstacle: Obstacle) -> bool {
 
 // Asks for a share once it may come; whether it has one.
 fn share_once_let<R: Wait + Drop>(rt: &impl Wait, lock: &Lock<R>, may_come: &AtomicBool) -> bool {
-    for _ in rt.forever() {
-        if may_come.load(Ordering::SeqCst) {
-            break;
-        }
-        yield_now();
-    }
+    await_said(rt, may_come);
     lock.share_sync() == Ok(true)
 }
 

@@ -1,51 +1,28 @@
 //! The oldest waiter is granted first, whatever call spins meanwhile; and a call without patience joins the queue at once.
 
+use crate::patience::seen::{ENDLESS, What, await_least, await_said, page, take_turn};
 use saa_sync::lock::{Lock, Mode};
 use saa_sync::pager::{Error, Pager};
 use saa_sync::spin_policy::{DEFAULT, NONE, SpinPolicy};
-use saa_sync::testing::Counted;
 use std::alloc::{AllocError, Global};
 use std::sync::Wait;
 use std::sync::atomic::{AtomicBool, Ordering};
 use std::test::Fail;
 use std::thread;
-use std::thread::{Threads, yield_now};
+use std::thread::Threads;
 use test_asserts::same;
-
-// Looks on, and registers in no test's time.
-const ENDLESS: SpinPolicy = SpinPolicy {
-    looks: 0,
-    yields: u32::MAX,
-};
 
 // How often a pager is registered while others look.
 const ROUNDS: u64 = 200;
 
-// Waits until a call at this lock looks, or sleeps because it has registered.
-fn wait_for_a_call<R: Wait + Drop>(rt: &impl Wait, lock: &Lock<R>, looks: bool) {
-    for _ in rt.forever() {
-        let seen = if looks {
-            lock.counts().lookers() != 0
-        } else {
-            lock.counts().parked() != 0
-        };
-        if seen {
-            return;
-        }
-        yield_now();
-    }
-    unreachable!()
-}
-
 // A pager registers once the call has come, and then the lock is released: what the pager is told at once, and whether it has its turn
 // in the end.
 fn register_behind<R: Wait + Drop>(
-    rt: &impl Wait,
     lock: &Lock<R>,
-    looks: bool,
+    comes: What,
     is_told: &AtomicBool,
 ) -> (Result<bool, Error>, bool) {
-    wait_for_a_call(rt, lock, looks);
+    let has_come = await_least(lock, comes, 1);
     let mut pager = Pager::new();
     let has_joined = lock.register_pager(&mut pager, Mode::Exclusive, true) == Ok(true);
     let is_released = lock.release_lock();
@@ -54,33 +31,23 @@ fn register_behind<R: Wait + Drop>(
     let has_turn = told == Ok(true) || pager.poll_sync() == Ok(true);
     (
         told,
-        has_joined && is_released && has_turn && lock.release_lock(),
+        has_come && has_joined && is_released && has_turn && lock.release_lock(),
     )
 }
 
 // Takes the lock, and releases it once the pager was told.
 fn take_until_told<R: Wait + Drop>(rt: &impl Wait, lock: &Lock<R>, is_told: &AtomicBool) -> bool {
     let has_turn = lock.lock_sync() == Ok(true);
-    for _ in rt.forever() {
-        if is_told.load(Ordering::SeqCst) {
-            break;
-        }
-        yield_now();
-    }
+    await_said(rt, is_told);
     has_turn && lock.release_lock()
 }
 
-// Takes the lock and releases it.
-fn take_turn<R: Wait + Drop>(lock: &Lock<R>) -> bool {
-    lock.lock_sync() == Ok(true) && lock.release_lock()
-}
-
-// What a pager is told that registered after a call of this patience had come.
+// What a pager is told that registered after a call of this patience had come: it looks, or is parked since it has registered.
 fn told_behind<R: Wait + Threads + Sync>(
     rt: &R,
     alloc: Global,
     patience: SpinPolicy,
-    looks: bool,
+    comes: What,
 ) -> Result<(Result<bool, Error>, bool, bool), AllocError> {
     let lock = Lock::with_spin_policy(rt, alloc, 2, patience)?;
     let is_owned = lock.try_lock().is_ok();
@@ -88,7 +55,7 @@ fn told_behind<R: Wait + Threads + Sync>(
     let (has_turn, (told, is_done)) = thread::join(
         rt,
         || take_until_told(rt, &lock, &is_told),
-        || register_behind(rt, &lock, looks, &is_told),
+        || register_behind(&lock, comes, &is_told),
     );
     Ok((told, is_owned && is_done, has_turn))
 }
@@ -98,9 +65,9 @@ fn told_behind<R: Wait + Threads + Sync>(
 #[test]
 fn the_order_is_that_of_registrations(rt: HostRuntime) -> Result<(), Fail> {
     let not_yet = (Err(Error::NotReady), true, true);
-    same!(rt; told_behind(&rt, rt.alloc(), NONE, false)?, not_yet);
-    same!(rt; told_behind(&rt, rt.alloc(), DEFAULT, false)?, not_yet);
-    same!(rt; told_behind(&rt, rt.alloc(), ENDLESS, true)?, (Ok(true), true, true));
+    same!(rt; told_behind(&rt, rt.alloc(), NONE, What::Parked)?, not_yet);
+    same!(rt; told_behind(&rt, rt.alloc(), DEFAULT, What::Parked)?, not_yet);
+    same!(rt; told_behind(&rt, rt.alloc(), ENDLESS, What::Lookers)?, (Ok(true), true, true));
     Ok(())
 }
 
@@ -120,12 +87,11 @@ fn take_turns<R: Wait + Drop>(rt: &impl Wait, lock: &Lock<R>, is_over: &AtomicBo
 fn granted_by_the_release<R: Wait + Drop>(lock: &Lock<R>, is_over: &AtomicBool) -> u64 {
     let mut granted = 0u64;
     for _round in 0..ROUNDS {
-        let (mut one, mut two) = (Pager::new(), Pager::new());
-        let has_one = lock.register_pager(&mut one, Mode::Exclusive, true) == Ok(true)
-            && one.poll_sync() == Ok(true);
-        let has_two = lock.register_pager(&mut two, Mode::Exclusive, true) == Ok(true);
+        let has_turn = page(lock);
+        let mut next = Pager::new();
+        let has_joined = lock.register_pager(&mut next, Mode::Exclusive, true) == Ok(true);
         let is_released = lock.release_lock();
-        if has_one && has_two && is_released && two.try_poll() == Ok(true) {
+        if has_turn && has_joined && is_released && next.try_poll() == Ok(true) {
             granted = granted.saturating_add(1);
         }
         lock.release_lock();

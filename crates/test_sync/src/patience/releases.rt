@@ -1,29 +1,30 @@
-//! What a call that waits for nobody costs: one turn at the mutex, and so does a guard or a permit that goes.
+//! What a call that waits for nobody costs: one turn at the mutex, and so does a guard or a permit that goes. A try that isn't granted doesn't
+//! look either, at forms whose calls do.
 
-use saa_core::lock::LockCore;
-use saa_sync::lock::Lock;
-use saa_sync::lock_api::{Mutex, RwLock, RwLockWriteGuard};
+use crate::patience::seen::{FEW, lock_of};
+use saa_sync::lock_api::RwLockWriteGuard;
 use saa_sync::semaphore::Semaphore;
 use saa_sync::spin_policy::NONE;
-use saa_sync::testing::{
-    Counted, Form, counts_of_mutex, counts_of_rwlock, form_of, mutex_on, rwlock_on,
-};
+use saa_sync::testing::{Counted, counts_of_mutex, counts_of_rwlock, mutex_on, rwlock_on};
 use std::alloc::{AllocError, Global};
 use std::sync::Wait;
 use std::test::Fail;
 use test_asserts::same;
 
-// What a lock stands on.
-fn lock_of<R: Wait + Drop>(rt: R, alloc: Global) -> Result<Form<R, LockCore>, AllocError> {
-    form_of(rt, alloc, LockCore::new(alloc, 1)?, 1, NONE, NONE)
+// Whether a try has no guard or permit; one that it has goes.
+fn is_refused<G: Drop>(told: Option<G>) -> bool {
+    told.is_none()
 }
 
-// How many turns there were at the mutex of a lock behind each of: a lock, a downgrade, a release of the share, a share, its release.
-fn turns_of_lock<R: Wait + Drop>(rt: R, alloc: Global) -> Result<[(bool, u64); 5], AllocError> {
-    let lock = lock_of(rt, alloc)?;
+// How many turns there were at the mutex of a lock behind each of: a lock, two tries in vain, a downgrade, a release of the share, a share,
+// its release.
+fn turns_of_lock<R: Wait + Drop>(rt: R, alloc: Global) -> Result<[(bool, u64); 7], AllocError> {
+    let lock = lock_of(rt, alloc, 1, FEW, NONE)?;
     let turns = || lock.counts().turns();
     Ok([
         (lock.try_lock() == Ok(()), turns()),
+        (lock.try_lock().is_err(), turns()),
+        (lock.try_share().is_err(), turns()),
         (lock.downgrade(), turns()),
         (lock.release_share(), turns()),
         (lock.try_share() == Ok(()), turns()),
@@ -31,12 +32,13 @@ fn turns_of_lock<R: Wait + Drop>(rt: R, alloc: Global) -> Result<[(bool, u64); 5
     ])
 }
 
-// The same of a semaphore: a permit that is taken, and goes; three that are taken, and given back.
+// The same of a semaphore of three permits: a permit that is taken, and goes; three that are taken, tries in vain, and three that are given
+// back; and a try for one.
 fn turns_of_semaphore<R: Wait + Drop>(
     rt: R,
     alloc: Global,
-) -> Result<[(bool, u64); 4], AllocError> {
-    let semaphore = Semaphore::new(rt, alloc, 1)?;
+) -> Result<[(bool, u64); 8], AllocError> {
+    let semaphore = Semaphore::with_spin_policy(rt, alloc, 3, 1, FEW)?;
     let turns = || semaphore.counts().turns();
     let permit = semaphore.try_acquire_permit();
     let taken = (permit.is_some(), turns());
@@ -45,25 +47,34 @@ fn turns_of_semaphore<R: Wait + Drop>(
         taken,
         (true, turns()),
         (semaphore.try_acquire_many(3), turns()),
+        (!semaphore.try_acquire(), turns()),
+        (!semaphore.try_acquire_many(2), turns()),
+        (is_refused(semaphore.try_acquire_permit()), turns()),
         (semaphore.release_many(3), turns()),
+        (semaphore.try_acquire(), turns()),
     ])
 }
 
-// The same of a mutex: a guard that is taken, and goes.
-fn turns_of_mutex<R: Wait + Drop>(rt: R, alloc: Global) -> Result<[(bool, u64); 2], AllocError> {
-    let mutex = mutex_on(lock_of(rt, alloc)?, 5u32);
+// The same of a mutex: a guard that is taken, a try in vain, and the guard that goes.
+fn turns_of_mutex<R: Wait + Drop>(rt: R, alloc: Global) -> Result<[(bool, u64); 3], AllocError> {
+    let mutex = mutex_on(lock_of(rt, alloc, 1, FEW, NONE)?, 5u32);
+    let turns = || counts_of_mutex(&mutex).turns();
     let guard = mutex.try_lock();
-    let taken = (guard.is_some(), counts_of_mutex(&mutex).turns());
+    let taken = (guard.is_some(), turns());
+    let refused = (is_refused(mutex.try_lock()), turns());
     drop(guard);
-    Ok([taken, (true, counts_of_mutex(&mutex).turns())])
+    Ok([taken, refused, (true, turns())])
 }
 
-// The same of a reader-writer lock: a writer's guard that is lowered, and goes; a reader's guard that is taken, and goes.
-fn turns_of_rwlock<R: Wait + Drop>(rt: R, alloc: Global) -> Result<[(bool, u64); 5], AllocError> {
-    let rwlock = rwlock_on(lock_of(rt, alloc)?, 5u32);
+// The same of a reader-writer lock: a writer's guard that is taken, two tries in vain, that guard lowered, and gone; a reader's guard that is
+// taken, and goes.
+fn turns_of_rwlock<R: Wait + Drop>(rt: R, alloc: Global) -> Result<[(bool, u64); 7], AllocError> {
+    let rwlock = rwlock_on(lock_of(rt, alloc, 1, FEW, NONE)?, 5u32);
     let turns = || counts_of_rwlock(&rwlock).turns();
     let writer = rwlock.try_write();
     let written = (writer.is_some(), turns());
+    let no_reader = (is_refused(rwlock.try_read()), turns());
+    let no_writer = (is_refused(rwlock.try_write()), turns());
     let reader = writer.map(RwLockWriteGuard::downgrade);
     let lowered = (reader.is_some(), turns());
     drop(reader);
@@ -71,16 +82,35 @@ fn turns_of_rwlock<R: Wait + Drop>(rt: R, alloc: Global) -> Result<[(bool, u64);
     let reader = rwlock.try_read();
     let read = (reader.is_some(), turns());
     drop(reader);
-    Ok([written, lowered, gone, read, (true, turns())])
+    Ok([
+        written,
+        no_reader,
+        no_writer,
+        lowered,
+        gone,
+        read,
+        (true, turns()),
+    ])
+}
+
+// The first step, counted from 0, that wasn't so or didn't take one turn.
+fn first_other(steps: &[(bool, u64)]) -> Option<usize> {
+    for (place, step) in steps.iter().enumerate() {
+        if *step != (true, (place as u64).saturating_add(1)) {
+            return Some(place);
+        }
+    }
+    None
 }
 
 #[test]
 fn each_step_and_what_goes_takes_one_turn(rt: HostRuntime) -> Result<(), Fail> {
-    let five = [(true, 1), (true, 2), (true, 3), (true, 4), (true, 5)];
-    same!(rt; turns_of_lock(&rt, rt.alloc())?, five);
-    let four = [(true, 1), (true, 2), (true, 3), (true, 4)];
-    same!(rt; turns_of_semaphore(&rt, rt.alloc())?, four);
-    same!(rt; turns_of_mutex(&rt, rt.alloc())?, [(true, 1), (true, 2)]);
-    same!(rt; turns_of_rwlock(&rt, rt.alloc())?, five);
+    let others = [
+        first_other(&turns_of_lock(&rt, rt.alloc())?),
+        first_other(&turns_of_semaphore(&rt, rt.alloc())?),
+        first_other(&turns_of_mutex(&rt, rt.alloc())?),
+        first_other(&turns_of_rwlock(&rt, rt.alloc())?),
+    ];
+    same!(rt; others, [None; 4]);
     Ok(())
 }

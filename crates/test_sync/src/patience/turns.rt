@@ -1,15 +1,16 @@
 //! No wake is lost where a call gives up looking and registers as the release comes.
 
-use saa_core::lock::LockCore;
-use saa_sync::lock::{Lock, Mode};
-use saa_sync::pager::Pager;
+use crate::crowds::in_three;
+use crate::patience::seen::{
+    ENDLESS, What, await_least, count_of, give_way, lock_of, page, take_turn,
+};
+use saa_sync::lock::Lock;
 use saa_sync::spin_policy::{NONE, SpinPolicy};
-use saa_sync::testing::{Counted, form_of};
+use saa_sync::testing::Counted;
 use std::hint::spin_loop;
 use std::sync::Wait;
 use std::test::Fail;
 use std::thread;
-use std::thread::yield_now;
 use test_asserts::{holds, same};
 
 // How often each thread takes a turn, and how many lengths of rest it has in between.
@@ -40,34 +41,14 @@ fn take_turns<R: Wait + Drop>(lock: &Lock<R>) -> u64 {
 // sleeps at once.
 #[test]
 fn each_who_gives_up_looking_is_woken(rt: HostRuntime) -> Result<(), Fail> {
-    let core = LockCore::new(rt.alloc(), 4)?;
     let few = SpinPolicy {
         looks: 20,
         yields: 1,
     };
-    let lock: Lock<_> = form_of(&rt, rt.alloc(), core, 4, few, NONE)?;
-    let (one, (two, three)) = thread::join(
-        &rt,
-        || take_turns(&lock),
-        || thread::join(&rt, || take_turns(&lock), || take_turns(&lock)),
-    );
-    same!(rt; [one, two, three], [ROUNDS, ROUNDS, ROUNDS]);
+    let lock = lock_of(&rt, rt.alloc(), 4, few, NONE)?;
+    same!(rt; in_three(&rt, &|| take_turns(&lock)), [ROUNDS; 3]);
     same!(rt; (lock.counts().lookers(), lock.counts().parked()), (0, 0));
     Ok(())
-}
-
-// Looks on, and registers in no test's time.
-const ENDLESS: SpinPolicy = SpinPolicy {
-    looks: 0,
-    yields: u32::MAX,
-};
-
-// Waits for the lock by a pager, and releases it.
-fn take_by_pager<R: Wait + Drop>(lock: &Lock<R>) -> bool {
-    let mut pager = Pager::new();
-    lock.register_pager(&mut pager, Mode::Exclusive, true) == Ok(true)
-        && pager.poll_sync() == Ok(true)
-        && lock.release_lock()
 }
 
 // The turns at the mutex of the owner, of the pager until it sleeps, and of the call that looks first: it tries, and tries again at its
@@ -77,35 +58,25 @@ const TURNS: u64 = 1 + 3 + 2;
 // How often the owner gives way to a call that could take a turn more.
 const GIVES_WAY: u32 = 500;
 
-// Waits until one sleeps and so many look, after all the turns that they take.
-fn await_lookers<R: Wait + Drop>(rt: &impl Wait, lock: &Lock<R>, lookers: u64) {
-    for _ in rt.forever() {
-        let counts = lock.counts();
-        if counts.parked() == 1 && counts.lookers() == lookers && counts.turns() >= TURNS {
-            return;
-        }
-        yield_now();
-    }
-}
-
-// Takes the lock and releases it.
-fn take_turn<R: Wait + Drop>(lock: &Lock<R>) -> bool {
-    lock.lock_sync() == Ok(true) && lock.release_lock()
+// Waits until one sleeps and so many look, after all the turns that they take; whether they do.
+fn await_lookers<R: Wait + Drop>(lock: &Lock<R>, lookers: u64) -> bool {
+    await_least(lock, What::Parked, 1)
+        && await_least(lock, What::Lookers, lookers)
+        && await_least(lock, What::Turns, TURNS)
 }
 
 // Looks once another call does, whose hint it can trust.
-fn look_second<R: Wait + Drop>(rt: &impl Wait, lock: &Lock<R>) -> bool {
-    await_lookers(rt, lock, 1);
-    take_turn(lock)
+fn look_second<R: Wait + Drop>(lock: &Lock<R>) -> bool {
+    let is_second = await_lookers(lock, 1);
+    take_turn(lock) && is_second
 }
 
 // Releases the lock once one sleeps and two look; how many turns were taken by then, and whether it is released.
-fn release_once_all_are_there<R: Wait + Drop>(rt: &impl Wait, lock: &Lock<R>) -> (u64, bool) {
-    await_lookers(rt, lock, 2);
-    for _turn in 0..GIVES_WAY {
-        yield_now();
-    }
-    (lock.counts().turns(), lock.release_lock())
+fn release_once_all_are_there<R: Wait + Drop>(lock: &Lock<R>) -> (u64, bool) {
+    let are_there = await_lookers(lock, 2);
+    give_way(GIVES_WAY);
+    let turns = count_of(lock.counts(), What::Turns);
+    (turns, lock.release_lock() && are_there)
 }
 
 // A call that leaves the mutex while others spin wakes the waiters that it answers all the same. The second that spins has the hint of the
@@ -116,12 +87,12 @@ fn a_sleeper_is_woken_while_others_look(rt: HostRuntime) -> Result<(), Fail> {
     same!(rt; lock.try_lock(), Ok(()));
     let (is_woken, ((one, two), seen)) = thread::join(
         &rt,
-        || take_by_pager(&lock),
+        || page(&lock) && lock.release_lock(),
         || {
             thread::join(
                 &rt,
-                || thread::join(&rt, || take_turn(&lock), || look_second(&rt, &lock)),
-                || release_once_all_are_there(&rt, &lock),
+                || thread::join(&rt, || take_turn(&lock), || look_second(&lock)),
+                || release_once_all_are_there(&lock),
             )
         },
     );

@@ -1,27 +1,17 @@
 //! How a waiter rests before it parks: it looks and spins, and then looks and yields, just as its patience says.
 
-use saa_core::Primitive;
-use saa_core::lock::LockCore;
+use crate::patience::seen::{ENDLESS, FEW, What, await_least, count_of, give_way, lock_of, page};
 use saa_sync::lock::{Lock, Mode};
 use saa_sync::pager::Pager;
 use saa_sync::spin_policy::{NONE, SpinPolicy};
-use saa_sync::testing::{Counted, call_untold, form_of};
+use saa_sync::testing::Counted;
 use std::alloc::Global;
 use std::sync::Wait;
 use std::test::Fail;
-use std::thread::{Threads, yield_now};
+use std::thread::Threads;
 use std::time::{Clock, Duration, Instant};
 use std::{io, thread};
 use test_asserts::same;
-
-// Nine looks with a spin hint behind each, and four with a yield.
-const FEW: SpinPolicy = SpinPolicy {
-    looks: 9,
-    yields: 4,
-};
-
-// How often a test gives way to a waiter before it says what it sees.
-const MOST_TURNS: u32 = 3_000_000;
 
 // A long time.
 fn long() -> Duration {
@@ -37,7 +27,7 @@ fn late(clock: &impl Clock) -> io::Result<Instant> {
 }
 
 // A way to wait for the lock, with no end or a late one.
-#[derive(Clone, Copy, Debug, Eq, PartialEq)]
+#[derive(Clone, Copy)]
 enum Call {
     Lock,
     LockWith,
@@ -56,14 +46,11 @@ static CALLS: [Call; 6] = [
     Call::PagerFor,
 ];
 
-// Waits by a pager, for no longer than a long time if it is timed; whether it was granted.
-fn page<R: Wait + Clock + Drop>(lock: &Lock<R>, is_timed: bool) -> bool {
+// Waits by a pager for no longer than a long time; whether it was granted.
+fn page_for_long<R: Wait + Clock + Drop>(lock: &Lock<R>) -> bool {
     let mut pager = Pager::new();
-    let is_registered = lock.register_pager(&mut pager, Mode::Exclusive, true) == Ok(true);
-    if is_timed {
-        return is_registered && pager.poll_sync_for(long()) == Some(Ok(true));
-    }
-    is_registered && pager.poll_sync() == Ok(true)
+    lock.register_pager(&mut pager, Mode::Exclusive, true) == Ok(true)
+        && pager.poll_sync_for(long()) == Some(Ok(true))
 }
 
 // Waits for the lock in this way; whether it was granted.
@@ -71,10 +58,10 @@ fn take<R: Wait + Clock + Drop>(lock: &Lock<R>, call: Call, end: Instant) -> boo
     match call {
         Call::Lock => lock.lock_sync() == Ok(true),
         Call::LockWith => lock.lock_sync_with(|| ()) == Ok(true),
-        Call::Pager => page(lock, false),
+        Call::Pager => page(lock),
         Call::LockFor => lock.lock_sync_for(long()) == Ok(Some(true)),
         Call::LockUntil => lock.lock_sync_until(end) == Ok(Some(true)),
-        Call::PagerFor => page(lock, true),
+        Call::PagerFor => page_for_long(lock),
     }
 }
 
@@ -83,14 +70,7 @@ type Seen = ((u64, u64, u64), bool, bool);
 
 // Gives way until a waiter is parked, sees how it rested, and lets it in.
 fn see_parked<R: Wait + Drop>(lock: &Lock<R>) -> Seen {
-    let mut is_parked = false;
-    for _turn in 0..MOST_TURNS {
-        is_parked = lock.counts().parked() == 1;
-        if is_parked {
-            break;
-        }
-        yield_now();
-    }
+    let is_parked = await_least(lock, What::Parked, 1);
     let lingered = lock.counts().spun();
     (lingered, is_parked, lock.release_lock())
 }
@@ -100,7 +80,7 @@ fn seen<R>(rt: &R, alloc: Global, patience: SpinPolicy, call: Call) -> Result<(S
 where
     R: Wait + Clock + Threads + Sync,
 {
-    let lock: Lock<_> = form_of(rt, alloc, LockCore::new(alloc, 1)?, 1, NONE, patience)?;
+    let lock = lock_of(rt, alloc, 1, NONE, patience)?;
     let end = late(rt)?;
     let is_owned = lock.try_lock() == Ok(());
     let (is_granted, seen) = thread::join(rt, || take(&lock, call, end), || see_parked(&lock));
@@ -121,8 +101,7 @@ fn a_waiter_rests_as_its_patience_says_and_parks(rt: HostRuntime) -> Result<(), 
 // A call that is granted at once, or has no time, doesn't rest.
 #[test]
 fn who_need_not_wait_does_not_rest(rt: HostRuntime) -> Result<(), Fail> {
-    let core = LockCore::new(rt.alloc(), 1)?;
-    let lock: Lock<_> = form_of(&rt, rt.alloc(), core, 1, NONE, FEW)?;
+    let lock = lock_of(&rt, rt.alloc(), 1, NONE, FEW)?;
     let end = late(&rt)?;
     for call in &CALLS {
         same!(rt; (take(&lock, *call, end), lock.release_lock()), (true, true));
@@ -133,12 +112,6 @@ fn who_need_not_wait_does_not_rest(rt: HostRuntime) -> Result<(), Fail> {
     same!(rt; lock.counts().spun(), (0, 0, 0));
     Ok(())
 }
-
-// Yields for the whole test.
-const YIELDS_ON: SpinPolicy = SpinPolicy {
-    looks: 0,
-    yields: u32::MAX,
-};
 
 // A time that is soon over.
 fn short() -> Duration {
@@ -152,7 +125,7 @@ fn late_calls<R: Wait + Clock + Copy + Drop>(
     alloc: Global,
     patience: SpinPolicy,
 ) -> Result<([bool; 3], usize), Fail> {
-    let lock: Lock<_> = form_of(rt, alloc, LockCore::new(alloc, 1)?, 1, NONE, patience)?;
+    let lock = lock_of(rt, alloc, 1, NONE, patience)?;
     let is_owned = lock.try_lock() == Ok(());
     let is_late = lock.share_sync_for(short()) == Ok(None);
     let mut pager = Pager::new();
@@ -164,7 +137,7 @@ fn late_calls<R: Wait + Clock + Copy + Drop>(
 // Who is late stops to yield, and sleeps no more.
 #[test]
 fn who_is_late_neither_yields_on_nor_sleeps(rt: HostRuntime) -> Result<(), Fail> {
-    same!(rt; late_calls(&rt, rt.alloc(), YIELDS_ON)?, ([true; 3], 0));
+    same!(rt; late_calls(&rt, rt.alloc(), ENDLESS)?, ([true; 3], 0));
     same!(rt; late_calls(&rt, rt.alloc(), NONE)?, ([true; 3], 0));
     Ok(())
 }
@@ -176,55 +149,78 @@ const LOOKS_ON: SpinPolicy = SpinPolicy {
 };
 
 // How often an owner gives way to a call that rests.
-const TURNS: u32 = 200;
+const TURNS: u32 = 20_000;
 
-// Whether a locked lock has a waiter: then its number is larger than that of one owner alone.
-fn has_waiter(core: &mut LockCore) -> bool {
-    core.word() > 63
-}
-
-// Gives way until a call waits in the queue or looks, and a while more, and lets it in.
-fn let_in<R: Wait + Drop>(lock: &Lock<R>) -> bool {
-    for _turn in 0..MOST_TURNS {
-        if lock.counts().lookers() != 0 || call_untold(&lock, has_waiter) {
-            break;
-        }
-        yield_now();
-    }
+// Gives way until a count is so large, and a while more, and lets in the call; whether it had come, whether nobody was parked all the
+// while, and whether it was let in.
+fn let_in<R: Wait + Drop>(lock: &Lock<R>, what: What, least: u64) -> [bool; 3] {
+    let has_come = await_least(lock, what, least);
+    let mut is_awake = true;
     for _turn in 0..TURNS {
-        yield_now();
+        is_awake &= count_of(lock.counts(), What::Parked) == 0;
+        give_way(1);
     }
-    lock.release_lock()
+    [has_come, is_awake, lock.release_lock()]
 }
 
-// How often a call yields beside an owner, where it is patient as long as it looks, or as long as it waits; and whether it was let in.
+// How often a call yields beside an owner, where it is patient as long as it looks, or as long as it waits, and has come once a count is so
+// large; and whether it had come, stayed awake, was let in, and was granted.
 fn yields_of<R>(
     rt: &R,
     alloc: Global,
     looks: SpinPolicy,
     waits: SpinPolicy,
+    comes: (What, u64),
     call: Call,
-) -> Result<(u64, bool), Fail>
+) -> Result<(u64, [bool; 3], bool), Fail>
 where
     R: Wait + Clock + Threads + Sync,
 {
-    let lock: Lock<_> = form_of(rt, alloc, LockCore::new(alloc, 1)?, 1, looks, waits)?;
+    let lock = lock_of(rt, alloc, 1, looks, waits)?;
     let end = late(rt)?;
     let is_owned = lock.try_lock() == Ok(());
-    let (is_granted, is_let) = thread::join(rt, || take(&lock, call, end), || let_in(&lock));
+    let (is_granted, seen) = thread::join(
+        rt,
+        || take(&lock, call, end),
+        || let_in(&lock, comes.0, comes.1),
+    );
     let (_looks, _spins, lingered) = lock.counts().spun();
-    let (_hints, rested) = lock.counts().rested();
+    let rested = count_of(lock.counts(), What::Yields);
     Ok((
         lingered.saturating_add(rested),
-        is_owned && is_granted && is_let,
+        seen,
+        is_owned && is_granted,
     ))
 }
+
+// The owner's turn at the mutex, and that by which a call without looks registers.
+const REGISTERED: (What, u64) = (What::Turns, 2);
 
 // Spin hints come first: who is granted before they are over hasn't yielded.
 #[test]
 fn who_rests_spins_before_it_yields(rt: HostRuntime) -> Result<(), Fail> {
-    same!(rt; yields_of(&rt, rt.alloc(), LOOKS_ON, NONE, Call::Lock)?, (0, true));
-    same!(rt; yields_of(&rt, rt.alloc(), NONE, LOOKS_ON, Call::Lock)?, (0, true));
-    same!(rt; yields_of(&rt, rt.alloc(), NONE, LOOKS_ON, Call::LockFor)?, (0, true));
+    let awake = (0, [true; 3], true);
+    let looks = (What::Lookers, 1);
+    same!(rt; yields_of(&rt, rt.alloc(), LOOKS_ON, NONE, looks, Call::Lock)?, awake);
+    for call in [Call::Lock, Call::LockFor] {
+        same!(rt; yields_of(&rt, rt.alloc(), NONE, LOOKS_ON, REGISTERED, call)?, awake);
+    }
+    Ok(())
+}
+
+// One that spins stays awake too (above).
+#[test]
+fn who_yields_on_stays_awake(rt: HostRuntime) -> Result<(), Fail> {
+    for call in [Call::Lock, Call::LockFor] {
+        let (_yields, seen, is_granted) = yields_of(
+            &rt,
+            rt.alloc(),
+            NONE,
+            ENDLESS,
+            REGISTERED,
+            call,
+        )?;
+        same!(rt; (seen, is_granted), ([true; 3], true));
+    }
     Ok(())
 }

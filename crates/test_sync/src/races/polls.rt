@@ -1,14 +1,15 @@
 //! Tasks on threads of their own that take turns by pagers, with rests of many lengths in between.
 
+use crate::crowds::in_three;
 use futures::executor::block_on;
 use saa_sync::pager::Pager;
 use saa_sync::semaphore::Semaphore;
 use std::alloc::AllocGlobal;
 use std::hint::spin_loop;
+use std::io;
 use std::random::RandomSource;
 use std::sync::Wait;
 use std::sync::atomic::Ordering;
-use std::{io, thread};
 use test_asserts::same;
 
 // How often tasks that poll pagers take turns, and how many lengths of rest they have in between.
@@ -42,18 +43,8 @@ fn take_all_by_pagers<H: Wait + RandomSource + AllocGlobal, R: Wait + Drop>(
 #[test]
 fn pagers_of_tasks_in_turn_all_wake(rt: HostRuntime) -> io::Result<()> {
     let semaphore = Semaphore::new(&rt, rt.alloc(), 3)?;
-    let (one, (two, three)) = thread::join(
-        &rt,
-        || take_all_by_pagers(&rt, &semaphore),
-        || {
-            thread::join(
-                &rt,
-                || take_all_by_pagers(&rt, &semaphore),
-                || take_all_by_pagers(&rt, &semaphore),
-            )
-        },
-    );
-    same!(rt; [one, two, three], [PAGER_ROUNDS, PAGER_ROUNDS, PAGER_ROUNDS]);
+    let taken = in_three(&rt, &|| take_all_by_pagers(&rt, &semaphore));
+    same!(rt; taken, [PAGER_ROUNDS; 3]);
     same!(rt; semaphore.available_permits(Ordering::SeqCst), 63);
     Ok(())
 }

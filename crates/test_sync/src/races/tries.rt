@@ -23,63 +23,33 @@ trait Single: Sync {
     fn give_back(&self);
 }
 
-// A lock, which is tried for alone.
-#[derive(Drop)]
-struct Alone<R: Wait + Drop> {
-    lock: Lock<R>,
-}
-
-impl<R: Wait + Drop + Sync> Single for Alone<R> {
+// A lock, which is taken alone, and tried for alone, and then to share it.
+impl<R: Wait + Drop + Sync> Single for Lock<R> {
     fn take(&self) -> bool {
-        self.lock.lock_sync() == Ok(true)
+        self.lock_sync() == Ok(true)
     }
 
     fn try_take(&self) -> bool {
-        self.lock.try_lock().is_ok()
+        self.try_lock().is_ok() || self.try_share().is_ok()
     }
 
     fn give_back(&self) {
-        let _is_released = self.lock.release_lock();
-    }
-}
-
-// A lock, which is taken alone and tried for to share it.
-#[derive(Drop)]
-struct Shares<R: Wait + Drop> {
-    lock: Lock<R>,
-}
-
-impl<R: Wait + Drop + Sync> Single for Shares<R> {
-    fn take(&self) -> bool {
-        self.lock.lock_sync() == Ok(true)
-    }
-
-    fn try_take(&self) -> bool {
-        self.lock.try_share().is_ok()
-    }
-
-    fn give_back(&self) {
-        let _is_released = self.lock.release_lock() || self.lock.release_share();
+        let _is_released = self.release_lock() || self.release_share();
     }
 }
 
 // A semaphore of one permit.
-#[derive(Drop)]
-struct OnePermit<R: Wait + Drop> {
-    semaphore: Semaphore<R>,
-}
-
-impl<R: Wait + Drop + Sync> Single for OnePermit<R> {
+impl<R: Wait + Drop + Sync> Single for Semaphore<R> {
     fn take(&self) -> bool {
-        self.semaphore.acquire_sync().is_ok()
+        self.acquire_sync().is_ok()
     }
 
     fn try_take(&self) -> bool {
-        self.semaphore.try_acquire()
+        self.try_acquire()
     }
 
     fn give_back(&self) {
-        let _is_released = self.semaphore.release();
+        let _is_released = self.release();
     }
 }
 
@@ -132,23 +102,10 @@ fn held_beside_tries<S: Single, R: Wait + Threads + Sync>(rt: &R, single: &S) ->
 }
 
 #[test]
-fn no_try_for_a_lock_waits(rt: HostRuntime) -> Result<(), Fail> {
-    let alone = Alone {
-        lock: Lock::new(&rt, rt.alloc(), 2)?,
-    };
-    same!(rt; held_beside_tries(&rt, &alone), ROUNDS);
-    let shares = Shares {
-        lock: Lock::new(&rt, rt.alloc(), 2)?,
-    };
-    same!(rt; held_beside_tries(&rt, &shares), ROUNDS);
-    Ok(())
-}
-
-#[test]
-fn no_try_for_a_permit_waits(rt: HostRuntime) -> Result<(), Fail> {
-    let one = OnePermit {
-        semaphore: Semaphore::with_permits(&rt, rt.alloc(), 1, 2)?,
-    };
+fn no_try_waits(rt: HostRuntime) -> Result<(), Fail> {
+    let lock = Lock::new(&rt, rt.alloc(), 2)?;
+    same!(rt; held_beside_tries(&rt, &lock), ROUNDS);
+    let one = Semaphore::with_permits(&rt, rt.alloc(), 1, 2)?;
     same!(rt; held_beside_tries(&rt, &one), ROUNDS);
     Ok(())
 }

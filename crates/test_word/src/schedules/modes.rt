@@ -8,7 +8,7 @@ use crate::schedules::{
 use saa_word::machine::{Move, WordCall};
 use saa_word_steps::call::Mode;
 
-pub static STORIES: [Story; 5] = [
+pub static STORIES: [Story; 6] = [
     // Each call that two places make in turn. Place 1 in line makes the main word 524,288 more, and poison is 131,072.
     Story {
         name: "each call of a lock",
@@ -174,6 +174,28 @@ pub static STORIES: [Story; 5] = [
             Counted(0, WordCall::PoisonLock, POISON, 2, YES, 131_072),
             Counted(0, WordCall::Downgrade, RELEASE, 1, NO, 131_072),
             Counted(0, WordCall::ClearPoison, CLEAR, 1, YES, 0),
+        ],
+    },
+    // Places 1 to 3 wait in three modes, and are told of poison, each by another call.
+    Story {
+        name: "poison answers all who wait",
+        made: Made::Lock,
+        places: 4,
+        rows: &[
+            Called(0, WordCall::TryLock, OWNED, 63),
+            Called(1, WordCall::RegisterMode(Mode::Shared), YES, 524_351),
+            Called(2, WordCall::RegisterMode(Mode::WaitExclusive), YES, 786_495),
+            Called(3, WordCall::RegisterMode(Mode::Exclusive), YES, 1_048_639),
+            Called(0, WordCall::PoisonLock, YES, 131_072),
+            Called(1, WordCall::TryPoll, TOLD_POISONED, 131_072),
+            Called(2, WordCall::Poll, TOLD_POISONED, 131_072),
+            Called(3, WordCall::Cancel, UNIT, 131_072),
+            Called(2, WordCall::TryShare, POISONED, 131_072),
+            Called(2, WordCall::RegisterMode(Mode::Shared), YES, 131_072),
+            Called(2, WordCall::Poll, TOLD_POISONED, 131_072),
+            Called(2, WordCall::ClearPoison, YES, 0),
+            Called(2, WordCall::ClearPoison, NO, 0),
+            Called(2, WordCall::PoisonLock, NO, 0),
         ],
     },
 ];

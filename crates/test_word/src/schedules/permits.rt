@@ -12,7 +12,7 @@ const WITH_ALL: Made = Made::Semaphore(0);
 
 const WITH_NONE: Made = Made::Semaphore(63);
 
-pub static STORIES: [Story; 9] = [
+pub static STORIES: [Story; 11] = [
     // Permits 63 out, place 0 waits for 10, place 1 gives 5 back and is about to publish; then place 2 gives 5 back in place.
     // A main word is 63 more than 262,144 where place 0 waits, 5 less with each release, and 65,536 more with the flag set.
     Story {
@@ -223,6 +223,39 @@ pub static STORIES: [Story; 9] = [
             Called(65_534, WordCall::Register(1), YES, 17_179_607_103),
             Called(0, WordCall::Release(1), YES, 63),
             Called(65_534, WordCall::Poll, TAKEN, 63),
+        ],
+    },
+    // The only permit is out, and each place waits for it; place 2 is the tail. The one between leaves, and who stood behind it is next.
+    Story {
+        name: "who leaves the middle links its neighbours",
+        made: Made::Bound(1),
+        places: 4,
+        rows: &[
+            Called(3, WordCall::Try(1), YES, 1),
+            Called(0, WordCall::Register(1), YES, 262_145),
+            Called(1, WordCall::Register(1), YES, 524_289),
+            Called(2, WordCall::Register(1), YES, 786_433),
+            Called(1, WordCall::Cancel, UNIT, 786_433),
+            Called(1, WordCall::Release(1), YES, 786_433),
+            Called(0, WordCall::TryPoll, TAKEN, 786_433),
+            Called(0, WordCall::Release(1), YES, 1),
+            Called(2, WordCall::Poll, TAKEN, 1),
+        ],
+    },
+    // The same three leave, the newest first.
+    Story {
+        name: "who leaves as the newest hands the tail on",
+        made: Made::Bound(1),
+        places: 4,
+        rows: &[
+            Called(3, WordCall::Try(1), YES, 1),
+            Called(0, WordCall::Register(1), YES, 262_145),
+            Called(1, WordCall::Register(1), YES, 524_289),
+            Called(2, WordCall::Register(1), YES, 786_433),
+            Called(2, WordCall::Cancel, UNIT, 524_289),
+            Called(1, WordCall::Cancel, UNIT, 262_145),
+            Called(0, WordCall::Cancel, UNIT, 1),
+            Called(0, WordCall::Cancel, UNIT, 1),
         ],
     },
 ];

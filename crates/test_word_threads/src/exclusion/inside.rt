@@ -2,8 +2,11 @@
 
 use std::sync::atomic::{AtomicU64, Ordering};
 
-// A writer inside, counted beside the readers.
-const ALONE: u64 = 1 << 32;
+/// What a sharer inside counts as.
+pub const SHARED: u64 = 1;
+
+/// What an owner inside counts as, beside the sharers.
+pub const ALONE: u64 = 1 << 32;
 
 /// Who is inside, two numbers that are equal wherever nobody writes, and how often something wasn't as it has to be.
 #[derive(Drop)]
@@ -32,29 +35,26 @@ impl Inside {
         }
     }
 
-    /// Comes in alone: nobody else is inside.
-    pub fn enter_alone(&self) {
-        self.check(self.count.fetch_add(ALONE, Ordering::SeqCst) == 0);
+    /// Comes in: nobody else is inside where it comes alone, and nobody is alone where it shares.
+    pub fn enter(&self, who: u64) {
+        let before = self.count.fetch_add(who, Ordering::SeqCst);
+        self.check(if who == ALONE {
+            before == 0
+        } else {
+            before < ALONE
+        });
     }
 
-    /// Comes in to share: nobody is alone.
-    pub fn enter_shared(&self) {
-        self.check(self.count.fetch_add(1, Ordering::SeqCst) < ALONE);
-    }
-
-    /// Shares from now on, who was alone.
-    pub fn lower(&self) {
-        self.check(self.count.fetch_sub(ALONE - 1, Ordering::SeqCst) == ALONE);
-    }
-
-    /// Goes, who was alone.
-    pub fn leave_alone(&self) {
-        self.check(self.count.fetch_sub(ALONE, Ordering::SeqCst) == ALONE);
-    }
-
-    /// Goes, who shared.
-    pub fn leave_shared(&self) {
-        self.check(self.count.fetch_sub(1, Ordering::SeqCst) < ALONE);
+    /// Goes, or only shares from now on: it was alone where it came alone, and nobody is where it shared.
+    pub fn leave(&self, who: u64, becomes: u64) {
+        let before = self
+            .count
+            .fetch_sub(who.wrapping_sub(becomes), Ordering::SeqCst);
+        self.check(if who == ALONE {
+            before == ALONE
+        } else {
+            before < ALONE
+        });
     }
 
     /// Writes 1 more, in four steps in which another writer or a reader would be seen.

@@ -3,7 +3,7 @@
 ghost use Rattle.std.specs.Prelude.{All, IfSome};
 ghost use Rattle.saa_word_threads.specs.Locks.{IsDealtBy};
 
-use crate::exclusion::inside::Inside;
+use crate::exclusion::inside::{ALONE, Inside, SHARED};
 use crate::exclusion::poisoned::{SLEEPERS, Watched, take_part};
 use crate::owner::{Call, Owner};
 use saa_word_threads::lock::{Lock, Mode, Place};
@@ -15,20 +15,20 @@ use test_asserts::same;
 
 // Takes the lock alone, writes, and gives it back, or makes it a share first. How much was written.
 fn write_one(rt: &impl Wait, owner: &mut Owner<'_>, inside: &Inside, turn: u32) -> u64 {
-    if !owner.lock(rt, turn) {
+    if !owner.takes(rt, false, turn) {
         inside.check(turn % 3 == 2);
         return 0;
     }
-    inside.enter_alone();
+    inside.enter(ALONE);
     inside.write();
     if turn % 2 == 0 {
-        inside.leave_alone();
+        inside.leave(ALONE, 0);
         inside.check(owner.is(rt, Call::ReleaseLock));
     } else {
-        inside.lower();
+        inside.leave(ALONE, SHARED);
         inside.check(owner.is(rt, Call::Downgrade));
         inside.read();
-        inside.leave_shared();
+        inside.leave(SHARED, 0);
         inside.check(owner.is(rt, Call::ReleaseShare));
     }
     1
@@ -36,13 +36,13 @@ fn write_one(rt: &impl Wait, owner: &mut Owner<'_>, inside: &Inside, turn: u32) 
 
 // Takes a share, reads, and gives it back.
 fn read_one(rt: &impl Wait, owner: &mut Owner<'_>, inside: &Inside, turn: u32) {
-    if !owner.share(rt, turn) {
+    if !owner.takes(rt, true, turn) {
         inside.check(turn % 3 == 2);
         return;
     }
-    inside.enter_shared();
+    inside.enter(SHARED);
     inside.read();
-    inside.leave_shared();
+    inside.leave(SHARED, 0);
     inside.check(owner.is(rt, Call::ReleaseShare));
 }
 
@@ -82,7 +82,7 @@ struct Crowd {
 
 const EACH_WAY: Crowd = Crowd {
     threads: 2,
-    turns: 100_000,
+    turns: 10_000,
     kind: Kind::EachWay,
     all: None,
     is_poisoned: false,
@@ -100,17 +100,17 @@ static CROWDS: [Crowd; 6] = [
     EACH_WAY,
     Crowd {
         threads: 4,
-        turns: 20_000,
+        turns: 4_000,
         ..EACH_WAY
     },
     Crowd {
         threads: 8,
-        turns: 5_000,
+        turns: 2_000,
         ..EACH_WAY
     },
     Crowd {
         threads: 32,
-        turns: 500,
+        turns: 300,
         ..EACH_WAY
     },
     Crowd {

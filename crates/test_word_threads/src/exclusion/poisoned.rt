@@ -64,19 +64,14 @@ fn sleep(rt: &impl Wait, owner: &mut Owner<'_>, watched: &Watched) {
     }
 }
 
-// Waits until all others park.
-fn await_parked(rt: &impl Wait, owner: &Owner<'_>) {
+// Poisons the lock once all others park.
+fn poison(rt: &impl Wait, owner: &mut Owner<'_>, watched: &Watched) {
     for _turn in rt.forever() {
         if owner.parked(SLEEPERS.saturating_add(1)) >= SLEEPERS {
-            return;
+            break;
         }
         yield_now();
     }
-}
-
-// Poisons the lock once all others park.
-fn poison(rt: &impl Wait, owner: &mut Owner<'_>, watched: &Watched) {
-    await_parked(rt, owner);
     let early = watched.ended.load(Ordering::SeqCst);
     if owner.is(rt, Call::Poison) {
         watched.early.fetch_add(early, Ordering::SeqCst);
@@ -86,7 +81,7 @@ fn poison(rt: &impl Wait, owner: &mut Owner<'_>, watched: &Watched) {
 
 /// The one that gets the lock poisons it; all others wait for it.
 pub fn take_part(rt: &impl Wait, owner: &mut Owner<'_>, watched: &Watched) {
-    if owner.lock(rt, TRIES) {
+    if owner.takes(rt, false, TRIES) {
         poison(rt, owner, watched);
     } else {
         sleep(rt, owner, watched);
