@@ -85,12 +85,18 @@ fn leaves_a_core<R: Wait + Drop>(semaphore: &Semaphore<R>, core: &mut SemaphoreC
 // A worked row: a future asks such a core for three permits, waits, and has them once they are released.
 fn waits_at_a_core<R: Wait + Drop>(semaphore: &Semaphore<R>, core: &mut SemaphoreCore) -> bool {
     let mut many = semaphore.acquire_many_async(3);
-    let early = [many.poll_on(core), many.poll_on(core)];
+    let first = many.poll_on(core);
+    if many.has_ended() {
+        return false;
+    }
+    let second = many.poll_on(core);
     let is_released = core.release_many(3);
-    let late = many.poll_on(core);
-    early == [Progress::Joined, Progress::Waits]
+    if many.has_ended() {
+        return false;
+    }
+    let third = many.poll_on(core);
+    [first, second, third] == [Progress::Joined, Progress::Waits, Progress::Done(true)]
         && is_released
-        && late == Progress::Done(true)
         && core.available_permits() == 0
 }
 
