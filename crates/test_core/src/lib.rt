@@ -1,4 +1,4 @@
-//! Worked rows of each core, of the line under them, and of words, beside what the contracts say of every run; and what threads made
+//! Worked rows of each core, of the queue under them, and of words, beside what the contracts say of every run; and what threads made
 //! together under a journal.
 #![tactic(auto)]
 

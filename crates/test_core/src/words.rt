@@ -1,4 +1,4 @@
-//! Worked rows of words, and a line that is joined and left at each of its places.
+//! Worked rows of words, and a queue that is joined and left at each of its places.
 
 ghost use Rattle.std.specs.Prelude.{◌≡◌, []};
 
@@ -102,7 +102,7 @@ fn each_request_has_its_number(rt: HostRuntime) {
     }
 }
 
-// How many wait in a line, its newest place and one, and its oldest place with what it asked.
+// How many wait in a queue, its newest place and one, and its oldest place with what it asked.
 type Seen = (u16, u16, Option<(u16, Request)>);
 
 fn seen(links: &Links<ForPermits>) -> Seen {

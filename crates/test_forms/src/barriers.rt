@@ -1,4 +1,5 @@
-//! The threaded barrier beside its core, over every list of moves. Who sleeps at it stands in `test_sync::barriers`.
+//! The threaded barrier beside its core, over every list of moves. Its parked waiters are in `test_sync::barriers` and
+//! `test_sync::held_back`.
 
 use saa_core::barrier::{BarrierAnswer, BarrierCall, BarrierCore};
 use saa_core::ticket::Full;
@@ -24,7 +25,7 @@ impl<R: Wait + Drop + Copy> Form for Tried<R> {
 
     type Core = BarrierCore;
 
-    type Lent = R;
+    type Runtime = R;
 
     fn make(rt: R, alloc: Global, size: usize, room: u16) -> Result<Self, AllocError> {
         let barrier = Barrier::with_count(rt, alloc, size, room)?;
@@ -35,7 +36,7 @@ impl<R: Wait + Drop + Copy> Form for Tried<R> {
         BarrierCore::with_count(alloc, size, room)
     }
 
-    fn is_rung(&self, slot: u16) -> bool {
+    fn is_notified(&self, slot: u16) -> bool {
         self.barrier.counts().is_notified(slot)
     }
 

@@ -28,7 +28,7 @@ impl<R: Wait + Drop + Copy> Form for Tried<R> {
 
     type Core = GateCore;
 
-    type Lent = R;
+    type Runtime = R;
 
     fn make(rt: R, alloc: Global, size: usize, room: u16) -> Result<Self, AllocError> {
         let gate = Gate::new(rt, alloc, room)?;
@@ -58,7 +58,7 @@ impl<R: Wait + Drop + Copy> Form for Tried<R> {
         Ok(core)
     }
 
-    fn is_rung(&self, slot: u16) -> bool {
+    fn is_notified(&self, slot: u16) -> bool {
         self.gate.counts().is_notified(slot)
     }
 
@@ -164,7 +164,7 @@ fn every_list_agrees(rt: HostRuntime) {
     same!(rt; first_other(&rt).ok(), Some(None));
 }
 
-// How all who sleep at a gate are answered.
+// How all waiters of a gate are answered.
 #[derive(Clone, Copy)]
 enum Together {
     Permit,
@@ -219,7 +219,7 @@ fn sleeps<R: Wait + Drop>(gate: &Gate<R>, by: By, wanted: Result<State, Error>, 
     told.ended.fetch_add(1, Ordering::SeqCst);
 }
 
-// A pager joins the line, and is cancelled or goes out of scope; whether it joined.
+// A pager joins the queue, and is cancelled or goes out of scope; whether it joined.
 fn gives_up<R: Wait + Drop>(gate: &Gate<R>, is_cancelled: bool) -> bool {
     let mut pager = Pager::new();
     let is_registered = gate.register_pager(&mut pager, true) == Ok(true);
@@ -229,7 +229,7 @@ fn gives_up<R: Wait + Drop>(gate: &Gate<R>, is_cancelled: bool) -> bool {
     is_registered
 }
 
-// Answers all who sleep; whether it is told that they are so many.
+// Answers all waiters; whether it is told that they are so many.
 fn answers_all<R: Wait + Drop>(gate: &Gate<R>, together: Together, count: usize) -> bool {
     match together {
         Together::Permit => gate.permit() == Ok(count),
@@ -253,7 +253,7 @@ fn all_sleep<R: Wait + Drop>(rt: &impl Wait, gate: &Gate<R>, count: usize, told:
     unreachable!()
 }
 
-// So many sleep at a controlled gate and are answered together: all wake with this answer, nobody before, and no other seat is rung.
+// So many sleep at a controlled gate and are answered together: all wake with this answer, none before, and no other parker is notified.
 fn gathers<H: Wait + Threads + Sync, R: Wait + Drop + Sync>(
     rt: &H,
     gate: &Gate<R>,
@@ -281,7 +281,7 @@ fn gathers<H: Wait + Threads + Sync, R: Wait + Drop + Sync>(
     is_exact && is_quiet && told.right.load(Ordering::SeqCst) == started as u64
 }
 
-// The first way in which some of so many sleepers don't wake: twice at one gate, whose seats were all rung before the second time. There is
+// The first way in which some of so many sleepers don't wake: twice at one gate, whose parkers were all notified before the second time. There is
 // room for them, and for a pager where that answers them.
 fn first_wrong_way<H: Wait + Threads + Sync + AllocGlobal>(
     rt: &H,

@@ -1,4 +1,4 @@
-//! Tests of the threaded forms: they answer as their cores do, all who sleep are woken, and permits give themselves back.
+//! Tests of the threaded forms: they answer as their cores do, all parked waiters are woken, and permits give themselves back.
 //!
 //! Every test joins its threads, ends by itself, and rests nothing on timing.
 #![tactic(auto)]

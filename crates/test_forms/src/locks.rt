@@ -1,4 +1,5 @@
-//! The threaded lock beside its core, over every list of moves. Who sleeps at it, and is told of poison, stands in `test_lock_free::lock_rows`.
+//! The threaded lock beside its core, over every list of moves. Its parked waiters, and those that poison answers, are in
+//! `test_lock_free::lock_rows` and `test_sync::held_back`.
 
 use saa_core::lock::{LockAnswer, LockCall, LockCore};
 use saa_core::ticket::Full;
@@ -31,7 +32,7 @@ impl<R: Wait + Drop + Copy> Form for Tried<R> {
 
     type Core = LockCore;
 
-    type Lent = R;
+    type Runtime = R;
 
     fn make(rt: R, alloc: Global, size: usize, room: u16) -> Result<Self, AllocError> {
         let lock = Lock::with_spin_policy(rt, alloc, room, LITTLE)?;
@@ -49,7 +50,7 @@ impl<R: Wait + Drop + Copy> Form for Tried<R> {
         Ok(core)
     }
 
-    fn is_rung(&self, slot: u16) -> bool {
+    fn is_notified(&self, slot: u16) -> bool {
         self.lock.counts().is_notified(slot)
     }
 
@@ -80,7 +81,7 @@ impl<R: Wait + Drop + Copy> Form for Tried<R> {
         self.lock.register_pager(pager, mode, is_sync)
     }
 
-    // The wait modes have no call that waits: a pager stands in their place, and Plain is spelled so.
+    // The wait modes have no call that waits: a pager is in their place, and Plain is spelled so.
     fn acquire(
         &self,
         mode: Mode,

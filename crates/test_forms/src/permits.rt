@@ -238,7 +238,7 @@ fn left_beside<R: Wait + Drop>(semaphore: &Semaphore<R>, has_ended: &AtomicBool)
     seen
 }
 
-// Waits until somebody sleeps, or the other thread has ended; whether the first came first.
+// Waits until a waiter is parked, or the other thread has ended; whether the first came first.
 fn somebody_sleeps<R: Wait + Drop>(
     rt: &impl Wait,
     semaphore: &Semaphore<R>,
@@ -253,7 +253,7 @@ fn somebody_sleeps<R: Wait + Drop>(
     !has_ended.load(Ordering::SeqCst)
 }
 
-// Lets a permit go once somebody sleeps; whether that came before the other thread ended.
+// Drops a permit once a waiter is parked; whether that came before the other thread ended.
 fn let_go<R: Wait + Drop>(
     rt: &impl Wait,
     permit: Permit<'_, R>,

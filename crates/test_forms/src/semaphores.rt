@@ -47,7 +47,7 @@ impl<R: Wait + Drop + Copy> Form for Tried<R> {
 
     type Core = SemaphoreCore;
 
-    type Lent = R;
+    type Runtime = R;
 
     fn make(rt: R, alloc: Global, size: usize, room: u16) -> Result<Self, AllocError> {
         let semaphore = Semaphore::with_spin_policy(rt, alloc, size, room, LITTLE)?;
@@ -58,7 +58,7 @@ impl<R: Wait + Drop + Copy> Form for Tried<R> {
         SemaphoreCore::with_permits(alloc, size, room)
     }
 
-    fn is_rung(&self, slot: u16) -> bool {
+    fn is_notified(&self, slot: u16) -> bool {
         self.semaphore.counts().is_notified(slot)
     }
 
@@ -185,7 +185,7 @@ impl<R: Wait + Drop + Sync> Sleepers for Tried<R> {
         }
     }
 
-    fn seats(&self) -> (usize, usize) {
+    fn parked_and_notified(&self) -> (usize, usize) {
         let counts = self.semaphore.counts();
         (counts.parked(), counts.notified())
     }
@@ -326,7 +326,7 @@ fn lists_of_four_agree(rt: HostRuntime) {
 
 // A size is how many permits are available.
 impl<R: Wait + Drop + Copy + Sync> Made for Tried<R> {
-    type Lent = R;
+    type Runtime = R;
 
     fn made(
         rt: R,

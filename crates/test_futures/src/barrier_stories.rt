@@ -1,7 +1,7 @@
 //! Stories of a barrier's futures and pagers: its calls, how they are made, and what is made for each story.
 
 use crate::barrier_stories::BarrierCall::{
-    Arrive, Ask, Calm, IsWoken, LetGo, Missing, OfPager, Poll, Register, Rung,
+    Arrive, Ask, Calm, IsWoken, LetGo, Missing, Notified, OfPager, Poll, Register,
 };
 use crate::stories::Told::{Answer, Asked, Count, Is, Nothing};
 use crate::stories::{
@@ -21,9 +21,9 @@ use std::sync::atomic::Ordering;
 // A call at a barrier, a task, a future or a pager. A poll names its task and then the future.
 #[derive(Clone, Copy)]
 pub(crate) enum BarrierCall {
-    // How many arrivals are missing, and how many seats are rung.
+    // How many arrivals are missing, and how many parkers are notified.
     Missing,
-    Rung,
+    Notified,
     Ask(Who),
     Poll(Who, Who),
     LetGo(Who),
@@ -103,7 +103,7 @@ impl<'s, H: Wait + RandomSource + AllocGlobal, R: Wait + Drop> Desk for BarrierD
     fn answer(&mut self, call: BarrierCall) -> Told {
         match call {
             Missing => Count(self.barrier.count(Ordering::SeqCst)),
-            Rung => Count(self.barrier.counts().notified()),
+            Notified => Count(self.barrier.counts().notified()),
             Ask(who) => self.ask(who),
             Poll(task, who) => self.poll(task, who),
             LetGo(who) => self.futures.put(who, None),

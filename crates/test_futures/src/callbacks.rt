@@ -1,4 +1,4 @@
-//! The callbacks of futures at a gate and at a barrier: each runs once where its future joins the line, with the lock free, and never
+//! The callbacks of futures at a gate and at a barrier: each runs once where its future joins the queue, with the mutex free, and never
 //! otherwise. Those of a semaphore's and of a lock's futures run in the stories of `test_lock_free`.
 
 use crate::polled;

@@ -74,7 +74,7 @@ static FACTS: [(&str, Fact); 11] = [
     ),
 ];
 
-// A future joins the line of a core that is lent, and leaves it: its contract says the rest.
+// A future joins the queue of a core that the test owns, and is cancelled: its contract says the rest.
 fn leaves_a_core<R: Wait + Drop>(semaphore: &Semaphore<R>, core: &mut SemaphoreCore) -> bool {
     let mut one = semaphore.acquire_async();
     let progress = one.poll_on(core);
@@ -82,7 +82,7 @@ fn leaves_a_core<R: Wait + Drop>(semaphore: &Semaphore<R>, core: &mut SemaphoreC
     progress == Progress::Joined && one.has_ended()
 }
 
-// A worked row: a future asks such a core for three permits, waits, and has them once they are released.
+// A worked row: a future of three permits waits at such a core, and is granted them once they are released.
 fn waits_at_a_core<R: Wait + Drop>(semaphore: &Semaphore<R>, core: &mut SemaphoreCore) -> bool {
     let mut many = semaphore.acquire_many_async(3);
     let first = many.poll_on(core);

@@ -1,4 +1,4 @@
-//! Sleeping threads and tasks in one line: they are served in the order in which they joined it.
+//! Parked threads and tasks in one queue: they are granted in the order in which they joined it.
 
 use crate::polled;
 use futures::test::MockTask;
@@ -22,7 +22,7 @@ fn await_count(rt: &impl Wait, count: &AtomicU64, wanted: u64) {
     }
 }
 
-// Once so many stand in the line, takes a permit in a call that sleeps, and counts that it joined and that it returned.
+// Once there are so many waiters, takes a permit in a call that parks, and counts that it joined and that it returned.
 fn sleep_behind<R: Wait + Drop>(
     rt: &impl Wait,
     semaphore: &Semaphore<R>,
@@ -97,7 +97,7 @@ fn all_are_served<H: Wait + Threads + Sync, R: Wait + Drop + Sync>(
     wrong == 0 && is_granted && semaphore.available_permits(Ordering::SeqCst) == 0
 }
 
-// A task between two sleepers is served between them.
+// A task that joined between two parked threads is granted between them.
 pub(crate) fn between<H: Wait + Threads + Sync + AllocGlobal>(
     rt: &H,
     task: &MockTask,

@@ -73,7 +73,7 @@ pub(crate) static AT_A_GATE: [GateStory; 5] = [
             (GateCall::OfPager(First, IsRegistered), Is(false)),
         ],
     },
-    // Who cancels answers all others.
+    // A pager that is cancelled answers all others.
     GateStory {
         name: "a cancelled pager",
         room: 2,

@@ -38,7 +38,7 @@ enum As {
     Thread,
 }
 
-// Waits for all others; counts who leads.
+// Waits for all others; counts how often one is the leader.
 fn meet<H: Wait + RandomSource + AllocGlobal, R: Wait + Drop>(
     rt: &H,
     barrier: &Barrier<R>,

@@ -27,7 +27,7 @@ pub(crate) enum Told {
     Nothing,
     // A look, or whether all was as it must be.
     Is(bool),
-    // How many arrivals are missing, or seats are rung.
+    // How many arrivals are missing, or parkers are notified.
     Count(usize),
     // A poll or a call that arrives at a barrier.
     Answer(Polled<bool>),

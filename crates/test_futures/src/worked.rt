@@ -22,7 +22,7 @@ pub(crate) static AT_A_GATE: [GateStory; 5] = [
         ],
     },
     GateStory {
-        name: "a pager that gives up answers the others",
+        name: "a pager that is cancelled answers the others",
         room: 4,
         rows: &[
             (GateCall::Register(First, true), Asked(Ok(true))),
@@ -76,7 +76,7 @@ pub(crate) static AT_A_GATE: [GateStory; 5] = [
         ],
     },
     GateStory {
-        name: "a sealed gate lets nobody in, and an open one all",
+        name: "a sealed gate refuses all, and an open one lets all pass",
         room: 4,
         rows: &[
             (GateCall::Make(Move::Seal), Was((State::Controlled, 0))),
@@ -120,7 +120,7 @@ pub(crate) static AT_A_BARRIER: [BarrierStory; 3] = [
         ],
     },
     BarrierStory {
-        name: "who is alone leads, and needs no room",
+        name: "the only task of a round is its leader, and needs no room",
         size: 1,
         room: 0,
         rows: &[

@@ -8,7 +8,7 @@ use crate::stories::{Row, Story};
 
 pub(crate) const STORIES: [Story; 3] = [
     Story {
-        name: "a poisoned mutex is cleared, and then had alone",
+        name: "a poisoned mutex is cleared, and then owned alone",
         number: 3,
         room: 1,
         crowd: 0,

@@ -1,5 +1,5 @@
 //! Every room of a mutex and of a reader-writer lock is filled to its last place and one more: each place keeps its task's
-//! waker, and who comes then is told that the room is full.
+//! waker, and the next call is told that the room is full.
 
 use crate::locks::Way::{Lock, Read, Write};
 use crate::stories::Act::{Asks, Ends, IsWoken, Tries, Waits};

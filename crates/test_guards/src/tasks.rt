@@ -1,4 +1,4 @@
-//! Futures of guards, polled by hand: they are served in the order in which they joined the line, and leave it when dropped.
+//! Futures of guards, polled by hand: they are granted in the order in which they joined the queue, and leave it when dropped.
 
 use crate::locks::Way::{Lock, Read, Write};
 use crate::stories::Act::{Asks, Ends, IsWoken, Leaves, Lowers, Polls, Puts, Shows, Tries, Waits};
@@ -7,7 +7,7 @@ use crate::stories::{FULL, Row, Story};
 
 pub(crate) const STORIES: [Story; 6] = [
     Story {
-        name: "a mutex is had in the order of joining",
+        name: "a mutex is granted in the order of joining",
         number: 0,
         room: 2,
         crowd: 0,
@@ -35,7 +35,7 @@ pub(crate) const STORIES: [Story; 6] = [
         rows: &WRITER_LEAVES,
     },
     Story {
-        name: "a guard that nobody took goes to the next",
+        name: "a grant that is dropped untaken goes to the next waiter",
         number: 0,
         room: 2,
         crowd: 0,

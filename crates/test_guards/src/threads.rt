@@ -1,5 +1,5 @@
-//! Guards in several threads: they keep each other out, and every call that waits really waits: it is held back while somebody has what it
-//! asks, is let in once that one goes, and sees what that one wrote. No refusal is passed over.
+//! Guards in several threads: they exclude each other, and every call that has to wait does: it is held back while a holder has the lock, is
+//! granted it once the holder's guard is dropped, and sees what the holder wrote. No refusal is passed over.
 
 use crate::locks::{Given, Held, Locks, Way};
 use saa_core_guards::raw_lock::{RawLockAsync, RawLockUntil};
@@ -30,7 +30,7 @@ enum Job {
     Lowers,
     // Has a guard while the others wait; then writes if it may, and goes. It tells how many steps the others had made before that.
     Holds(Way),
-    // Waits for a guard of somebody who holds the lock, and tells the number that it shows.
+    // Waits for a guard while a holder has the lock, and tells the number that the guard shows.
     Waits(Way),
     WaitsInTime,
 }
@@ -38,7 +38,7 @@ enum Job {
 // For how many waiters there is room: for each thread, since one that asks again may find its neighbour's slot not given back yet.
 const ROOM: u16 = 4;
 
-// The number that stands behind both locks at first, the one that a holder writes, and one that no guard shows.
+// The number that is behind both locks at first, the one that a holder writes, and one that no guard shows.
 const OLD: u64 = 100;
 
 const NEW: u64 = 200;
@@ -76,7 +76,7 @@ const ROWS: [([Job; 4], Told); 6] = [
         ],
         ([0; 4], [OLD, 900]),
     ),
-    // Nobody is let in beside one who writes.
+    // Beside a writer no other call is granted the lock.
     (
         [
             Job::Holds(Way::Lock),

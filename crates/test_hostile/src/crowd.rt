@@ -1,4 +1,4 @@
-//! A semaphore of any bound and any number of names in plain code, whose line is a list: slow, small, and written apart from the core.
+//! A semaphore of any bound and any number of names in plain code, whose queue is a list: slow, small, and written apart from the core.
 
 use saa::ticket::{Error, Full, How};
 use std::alloc::{AllocError, Global};

@@ -316,7 +316,7 @@ impl Model {
         }
     }
 
-    // A waiter has left the line.
+    // A waiter has left the queue.
     fn left(&mut self) {
         match self.held {
             Held::Gate(_) => {

@@ -1,4 +1,4 @@
-//! Random commands by sixteen pagers on the core of a semaphore, whose line is held by links, and on a semaphore whose line
+//! Random commands by sixteen pagers on the core of a semaphore, whose queue is held by links, and on a semaphore whose queue
 //! is a list: both reply the same, and owe the same wakes. The same at a semaphore of a thousand permits beside a plain model.
 
 use crate::crowd::Crowd;

@@ -1,4 +1,4 @@
-//! Tests of what no contract says of the lock-free forms: that a place comes back, who is granted and woken in which order, and crowds.
+//! Tests of what no contract says of the lock-free forms: that a place comes back, in which order waiters are granted and woken, and crowds.
 //!
 //! Most tests are tables: what is called, row by row, and what each call must tell (`calls`, `told`). `desk` makes the calls, of semaphores and locks
 //! alike, and `semaphore_forms` and `lock_forms` say how each form has them: a table is told at the lock-free form and at the threaded one of

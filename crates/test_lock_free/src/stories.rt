@@ -79,7 +79,7 @@ static AT_A_SEMAPHORE: [Story; 8] = [
         ],
     },
     Story {
-        name: "who leaves lets those behind pass",
+        name: "a waiter that cancels lets those behind it be granted",
         of: Of::Permits(0),
         room: 4,
         rows: &[
@@ -306,7 +306,7 @@ static AT_A_LOCK: [Story; 4] = [
             (OfPager(First, TryPoll), Yes),
             (OfPager(Second, TryPoll), NotReady),
             (IsWoken(First), No),
-            // Who leaves lets those behind pass.
+            // A waiter that cancels lets those behind it be granted.
             (OfLock(First, LetGoFuture), Nothing),
             (OfPager(Second, TryPoll), Yes),
             (ReleaseShare, Yes),

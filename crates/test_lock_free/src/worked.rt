@@ -13,7 +13,7 @@ use test_asserts::same;
 
 static SEMAPHORES: [Story; 9] = [
     Story {
-        name: "a release grants the oldest who fit",
+        name: "a release grants the oldest waiters while they fit",
         of: Of::Permits(63),
         room: 4,
         rows: &[
@@ -33,7 +33,7 @@ static SEMAPHORES: [Story; 9] = [
         ],
     },
     Story {
-        name: "who leaves lets the next in",
+        name: "a waiter that cancels lets the next one be granted",
         of: Of::Permits(63),
         room: 4,
         rows: &[
@@ -74,7 +74,7 @@ static SEMAPHORES: [Story; 9] = [
         ],
     },
     Story {
-        name: "who asks for nothing waits its turn",
+        name: "a call for 0 permits is queued behind a waiter",
         of: Of::Permits(63),
         room: 4,
         rows: &[

@@ -1,7 +1,7 @@
-//! A semaphore whose line is a list, in which a waiter that leaves is searched for: the plain slow one beside the core.
+//! A semaphore whose queue is a list, in which a waiter that leaves is searched for: the plain slow one beside the core.
 //!
-//! It is no product. Tests give it what they give the core, which keeps its line by links, and compare every reply; `measure`
-//! times it beside the core. Asking, settling and dropping are the core's own (`granting` of `saa_core`): what differs is the line.
+//! It is no product. Tests give it what they give the core, which keeps its queue by links, and compare every reply; `measure`
+//! times it beside the core. Asking, settling and dropping are the core's own (`granting` of `saa_core`): what differs is the queue.
 
 ghost use Rattle.std.specs.Prelude.{◌≡◌, ◌≤◌, false, if◌then◌else◌, nat_lt};
 ghost use Rattle.saa_core_spec.specs.declared.request.Request.TheVariants.{Permits};
@@ -38,7 +38,7 @@ impl ListedSemaphore {
         PERMITS - self.core.needs().out
     }
 
-    /// Takes so many permits if nobody waits and they are available.
+    /// Takes so many permits if there is no waiter and they are available.
     pub fn try_acquire_many(&mut self, count: usize) -> bool {
         match self.request_of(count) {
             Some(request) => self.core.try_take(request),

@@ -15,7 +15,7 @@ use std::thread::{Scope, Threads, yield_now};
 /// Where a waiter stands.
 #[derive(Clone, Copy)]
 pub enum Place {
-    /// It asks what nobody is granted while nothing is available, and what each answering call makes room for once.
+    /// It asks what isn't granted while nothing is available, and what each answering call makes available once.
     Ahead,
     /// It asks what is granted beside the one ahead, and beside others behind.
     Behind,
@@ -35,21 +35,21 @@ pub trait Sleepers: Sync {
     /// Makes a call that answers the one ahead, and so those behind; the short one or the long one.
     fn answer(&self, is_short: bool);
 
-    /// Waits at this place, and counts that it joined the line; whether it was granted.
+    /// Waits at this place, and counts that it joined the queue; whether it was granted.
     fn wait_at(&self, place: Place, by: By, joined: &AtomicU64) -> bool;
 
-    /// How many sleep, which have all let go of the lock, and how many seats are rung.
-    fn seats(&self) -> (usize, usize);
+    /// How many waiters are parked, all of which have let go of the mutex, and how many parkers are notified.
+    fn parked_and_notified(&self) -> (usize, usize);
 }
 
 /// Such a form that is made anew for each number of sleepers.
 pub trait Made: Sleepers + Sized + Drop {
     /// The permission to block that it is made with.
-    type Lent: Wait + Drop + Copy;
+    type Runtime: Wait + Drop + Copy;
 
     /// A form at which nothing is available, in the way of this size, with room for so many waiters, which have this patience.
     fn made(
-        lent: Self::Lent,
+        runtime: Self::Runtime,
         alloc: Global,
         size: usize,
         room: u16,
@@ -116,7 +116,7 @@ const TURNS: u32 = 1_000;
 struct Counts {
     // How many were started.
     started: AtomicU64,
-    // How many of those joined the line.
+    // How many of those joined the queue.
     joined: AtomicU64,
     // How many of those have what they waited for.
     ended: AtomicU64,
@@ -132,7 +132,7 @@ impl Counts {
         }
     }
 
-    // Waits until all that were started wait in the line.
+    // Waits until all that were started wait in the queue.
     fn await_joined<R: Wait>(&self, rt: &R) {
         await_count(rt, &self.joined, self.started.load(Ordering::SeqCst));
     }
@@ -156,14 +156,14 @@ impl Counts {
 /// The first of these cases in which not all wake, or others do, counted from 0, and for how many sleepers.
 pub fn first_wrong<F: Made, R: Threads + Wait + Sync>(
     rt: &R,
-    lent: F::Lent,
+    runtime: F::Runtime,
     alloc: Global,
     cases: &[Case],
 ) -> Result<Option<(usize, u64)>, AllocError> {
     for (place, case) in cases.iter().enumerate() {
         for count in case.counts {
             for wakes in case.wakes {
-                let form = F::made(lent, alloc, case.size, case.room, case.patience)?;
+                let form = F::made(runtime, alloc, case.size, case.room, case.patience)?;
                 if !all_wake(rt, &form, case, *count, *wakes) {
                     return Ok(Some((place, *count)));
                 }
@@ -220,18 +220,18 @@ fn a_call_wakes_all_whom_it_answers<F: Sleepers, R: Threads + Wait + Sync>(
             await_asleep(rt, form, count.saturating_add(BEYOND));
         }
         let is_held_back = near_by.none_ended() && far_by.none_ended();
-        let rung = count.saturating_add(come_out(form, head, end));
+        let notified = count.saturating_add(come_out(form, head, end));
         near_by.await_ended(rt);
         let is_exact = far_by.none_ended()
-            && form.seats().1 as u64 == rung
-            && (is_patient || form.seats().0 as u64 == BEYOND);
+            && form.parked_and_notified().1 as u64 == notified
+            && (is_patient || form.parked_and_notified().0 as u64 == BEYOND);
         form.give_up(wall, true);
         far_by.await_ended(rt);
         is_led && is_walled && is_held_back && is_exact
     })
 }
 
-// So many sleepers who all ask what the one ahead asks, and as many calls: each call wakes one, and no other.
+// So many sleepers that all ask what the one ahead asks, and as many calls: each call wakes one, and no other.
 //
 // The form is new and of size 0. Without patience it is certain that all sleep when the calls come.
 fn each_call_wakes_one<F: Sleepers, R: Threads + Wait + Sync>(
@@ -253,8 +253,9 @@ fn each_call_wakes_one<F: Sleepers, R: Threads + Wait + Sync>(
         for answered in 1..=count {
             form.answer(answered % 2 == 0);
             await_count(rt, &counted.ended, answered);
-            is_exact &= form.seats().1 as u64 == answered;
-            is_exact &= is_patient || form.seats().0 as u64 == count.saturating_sub(answered);
+            is_exact &= form.parked_and_notified().1 as u64 == answered;
+            is_exact &= is_patient
+                || form.parked_and_notified().0 as u64 == count.saturating_sub(answered);
         }
         is_exact
     })
@@ -276,14 +277,14 @@ fn start<'s, E, F: Sleepers>(
     }
 }
 
-// Waits at this place, and counts that it joined the line and that it was granted.
+// Waits at this place, and counts that it joined the queue and that it was granted.
 fn sleep<F: Sleepers>(form: &F, place: Place, by: By, counts: &Counts) {
     if form.wait_at(place, by, &counts.joined) {
         counts.ended.fetch_add(1, Ordering::SeqCst);
     }
 }
 
-// The one ahead comes out of the way; how many seats of its own are rung.
+// The one ahead is answered or cancelled; how many parkers of its own are notified.
 fn come_out<F: Sleepers>(form: &F, head: Ticket, end: End) -> u64 {
     match end {
         End::Call(is_short) => {
@@ -304,7 +305,7 @@ fn come_out<F: Sleepers>(form: &F, head: Ticket, end: End) -> u64 {
 // Waits until so many sleep.
 fn await_asleep<F: Sleepers, R: Wait>(rt: &R, form: &F, wanted: u64) {
     for _ in rt.forever() {
-        if form.seats().0 as u64 >= wanted {
+        if form.parked_and_notified().0 as u64 >= wanted {
             return;
         }
         yield_now();

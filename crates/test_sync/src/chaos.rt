@@ -42,7 +42,7 @@ fn add(counter: &AtomicU64, count: usize) {
 }
 
 impl<R: Wait + Clock + Drop> Passings<R> {
-    // What one was told that waited; whether it is something that may be. Who finds the gate open or sealed was counted by nobody.
+    // Counts what a waiter was told; whether that may be. A call that finds the gate open or sealed is in no count.
     fn is_told(&self, told: Result<State, Error>) -> bool {
         match told {
             Ok(State::Controlled) => add(&self.came_in, 1),

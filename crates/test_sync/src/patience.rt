@@ -1,5 +1,5 @@
 //! Tests of calls that look before they register: what they see, that they never pass a waiter, and that their patience ends; and of how
-//! calls rest at the mutex and at their seats.
+//! calls rest at the mutex and at their parkers.
 
 mod counts;
 mod hints;

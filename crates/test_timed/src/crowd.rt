@@ -1,4 +1,4 @@
-//! Sleepers, some of them out of time: those behind them are granted at once, and no permit is lost.
+//! Parked waiters, some of which are late: those behind them are granted at once, and no permit is lost.
 
 use crate::calls::ALONE;
 use crate::forms::Time::{Ever, Long, Short, Zero};
@@ -11,7 +11,7 @@ use crate::stories::Row::{Does, Has, In};
 use crate::stories::{LATE, Row, Sign, Story};
 use saa_sync::spin_policy::NONE;
 
-// Waiters sleep at once, with room for two, and a barrier of three.
+// Waiters park at once; room for two, and a barrier of three.
 const SLEEPY: Made = Made {
     count: 3,
     room: 2,
@@ -28,7 +28,7 @@ const SLEEPING: Story = Story {
 
 pub(crate) static STORIES: [Story; 7] = [
     Story {
-        name: "who is behind is granted at once",
+        name: "a waiter behind a late one is granted at once",
         made: Made {
             permits: 20,
             ..SLEEPY
@@ -39,9 +39,9 @@ pub(crate) static STORIES: [Story; 7] = [
         after: &[Does(Available(19))],
         ..SLEEPING
     },
-    // Of two that sleep one has no time, and has the permit whichever of them was first.
+    // Of two parked waiters one has its time over. The other one is granted the permit, whichever of them was first.
     Story {
-        name: "who has time sleeps on",
+        name: "a waiter with time left stays parked",
         rows: &[
             Has(Sign::Asleep(Form::Semaphore, 2)),
             Has(Sign::Clock(LATE)),
@@ -55,7 +55,7 @@ pub(crate) static STORIES: [Story; 7] = [
         after: &[Does(Available(0)), Has(Sign::Asleep(Form::Semaphore, 0))],
         ..SLEEPING
     },
-    // Time is up as the permit comes, and nobody rings: the call looks once more, and takes it.
+    // Time is up as the permit comes, and no parker is notified: the call looks once more, and takes it.
     Story {
         name: "an answer that is there is taken",
         made: Made { room: 1, ..SLEEPY },

@@ -28,7 +28,7 @@ const STILL: Story = Story {
     ..ALONE
 };
 
-// The same with one seat, whose waiters look on there, or yield, and sleep in no test's time.
+// The same with room for one waiter, which spins at its parker, or yields, and doesn't park in any test's time.
 const AWAKE: Made = Made {
     room: 1,
     patience: SpinPolicy {
@@ -65,7 +65,7 @@ pub(crate) static STORIES: [Story; 8] = [
         ..STILL
     },
     Story {
-        name: "a call that looks at its seat doesn't sleep and sees the ring",
+        name: "a call that spins at its parker doesn't park and sees that it is notified",
         made: AWAKE,
         rows: &[
             Has(Waits),
@@ -79,7 +79,7 @@ pub(crate) static STORIES: [Story; 8] = [
         ..STILL
     },
     Story {
-        name: "a plain call that yields at its seat doesn't sleep and sees the ring",
+        name: "a plain call that yields at its parker doesn't park and sees that it is notified",
         made: Made {
             unregistered: NONE,
             ..YIELDING
@@ -96,7 +96,7 @@ pub(crate) static STORIES: [Story; 8] = [
         ..STILL
     },
     Story {
-        name: "a call that yields at its seat reads its clock and sees the ring",
+        name: "a call that yields at its parker reads its clock and sees that it is notified",
         made: YIELDING,
         rows: &RINGS_TWICE,
         rescue: &[Does(Release)],
@@ -105,7 +105,7 @@ pub(crate) static STORIES: [Story; 8] = [
         ..STILL
     },
     Story {
-        name: "a pager that yields at its seat reads its clock and sees the ring",
+        name: "a pager that yields at its parker reads its clock and sees that it is notified",
         made: YIELDING,
         rows: &RINGS_TWICE,
         rescue: &[Does(Release)],
@@ -161,7 +161,7 @@ const QUEUED_FOR_PERMITS: [Row; 5] = [
     Does(ReleaseMany(299)),
 ];
 
-// The seat was rung for the one that waited there before.
+// The parker was notified for the waiter before.
 const RINGS_TWICE: [Row; 8] = [
     Does(Register(true)),
     Does(Release),

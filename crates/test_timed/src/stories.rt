@@ -101,12 +101,12 @@ pub(crate) enum Sign {
     Awaited(u64),
     // So many sleep at this form; it is waited for.
     Asleep(Form, usize),
-    // The call that waits here is parked, and nobody looks; it is waited for. The clock is hardly read then.
+    // The call that waits here is parked, and no call looks; it is waited for. The clock is hardly read then.
     Parked(Form),
     Rests,
-    // Somebody looks at the semaphore, and isn't registered; it is waited for.
+    // A call looks at the semaphore, and isn't registered; it is waited for.
     Looks,
-    // Somebody waits at the semaphore, or the clock was read so often; it is waited for.
+    // A call waits at the semaphore, or the clock was read so often; it is waited for.
     Waits,
     Read(u64),
     // A while passes by the runtime's clock, in which a call that sleeps has woken whose clock was set.

@@ -185,7 +185,7 @@ fn told<R: Wait + AllocGlobal>(
     })
 }
 
-// A call that joins beside an owner who shares the lock: another one is refused then. It is granted once the owner is gone, and isn't woken, since it doesn't
+// A call that joins beside an owner of a share: another one is refused then. It is granted once the owner is gone, and isn't woken, since it doesn't
 // park.
 const JOINS: (bool, Result<bool, Error>, bool) = (true, Err(Error::NotReady), false);
 
@@ -194,7 +194,7 @@ const GRANTED: (bool, [u64; 2], Result<bool, Error>) = (true, [1, 0], Ok(true));
 // A call that isn't registered then, since it is a try.
 const UNREGISTERED: Result<bool, Error> = Err(Error::NotRegistered);
 
-// A call that joins the waiters of one who has the lock.
+// A call that joins the queue of a lock that has an owner.
 const WAITING: Result<bool, Error> = Err(Error::NotReady);
 
 // What the owner has, what a call asks, what another one does, and what is told. A call looks once and in each turn of its spin policy; it rests for 8 turns

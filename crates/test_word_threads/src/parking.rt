@@ -135,7 +135,7 @@ impl Watch for AtWaiter<'_, '_> {
     }
 }
 
-// Looks on at the owner, who answers the waiter. It holds the owner until the waiter sleeps; that sleeps until it is woken, and the answer is
+// Looks on at the owner, which answers the waiter. It holds the owner until the waiter sleeps; that sleeps until it is woken, and the answer is
 // written before.
 #[derive(Clone, Copy)]
 struct AtOwner<'s, 'l> {

@@ -1,6 +1,6 @@
 //! The public calls that wait park: `acquire_many` and `poll_for` of the word's semaphore, `lock` and `share` of its lock.
 //!
-//! `parking` looks on at a call that is told to somebody. Nobody looks on at a public call: what is seen here is the waiter's mark, and that its thread
+//! `parking` looks on at a call that tells a watch. A public call has no watch: what is seen here is the waiter's mark, and that its thread
 //! sleeps, while what it waits for is held. A waiter that only looks again and again is given up after so many yields that one which parks has long done so.
 
 ghost use Rattle.saa_word_threads.specs.Locks.{IsDealtBy};
@@ -108,7 +108,7 @@ fn at_lock<R: Wait + Threads + Sync + AllocGlobal>(
     ))
 }
 
-// How a place waits for permits: by a public call, by one that is told to somebody, or for an hour at most, which no test lasts.
+// How a place waits for permits: by a public call, by one that tells a watch, or for an hour at most, which no test lasts.
 #[derive(Clone, Copy)]
 enum Way {
     Public,

@@ -1,4 +1,4 @@
-//! Waiters that park, more than there are processors: each is woken by the answer that is its own, and nobody else ends.
+//! Waiters that park, more than there are processors: each is woken by the answer that is its own, and no other call ends.
 //!
 //! They are answered once each has its mark set, so that it is parked or about to park. A wake that is left out, or that goes to another place,
 //! leaves a waiter asleep, and the test never ends; so it does where a waiter never sets its mark.
@@ -134,7 +134,7 @@ fn run<R: Wait + Threads + Sync + AllocGlobal>(rt: &R, way: Way) -> Result<Ended
     Ok((early, in_turn, main_of(rt, semaphore, witness)))
 }
 
-// By releases of so many permits, at a place or with none, or by one who stands before them all and cancels.
+// By releases of so many permits, at a place or with none, or by the oldest waiter, which cancels.
 static WAYS: [Way; 6] = [
     Way {
         before: &[],

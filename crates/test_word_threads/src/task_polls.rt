@@ -201,7 +201,7 @@ static STORIES: [Story; 7] = [
         ],
     },
     Story {
-        name: "a waker goes as its place cancels, and nobody is answered then",
+        name: "a waker is dropped as its place cancels, and no waiter is answered then",
         gives: None,
         rows: &[
             (Act::Asks, YES, [false, false]),

@@ -1,5 +1,5 @@
-//! Rooms are filled to their last slot and one more: each slot has a place for a task's waker and a seat of its own, and a waiter that
-//! comes then is told that the room is full. At a semaphore, since places and seats are those of every form; small rooms of the others
+//! Rooms are filled to their last slot and one more: each slot has a place for a task's waker and a parker of its own, and the next
+//! call is told that the room is full. At a semaphore, since places and parkers are those of every form; small rooms of the others
 //! are filled by their stories.
 
 use crate::polled;
@@ -62,7 +62,7 @@ fn woken<R: Wait + Drop>(askers: &[Asker<'_, R>]) -> u16 {
 }
 
 // As many wait as there is room, none of their tasks is woken, and one more is refused. A permit is released, and each but the last is
-// woken by that, and its seat rung; another one does that at the last, and then each is granted.
+// woken by that, and its parker notified; another one does that at the last, and then each is granted.
 fn is_filled<R: Wait + Drop>(
     semaphore: &Semaphore<R>,
     askers: &mut [Asker<'_, R>],

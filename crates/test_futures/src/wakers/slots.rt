@@ -1,4 +1,4 @@
-//! What is left at a slot once an answer is taken: no waker, and a seat that is ready for the next waiter.
+//! What is left at a slot once an answer is taken: no waker, and a parker that is ready for the next waiter.
 
 use crate::barrier_stories::{BarrierCall, BarrierStory};
 use crate::gate_stories::{GateCall, GateStory};
@@ -48,29 +48,29 @@ pub(crate) static AT_A_GATE: [GateStory; 2] = [
 ];
 
 pub(crate) static AT_A_BARRIER: [BarrierStory; 1] = [
-    // The last arrival rings the only seat by the step that answers it, be it a future or a call, and the next holder of its slot joins as
-    // a task, which looks at its seat no sooner.
+    // The last arrival, a future or a call, notifies the only parker as it answers. The next waiter of that slot is a task, which resets
+    // the parker as it joins.
     BarrierStory {
-        name: "a first poll wakes the waiter that it answers, and a seat is reset for the next",
+        name: "a first poll wakes the waiter that it answers, and a parker is reset for the next",
         size: 2,
         room: 1,
         rows: &[
             (BarrierCall::Ask(First), Nothing),
             (BarrierCall::Poll(First, First), Answer(None)),
-            (BarrierCall::Rung, Count(0)),
+            (BarrierCall::Notified, Count(0)),
             (BarrierCall::Ask(Second), Nothing),
             (BarrierCall::Poll(Second, Second), Answer(Some(Ok(true)))),
             (BarrierCall::LetGo(Second), Nothing),
             (BarrierCall::IsWoken(First), Is(true)),
-            (BarrierCall::Rung, Count(1)),
+            (BarrierCall::Notified, Count(1)),
             (BarrierCall::Poll(First, First), Answer(Some(Ok(false)))),
             (BarrierCall::LetGo(First), Nothing),
             (BarrierCall::Ask(First), Nothing),
             (BarrierCall::Poll(First, First), Answer(None)),
-            (BarrierCall::Rung, Count(0)),
+            (BarrierCall::Notified, Count(0)),
             (BarrierCall::Arrive, Answer(Some(Ok(true)))),
             (BarrierCall::IsWoken(First), Is(true)),
-            (BarrierCall::Rung, Count(1)),
+            (BarrierCall::Notified, Count(1)),
             (BarrierCall::Poll(First, First), Answer(Some(Ok(false)))),
         ],
     },

@@ -12,13 +12,13 @@ use std::thread::Threads;
 use std::{io, thread};
 use test_asserts::same;
 
-// How often one who lets a call in gives way before, so that the call mostly has looked by then.
+// How often the thread that lets a call in yields before, so that the call mostly has looked by then.
 const TURNS: u32 = 200;
 
 // What keeps a call for a share from it until it ends.
 #[derive(Clone, Copy)]
 enum Obstacle {
-    // The owner, who releases, lowers or poisons the lock.
+    // The owner, which releases, downgrades or poisons the lock.
     Released,
     Lowered,
     Poisoned,

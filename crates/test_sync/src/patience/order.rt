@@ -100,9 +100,9 @@ fn granted_by_the_release<R: Wait + Drop>(lock: &Lock<R>, is_over: &AtomicBool) 
     granted
 }
 
-// Two who look in numbers beside a waiter that has registered never pass it.
+// Calls of two threads that look never pass a waiter that has registered.
 #[test]
-fn who_registered_is_never_passed(rt: HostRuntime) -> Result<(), Fail> {
+fn a_registered_waiter_is_never_passed(rt: HostRuntime) -> Result<(), Fail> {
     let lock = Lock::with_spin_policy(&rt, rt.alloc(), 4, ENDLESS)?;
     let is_over = AtomicBool::new(false);
     let ((one, two), granted) = thread::join(

@@ -134,9 +134,9 @@ fn late_calls<R: Wait + Clock + Copy + Drop>(
     Ok(([is_owned, is_late, has_no_answer], lock.counts().parked()))
 }
 
-// Who is late stops to yield, and sleeps no more.
+// A wait whose time is up neither yields nor parks any more.
 #[test]
-fn who_is_late_neither_yields_on_nor_sleeps(rt: HostRuntime) -> Result<(), Fail> {
+fn a_late_wait_neither_yields_nor_parks(rt: HostRuntime) -> Result<(), Fail> {
     same!(rt; late_calls(&rt, rt.alloc(), ENDLESS)?, ([true; 3], 0));
     same!(rt; late_calls(&rt, rt.alloc(), NONE)?, ([true; 3], 0));
     Ok(())
@@ -196,9 +196,9 @@ where
 // The owner's turn at the mutex, and that by which a call without looks registers.
 const REGISTERED: (What, u64) = (What::Turns, 2);
 
-// Spin hints come first: who is granted before they are over hasn't yielded.
+// Spin hints come first: a waiter that is granted before they are over hasn't yielded.
 #[test]
-fn who_rests_spins_before_it_yields(rt: HostRuntime) -> Result<(), Fail> {
+fn a_waiter_spins_before_it_yields(rt: HostRuntime) -> Result<(), Fail> {
     let awake = (0, [true; 3], true);
     let looks = (What::Lookers, 1);
     same!(rt; yields_of(&rt, rt.alloc(), LOOKS_ON, NONE, looks, Call::Lock)?, awake);

@@ -9,7 +9,7 @@ use saa_word::machine::{Move, WordCall};
 use saa_word_steps::call::Mode;
 
 pub static STORIES: [Story; 6] = [
-    // Each call that two places make in turn. Place 1 in line makes the main word 524,288 more, and poison is 131,072.
+    // Each call that two places make in turn. Place 1 in the queue makes the main word 524,288 more, and poison is 131,072.
     Story {
         name: "each call of a lock",
         made: Made::Lock,
@@ -83,7 +83,7 @@ pub static STORIES: [Story; 6] = [
             Counted(0, WordCall::IsFree, ASK, 1, YES, 0),
         ],
     },
-    // Place 0 has the lock, and 1 and 2 wait. Place 1 leaves the line; meanwhile place 0 can't poison, nor place 2 leave. Then place 0 poisons,
+    // Place 0 has the lock, and 1 and 2 wait. Place 1 leaves the queue; meanwhile place 0 can't poison, nor place 2 leave. Then place 0 poisons,
     // and place 2, whose answer is due by then, gives it up once it is shown. The main word is 786,495 where one owner has the lock and the
     // tail is place 2, and 65,536 more with the flag set.
     Story {
@@ -178,7 +178,7 @@ pub static STORIES: [Story; 6] = [
     },
     // Places 1 to 3 wait in three modes, and are told of poison, each by another call.
     Story {
-        name: "poison answers all who wait",
+        name: "poison answers all waiters",
         made: Made::Lock,
         places: 4,
         rows: &[

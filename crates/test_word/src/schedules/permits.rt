@@ -61,7 +61,7 @@ pub static STORIES: [Story; 11] = [
     },
     // Place 0 is shown nothing until place 1 takes its last step, and place 2 can't move it on.
     Story {
-        name: "a waiter stands as it stood",
+        name: "a waiter keeps its position",
         made: WITH_NONE,
         places: 3,
         rows: &[
@@ -125,7 +125,7 @@ pub static STORIES: [Story; 11] = [
             Called(0, WordCall::Available, Step::Done(Answer::Number(63)), 0),
         ],
     },
-    // Permits 60 out; places 0, 1 and 2 wait for 10, 2 and 1. Place 2 leaves the line as its tail. Then place 0 leaves, by which place 1 is
+    // Permits 60 out; places 0, 1 and 2 wait for 10, 2 and 1. Place 2 leaves the queue as its tail. Then place 0 leaves, by which place 1 is
     // granted; place 1 gives that up, waits until it is shown, and gives 2 back. A main word is 786,492 with the tail at place 2, 524,348 at
     // place 1, and 65,536 more with the flag set.
     Story {
@@ -214,7 +214,7 @@ pub static STORIES: [Story; 11] = [
             Called(1, WordCall::Poll, TAKEN, 1),
         ],
     },
-    // Of 65,535 places. The last one in line makes the main word 262,144 times as many more.
+    // Of 65,535 places. The last one in the queue makes the main word 262,144 times as many more.
     Story {
         name: "the last place waits and is granted",
         made: WITH_NONE,
@@ -225,9 +225,9 @@ pub static STORIES: [Story; 11] = [
             Called(65_534, WordCall::Poll, TAKEN, 63),
         ],
     },
-    // The only permit is out, and each place waits for it; place 2 is the tail. The one between leaves, and who stood behind it is next.
+    // The only permit is out, and each place waits for it; place 2 is the tail. The one between leaves, and the waiter behind it is next.
     Story {
-        name: "who leaves the middle links its neighbours",
+        name: "a waiter that leaves the middle links its neighbours",
         made: Made::Bound(1),
         places: 4,
         rows: &[
@@ -244,7 +244,7 @@ pub static STORIES: [Story; 11] = [
     },
     // The same three leave, the newest first.
     Story {
-        name: "who leaves as the newest hands the tail on",
+        name: "a waiter that leaves as the newest hands the tail on",
         made: Made::Bound(1),
         places: 4,
         rows: &[

@@ -123,7 +123,7 @@ static CROWDS: [Crowd; 6] = [
     },
 ];
 
-// What a crowd shares: its plan, who is inside the lock, and who sleeps.
+// What a crowd shares: its plan, which owners are inside the lock, and which waiters are parked.
 #[derive(Drop)]
 struct Scene {
     crowd: Crowd,

@@ -134,7 +134,7 @@ fn play_rwlock<R: Wait + AllocGlobal>(rt: &R) -> Result<(OfRwLock, [u64; 2]), Al
     Ok((told, [value, words.main()]))
 }
 
-// What is behind a mutex and a reader-writer lock of nobody, once it was written.
+// What is behind a mutex and a reader-writer lock that no guard holds, once it was written.
 fn nobodys(alloc: Global) -> Result<[u64; 2], AllocError> {
     let (mut mutex, _places) = Mutex::new(alloc, 8u64, 0)?;
     *mutex.get_mut() = 9;
