@@ -1,6 +1,6 @@
 //! Stories as tables: what is called at a core and with its tickets, row by row, and what each call must answer.
 //!
-//! A call that stands in a test's text is proved there anew; one that stands in a row of a table is data, and costs no proof.
+//! A call in a test's text is proved there anew; one in a row of a table is data, and costs no proof.
 
 use saa_core::gate::{Error as GateError, State};
 use saa_core::lock::TryLockError;

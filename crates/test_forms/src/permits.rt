@@ -1,6 +1,6 @@
 //! Permits that give themselves back when they go, and waiters for them.
 //!
-//! What is called stands in tables, row by row: a call in a test's text is proved there anew, and one in a row costs no proof.
+//! What is called is in tables, row by row: a call in a test's text is proved there anew, and one in a row costs no proof.
 
 use crate::permits::Call::{
     Acquire, Cancel, Forget, Left, LetGo, Poll, Register, Release, TryAcquire,

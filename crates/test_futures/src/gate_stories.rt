@@ -48,7 +48,7 @@ pub(crate) enum GateCall {
     EnterWith,
     // By a call, whose callback answers all waiters, its own task among them.
     EnterBy(Move),
-    // The waiter is answered, and nobody woken.
+    // The waiter is answered, and no task is woken.
     AnswerUntold,
     // A pager is registered, as sync or as async.
     Register(Who, bool),

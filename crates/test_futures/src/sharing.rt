@@ -19,7 +19,7 @@ const ROUNDS: u64 = 200;
 
 const MEETINGS: u64 = 3 * ROUNDS;
 
-// The lock, what its sharers meet at, and how many share it by what they say; how often somebody had it alone, in a plain counter, and
+// The lock, what its sharers meet at, and how many share it by what they say; how often one owner had it alone, in a plain counter, and
 // led a meeting.
 #[derive(Drop)]
 struct Sharing<R: Wait + Drop> {
@@ -87,7 +87,7 @@ fn share<H: Wait + RandomSource + AllocGlobal, R: Wait + Drop>(
     is_granted && sharing.lock.release_share() && are_all_inside
 }
 
-// Has the lock alone, and adds 1 to a plain counter; whether nobody shares it then.
+// Takes the lock alone, and adds 1 to a plain counter; whether there is no sharer then.
 fn own<H: Wait + RandomSource + AllocGlobal, R: Wait + Drop>(
     rt: &H,
     sharing: &Sharing<R>,

@@ -1,6 +1,6 @@
 //! Stories of futures and pagers as tables: what is called at a form, row by row, and what each call must tell.
 //!
-//! A call that stands in a test's text is proved there anew; one that stands in a row of a table is data, and costs no proof.
+//! A call in a test's text is proved there anew; one in a row of a table is data, and costs no proof.
 
 use crate::{barrier_stories, gate_stories, polled};
 use futures::executor::block_on;

@@ -10,7 +10,7 @@ use saa_sync::gate::Gate;
 use saa_sync::testing::call_untold;
 use std::sync::Wait;
 
-// Answers the waiter, and takes the wake that is pending for that, but wakes nobody: the waker stays where it is.
+// Answers the waiter, and takes the wake that is pending for that, but wakes no task: the waker stays where it is.
 pub(crate) fn answer_untold<R: Wait + Drop>(gate: &Gate<R>) -> bool {
     call_untold(
         gate,

@@ -1,6 +1,6 @@
 //! Tests of the mutex, the reader-writer lock, their guards and their futures.
 //!
-//! What a guard shows of its value is proved; `pair` stands here for a user's type whose invariant matters. That a guard
+//! What a guard shows of its value is proved; `pair` is like a user's type whose invariant matters. That a guard
 //! has the lock's turn, keeps the others out meanwhile, and gives the turn to the oldest waiter is shown by tests.
 //!
 //! Each is run on the threaded lock and on the lock-free one, by code that is written for any lock. What one thread can see is told in tables of

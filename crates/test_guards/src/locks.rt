@@ -1,4 +1,4 @@
-//! A mutex and a reader-writer lock round a number each, every way to ask for a guard of theirs, and what is had of it. They stand on any lock: the
+//! A mutex and a reader-writer lock round a number each, every way to ask for a guard of theirs, and what it tells. They are over any lock: the
 //! threaded one, or the lock-free one.
 
 use futures::task::Poll;
@@ -101,7 +101,7 @@ impl<L: RawLockAsync + RawLockUntil + Drop> Locks<L> {
         }
     }
 
-    // The guard, if it is had at once.
+    // The guard, if it is granted at once.
     pub(crate) fn attempt(&self, way: Way) -> Given<'_, L> {
         Some(Ok(match way {
             Way::Lock => Held::Mutex(self.mutex.try_lock()?),

@@ -37,7 +37,7 @@ const WRITTEN: [Row; 5] = [
     (One, Tries(Lock, Some(Ok(1)))),
 ];
 
-// It is had, nobody may wait for it, nobody gets it at once, and no task may wait.
+// It is locked: no thread may wait for it, no try is granted, and no task may wait.
 const NO_ROOM: [Row; 4] = [
     (One, Waits(Lock, Some(Ok(5)))),
     (Two, Waits(Lock, FULL)),

@@ -94,7 +94,7 @@ mod tests {
     use std::sync::Wait;
     use test_asserts::same;
 
-    // What stands behind a lock of either kind, and what does once another number is written there with no guard.
+    // The value behind a lock of either kind, and the value once another number is written there with no guard.
     fn renewed<L: RawLock + Drop, K>(mut guarded: Guarded<L, u64, K>) -> [u64; 2] {
         let first = *guarded.get_mut();
         *guarded.get_mut() = 6;

@@ -44,13 +44,13 @@ const SHARED: [Row; 17] = [
     (Two, Shows(0)),
     (One, Ends),
     (Two, Ends),
-    // Two get shares, and nobody writes meanwhile.
+    // Two get shares, and no writer is granted the lock meanwhile.
     (One, Waits(Read, Some(Ok(0)))),
     (Two, Tries(Read, Some(Ok(0)))),
     (Three, Tries(Write, None)),
     (One, Ends),
     (Two, Ends),
-    // Nobody reads and nobody writes beside a writer.
+    // Beside a writer neither a reader nor another writer is granted the lock.
     (One, Waits(Write, Some(Ok(0)))),
     (One, Puts(1)),
     (Two, Tries(Read, None)),
@@ -72,7 +72,7 @@ const NO_ROOM: [Row; 8] = [
     (Two, Waits(Read, FULL)),
 ];
 
-// No more shares may be had, and nobody may wait for one.
+// No more shares are granted, and there is no room to wait for one.
 const SHARED_BY_ALL: [Row; 6] = [
     (Crowd, Tries(Read, Some(Ok(9)))),
     (One, Tries(Read, None)),
@@ -87,7 +87,7 @@ const LOWERED: [Row; 12] = [
     (One, Puts(1)),
     (One, Lowers),
     (One, Shows(1)),
-    // Another reader sees it too, and nobody writes meanwhile.
+    // Another reader sees it too, and no writer is granted the lock meanwhile.
     (Two, Tries(Read, Some(Ok(1)))),
     (Two, Ends),
     (Three, Tries(Write, None)),

@@ -1,6 +1,6 @@
 //! Stories of both locks as tables: what each task does, row by row, and what it must be told.
 //!
-//! A call that stands in a test's text is proved there anew; one that stands in a row of a table is data, and costs no proof.
+//! A call in a test's text is proved there anew; one in a row of a table is data, and costs no proof.
 
 use crate::locks::{Asked, Given, Held, Locks, Poisoned, Way};
 use crate::{mutexes, poisoned, rooms, rwlocks, tasks};
@@ -22,7 +22,7 @@ pub(crate) type Told = Option<Result<u64, Full>>;
 // Nobody may wait any more.
 pub(crate) const FULL: Told = Some(Err(Full));
 
-// A number that nobody writes: there is no future to poll.
+// A number that no writer writes: there is no future to poll.
 const NOTHING: u64 = u64::MAX;
 
 // What a task does, and what it is told. A guard that it is given stays with it.
@@ -46,7 +46,7 @@ pub(crate) enum Act {
     Leaves,
 }
 
-// Who does it: one task, or each of the story's crowd in turn.
+// Which task does it: one, or each of the story's crowd in turn.
 #[derive(Clone, Copy)]
 pub(crate) enum Who {
     One,
@@ -65,7 +65,7 @@ pub(crate) type Row = (Who, Act);
 // What happens at two new locks.
 pub(crate) struct Story {
     pub(crate) name: &'static str,
-    // The number that stands behind each lock at first, for how many waiters it has room, and how many the crowd are.
+    // The number that is behind each lock at first, for how many waiters it has room, and how many the crowd are.
     pub(crate) number: u64,
     pub(crate) room: u16,
     pub(crate) crowd: u16,

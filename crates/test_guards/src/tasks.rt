@@ -58,7 +58,7 @@ const IN_ORDER: [Row; 17] = [
     (Two, IsWoken(false)),
     (Three, IsWoken(false)),
     (One, Ends),
-    // It is the oldest waiter's, and nobody else has it before that one.
+    // It is granted to the oldest waiter, and to no other before that one.
     (Two, IsWoken(true)),
     (Three, IsWoken(false)),
     (Four, Tries(Lock, None)),
@@ -74,7 +74,7 @@ const IN_ORDER: [Row; 17] = [
 const READER_BEHIND_A_WRITER: [Row; 15] = [
     (One, Waits(Read, Some(Ok(0)))),
     (Two, Asks(Write, None)),
-    // Behind the writer that waits nobody reads beside the first.
+    // Behind the writer that waits no reader is granted a share beside the first.
     (Four, Tries(Read, None)),
     (Three, Asks(Read, None)),
     (Four, Waits(Read, FULL)),

@@ -1,4 +1,4 @@
-//! Odd counts and sizes, at every call that takes one: above the bound nothing is had, asked for or given back, nothing is
+//! Odd counts and sizes, at every call that takes one: above the bound nothing is granted, asked for or given back, nothing is
 //! changed, and what is made is cut to the bound.
 
 ghost use Rattle.std.specs.Prelude.{◌<◌};
@@ -256,7 +256,7 @@ fn waits_for_a_permit<R: Wait + Drop>(semaphore: &Semaphore<R>) -> bool {
     semaphore.register_pager(&mut pager, 1, true).is_ok()
 }
 
-// Whether a lock is had, and a pager may wait for a share.
+// Whether a lock is granted, and a pager may wait for a share.
 fn waits_for_a_share<R: Wait + Drop>(lock: &Lock<R>) -> (bool, bool) {
     let is_had = lock.try_lock().is_ok();
     let mut pager = Pager::new();
@@ -276,7 +276,7 @@ fn waits_to_meet<R: Wait + Drop>(barrier: &Barrier<R>) -> bool {
     barrier.register_pager(&mut pager, true).is_ok()
 }
 
-// Whether there is room to wait at a semaphore, at a lock, which is had, at a gate, and at a barrier.
+// Whether there is room to wait at a semaphore, at a lock, which has an owner, at a gate, and at a barrier.
 fn of_permits(rt: &impl Wait, alloc: Global, room: u16) -> Result<bool, AllocError> {
     Ok(waits_for_a_permit(&Semaphore::with_permits(rt, alloc, 0, room)?))
 }

@@ -57,7 +57,7 @@ impl Crowd {
         }
     }
 
-    /// Takes what is available while nobody waits.
+    /// Takes what is available while there is no waiter.
     pub fn take(&mut self, count: usize) -> bool {
         let is_taken = self.line.is_empty() && count <= self.available;
         if is_taken {

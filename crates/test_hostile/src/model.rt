@@ -12,7 +12,7 @@ const OWNERS: usize = 62;
 pub enum Held {
     /// A semaphore: so many permits are out, of so many.
     Out { out: usize, bound: usize },
-    /// A lock that is nobody's.
+    /// A lock that has no owner.
     Free,
     /// A lock of one owner alone.
     Owned,
@@ -143,7 +143,7 @@ impl Model {
         }
     }
 
-    /// Takes what fits while nobody waits.
+    /// Takes what fits while there is no waiter.
     pub fn take(&mut self, need: Need) -> bool {
         match self.granted(need) {
             Some(held) if self.oldest.is_none() => {
@@ -154,7 +154,7 @@ impl Model {
         }
     }
 
-    /// Gives back what is out, and serves the oldest who then fit.
+    /// Gives back what is out, and grants the oldest waiters while they fit.
     pub fn give_back(&mut self, need: Need) -> bool {
         if let Need::Permits(0) = need {
             return true;

@@ -1,4 +1,4 @@
-//! Tickets and drops where nobody should put them: worked rows.
+//! Tickets and drops where they don't belong: worked rows.
 
 use saa::barrier::{BarrierAnswer, BarrierCall, BarrierCore};
 use saa::bench::{Command, CommandOf, Primitive, Reply, ReplyOf};

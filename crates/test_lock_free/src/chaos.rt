@@ -1,6 +1,6 @@
 //! Chaos: threads that take in every way, go in, and give back, while pagers are dropped, unanswered and granted.
 //!
-//! Each ends by itself. Never more is out than there is; in the end all is back that was taken, nobody waits, and each place is free again.
+//! Each ends by itself. Never more is out than there is; in the end all is back that was taken, there is no waiter, and each place is free again.
 
 use crate::calls::Call::*;
 use crate::calls::{Ask, Call};
@@ -315,7 +315,7 @@ where
 // there is room.
 type Left = (usize, usize, bool, bool, usize);
 
-// What is left of all that this call takes, at a form at which nobody waits.
+// What is left of all that this call takes, at a form with no waiter.
 fn left<S, T>(alloc: Global, form: &S, tally: &Tally, take_all: Call) -> Result<Left, AllocError>
 where
     S: AnyForm + Pages<T>,

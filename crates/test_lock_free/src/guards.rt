@@ -39,7 +39,7 @@ fn of_rw_lock<R: Wait + Clock + Drop>(lock: &RwLock<R, u64>, soon: Instant) -> [
     ]
 }
 
-// What the calls of a mutex are told while nobody has it, while it is held, and once it isn't.
+// What the calls of a mutex are told while it is free, while it is locked, and once it is free again.
 fn mutex_in_time<H: Wait + Clock + AllocGlobal>(rt: &H, room: u16) -> io::Result<[[Told; 2]; 3]> {
     let mutex: Mutex<&H, u64> = Mutex::new(rt, rt.alloc(), 7, room)?;
     let free = of_mutex(&mutex, in_millis(rt, SOON)?);

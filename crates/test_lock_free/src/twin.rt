@@ -221,7 +221,7 @@ impl<'s, R: Wait + Drop> Turns<'s, R> {
     }
 }
 
-// All modes; and those that are asked for at once where they can be had, so that room means the same to both.
+// All modes; and those that are asked for at once where they can be granted, so that room means the same to both.
 const MODES: [Mode; 4] = [
     Mode::Exclusive,
     Mode::Shared,

@@ -53,7 +53,7 @@ impl<'r, R: Wait> Forms<'r, R> {
         }
     }
 
-    /// Lets it go, so that it is had by the task that waits; whether that told what it must.
+    /// Lets it go, so that the task that waits is granted it; whether that told what it must.
     pub fn let_go(&self, what: What, held: Held<'_, 'r, R>) -> bool {
         match (held, what) {
             (Held::Mutex(mut guard), _) => {

@@ -71,7 +71,7 @@ static ROWS: [(&str, What); 19] = [
 
 /// Makes each, and prints a line for each.
 ///
-/// The value that guards stand round is dropped where nothing is made, and with what is made: one owner is left.
+/// The value behind a lock is dropped where nothing is made, and with what is made: one owner is left.
 pub fn rows<R: Runtime + Wait>(rt: &R, alloc: Global) -> io::Result<()> {
     let (value, came) = anew!(Arc::new(alloc, 5u32));
     row(rt, "a value with several owners", came)?;

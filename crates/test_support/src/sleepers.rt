@@ -1,6 +1,6 @@
 //! Sleepers: tasks that surely sleep, and each kind of call that answers them.
 //!
-//! This is for tests, over any form whose waiters can stand like this: one ahead that must wait, others behind that are
+//! This is for tests, over any form whose waiters can be queued like this: one ahead that must wait, others behind that are
 //! answered as soon as the one ahead is answered or gone, and one between them and the last, as a wall, that isn't.
 //! A test goes on only once all its waiters sleep, and ends only if all that a call answers wake.
 
@@ -12,7 +12,7 @@ use std::sync::atomic::{AtomicU64, Ordering};
 use std::thread;
 use std::thread::{Scope, Threads, yield_now};
 
-/// Where a waiter stands.
+/// Where a waiter is in the queue.
 #[derive(Clone, Copy)]
 pub enum Place {
     /// It asks what isn't granted while nothing is available, and what each answering call makes available once.

@@ -1,4 +1,4 @@
-//! Rounds of eight threads at a barrier: early arrivals of the next round meet those who haven't left the last one.
+//! Rounds of eight threads at a barrier: early arrivals of the next round meet threads that haven't left the last one.
 
 use crate::crowds::{Crowd, gathered};
 use saa_sync::barrier::Barrier;
@@ -8,7 +8,7 @@ use std::sync::atomic::{AtomicU64, Ordering};
 use std::thread::Threads;
 use test_asserts::same;
 
-// How often threads meet.
+// How many rounds there are.
 const ROUNDS: u64 = 4;
 
 // Threads that meet at a barrier, and what they are told.

@@ -1,6 +1,6 @@
 //! Chaos: threads that enter a gate again, round after round, while all are let in, rejected, opened for, sealed out and left by others.
 //!
-//! It ends by itself. In the end nobody waits, and each slot is free again. `test_lock_free` has the same of the semaphore and the lock, at
+//! It ends by itself. In the end there is no waiter, and each slot is free again. `test_lock_free` has the same of the semaphore and the lock, at
 //! both forms of each.
 
 use crate::crowds::{Crowd, gathered};
@@ -21,7 +21,7 @@ const ROUNDS: u64 = 400;
 
 const ROOM: u16 = 6;
 
-// The gate, and how often it was said of somebody that it is let in, or kept out, and how often somebody was told so.
+// The gate, how often a call told that a waiter is let in, or kept out, and how often a waiter was told so.
 #[derive(Drop)]
 struct Passings<R: Wait + Drop> {
     gate: Gate<R>,
@@ -136,7 +136,7 @@ impl<R: Wait + Clock + Drop + Sync> Crowd for Passings<R> {
         add(&self.ended, 1);
     }
 
-    // Goes on until all have ended, so that nobody waits for ever.
+    // Goes on until all have ended, so that no thread waits for ever.
     fn leads(&self, started: u64) {
         for turn in 0..u64::MAX {
             if self.ended.load(Ordering::SeqCst) >= started {
@@ -165,7 +165,7 @@ fn room_of<R: Wait + Drop>(alloc: Global, gate: &Gate<R>) -> Result<u64, AllocEr
 // was told, and nobody waits.
 type Left = ([u64; 3], bool);
 
-// What is left, once the gate is controlled again, where nobody waits.
+// What is left, once the gate is controlled again, with no waiter.
 fn left<H: Wait + Clock + Threads + Sync + AllocGlobal>(rt: &H) -> Result<Left, AllocError> {
     let crowd = Passings {
         gate: Gate::new(rt, rt.alloc(), ROOM)?,

@@ -1,4 +1,4 @@
-//! What cores print in states in which `test_core::printed` has none: a gate that isn't controlled, and a lock that nobody shares.
+//! What cores print in states in which `test_core::printed` has none: a gate that isn't controlled, and a lock that isn't shared.
 
 use saa_core::gate::GateCore;
 use saa_core::lock::LockCore;

@@ -1,7 +1,7 @@
 //! Each call that ends in time, by a duration and by an instant: granted by another thread that finds it asleep, too late no earlier than
 //! its time, and answered at once.
 //!
-//! What is particular to a call stands in its row of `table`. A call that never comes back, or never sleeps, is ended by the thread beside
+//! What is particular to a call is in its row of `table`. A call that never comes back, or never parks, is ended by the thread beside
 //! it, which waits half a minute for it at most and then lets it go on, so that the test fails and ends.
 
 use crate::clock::OnClock;

@@ -1,7 +1,7 @@
 //! Guards that are waited for in time: had at once, late no earlier and no later than told, refused at once where there is no room, and had
 //! again once the holder goes; at locks that are poisoned too, as no program can make them.
 //!
-//! That such a call is granted while it is parked stands in `test_guards::blocks`, and the same of the lock-free lock in
+//! That such a call is granted while it is parked is shown by `test_guards::threads`, and the same of the lock-free lock in
 //! `test_lock_free::guards`.
 
 use crate::clock::OnClock;
@@ -113,7 +113,7 @@ fn lock_of<R: Wait + Drop>(
     form_of(clock, alloc, core, room, NONE, NONE)
 }
 
-// What the calls of a mutex tell while nobody has it, while it is held, and once it isn't.
+// What the calls of a mutex tell while it is free, while it is locked, and once it is free again.
 fn mutex_in_time<H: Wait + Clock + Drop + AllocGlobal>(
     rt: &H,
     room: u16,

@@ -1,6 +1,6 @@
 //! Stories of the forms on one clock as tables: what each of up to three threads does, row by row, and what it must be told.
 //!
-//! A call that stands in a test's text is proved there anew; one that stands in a row of a table is data, and costs no proof.
+//! A call in a test's text is proved there anew; one in a row of a table is data, and costs no proof.
 
 use crate::clock::OnClock;
 use crate::forms::{Form, Forms, Made, OnePermit, Permits, Span, Time, behind, forms_of};
@@ -45,7 +45,7 @@ pub(crate) enum Kind {
 pub(crate) enum Ask {
     Acquire(Result<Option<()>, Full>),
     AcquireMany(usize, Result<Option<bool>, Full>),
-    // A permit that is had stays with the thread.
+    // A permit that was taken stays with the thread.
     Permit(Result<bool, Full>),
     Lock(Result<Option<bool>, Full>),
     Share(Result<Option<bool>, Full>),
@@ -266,7 +266,7 @@ fn at_semaphore<R: Wait + Drop, C: Wait + Clock + Drop>(
         Act::ReleaseMany(count) => semaphore.release_many(count),
         Act::Available(count) => semaphore.available_permits(Ordering::SeqCst) == count,
         Act::AcquireLate => semaphore.acquire_sync_with(|| clock.set(LATE)).is_ok(),
-        // It wakes nobody.
+        // It wakes no waiter.
         Act::ReleaseLate => call_untold(semaphore, |core| {
             clock.set(LATE);
             core.release()

@@ -1,6 +1,6 @@
 //! Worked schedules of the machine, move by move, and what no contract says: that a machine can be made.
 //!
-//! A move that stands in a test's text is proved there anew; one that stands in a row of a table is data, and costs no proof.
+//! A move in a test's text is proved there anew; one in a row of a table is data, and costs no proof.
 
 ghost use Rattle.std.specs.Prelude.{◌<◌};
 

@@ -11,7 +11,7 @@ use test_asserts::same;
 
 const TURNS: u32 = 2000;
 
-// Takes and gives so often, and counts how often somebody else had the same number.
+// Takes and gives so often, and counts how often another thread had the same number.
 fn take_turns<R: Wait>(rt: &R, pool: &Numbers, in_use: &[AtomicBool]) -> u32 {
     let mut clashes = 0u32;
     for _turn in 0..TURNS {

@@ -111,7 +111,7 @@ enum Told {
 
 const YES: Told = Told::Is(true);
 
-// A share that nobody waits for is given back; or one whose waiter is answered, and its task woken.
+// A share that has no waiter is given back; or one whose waiter is answered, and its task woken.
 const GIVEN: Told = Told::Gave(true, [0, 0]);
 
 const ANSWERED: Told = Told::Gave(true, [3, 0]);

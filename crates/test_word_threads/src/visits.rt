@@ -124,7 +124,7 @@ fn calls_of_a_semaphore_by_one_visitor(rt: HostRuntime) {
     same!(rt; kept_story(&rt).ok(), Some(([true, false, true, true], 29, 34)));
 }
 
-// Adds 1 in two steps that nobody else must come between.
+// Adds 1 in two steps; no other thread may come between them.
 fn add_one(count: &AtomicU64) {
     let before = count.load(Ordering::SeqCst);
     count.store(before.wrapping_add(1), Ordering::SeqCst);

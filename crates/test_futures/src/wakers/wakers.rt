@@ -1,4 +1,4 @@
-//! Wakers go out with the lock free: a wake lasts until another thread has taken the lock many times.
+//! Wakers go out with the mutex free: a wake lasts until another thread has locked the mutex many times.
 
 use crate::polled;
 use crate::stories::Told;
@@ -23,7 +23,7 @@ use std::{io, thread};
 // As many bytes as a pipe takes before a write waits.
 const PIPE: usize = 65_536;
 
-// How often the lock is taken before somebody reads.
+// How often the mutex is locked before the other thread reads.
 const TURNS: u32 = 2_000;
 
 // A task whose wake writes to a pipe, and both ends of that.
@@ -58,7 +58,7 @@ impl Slow {
         matches!(polled, Polled::Ready(_))
     }
 
-    // Fills the pipe, so that a wake lasts until somebody reads. What the task's making wrote is read first.
+    // Fills the pipe, so that a wake lasts until the other thread reads. What the task's making wrote is read first.
     fn fill(&mut self) -> io::Result<()> {
         let mut first = [0u8; 8];
         let _read = self.reader.read(&mut first)?;
@@ -90,7 +90,7 @@ fn lock_then_read<R: Wait + Drop>(
     end.read(&mut bytes).is_ok()
 }
 
-// What brings the waker of a slow task out of a gate: it goes out with the lock free, and so its wake lasts until somebody reads from the
+// What brings the waker of a slow task out of a gate: it goes out with the mutex free, and so its wake lasts until the other thread reads from the
 // pipe.
 #[derive(Clone, Copy, PartialEq)]
 pub(crate) enum Out {

@@ -1,4 +1,4 @@
-//! What a call that waits for nobody costs: one turn at the mutex, and so does a guard or a permit that goes. A try that isn't granted doesn't
+//! What a call that needn't wait costs: one turn at the mutex, and so does the drop of a guard or a permit. A try that isn't granted doesn't
 //! look either, at forms whose calls do.
 
 use crate::patience::seen::{FEW, lock_of};

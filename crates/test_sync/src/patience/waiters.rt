@@ -151,7 +151,7 @@ const LOOKS_ON: SpinPolicy = SpinPolicy {
 // How often an owner gives way to a call that rests.
 const TURNS: u32 = 20_000;
 
-// Gives way until a count is so large, and a while more, and lets in the call; whether it had come, whether nobody was parked all the
+// Gives way until a count is so large, and a while more, and lets in the call; whether it had come, whether none was parked all the
 // while, and whether it was let in.
 fn let_in<R: Wait + Drop>(lock: &Lock<R>, what: What, least: u64) -> [bool; 3] {
     let has_come = await_least(lock, what, least);

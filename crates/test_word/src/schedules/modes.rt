@@ -156,7 +156,7 @@ pub static STORIES: [Story; 6] = [
             Called(2, WordCall::TryPoll, TAKEN, 2),
         ],
     },
-    // Downgrades by place 0 where nobody waits, of one owner and else. A start of it is never done at once.
+    // Downgrades by place 0 with no waiter, of one owner and else. A start of it is never done at once.
     Story {
         name: "only one owner is downgraded",
         made: Made::Lock,

@@ -8,7 +8,7 @@ pub const SHARED: u64 = 1;
 /// What an owner inside counts as, beside the sharers.
 pub const ALONE: u64 = 1 << 32;
 
-/// Who is inside, two numbers that are equal wherever nobody writes, and how often something wasn't as it has to be.
+/// Which owners are inside, two numbers that are equal while no owner writes, and how often something wasn't as it has to be.
 #[derive(Drop)]
 pub struct Inside {
     count: AtomicU64,
@@ -35,7 +35,7 @@ impl Inside {
         }
     }
 
-    /// Comes in: nobody else is inside where it comes alone, and nobody is alone where it shares.
+    /// Comes in: no other owner is inside where it comes alone, and none is alone where it shares.
     pub fn enter(&self, who: u64) {
         let before = self.count.fetch_add(who, Ordering::SeqCst);
         self.check(if who == ALONE {
@@ -45,7 +45,7 @@ impl Inside {
         });
     }
 
-    /// Goes, or only shares from now on: it was alone where it came alone, and nobody is where it shared.
+    /// Goes, or only shares from now on: it was alone where it came alone, and none is where it shared.
     pub fn leave(&self, who: u64, becomes: u64) {
         let before = self
             .count
@@ -66,7 +66,7 @@ impl Inside {
         self.check(left == right);
     }
 
-    /// Reads: nobody writes meanwhile.
+    /// Reads: no owner writes meanwhile.
     pub fn read(&self) {
         let left = self.left.load(Ordering::SeqCst);
         self.check(self.right.load(Ordering::SeqCst) == left);
