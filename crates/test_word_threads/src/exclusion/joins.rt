@@ -1,7 +1,8 @@
-//! A call for a guard joins the waiters: it parks behind an owner, and once that is gone it has its turn before a later try. A writer that parks
-//! isn't let in where the owner only shares the lock from then on.
+//! A call for a guard joins the queue: it parks while the lock has an owner, and is woken and granted the lock, before a later try, where the
+//! owner gives it back or drops its guard. A writer that parks isn't granted the lock where the owner only downgrades to a share.
 //!
-//! A call that only tries again and again never parks, and the test never ends. The owner and the later try have no place.
+//! A call that only tries again and again never parks, and the test never ends; nor does it where a waiter isn't woken. The later tries have no
+//! place, and neither has the owner, but for that of the mutex, which has a guard.
 
 use saa_word_forms::mutex::{Mutex, MutexWorker};
 use saa_word_forms::rw_lock::{RwLock, RwLockWorker};
@@ -22,7 +23,7 @@ const WAITER: u16 = 1;
 enum Owning {
     GivesShare,
     GivesLock,
-    // It has the lock, shares it from then on, and gives the share back.
+    // It has the lock, downgrades to a share, and gives that back.
     Lowers,
 }
 
@@ -50,19 +51,53 @@ fn give(rt: &impl Wait, lock: &Lock, owning: Owning) -> bool {
     }
 }
 
-// Gives back what the owner has once the waiter parks, and tells whether it is given back, and whether tries for a share and for the lock are granted then.
-fn give_beside(rt: &impl Wait, lock: &Lock, is_tried: &AtomicBool, owning: Owning) -> [bool; 3] {
+// Waits until the waiter is parked.
+fn await_parked(rt: &impl Wait, lock: &Lock) {
     for _turn in rt.forever() {
         if is_parked(lock, WAITER) {
-            break;
+            return;
         }
         yield_now();
     }
-    let is_given = give(rt, lock, owning);
+}
+
+// Tries for a share and for the lock, behind the owner; whether these are granted.
+fn tries(rt: &impl Wait, lock: &Lock, is_tried: &AtomicBool) -> [bool; 2] {
     let shares = lock.try_share_once(rt).0.is_ok() && lock.release_share_once(rt).0;
     let locks = lock.try_lock_once(rt).0.is_ok() && lock.release_lock_once(rt).0;
     is_tried.store(true, Ordering::SeqCst);
+    [shares, locks]
+}
+
+// Gives back what the owner has once the waiter is parked; whether it is given back, and later tries for a share and for the lock are granted.
+fn give_beside(rt: &impl Wait, lock: &Lock, is_tried: &AtomicBool, owning: Owning) -> [bool; 3] {
+    await_parked(rt, lock);
+    let is_given = give(rt, lock, owning);
+    let [shares, locks] = tries(rt, lock, is_tried);
     [is_given, shares, locks]
+}
+
+// Takes the mutex, and drops the guard once the waiter is parked; whether later tries for a share and for the lock are granted.
+fn own_mutex(
+    rt: &impl Wait,
+    lock: &Lock,
+    is_tried: &AtomicBool,
+    mut owner: MutexWorker<'_, u64>,
+) -> [bool; 2] {
+    let guard = owner.lock(rt);
+    await_parked(rt, lock);
+    drop(guard);
+    tries(rt, lock, is_tried)
+}
+
+// Waits until the lock has an owner.
+fn await_owned(rt: &impl Wait, lock: &Lock) {
+    for _turn in rt.forever() {
+        if lock.is_locked_once().0 {
+            return;
+        }
+        yield_now();
+    }
 }
 
 // Waits until the later tries were made.
@@ -75,8 +110,14 @@ fn await_tried(rt: &impl Wait, is_tried: &AtomicBool) {
     }
 }
 
-// Takes the mutex behind its owner, and keeps it until the later tries were made.
-fn wait_for_mutex(rt: &impl Wait, is_tried: &AtomicBool, mut waiter: MutexWorker<'_, u64>) {
+// Waits for the mutex once it has an owner, and keeps it until the later tries were made.
+fn wait_for_mutex(
+    rt: &impl Wait,
+    lock: &Lock,
+    is_tried: &AtomicBool,
+    mut waiter: MutexWorker<'_, u64>,
+) {
+    await_owned(rt, lock);
     let guard = waiter.lock(rt);
     await_tried(rt, is_tried);
     drop(guard);
@@ -103,26 +144,25 @@ fn wait_for_rwlock(
     }
 }
 
-// What is told of a waiter at a new mutex, and whether a try is granted in the end.
+// Whether later tries are granted beside a waiter of a new mutex whose owner drops its guard, and whether one is in the end.
 fn told_of_mutex<R: Wait + Threads + Sync + AllocGlobal>(
     rt: &R,
-) -> Result<([bool; 3], bool), AllocError> {
+) -> Result<([bool; 2], bool), AllocError> {
     let (mutex, mut places) = Mutex::new(rt.alloc(), 5u64, 2)?;
-    let Some(second) = places.pop() else {
+    let (Some(second), Some(first)) = (places.pop(), places.pop()) else {
         unreachable!()
     };
-    let (waiter, lock) = (mutex.worker(second), lock_of_mutex(&mutex));
-    let is_tried = AtomicBool::new(false);
-    let is_owned = own(rt, lock, Owning::GivesLock);
+    let (owner, waiter) = (mutex.worker(first), mutex.worker(second));
+    let (lock, is_tried) = (lock_of_mutex(&mutex), AtomicBool::new(false));
     let (told, _waited) = thread::join(
         rt,
-        || give_beside(rt, lock, &is_tried, Owning::GivesLock),
-        || wait_for_mutex(rt, &is_tried, waiter),
+        || own_mutex(rt, lock, &is_tried, owner),
+        || wait_for_mutex(rt, lock, &is_tried, waiter),
     );
-    Ok((told, is_owned && own(rt, lock, Owning::GivesLock)))
+    Ok((told, own(rt, lock, Owning::GivesLock)))
 }
 
-// The same at a new reader-writer lock.
+// What is told of a waiter at a new reader-writer lock, and whether a try is granted in the end.
 fn told_of_rwlock<R: Wait + Threads + Sync + AllocGlobal>(
     rt: &R,
     owning: Owning,
@@ -166,7 +206,7 @@ fn first_other<R: Wait + Threads + Sync + AllocGlobal>(
 }
 
 #[test]
-fn a_call_for_a_guard_joins_the_waiters(rt: HostRuntime) {
-    same!(rt; told_of_mutex(&rt).ok(), Some(([true, false, false], true)));
+fn a_call_for_a_guard_joins_the_queue_and_is_woken(rt: HostRuntime) {
+    same!(rt; told_of_mutex(&rt).ok(), Some(([false, false], true)));
     same!(rt; first_other(&rt).ok(), Some(None));
 }
