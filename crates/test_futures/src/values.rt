@@ -1,7 +1,7 @@
 //! Every value that a gate and a barrier can answer, told by a poll of a task, of a pager in each way, by a future, and by a call.
 //!
-//! Where a story speaks of each poll, four pagers ask, all are answered, and each polls in its way: by a try, as sync, as async,
-//! and by a task, which polled once before.
+//! Where a story speaks of each poll, four pagers wait, all are answered, and each polls in its way: by a try, as sync, as async,
+//! and by a task. Two tasks polled once before, and both are woken.
 
 use crate::barrier_stories::{BarrierCall, BarrierStory};
 use crate::gate_stories::{GateCall, GateStory, Move};
@@ -18,9 +18,11 @@ macro_rules! polls_at_a_gate {
             (GateCall::Register(Second, true), Asked(Ok(true))),
             (GateCall::Register(Third, false), Asked(Ok(true))),
             (GateCall::Register(Fourth, false), Asked(Ok(true))),
+            (GateCall::OfPager(Third, Poll(Second)), Passed(None)),
             (GateCall::OfPager(Fourth, Poll(First)), Passed(None)),
             (GateCall::Make($by), $moved),
             (GateCall::IsWoken(First), Is(true)),
+            (GateCall::IsWoken(Second), Is(true)),
             (GateCall::OfPager(First, TryPoll), Passed(Some($answer))),
             (GateCall::OfPager(Second, PollSync), Passed(Some($answer))),
             (GateCall::OfPager(Third, PollAsync), Passed(Some($answer))),
