@@ -59,10 +59,15 @@ pub(crate) enum Call {
     AcquireUntil,
     AcquireManyFor(usize),
     AcquireManyUntil(usize),
+    // The calls that any form has (`saa_core_waits::blocking`), with a registration of their own: one that blocks, and a timed one.
+    AcquireAny(usize),
+    AcquireAnyUntil(usize),
     // Those on another thread, which wait long enough, and are granted by a release.
     GrantedFor(usize),
     GrantedUntil(usize),
     GrantedSync(usize),
+    GrantedAny(usize),
+    GrantedAnyUntil(usize),
     // A timed one for all permits on another thread, whose time is up; behind it a pager is registered for one, which is released.
     LateAhead(Who),
     // A permit that gives itself back, or is forgotten: how many are available meanwhile.

@@ -162,6 +162,8 @@ where
         GrantedSync(count) => (AcquireMany(count), ReleaseMany(count)),
         GrantedFor(count) => (AcquireManyFor(count), ReleaseMany(count)),
         GrantedUntil(count) => (AcquireManyUntil(count), ReleaseMany(count)),
+        GrantedAny(count) => (AcquireAny(count), ReleaseMany(count)),
+        GrantedAnyUntil(count) => (AcquireAnyUntil(count), ReleaseMany(count)),
         LockBeside(true, end) => (LockFor, end.call()),
         LockBeside(false, end) => (TakeLock, end.call()),
         ShareBeside(true, end) => (ShareFor, end.call()),

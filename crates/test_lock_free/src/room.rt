@@ -5,7 +5,9 @@ use crate::calls::{Of, Story};
 use crate::desk::first_other;
 use crate::lock_room;
 use crate::told::Kind::{LockFree, Threaded};
-use crate::told::Told::{Count, Full, Late, No, NotReady, Nothing, Pending, WrongMode, Yes};
+use crate::told::Told::{
+    Count, Full, Late, No, NotReady, NotRegistered, Nothing, Pending, WrongMode, Yes,
+};
 use crate::waits::FutureCall::{LetGo as LetGoFuture, Poll};
 use crate::waits::PagerCall::{Async, Cancel, For, LetGo, Sync, Task, Try as TryPoll, Until};
 use crate::waits::Who::{First, Second, Third};
@@ -28,6 +30,8 @@ static STORIES: [Story; 8] = [
             (Room, Count(1)),
             (AcquireManyUntil(3), Late),
             (Room, Count(1)),
+            (AcquireAnyUntil(3), NotReady),
+            (Room, Count(1)),
             (PermitFor(false), Late),
             (Room, Count(1)),
             (PermitUntil(true), Late),
@@ -44,6 +48,10 @@ static STORIES: [Story; 8] = [
             (GrantedUntil(1), Yes),
             (Room, Count(1)),
             (GrantedSync(2), Yes),
+            (Room, Count(1)),
+            (GrantedAny(2), Count(0)),
+            (Room, Count(1)),
+            (GrantedAnyUntil(2), Count(0)),
             (Room, Count(1)),
             (AcquireWith, Yes),
             (Room, Count(1)),
@@ -68,6 +76,8 @@ static STORIES: [Story; 8] = [
             (AcquireWitnessed(1), Count(0)),
             (AcquireWith, Yes),
             (TakePermit(false), Count(56)),
+            (AcquireAny(1), Count(0)),
+            (AcquireAnyUntil(1), Count(0)),
             (AskOne(First), Nothing),
             (OfOne(First, Poll(First)), Yes),
             (Register(First, 1, true), Yes),
@@ -93,6 +103,8 @@ static STORIES: [Story; 8] = [
             (AcquireWitnessed(2), Full),
             (AcquireFor, Full),
             (AcquireManyUntil(1), Full),
+            (AcquireAny(1), Full),
+            (AcquireAnyUntil(1), Full),
             (AcquireWith, Full),
             (AcquireManyWith(0), Full),
             (OneWith(First), Full),
@@ -113,6 +125,7 @@ static STORIES: [Story; 8] = [
             // Above the bound, where it joins nothing.
             (AcquireMany(64), No),
             (AcquireManyFor(64), No),
+            (AcquireAny(64), NotRegistered),
             (Register(First, 64, true), No),
             (AskMany(First, 64), Nothing),
             (OfMany(First, Poll(First)), No),

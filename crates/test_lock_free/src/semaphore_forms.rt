@@ -5,7 +5,8 @@ use crate::calls::{Ask, Call};
 use crate::forms::{AnyForm, Asks, Pages};
 use crate::told::{Tells, Told};
 use saa_core_spec::request::Full;
-use saa_core_waits::{Acquiring, AcquiringWith, Pager};
+use saa_core_waits::blocking::{acquire, acquire_until};
+use saa_core_waits::{Acquiring, AcquiringWith, Deadline, Pager};
 use saa_sync::future::semaphore as threaded_future;
 use saa_sync::pager::Ticket;
 use saa_sync::semaphore::SemaphoreOf as Threaded;
@@ -26,6 +27,7 @@ impl<R: Wait + Clock + Drop, const MAX: usize> AnyForm for LockFree<R, MAX> {
             Release => self.release().told(),
             Acquire => self.acquire_sync().told(),
             AcquireMany(count) => self.acquire_many_sync(count).told(),
+            AcquireAny(count) => acquire(self, &mut Registration::new(), count).told(),
             Permits => Told::Count(self.available_permits(SeqCst)),
             PermitsWitnessed => Told::Count(usize::from(self.available_permits_witnessed().0)),
             Try(count) => self.try_acquire_many(count).told(),
@@ -51,6 +53,9 @@ impl<R: Wait + Clock + Drop, const MAX: usize> AnyForm for LockFree<R, MAX> {
             AcquireUntil => self.acquire_sync_until(end).told(),
             AcquireManyFor(count) => self.acquire_many_sync_for(count, long).told(),
             AcquireManyUntil(count) => self.acquire_many_sync_until(count, end).told(),
+            AcquireAnyUntil(count) => {
+                acquire_until(self, &mut Registration::new(), count, Deadline::At(end)).told()
+            }
             _ => Told::Nothing,
         }
     }
@@ -149,6 +154,7 @@ impl<R: Wait + Clock + Drop, const MAX: usize> AnyForm for Threaded<R, MAX> {
             Release => self.release().told(),
             Acquire => self.acquire_sync().told(),
             AcquireMany(count) => self.acquire_many_sync(count).told(),
+            AcquireAny(count) => acquire(self, &mut Ticket::new(), count).told(),
             Permits | PermitsWitnessed => Told::Count(self.available_permits(SeqCst)),
             Try(count) | TryWitnessed(count) => self.try_acquire_many(count).told(),
             ReleaseMany(count) | ReleaseWitnessed(count) => self.release_many(count).told(),
@@ -166,6 +172,9 @@ impl<R: Wait + Clock + Drop, const MAX: usize> AnyForm for Threaded<R, MAX> {
             AcquireUntil => self.acquire_sync_until(end).told(),
             AcquireManyFor(count) => self.acquire_many_sync_for(count, long).told(),
             AcquireManyUntil(count) => self.acquire_many_sync_until(count, end).told(),
+            AcquireAnyUntil(count) => {
+                acquire_until(self, &mut Ticket::new(), count, Deadline::At(end)).told()
+            }
             _ => Told::Nothing,
         }
     }

@@ -55,6 +55,13 @@ impl Tells for bool {
     }
 }
 
+// The number of an answer: 0 is a grant.
+impl Tells for u8 {
+    fn told(self) -> Told {
+        Told::Count(usize::from(self))
+    }
+}
+
 impl Tells for Full {
     fn told(self) -> Told {
         Told::Full
