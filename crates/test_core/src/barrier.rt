@@ -187,7 +187,7 @@ static ALL_ARRIVE: [Row; 3] = [
 
 // An answered ticket holds its slot until it takes its answer, and waits no more.
 #[test]
-fn a_core_prints_who_waits_and_not_who_was_answered(rt: HostRuntime) {
+fn a_core_prints_its_waiters_and_not_the_answered(rt: HostRuntime) {
     prints_at(&rt, &TWO_ARRIVE, "BarrierCore { count: 1, waiting: 2 }");
     prints_at(&rt, &ALL_ARRIVE, "BarrierCore { count: 3, waiting: 0 }");
 }

@@ -195,7 +195,7 @@ static A_PERMIT: [Row; 10] = [
 ];
 
 #[test]
-fn a_permit_lets_all_pass_who_wait(rt: HostRuntime) {
+fn a_permit_lets_all_waiters_pass(rt: HostRuntime) {
     tell_at(&rt, 4, &A_PERMIT);
 }
 

@@ -403,7 +403,7 @@ static WORDS: [Row; 14] = [
 ];
 
 #[test]
-fn the_word_shows_the_owners_poison_and_the_newest_who_waits(rt: HostRuntime) {
+fn the_word_shows_the_owners_poison_and_the_newest_waiter(rt: HostRuntime) {
     tell_at(&rt, 1, &WORDS);
 }
 

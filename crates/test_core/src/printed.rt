@@ -72,7 +72,7 @@ fn semaphores_print_permits_and_waiters(rt: HostRuntime) {
 }
 
 #[test]
-fn other_cores_print_who_waits(rt: HostRuntime) {
+fn other_cores_print_their_waiters(rt: HostRuntime) {
     let shared = of_lock(rt.alloc(), 62 + 258);
     same!(rt;
         text(&shared),

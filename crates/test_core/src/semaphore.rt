@@ -206,7 +206,7 @@ static WORDS: [Row; 9] = [
 ];
 
 #[test]
-fn the_word_shows_what_is_out_and_the_newest_who_waits(rt: HostRuntime) {
+fn the_word_shows_what_is_out_and_the_newest_waiter(rt: HostRuntime) {
     tell_at(&rt, 1, &WORDS);
 }
 

@@ -239,7 +239,7 @@ fn left_beside<R: Wait + Drop>(semaphore: &Semaphore<R>, has_ended: &AtomicBool)
 }
 
 // Waits until a waiter is parked, or the other thread has ended; whether the first came first.
-fn somebody_sleeps<R: Wait + Drop>(
+fn a_waiter_parks<R: Wait + Drop>(
     rt: &impl Wait,
     semaphore: &Semaphore<R>,
     has_ended: &AtomicBool,
@@ -260,7 +260,7 @@ fn let_go<R: Wait + Drop>(
     semaphore: &Semaphore<R>,
     has_ended: &AtomicBool,
 ) -> bool {
-    let is_first = somebody_sleeps(rt, semaphore, has_ended);
+    let is_first = a_waiter_parks(rt, semaphore, has_ended);
     drop(permit);
     is_first
 }

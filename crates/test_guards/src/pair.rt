@@ -107,7 +107,7 @@ mod tests {
     }
 
     #[test]
-    fn a_number_that_nobody_else_has(rt: HostRuntime) {
+    fn a_number_of_its_own(rt: HostRuntime) {
         same!(rt; renewed_mutex(&rt), Ok([5, 6]));
     }
 }

@@ -194,7 +194,7 @@ fn future_ends<R: Wait + RandomSource + AllocGlobal, const MAX: usize>(
 }
 
 // A pager and a future that are answered at once.
-fn by_who_asks<R: Wait + RandomSource + AllocGlobal, const MAX: usize>(
+fn by_registrations<R: Wait + RandomSource + AllocGlobal, const MAX: usize>(
     rt: &R,
     alloc: Global,
     count: usize,
@@ -219,7 +219,7 @@ fn wrong_count<R: Wait + RandomSource + AllocGlobal, const MAX: usize>(
         let is_right = at_a_core::<MAX>(alloc, count)?
             && at_a_semaphore::<R, MAX>(rt, alloc, count)?
             && that_may_wait::<R, MAX>(rt, alloc, count)?
-            && by_who_asks::<R, MAX>(rt, alloc, count)?;
+            && by_registrations::<R, MAX>(rt, alloc, count)?;
         if !is_right {
             return Ok(Some(count));
         }

@@ -184,7 +184,7 @@ fn all_wake<F: Sleepers, R: Threads + Wait + Sync>(
     let is_patient = case.patience.looks != 0;
     match wakes {
         Wakes::AtOnce(end) => {
-            a_call_wakes_all_whom_it_answers(rt, form, is_patient, count, case.by, end)
+            a_call_wakes_all_that_it_answers(rt, form, is_patient, count, case.by, end)
         }
         Wakes::InTurn => each_call_wakes_one(rt, form, is_patient, count, case.by),
     }
@@ -193,7 +193,7 @@ fn all_wake<F: Sleepers, R: Threads + Wait + Sync>(
 // So many sleepers behind the one ahead, two more behind a wall, and one end: all of the first wake, and no other.
 //
 // The form is new and of size 0. Without patience it is certain that all sleep when the end comes.
-fn a_call_wakes_all_whom_it_answers<F: Sleepers, R: Threads + Wait + Sync>(
+fn a_call_wakes_all_that_it_answers<F: Sleepers, R: Threads + Wait + Sync>(
     rt: &R,
     form: &F,
     is_patient: bool,

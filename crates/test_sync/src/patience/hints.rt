@@ -84,7 +84,7 @@ fn share_once_let<R: Wait + Drop>(rt: &impl Wait, lock: &Lock<R>, may_come: &Ato
 }
 
 // Whether the obstacle was there and ended, and whether the call had its share then.
-fn seen_by_who_looks<H>(rt: &H, obstacle: Obstacle) -> io::Result<(bool, bool)>
+fn seen_by_a_call_that_looks<H>(rt: &H, obstacle: Obstacle) -> io::Result<(bool, bool)>
 where
     H: Wait + RandomSource + AllocGlobal + Threads + Sync,
 {
@@ -100,11 +100,11 @@ where
 
 // A hint that lags behind one of these has the call look for ever.
 #[test]
-fn who_looks_sees_what_lets_it_in(rt: HostRuntime) -> io::Result<()> {
-    same!(rt; seen_by_who_looks(&rt, Obstacle::Released)?, (true, true));
-    same!(rt; seen_by_who_looks(&rt, Obstacle::Lowered)?, (true, true));
-    same!(rt; seen_by_who_looks(&rt, Obstacle::Poisoned)?, (true, false));
-    same!(rt; seen_by_who_looks(&rt, Obstacle::Cancelled)?, (true, true));
-    same!(rt; seen_by_who_looks(&rt, Obstacle::Dropped)?, (true, true));
+fn a_call_that_looks_sees_what_lets_it_in(rt: HostRuntime) -> io::Result<()> {
+    same!(rt; seen_by_a_call_that_looks(&rt, Obstacle::Released)?, (true, true));
+    same!(rt; seen_by_a_call_that_looks(&rt, Obstacle::Lowered)?, (true, true));
+    same!(rt; seen_by_a_call_that_looks(&rt, Obstacle::Poisoned)?, (true, false));
+    same!(rt; seen_by_a_call_that_looks(&rt, Obstacle::Cancelled)?, (true, true));
+    same!(rt; seen_by_a_call_that_looks(&rt, Obstacle::Dropped)?, (true, true));
     Ok(())
 }

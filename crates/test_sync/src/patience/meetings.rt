@@ -138,7 +138,7 @@ fn take_turns_until_met<R: Wait + Drop>(lock: &Lock<R>) -> bool {
 
 // A call that finds the mutex taken mostly has it at one of its tries, where two threads can meet there: not on one processor.
 #[test]
-fn who_has_rested_has_the_mutex_at_a_later_try(rt: HostRuntime) -> Result<(), Fail> {
+fn a_call_that_rested_has_the_mutex_at_a_later_try(rt: HostRuntime) -> Result<(), Fail> {
     let lock = lock_of(&rt, rt.alloc(), 1, NONE, NONE)?;
     let (one, two) = thread::join(
         &rt,
@@ -190,7 +190,7 @@ where
 }
 
 #[test]
-fn who_looks_neither_waits_for_the_mutex_nor_gives_up_there(rt: HostRuntime) -> Result<(), Fail> {
+fn a_call_that_looks_does_not_wait_for_the_mutex(rt: HostRuntime) -> Result<(), Fail> {
     let seen = (None, true, 13, FEW_RESTS, 1);
     same!(rt; looks_beside_holder(&rt, rt.alloc(), true)?, seen);
     same!(rt; looks_beside_holder(&rt, rt.alloc(), false)?, seen);

@@ -40,7 +40,7 @@ fn take_turns<R: Wait + Drop>(lock: &Lock<R>) -> u64 {
 // Few looks, and no patience of waiters: the end of a call's patience falls anywhere beside a release, and each that joins the queue
 // sleeps at once.
 #[test]
-fn each_who_gives_up_looking_is_woken(rt: HostRuntime) -> Result<(), Fail> {
+fn each_call_that_stops_looking_is_woken(rt: HostRuntime) -> Result<(), Fail> {
     let few = SpinPolicy {
         looks: 20,
         yields: 1,

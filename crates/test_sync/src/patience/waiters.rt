@@ -100,7 +100,7 @@ fn a_waiter_rests_as_its_patience_says_and_parks(rt: HostRuntime) -> Result<(), 
 
 // A call that is granted at once, or has no time, doesn't rest.
 #[test]
-fn who_need_not_wait_does_not_rest(rt: HostRuntime) -> Result<(), Fail> {
+fn a_call_that_need_not_wait_does_not_rest(rt: HostRuntime) -> Result<(), Fail> {
     let lock = lock_of(&rt, rt.alloc(), 1, NONE, FEW)?;
     let end = late(&rt)?;
     for call in &CALLS {
@@ -210,7 +210,7 @@ fn a_waiter_spins_before_it_yields(rt: HostRuntime) -> Result<(), Fail> {
 
 // One that spins stays awake too (above).
 #[test]
-fn who_yields_on_stays_awake(rt: HostRuntime) -> Result<(), Fail> {
+fn a_waiter_that_yields_is_not_parked(rt: HostRuntime) -> Result<(), Fail> {
     for call in [Call::Lock, Call::LockFor] {
         let (_yields, seen, is_granted) = yields_of(
             &rt,

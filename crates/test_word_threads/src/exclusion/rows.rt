@@ -135,7 +135,7 @@ fn play_rwlock<R: Wait + AllocGlobal>(rt: &R) -> Result<(OfRwLock, [u64; 2]), Al
 }
 
 // What is behind a mutex and a reader-writer lock that no guard holds, once it was written.
-fn nobodys(alloc: Global) -> Result<[u64; 2], AllocError> {
+fn unowned(alloc: Global) -> Result<[u64; 2], AllocError> {
     let (mut mutex, _places) = Mutex::new(alloc, 8u64, 0)?;
     *mutex.get_mut() = 9;
     let (mut rwlock, _places) = RwLock::new(alloc, 8u64, 0)?;
@@ -151,5 +151,5 @@ fn guards_show_what_is_written_and_keep_others_out(rt: HostRuntime) {
     let lowered = [None, None, Some(6), Some(6)];
     let shown = (shared, lowered, [Some(6), Some(1)]);
     same!(rt; play_rwlock(&rt).ok(), Some((shown, [6, 0])));
-    same!(rt; nobodys(rt.alloc()).ok(), Some([9, 9]));
+    same!(rt; unowned(rt.alloc()).ok(), Some([9, 9]));
 }
