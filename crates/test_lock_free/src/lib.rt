@@ -24,6 +24,8 @@ mod lock_room;
 #[cfg(test)]
 mod lock_rows;
 #[cfg(test)]
+mod looking;
+#[cfg(test)]
 mod room;
 #[cfg(test)]
 mod rows;
