@@ -67,9 +67,10 @@ module _ {Registration : Type 0} where
     pub known : is_some (at_once old) ≡ true → says_not_registered fault ≡ false
     pub there : is_some (at_once old) ≡ true → is_not_ready fault ≡ false
 
--- A poll is told what a number reads as, or why there is none; one that was answered at once is told its own number
-pub record IsTold {A : Type 0} (at_once : Option ℕ) (reading : Result ℕ Error → A) (fault : A → Option Error) (answer : A) : Type 0 where
+-- A poll is told what a number reads as, or why there is none; a number came as the primitive says. One that was answered at once is told its own number
+pub record IsTold {A : Type 0} (at_once : Option ℕ) (answers : ℕ → Type 0) (reading : Result ℕ Error → A) (fault : A → Option Error) (answer : A) : Type 0 where
   pub number : Result ℕ Error
   pub own : IfSome at_once (λ kept. IfOk number (λ value. value ≡ kept))
+  pub came : IfOk number answers
   pub reads : answer ≡ reading number
   pub error : fault answer ≡ error_of number

@@ -3,10 +3,11 @@
 //! What a poll and a drop do to the form is the form's (`Pends`). Here the callback and the drop are added, once for every form: a form says
 //! how an answer reads, by an `AnswerReader`.
 
-ghost use Rattle.std.specs.Prelude.{◌≡◌, ◌&&◌, ℕ, not, true, false, Option, Some, IfSome};
+ghost use Rattle.std.specs.Prelude.{◌≡◌, ◌&&◌, ℕ, not, true, false, Option, Some, IfErr, IfOk, IfSome};
 ghost use Rattle.std.specs.Borrow.{follows, sem};
 ghost use Rattle.futures.specs.Poll.{IfReady, OnPending};
 ghost use Rattle.futures.specs.Task.{Hears, IsArmed, Keeps};
+ghost use Rattle.saa_core_waits.specs.FutureStates.{IsReadOf};
 
 use crate::waitable::Pends;
 use futures::Future;
@@ -33,8 +34,8 @@ pub trait AnswerReader {
 /// Its output is the answer, or `Full` where it would have to wait and there is no slot for one more waiter. While the answer isn't there
 /// it stays pending, and its task is woken once it is; of several tasks that polled it the last is woken. A poll after
 /// the end asks to be polled again, and changes nothing. Dropping it drops what it is registered for, as a pager's drop
-/// does: a waiter leaves the queue, and what was granted and not told yet is given back. Contracts see what is pending, and the source that
-/// its task waits for.
+/// does: a waiter leaves the queue, and what was granted and not told yet is given back. Contracts see the form, what is pending there, and the source that its task
+/// waits for; its output is one that the form says of that (`gives`).
 pub struct Acquiring<'s, S: Pends, Q> {
     form: &'s S,
     pending: S::Pending,
@@ -44,9 +45,9 @@ pub struct Acquiring<'s, S: Pends, Q> {
 impl<'s, S: Pends, Q> Model for Acquiring<'s, S, Q> {
     ghost use Rattle.saa_core_waits.specs.FutureStates.{FutureState};
 
-    ghost Value = { FutureState S.Pending };
+    ghost Value = { FutureState S S.Pending };
 
-    ghost view = { λ future. record { asking = future.pending; source = S.source future.form.now } };
+    ghost view = { λ future. record { form = future.form.now; asking = future.pending; source = S.source future.form.now } };
 
     ghost invariant = { λ future. S.admits_pending future.form.now future.pending };
 }
@@ -57,6 +58,7 @@ impl<'s, S: Pends, Q: AnswerReader> Acquiring<'s, S, Q> {
     /// The future of what is pending at a form; for the calls of the form.
     pub fn new(form: &'s S, pending: S::Pending) -> Self
         requires { S.admits_pending form.now pending }
+        ensures form { result.form ≡ form.now }
         ensures source { result.source ≡ S.source form.now }
         ensures asking { result.asking ≡ pending }
     {
@@ -93,9 +95,13 @@ impl<'s, S: Pends, Q: AnswerReader> Acquiring<'s, S, Q> {
 
     // One poll for a task, and whether it joined the queue by that.
     fn advance(&mut self, cx: &mut Context<'_>) -> (Poll<Result<Q::Output, Full>>, bool)
+        ensures value { IfReady result.0 (λ output. IfOk output (IsReadOf Q.read (S.answers self.old.form self.old.asking))) }
+        ensures full { IfReady result.0 (λ output. IfErr output (λ full. S.refuses self.old.form)) }
+        ensures same { OnPending result.0 ((answer : Option ℕ) → S.answers self.new.form self.new.asking answer → S.answers self.old.form self.old.asking answer) }
         ensures armed { OnPending result.0 (IsArmed cx.new) }
         ensures heard { OnPending result.0 (Hears cx.new self.old.source) }
         ensures kept { Keeps cx.old cx.new }
+        ensures form { self.new.form ≡ self.old.form }
         ensures source { self.new.source ≡ self.old.source }
         ensures ended { IfReady result.0 (λ answer. S.has_ended self.new.asking ≡ true) }
         ensures after_the_end { S.has_ended self.old.asking ≡ true → self.new.asking ≡ self.old.asking }
@@ -129,6 +135,8 @@ impl<S: Pends, Q: AnswerReader> Future for Acquiring<'_, S, Q> {
 
     ghost needs = { λ future source. source ≡ future.source };
 
+    ghost gives = { λ future output. IfOk output (IsReadOf Q.read (S.answers future.form future.asking)) × IfErr output (λ full. S.refuses future.form) };
+
     fn poll(&mut self, cx: &mut Context<'_>) -> Poll<Result<Q::Output, Full>> {
         let (polled, _has_joined) = self.advance(cx);
         polled
@@ -147,7 +155,7 @@ pub struct AcquiringWith<'s, S: Pends, Q, F: FnOnce() + Drop> {
 impl<'s, S: Pends, Q, F: FnOnce() + Drop> Model for AcquiringWith<'s, S, Q, F> {
     ghost use Rattle.saa_core_waits.specs.FutureStates.{FutureWithState};
 
-    ghost Value = { FutureWithState S.Pending F };
+    ghost Value = { FutureWithState S S.Pending F };
 
     ghost view = { λ future. record { acquiring = future.acquiring; begin_wait = future.begin_wait } };
 }
@@ -209,6 +217,8 @@ impl<S: Pends, Q: AnswerReader, F: FnOnce() + Drop> Future for AcquiringWith<'_,
     ghost can_poll = { λ future. IfSome future.begin_wait (λ begin_wait. F.pre begin_wait) };
 
     ghost needs = { λ future source. source ≡ future.acquiring.source };
+
+    ghost gives = { λ future output. IfOk output (IsReadOf Q.read (S.answers future.acquiring.form future.acquiring.asking)) × IfErr output (λ full. S.refuses future.acquiring.form) };
 
     fn poll(&mut self, cx: &mut Context<'_>) -> Poll<Result<Q::Output, Full>> {
         let (polled, has_joined) = self.acquiring.advance(cx);

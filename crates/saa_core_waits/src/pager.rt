@@ -67,7 +67,7 @@ impl<'s, S: SyncResult<T>, T: Drop> Pager<'s, S, T> {
     /// mode. May wait for the lock.
     pub fn try_poll(&mut self) -> S::Result
         ensures polled { HasPolled S.is_busy S.is_wrong_mode S.at_once Try self.old self.new (S.fault result) }
-        ensures told { IsTold (S.at_once self.old) S.reading S.fault result }
+        ensures told { IsTold (S.at_once self.old) (S.answers self.old) S.reading S.fault result }
     {
         self.poll(How::Try)
     }
@@ -80,7 +80,7 @@ impl<'s, S: SyncResult<T>, T: Drop> Pager<'s, S, T> {
     /// `WrongMode`, nor by `NotReady`.
     pub fn poll_sync(&mut self) -> S::Result
         ensures polled { HasPolled S.is_busy S.is_wrong_mode S.at_once Sync self.old self.new (S.fault result) }
-        ensures told { IsTold (S.at_once self.old) S.reading S.fault result }
+        ensures told { IsTold (S.at_once self.old) (S.answers self.old) S.reading S.fault result }
         ensures waited { is_not_ready (S.fault result) ≡ false }
     {
         self.poll(How::Sync)
@@ -104,7 +104,8 @@ impl<'s, S: SyncResult<T>, T: Drop> Pager<'s, S, T> {
     /// Does nothing where it isn't registered. May wait for the lock. A waiter's drop costs
     /// O(how many wait) at a gate and a barrier.
     pub fn cancel(&mut self)
-        ensures { self.new ≡ S.idle }
+        ensures cancelled { self.new ≡ S.idle }
+        ensures withdrawn { S.is_busy self.old ≡ true → S.withdraws self.old }
     {
         if let Some(primitive) = self.at {
             primitive.cancel(&mut self.registration);
@@ -136,7 +137,7 @@ impl<'s, S: SyncResult<T>, T: Drop> Pager<'s, S, T> {
     /// One poll, in this way; an unregistered pager is answered without its primitive. Its other calls choose the way by their names.
     pub fn poll(&mut self, how: How) -> S::Result
         ensures polled { HasPolled S.is_busy S.is_wrong_mode S.at_once how self.old self.new (S.fault result) }
-        ensures told { IsTold (S.at_once self.old) S.reading S.fault result }
+        ensures told { IsTold (S.at_once self.old) (S.answers self.old) S.reading S.fault result }
         ensures waited { how ≡ Sync → is_not_ready (S.fault result) ≡ false }
     {
         let Some(primitive) = self.at else {
@@ -152,7 +153,7 @@ impl<'s, S: SyncResult<T>, T: Drop> Pager<'s, S, T> {
     // One poll for a task; an unregistered pager is answered without its primitive.
     fn poll_task(&mut self, cx: &mut Context<'_>) -> Poll<S::Result>
         ensures ready { IfReady result (λ answer. HasPolled S.is_busy S.is_wrong_mode S.at_once Async self.old self.new (S.fault answer)) }
-        ensures told { IfReady result (λ answer. IsTold (S.at_once self.old) S.reading S.fault answer) }
+        ensures told { IfReady result (λ answer. IsTold (S.at_once self.old) (S.answers self.old) S.reading S.fault answer) }
         ensures waited { IfReady result (λ answer. is_not_ready (S.fault answer) ≡ false) }
         ensures pending { OnPending result (self.new ≡ self.old) }
         ensures armed { OnPending result (IsArmed cx.new) }
@@ -175,7 +176,7 @@ impl<S: Timed<T>, T: Drop> Pager<'_, S, T> {
     /// `None`: time is up; the pager stays registered, and may be polled again.
     pub fn poll_sync_for(&mut self, duration: Duration) -> Option<S::Result>
         ensures polled { IfSome result (λ answer. HasPolled S.is_busy S.is_wrong_mode S.at_once Sync self.old self.new (S.fault answer)) }
-        ensures told { IfSome result (λ answer. IsTold (S.at_once self.old) S.reading S.fault answer) }
+        ensures told { IfSome result (λ answer. IsTold (S.at_once self.old) (S.answers self.old) S.reading S.fault answer) }
         ensures waited { IfSome result (λ answer. is_not_ready (S.fault answer) ≡ false) }
         ensures late { IsNone result → self.new ≡ self.old }
     {
@@ -188,7 +189,7 @@ impl<S: Timed<T>, T: Drop> Pager<'_, S, T> {
     /// Waits for the answer as [`Self::poll_sync_for`] does, until this instant.
     pub fn poll_sync_until(&mut self, deadline: Instant) -> Option<S::Result>
         ensures polled { IfSome result (λ answer. HasPolled S.is_busy S.is_wrong_mode S.at_once Sync self.old self.new (S.fault answer)) }
-        ensures told { IfSome result (λ answer. IsTold (S.at_once self.old) S.reading S.fault answer) }
+        ensures told { IfSome result (λ answer. IsTold (S.at_once self.old) (S.answers self.old) S.reading S.fault answer) }
         ensures waited { IfSome result (λ answer. is_not_ready (S.fault answer) ≡ false) }
         ensures late { IsNone result → self.new ≡ self.old }
     {
@@ -198,7 +199,7 @@ impl<S: Timed<T>, T: Drop> Pager<'_, S, T> {
     // A poll as sync, which ends in time; an unregistered pager is answered without its primitive.
     fn poll_by(&mut self, deadline: Deadline) -> Option<S::Result>
         ensures polled { IfSome result (λ answer. HasPolled S.is_busy S.is_wrong_mode S.at_once Sync self.old self.new (S.fault answer)) }
-        ensures told { IfSome result (λ answer. IsTold (S.at_once self.old) S.reading S.fault answer) }
+        ensures told { IfSome result (λ answer. IsTold (S.at_once self.old) (S.answers self.old) S.reading S.fault answer) }
         ensures waited { IfSome result (λ answer. is_not_ready (S.fault answer) ≡ false) }
         ensures late { IsNone result → self.new ≡ self.old }
     {
@@ -239,6 +240,10 @@ pub struct PollPager<'p, 's, S: SyncResult<T>, T: Drop> {
 
 impl<'p, 's, S: SyncResult<T>, T: Drop> Future for PollPager<'p, 's, S, T> {
     type Output = S::Result;
+
+    // What a poll as async is told, which isn't `NotReady`.
+    ghost gives = { λ future answer. IsTold (S.at_once future.pager.now) (S.answers future.pager.now) S.reading S.fault answer
+        × (is_not_ready (S.fault answer) ≡ false) × ((left : T) × HasPolled S.is_busy S.is_wrong_mode S.at_once Async future.pager.now left (S.fault answer)) };
 
     fn poll(&mut self, cx: &mut Context<'_>) -> Poll<S::Result> {
         if self.has_ended {

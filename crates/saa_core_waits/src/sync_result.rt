@@ -3,7 +3,7 @@
 //! The type of a registration is a parameter of these traits, and the rest of a form is left out, so that what is generic in a form knows one
 //! associated type of it: of more the toolchain proves no call that hands a pager's future on.
 
-ghost use Rattle.std.specs.Prelude.{◌≡◌, ℕ, Bool, false, Option, None, Some, IfSome, IsNone, Result, Err};
+ghost use Rattle.std.specs.Prelude.{◌≡◌, ℕ, ⊤, Bool, false, Option, None, Some, IfSome, IsNone, Result, Err};
 ghost use Rattle.futures.specs.Poll.{IfReady, OnPending};
 ghost use Rattle.futures.specs.Task.{Hears, IsArmed, Keeps};
 ghost use Rattle.saa_core_spec.specs.declared.polling.Error.{Error};
@@ -51,6 +51,11 @@ pub trait SyncResult<T: Drop>: Sized {
 
     ghost at_once: { T → Option ℕ };
 
+    // How an answer came to be, by what was registered, and how what was registered was withdrawn; anything will do unless a primitive says more.
+    ghost answers: { T → ℕ → Type 0 } = { λ _ _. ⊤ };
+
+    ghost withdraws: { T → Type 0 } = { λ _. ⊤ };
+
     // An idle registration is taken everywhere, is the one that isn't registered, and has no answer.
     ghost admits_idle: { (form : Self) → admits form idle };
 
@@ -95,7 +100,7 @@ pub trait SyncResult<T: Drop>: Sized {
     fn take(&self, registration: &mut T, how: How) -> Self::Result
         requires { admits self.now registration.old }
         ensures polled { HasPolled is_busy is_wrong_mode at_once how registration.old registration.new (fault result) }
-        ensures told { IsTold (at_once registration.old) reading fault result }
+        ensures told { IsTold (at_once registration.old) (answers registration.old) reading fault result }
         ensures waited { how ≡ Sync → is_not_ready (fault result) ≡ false }
         ensures admitted { admits self.now registration.new };
 
@@ -107,7 +112,7 @@ pub trait SyncResult<T: Drop>: Sized {
     fn poll_task(&self, registration: &mut T, cx: &mut Context<'_>) -> Poll<Self::Result>
         requires { admits self.now registration.old }
         ensures ready { IfReady result (λ answer. HasPolled is_busy is_wrong_mode at_once Async registration.old registration.new (fault answer)) }
-        ensures told { IfReady result (λ answer. IsTold (at_once registration.old) reading fault answer) }
+        ensures told { IfReady result (λ answer. IsTold (at_once registration.old) (answers registration.old) reading fault answer) }
         ensures waited { IfReady result (λ answer. is_not_ready (fault answer) ≡ false) }
         ensures pending { OnPending result (registration.new ≡ registration.old) }
         ensures armed { OnPending result (IsArmed cx.new) }
@@ -121,7 +126,8 @@ pub trait SyncResult<T: Drop>: Sized {
     /// is held here is freed.
     fn cancel(&self, registration: &mut T)
         requires { admits self.now registration.old }
-        ensures cancelled { registration.new ≡ idle };
+        ensures cancelled { registration.new ≡ idle }
+        ensures withdrawn { withdraws registration.old };
 }
 
 /// A primitive that was made with a clock, at which the polls of pagers end in time.
@@ -133,7 +139,7 @@ pub trait Timed<T: Drop>: SyncResult<T> {
     fn take_until(&self, registration: &mut T, deadline: Deadline) -> Option<Self::Result>
         requires { Self.admits self.now registration.old }
         ensures polled { IfSome result (λ answer. HasPolled Self.is_busy Self.is_wrong_mode Self.at_once Sync registration.old registration.new (Self.fault answer)) }
-        ensures told { IfSome result (λ answer. IsTold (Self.at_once registration.old) Self.reading Self.fault answer) }
+        ensures told { IfSome result (λ answer. IsTold (Self.at_once registration.old) (Self.answers registration.old) Self.reading Self.fault answer) }
         ensures waited { IfSome result (λ answer. is_not_ready (Self.fault answer) ≡ false) }
         ensures late { IsNone result → registration.new ≡ registration.old }
         ensures admitted { Self.admits self.now registration.new };

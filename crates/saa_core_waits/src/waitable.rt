@@ -3,7 +3,7 @@
 //! What is pending for a task stays with the task, in a registration: a ticket at a core, or a place at a word. A form says by relations what each
 //! call does to a registration. What a call does to the form itself is the form's to say, by these relations too where it can.
 
-ghost use Rattle.std.specs.Prelude.{◌≡◌, ◌&&◌, ℕ, Bool, true, false, not, Err, Result};
+ghost use Rattle.std.specs.Prelude.{◌≡◌, ◌&&◌, ℕ, ⊤, Bool, true, false, not, Err, IfErr, IfOk, Option, Result};
 ghost use Rattle.futures.specs.Poll.{IfReady, OnPending};
 ghost use Rattle.futures.specs.Task.{Hears, IsArmed, Keeps};
 ghost use Rattle.saa_core_spec.specs.declared.polling.Error.{Error};
@@ -142,6 +142,15 @@ pub trait Pends: Waitable {
 
     ghost has_ended: { Self.Pending → Bool };
 
+    // What a form says of an answer, by what was pending: how it came to be.
+    ghost answers: { Self → Self.Pending → Option ℕ → Type 0 } = { λ _ _ _. ⊤ };
+
+    // How what was pending was withdrawn.
+    ghost withdraws: { Self → Self.Pending → Type 0 } = { λ _ _. ⊤ };
+
+    // And what it says of itself where it refuses a wait, `Full`.
+    ghost refuses: { Self → Type 0 } = { λ _. ⊤ };
+
     /// Whether it has ended: by an answer, by `Full`, or by a cancel. Then nothing of it is registered.
     fn has_ended(pending: &Self::Pending) -> bool
         ensures { result ≡ has_ended pending.now };
@@ -161,6 +170,9 @@ pub trait Pends: Waitable {
     ) -> (Poll<Result<Option<u8>, Full>>, bool)
         requires admitted { admits_pending self.now pending.old }
         requires unended { has_ended pending.old ≡ false }
+        ensures answered { IfReady result.0 (λ told. IfOk told (answers self.now pending.old)) }
+        ensures full { IfReady result.0 (λ told. IfErr told (λ full. refuses self.now)) }
+        ensures same { OnPending result.0 ((answer : Option ℕ) → answers self.now pending.new answer → answers self.now pending.old answer) }
         ensures armed { OnPending result.0 (IsArmed cx.new) }
         ensures heard { OnPending result.0 (Hears cx.new (source self.now)) }
         ensures kept { Keeps cx.old cx.new }
@@ -191,5 +203,6 @@ pub trait Pends: Waitable {
     /// Drops what is pending: what it is registered for is cancelled, as by [`Waitable::cancel_registration`].
     fn give_up(&self, pending: &mut Self::Pending)
         requires { admits_pending self.now pending.old }
-        ensures { is_registered pending.new ≡ false };
+        ensures left { is_registered pending.new ≡ false }
+        ensures withdrawn { withdraws self.now pending.old };
 }

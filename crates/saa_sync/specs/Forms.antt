@@ -24,5 +24,5 @@ abbrev pub waiter_policy_of : {R P Call Ask Answer Value : Type 0} → Form R P 
 waiter_policy_of form = form.waiting
 
 -- the same future, with this pending; its callback stays
-abbrev pub with_pending_before : {F : Type 0} → FutureWithState PendingState F → PendingState → FutureWithState PendingState F
+abbrev pub with_pending_before : {S F : Type 0} → FutureWithState S PendingState F → PendingState → FutureWithState S PendingState F
 with_pending_before future pending = record { acquiring = with_pending future.acquiring pending; begin_wait = future.begin_wait }

@@ -101,6 +101,7 @@ impl<R: Wait + Drop> Form<R, BarrierCore> {
     ///
     /// Nothing is asked before its first poll. See [`Acquiring`](crate::future::Acquiring).
     pub fn wait_async(&self) -> ArriveFuture<'_, R>
+        ensures form { result.form ≡ self.now }
         ensures request { result.asking.request ≡ AskArrive }
         ensures idle { result.asking.ticket ≡ Unregistered }
         ensures fresh { result.asking.has_ended ≡ false }
@@ -113,6 +114,7 @@ impl<R: Wait + Drop> Form<R, BarrierCore> {
     /// The callback runs once, in the poll that joined, after the join and with the mutex free; it may use
     /// this barrier. It doesn't run where the answer is there at once, nor where the room is full.
     pub fn wait_async_with<F: FnOnce() + Drop>(&self, begin_wait: F) -> ArriveFutureWith<'_, R, F>
+        ensures form { result.acquiring.form ≡ self.now }
         ensures request { result.acquiring.asking.request ≡ AskArrive }
         ensures idle { result.acquiring.asking.ticket ≡ Unregistered }
         ensures fresh { result.acquiring.asking.has_ended ≡ false }

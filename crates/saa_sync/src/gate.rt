@@ -137,6 +137,7 @@ impl<R: Wait + Drop> Form<R, GateCore> {
     ///
     /// Nothing is asked before its first poll. See [`Acquiring`](crate::future::Acquiring).
     pub fn enter_async(&self) -> Enter<'_, R>
+        ensures form { result.form ≡ self.now }
         ensures request { result.asking.request ≡ AskEnter }
         ensures idle { result.asking.ticket ≡ Unregistered }
         ensures fresh { result.asking.has_ended ≡ false }
@@ -149,6 +150,7 @@ impl<R: Wait + Drop> Form<R, GateCore> {
     /// The callback runs once, in the poll that joined, after the join and with the mutex free; it may use
     /// this gate. It doesn't run where the answer is there at once, nor where the room is full.
     pub fn enter_async_with<F: FnOnce() + Drop>(&self, begin_wait: F) -> EnterWith<'_, R, F>
+        ensures form { result.acquiring.form ≡ self.now }
         ensures request { result.acquiring.asking.request ≡ AskEnter }
         ensures idle { result.acquiring.asking.ticket ≡ Unregistered }
         ensures fresh { result.acquiring.asking.has_ended ≡ false }

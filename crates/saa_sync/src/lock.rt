@@ -199,6 +199,7 @@ impl<R: Wait + Drop> Form<R, LockCore> {
     ///
     /// Nothing is asked before its first poll. See [`Acquiring`](crate::future::Acquiring).
     pub fn lock_async(&self) -> LockFuture<'_, R>
+        ensures form { result.form ≡ self.now }
         ensures request { result.asking.request ≡ AskExclusive }
         ensures idle { result.asking.ticket ≡ Unregistered }
         ensures fresh { result.asking.has_ended ≡ false }
@@ -211,6 +212,7 @@ impl<R: Wait + Drop> Form<R, LockCore> {
     /// The callback runs once, in the poll that joined, after the join and with the mutex free; it may use
     /// this lock. It doesn't run where the answer is there at once, nor where the room is full.
     pub fn lock_async_with<F: FnOnce() + Drop>(&self, begin_wait: F) -> LockFutureWith<'_, R, F>
+        ensures form { result.acquiring.form ≡ self.now }
         ensures request { result.acquiring.asking.request ≡ AskExclusive }
         ensures idle { result.acquiring.asking.ticket ≡ Unregistered }
         ensures fresh { result.acquiring.asking.has_ended ≡ false }
@@ -223,6 +225,7 @@ impl<R: Wait + Drop> Form<R, LockCore> {
     ///
     /// Nothing is asked before its first poll. See [`Acquiring`](crate::future::Acquiring).
     pub fn share_async(&self) -> ShareFuture<'_, R>
+        ensures form { result.form ≡ self.now }
         ensures request { result.asking.request ≡ AskShared }
         ensures idle { result.asking.ticket ≡ Unregistered }
         ensures fresh { result.asking.has_ended ≡ false }
@@ -235,6 +238,7 @@ impl<R: Wait + Drop> Form<R, LockCore> {
     /// The callback runs once, in the poll that joined, after the join and with the mutex free; it may use
     /// this lock. It doesn't run where the answer is there at once, nor where the room is full.
     pub fn share_async_with<F: FnOnce() + Drop>(&self, begin_wait: F) -> ShareFutureWith<'_, R, F>
+        ensures form { result.acquiring.form ≡ self.now }
         ensures request { result.acquiring.asking.request ≡ AskShared }
         ensures idle { result.acquiring.asking.ticket ≡ Unregistered }
         ensures fresh { result.acquiring.asking.has_ended ≡ false }

@@ -220,6 +220,7 @@ impl<R: Wait + Drop, const MAX: usize> Form<R, SemaphoreCoreOf<MAX>> {
     ///
     /// Nothing is asked before its first poll. See [`Acquiring`](crate::future::Acquiring).
     pub fn acquire_async(&self) -> AcquireOf<'_, R, MAX>
+        ensures form { result.form ≡ self.now }
         ensures request { result.asking.request ≡ Permits 1 }
         ensures idle { result.asking.ticket ≡ Unregistered }
         ensures fresh { result.asking.has_ended ≡ false }
@@ -235,6 +236,7 @@ impl<R: Wait + Drop, const MAX: usize> Form<R, SemaphoreCoreOf<MAX>> {
         &self,
         begin_wait: F,
     ) -> AcquireWithOf<'_, R, F, MAX>
+        ensures form { result.acquiring.form ≡ self.now }
         ensures request { result.acquiring.asking.request ≡ Permits 1 }
         ensures idle { result.acquiring.asking.ticket ≡ Unregistered }
         ensures fresh { result.acquiring.asking.has_ended ≡ false }
@@ -247,6 +249,7 @@ impl<R: Wait + Drop, const MAX: usize> Form<R, SemaphoreCoreOf<MAX>> {
     ///
     /// Nothing is asked before its first poll. See [`Acquiring`](crate::future::Acquiring).
     pub fn acquire_many_async(&self, count: usize) -> AcquireManyOf<'_, R, MAX>
+        ensures form { result.form ≡ self.now }
         ensures request { result.asking.request ≡ Permits count }
         ensures idle { result.asking.ticket ≡ Unregistered }
         ensures fresh { result.asking.has_ended ≡ false }
@@ -263,6 +266,7 @@ impl<R: Wait + Drop, const MAX: usize> Form<R, SemaphoreCoreOf<MAX>> {
         count: usize,
         begin_wait: F,
     ) -> AcquireManyWithOf<'_, R, F, MAX>
+        ensures form { result.acquiring.form ≡ self.now }
         ensures request { result.acquiring.asking.request ≡ Permits count }
         ensures idle { result.acquiring.asking.ticket ≡ Unregistered }
         ensures fresh { result.acquiring.asking.has_ended ≡ false }

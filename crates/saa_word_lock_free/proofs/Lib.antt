@@ -1,2 +1,3 @@
+pub mod KeptPlaces
 pub mod NewPlaces
 pub mod Turning

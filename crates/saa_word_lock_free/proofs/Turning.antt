@@ -1,5 +1,5 @@
 -- The receipt of a turn was given at the table of its lock, since each call of a place leaves it at its table.
-use Rattle.std.proofs.Common.{◌≡◌, ◌⊎◌, ◌∙◌, ℕ, zero, suc, inl, inr, Ok, Err, true, refl, subst}
+use Rattle.std.proofs.Common.{◌≡◌, ◌⊎◌, ◌∙◌, ℕ, zero, suc, inl, inr, Ok, Err, refl, subst}
 use Rattle.std.proofs.Math.Logic.{∥∥₁_elim}
 use denote.Struct.Props.{≡_prop}
 use Rattle.atomic_table.specs.Seated.{table_id_coded}
@@ -20,9 +20,8 @@ use Rattle.saa_word_threads.specs.Locks.{IsMade, table_of}
 use Rattle.saa_word_threads.specs.Receipts.{IsReceiptAt}
 use Rattle.saa_word_lock_free.specs.Calls.{IsWaited}
 use Rattle.saa_word_lock_free.specs.LockCalls.{IsAcquired}
-use Rattle.saa_word_lock_free.specs.OfLock.{IsCancelled, IsPolled, Rests, calls_of, home_of}
+use Rattle.saa_word_lock_free.specs.OfLock.{IsCancelled, IsPolled, calls_of, home_of}
 use Rattle.saa_word_lock_free.specs.Pendings.{ArePolledInVain, IsAnsweredLater, IsAwaited}
-use Rattle.saa_word_lock_free.specs.Places.{RestsIn}
 use Rattle.saa_word_lock_free.specs.Turns.{IsTurn}
 
 -- a poll leaves a place at its table, in which way it was made
@@ -44,7 +43,7 @@ end-keeps lock (Ok value) old new ended = cc
 end-keeps lock (Err error) old new ended = ended.1.0.1
 
 -- the receipt of a wait
-wait-is-at : (lock : Lock) (mode : Mode) (answer : Result ℕ Error) (receipt : Receipt) → IsWaited (calls_of lock) (RestsIn home_of Rests (table_of lock)) mode answer receipt
+wait-is-at : (lock : Lock) (mode : Mode) (answer : Result ℕ Error) (receipt : Receipt) → IsWaited (calls_of lock) mode answer receipt
     → IsReceiptAt (table_of lock) receipt
 wait-is-at lock mode answer receipt waited =
     waited.received.0
@@ -54,7 +53,7 @@ wait-is-at lock mode answer receipt waited =
     ∙ waited.rested.0
 
 -- a place that is awaited is at its table
-await-is-at : (lock : Lock) (mode : Mode) (place : Place) → IsAwaited (calls_of lock) (RestsIn home_of Rests (table_of lock)) mode place → home_of place ≡ table_of lock
+await-is-at : (lock : Lock) (mode : Mode) (place : Place) → IsAwaited (calls_of lock) mode place → home_of place ≡ table_of lock
 await-is-at lock mode place awaited = polls-keep lock awaited.count awaited.between place awaited.waited ∙ awaited.registered.2.0.1 ∙ awaited.rested.0
 
 turn-is-at : (lock : Lock) (mode : Mode) (receipt : Receipt) → IsTurn lock mode receipt → IsReceiptAt (table_of lock) receipt
@@ -81,8 +80,8 @@ pub wait-is-turn : (lock : Lock) (mode : Mode) (value : ℕ) (receipt : Receipt)
 wait-is-turn lock mode value receipt granted acquired = ∣ inl (subst (λ told. IsAcquired lock mode (Ok told) receipt) granted acquired) ∣₁
 
 pub later-is-turn : (lock : Lock) (asked mode : Mode) (value : ℕ) (receipt : Receipt) → mode_request asked ≡ mode_request mode → value ≡ granted_value
-    → IsAnsweredLater (calls_of lock) (RestsIn home_of Rests (table_of lock)) asked value receipt → ∥ IsTurn lock mode receipt ∥₁
+    → IsAnsweredLater (calls_of lock) asked value receipt → ∥ IsTurn lock mode receipt ∥₁
 later-is-turn lock asked mode value receipt same granted answered =
-    let Q : Mode → Type 0 = λ told. IsAnsweredLater (calls_of lock) (RestsIn home_of Rests (table_of lock)) told granted_value receipt in
-    let P : ℕ → Type 0 = λ told. IsAnsweredLater (calls_of lock) (RestsIn home_of Rests (table_of lock)) asked told receipt in
+    let Q : Mode → Type 0 = λ told. IsAnsweredLater (calls_of lock) told granted_value receipt in
+    let P : ℕ → Type 0 = λ told. IsAnsweredLater (calls_of lock) asked told receipt in
     ∣ inr (inl (subst Q (same-mode asked mode same) (subst P granted answered))) ∣₁

@@ -1,5 +1,5 @@
 -- What the calls of a form are, in the terms of its word's calls.
-use Rattle.std.specs.Prelude.{◌≡◌, ℕ, Bool, true, ◌⊎◌, Option, Some, None, Result, Ok, Err, [], ◌∷◌}
+use Rattle.std.specs.Prelude.{◌≡◌, ℕ, true, ◌⊎◌, Option, Some, None, Result, Ok, Err, [], ◌∷◌}
 use Rattle.atomic_table.specs.Seated.{TableId}
 use Rattle.saa_core_spec.specs.declared.lock.TryLockError.{TryLockError}
 use Rattle.saa_core_spec.specs.declared.lock.TryLockError.TheVariants.{Poisoned, WouldBlock}
@@ -30,12 +30,12 @@ IsAsked tries number visitor = (told : Result (Unit {0}) TryLockError) × tries 
 module _ {Ask Place : Type 0} where
   -- A wait at a place that rested in the pool: a registration, a poll, and a cancel where that has no answer. The receipt says what the place had
   -- seen at the end
-  pub record IsWaited (calls : WordCalls Ask Place) (rests : Place → Type 0) (ask : Ask) (answer : Result ℕ Error) (receipt : Receipt) : Type 0 where
+  pub record IsWaited (calls : WordCalls Ask Place) (ask : Ask) (answer : Result ℕ Error) (receipt : Receipt) : Type 0 where
     pub first : Place
     pub between : Place
     pub told : Place
     pub last : Place
-    pub rested : rests first
+    pub rested : calls.rests first
     pub registered : calls.registers ask first true between
     pub polled : calls.polls between answer told
     pub ended : CancelsUnanswered calls.cancels answer told last
@@ -47,13 +47,13 @@ module _ {Ask Place : Type 0} where
       (told : Place) × (last : Place) × calls.polls between answer told × CancelsUnanswered calls.cancels answer told last × calls.receives last receipt
 
   -- A call was answered so: its visitor at once, or a place that waited. The receipt says what the one or the other has seen
-  abbrev pub IsAcquired : WordCalls Ask Place → (Place → Type 0) → Ask → Result ℕ Error → Receipt → Type 0
-  IsAcquired calls rests ask answer receipt =
+  abbrev pub IsAcquired : WordCalls Ask Place → Ask → Result ℕ Error → Receipt → Type 0
+  IsAcquired calls ask answer receipt =
       ((visitor : Visitor) × (value : ℕ) × (answer ≡ Ok value) × IsAsked (calls.tries ask) (Some value) visitor × calls.receives_by visitor receipt)
-      ⊎ IsWaited calls rests ask answer receipt
+      ⊎ IsWaited calls ask answer receipt
 
   -- the same of a call that hands out no receipt
-  abbrev pub IsAnswered : WordCalls Ask Place → (Place → Type 0) → Ask → Result ℕ Error → Type 0
-  IsAnswered calls rests ask answer =
+  abbrev pub IsAnswered : WordCalls Ask Place → Ask → Result ℕ Error → Type 0
+  IsAnswered calls ask answer =
       ((visitor : Visitor) × (value : ℕ) × (answer ≡ Ok value) × IsAsked (calls.tries ask) (Some value) visitor)
-      ⊎ ((receipt : Receipt) × IsWaited calls rests ask answer receipt)
+      ⊎ ((receipt : Receipt) × IsWaited calls ask answer receipt)

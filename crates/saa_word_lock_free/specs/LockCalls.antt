@@ -12,8 +12,7 @@ use Rattle.saa_word_threads.specs.declared.visitor.Visitor.{Visitor}
 use Rattle.saa_word_threads.specs.Public.{is_yes}
 use Rattle.saa_word_threads.specs.Locks.{IsVisitedOnce, table_of}
 use Rattle.saa_word_lock_free.specs.Calls.{IsAcquired as IsAcquiredBy, IsAnswered as IsAnsweredBy, IsReceivedBy}
-use Rattle.saa_word_lock_free.specs.OfLock.{IsTried, Rests, calls_of, home_of}
-use Rattle.saa_word_lock_free.specs.Places.{RestsIn}
+use Rattle.saa_word_lock_free.specs.OfLock.{IsTried, calls_of}
 
 -- a visitor that came for it tried in a mode; and this is what it has seen
 abbrev pub IsTriedIn : Lock → Mode → Result (Unit {0}) TryLockError → Type 0
@@ -32,10 +31,10 @@ IsDoneWith lock call is_done receipt =
 
 -- a call in a mode was answered so: its visitor at once, or a place that waited; and this is what the one or the other has seen
 abbrev pub IsAnswered : Lock → Mode → Result ℕ Error → Type 0
-IsAnswered lock mode answer = IsAnsweredBy (calls_of lock) (RestsIn home_of Rests (table_of lock)) mode answer
+IsAnswered lock mode answer = IsAnsweredBy (calls_of lock) mode answer
 
 abbrev pub IsAcquired : Lock → Mode → Result ℕ Error → Receipt → Type 0
-IsAcquired lock mode answer receipt = IsAcquiredBy (calls_of lock) (RestsIn home_of Rests (table_of lock)) mode answer receipt
+IsAcquired lock mode answer receipt = IsAcquiredBy (calls_of lock) mode answer receipt
 
 -- it was told whether it is granted
 abbrev pub IsToldIn : Lock → Mode → Bool → Type 0

@@ -9,7 +9,7 @@ use Rattle.saa_core_spec.specs.declared.polling.Error.{Error}
 use Rattle.saa_core_spec.specs.Values.{granted_value, poisoned_value}
 use Rattle.saa_word_steps.specs.declared.call.Answer.{Answer}
 use Rattle.saa_word_steps.specs.declared.call.WordCall.{WordCall}
-use Rattle.saa_word_steps.specs.declared.call.WordCall.TheVariants.{Cancel, Poll, RegisterMode, TryLock, TryPoll, TryShare}
+use Rattle.saa_word_steps.specs.declared.call.WordCall.TheVariants.{Cancel, Poll, RegisterMode, ReleaseLock, ReleaseShare, TryLock, TryPoll, TryShare}
 use Rattle.saa_word_steps.specs.declared.place.Registration.TheVariants.{Idle}
 use Rattle.saa_word_threads.specs.declared.lock.Lock.{Lock}
 use Rattle.saa_word_threads.specs.declared.lock.Place.{Place}
@@ -21,6 +21,7 @@ use Rattle.saa_word_threads.specs.Public.{is_yes, polled_lock, registered, tried
 use Rattle.saa_word_threads.specs.Receipts.{IsReceiptAt, said}
 use Rattle.saa_word_threads.specs.Visits.{IsNewVisitor}
 use Rattle.saa_word_lock_free.specs.Calls.{IsReceivedBy}
+use Rattle.saa_word_lock_free.specs.Places.{RestsIn}
 use Rattle.saa_word_lock_free.specs.WordCalls.{WordCalls}
 
 -- which table a place is of, and whether it is registered as nothing
@@ -47,6 +48,13 @@ IsTried lock Shared told visitor = IsTriedBy lock TryShare told visitor
 IsTried lock WaitExclusive told visitor = (told ≡ Err WouldBlock) × IsNewVisitor (table_of_lock lock) (about_of lock).places visitor
 IsTried lock WaitShared told visitor = (told ≡ Err WouldBlock) × IsNewVisitor (table_of_lock lock) (about_of lock).places visitor
 
+-- a visitor that came for it gave back what a mode takes; one that takes nothing needs no call
+abbrev pub HasGivenBack : Lock → Mode → Visitor → Type 0
+HasGivenBack lock Exclusive visitor = (answer : Answer) × IsVisitedOnce lock ReleaseLock answer visitor
+HasGivenBack lock Shared visitor = (answer : Answer) × IsVisitedOnce lock ReleaseShare answer visitor
+HasGivenBack lock WaitExclusive visitor = IsNewVisitor (table_of_lock lock) (about_of lock).places visitor
+HasGivenBack lock WaitShared visitor = IsNewVisitor (table_of_lock lock) (about_of lock).places visitor
+
 -- a place was registered in a mode, polled, and its registration cancelled
 abbrev pub IsRegistered : Lock → Mode → Place → Bool → Place → Type 0
 IsRegistered lock mode old told new = (answer : Answer) × (told ≡ is_yes answer) × IsMade (RegisterMode mode) old answer new
@@ -65,6 +73,8 @@ IsReceived place receipt = IsReceiptAt (home_of place) receipt × (said receipt 
 abbrev pub calls_of : Lock → WordCalls Mode Place
 calls_of lock = record {
   tries = IsTried lock;
+  gives_back = HasGivenBack lock;
+  rests = RestsIn home_of Rests (table_of_lock lock);
   registers = IsRegistered lock;
   polls = IsPolled lock;
   cancels = IsCancelled lock;

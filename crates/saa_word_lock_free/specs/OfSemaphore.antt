@@ -6,7 +6,7 @@ use Rattle.saa_core_spec.specs.declared.lock.TryLockError.TheVariants.{WouldBloc
 use Rattle.saa_core_spec.specs.declared.polling.Error.{Error}
 use Rattle.saa_core_spec.specs.Values.{granted_value}
 use Rattle.saa_word_steps.specs.declared.call.Answer.{Answer}
-use Rattle.saa_word_steps.specs.declared.call.WordCall.TheVariants.{Cancel, Poll, Register, Try, TryPoll}
+use Rattle.saa_word_steps.specs.declared.call.WordCall.TheVariants.{Cancel, Poll, Register, Release, Try, TryPoll}
 use Rattle.saa_word_steps.specs.declared.place.Registration.TheVariants.{Idle}
 use Rattle.saa_word_threads.specs.declared.place.Place.{Place}
 use Rattle.saa_word_threads.specs.declared.receipt.Receipt.{Receipt}
@@ -17,6 +17,7 @@ use Rattle.saa_word_threads.specs.Public.{is_yes, polled, registered, view_of}
 use Rattle.saa_word_threads.specs.Receipts.{IsReceiptAt, said}
 use Rattle.saa_word_threads.specs.Semaphores.{IsMade, IsVisitedOnce, table_of}
 use Rattle.saa_word_lock_free.specs.Calls.{IsReceivedBy}
+use Rattle.saa_word_lock_free.specs.Places.{RestsIn}
 use Rattle.saa_word_lock_free.specs.WordCalls.{WordCalls}
 
 -- which table a place is of, and whether it is registered as nothing
@@ -40,6 +41,10 @@ number_of (Err error) = Err error
 abbrev pub IsTried : {max : ℕ} → SemaphoreOf max → ℕ → Result (Unit {0}) TryLockError → Visitor → Type 0
 IsTried semaphore count told visitor = (answer : Answer) × (told ≡ told_by (is_yes answer)) × IsVisitedOnce semaphore (Try count) answer visitor
 
+-- a visitor that came for it gave so many permits back
+abbrev pub HasGivenBack : {max : ℕ} → SemaphoreOf max → ℕ → Visitor → Type 0
+HasGivenBack semaphore count visitor = (answer : Answer) × IsVisitedOnce semaphore (Release count) answer visitor
+
 -- a place was registered for so many permits, polled, and its registration cancelled
 abbrev pub IsRegistered : {max : ℕ} → SemaphoreOf max → ℕ → Place → Bool → Place → Type 0
 IsRegistered semaphore count old told new = (answer : Answer) × (told ≡ is_yes answer) × IsMade semaphore (Register count) old answer new
@@ -59,6 +64,8 @@ IsReceived place receipt = IsReceiptAt (home_of place) receipt × (said receipt 
 abbrev pub calls_of : {max : ℕ} → SemaphoreOf max → WordCalls ℕ Place
 calls_of semaphore = record {
   tries = IsTried semaphore;
+  gives_back = HasGivenBack semaphore;
+  rests = RestsIn home_of Rests (table_of semaphore);
   registers = IsRegistered semaphore;
   polls = IsPolled semaphore;
   cancels = IsCancelled semaphore;

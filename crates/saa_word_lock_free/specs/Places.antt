@@ -11,6 +11,6 @@ table_of visitor = visitor.seat.table_id
 abbrev pub RestsIn : {Place : Type 0} → (Place → TableId) → (Place → Type 0) → TableId → Place → Type 0
 RestsIn home rests table place = (home place ≡ table) × rests place
 
--- the same of the table that a visitor entered
-abbrev pub RestsAt : {Place : Type 0} → (Place → TableId) → (Place → Type 0) → Visitor → Place → Type 0
-RestsAt home rests visitor place = RestsIn home rests (table_of visitor) place
+-- the same of the table of a word
+abbrev pub RestsAt : {Word Place : Type 0} → (Word → TableId) → (Place → TableId) → (Place → Type 0) → Word → Place → Type 0
+RestsAt table home rests word place = RestsIn home rests (table word) place

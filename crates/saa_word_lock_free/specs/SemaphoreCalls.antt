@@ -11,8 +11,7 @@ use Rattle.saa_word_threads.specs.declared.visitor.Visitor.{Visitor}
 use Rattle.saa_word_threads.specs.Public.{is_yes}
 use Rattle.saa_word_threads.specs.Semaphores.{IsVisitedOnce, table_of}
 use Rattle.saa_word_lock_free.specs.Calls.{IsAcquired as IsAcquiredBy, IsAnswered as IsAnsweredBy, IsReceivedBy}
-use Rattle.saa_word_lock_free.specs.OfSemaphore.{Rests, calls_of, home_of}
-use Rattle.saa_word_lock_free.specs.Places.{RestsIn}
+use Rattle.saa_word_lock_free.specs.OfSemaphore.{calls_of}
 
 module _ {max : ℕ} where
   -- a visitor that came for it made a call, which is done or not; and this is what it has seen
@@ -32,10 +31,10 @@ module _ {max : ℕ} where
 
   -- a call for so many permits was answered so: its visitor at once, or a place that waited; and this is what the one or the other has seen
   abbrev pub IsAnswered : SemaphoreOf max → ℕ → Result ℕ Error → Type 0
-  IsAnswered semaphore count answer = IsAnsweredBy (calls_of semaphore) (RestsIn home_of Rests (table_of semaphore)) count answer
+  IsAnswered semaphore count answer = IsAnsweredBy (calls_of semaphore) count answer
 
   abbrev pub IsAcquired : SemaphoreOf max → ℕ → Result ℕ Error → Receipt → Type 0
-  IsAcquired semaphore count answer receipt = IsAcquiredBy (calls_of semaphore) (RestsIn home_of Rests (table_of semaphore)) count answer receipt
+  IsAcquired semaphore count answer receipt = IsAcquiredBy (calls_of semaphore) count answer receipt
 
   -- it was granted
   abbrev pub IsGranted : SemaphoreOf max → ℕ → Type 0

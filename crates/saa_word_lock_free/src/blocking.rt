@@ -6,7 +6,7 @@
 ghost use Rattle.std.specs.Prelude.{◌≡◌, false, true, IfErr, IfOk, Ok};
 ghost use Rattle.saa_word_lock_free.specs.Calls.{HasEndedAt, IsAcquired, IsAnswered, IsAsked, IsWaited, number_at_once};
 ghost use Rattle.saa_word_lock_free.specs.Forms.{IsOut, IsRefusedBy, WasFull};
-ghost use Rattle.saa_word_lock_free.specs.Places.{RestsIn, table_of};
+ghost use Rattle.saa_word_lock_free.specs.Places.{table_of};
 
 use crate::form::{BorrowedPlace, Form, NoPlace};
 use crate::waiting::{GRANTED, POISONED};
@@ -36,7 +36,7 @@ impl<R: Wait + Drop, W: WordForm> Form<R, W> {
     #[inline(always)]
     pub(crate) fn acquire(&self, ask: W::Ask) -> Result<u8, Full>
         requires { W.fits ask }
-        ensures answered { IfOk result (λ value. IsAnswered (W.calls self.now.word) (RestsIn W.home W.rests (W.table self.now.word)) ask (Ok value)) }
+        ensures answered { IfOk result (λ value. IsAnswered (W.calls self.now.word) ask (Ok value)) }
         ensures full { IfErr result (λ full. WasFull W.Place self.now) }
     {
         let (told, _visitor) = self.ask_at_once(ask);
@@ -50,9 +50,12 @@ impl<R: Wait + Drop, W: WordForm> Form<R, W> {
     }
 
     // As `acquire`, with a receipt.
-    pub(crate) fn acquire_witnessed(&self, ask: W::Ask) -> Result<(u8, Receipt), NoPlace<W::Place>>
+    pub(crate) fn acquire_witnessed(
+        &self,
+        ask: W::Ask,
+    ) -> Result<(u8, Receipt), NoPlace<W::Place, W>>
         requires { W.fits ask }
-        ensures acquired { IfOk result (λ told. IsAcquired (W.calls self.now.word) (RestsIn W.home W.rests (W.table self.now.word)) ask (Ok told.0) told.1) }
+        ensures acquired { IfOk result (λ told. IsAcquired (W.calls self.now.word) ask (Ok told.0) told.1) }
         ensures refused { IfErr result (λ no_place. IsRefusedBy self.now no_place) }
     {
         let (told, mut visitor) = self.ask_at_once(ask);
@@ -71,7 +74,7 @@ impl<R: Wait + Drop, W: WordForm> Form<R, W> {
     ) -> Result<u8, Full>
         requires fits { W.fits ask }
         requires callable { F.pre begin_wait }
-        ensures answered { IfOk result (λ value. IsAnswered (W.calls self.now.word) (RestsIn W.home W.rests (W.table self.now.word)) ask (Ok value)) }
+        ensures answered { IfOk result (λ value. IsAnswered (W.calls self.now.word) ask (Ok value)) }
         ensures full { IfErr result (λ full. WasFull W.Place self.now) }
     {
         let (told, _visitor) = self.ask_at_once(ask);
@@ -92,9 +95,9 @@ impl<R: Wait + Drop, W: WordForm> Form<R, W> {
 
     // Registers a place of the pool, which looks first, waits for the answer and takes it.
     #[inline(never)]
-    fn wait_at_place(&self, ask: W::Ask) -> Result<(u8, Receipt), NoPlace<W::Place>>
+    fn wait_at_place(&self, ask: W::Ask) -> Result<(u8, Receipt), NoPlace<W::Place, W>>
         requires { W.fits ask }
-        ensures waited { IfOk result (λ told. IsWaited (W.calls self.now.word) (RestsIn W.home W.rests (W.table self.now.word)) ask (Ok told.0) told.1) }
+        ensures waited { IfOk result (λ told. IsWaited (W.calls self.now.word) ask (Ok told.0) told.1) }
         ensures refused { IfErr result (λ no_place. IsRefusedBy self.now no_place) }
     {
         let borrowed = self.borrow()?;
@@ -105,10 +108,10 @@ impl<R: Wait + Drop, W: WordForm> Form<R, W> {
     // Registers a place that is out of the pool, which looks first as often as the spin policy says.
     pub(crate) fn join(
         &self,
-        borrowed: BorrowedPlace<W::Place>,
+        borrowed: BorrowedPlace<W::Place, W>,
         ask: W::Ask,
         spin_policy: SpinPolicy,
-    ) -> BorrowedPlace<W::Place>
+    ) -> BorrowedPlace<W::Place, W>
         requires out { IsOut W.table W.home self.now borrowed }
         requires rests { W.rests borrowed.value }
         requires fits { W.fits ask }
@@ -123,7 +126,7 @@ impl<R: Wait + Drop, W: WordForm> Form<R, W> {
     }
 
     // Waits for the answer of a place that is registered, takes it, and gives the place back to the pool.
-    fn await_answer(&self, borrowed: BorrowedPlace<W::Place>) -> (u8, Receipt)
+    fn await_answer(&self, borrowed: BorrowedPlace<W::Place, W>) -> (u8, Receipt)
         requires out { IsOut W.table W.home self.now borrowed }
         requires waits { W.rests borrowed.value → ⊥ }
         ensures { (told : W.Place) × (W.calls self.now.word).polls borrowed.value (Ok result.0) told × (W.calls self.now.word).receives told result.1 }
@@ -145,9 +148,9 @@ impl<R: Wait + Clock + Drop, W: WordForm> Form<R, W> {
         &self,
         ask: W::Ask,
         deadline: Deadline,
-    ) -> Result<(Result<u8, Error>, Receipt), NoPlace<W::Place>>
+    ) -> Result<(Result<u8, Error>, Receipt), NoPlace<W::Place, W>>
         requires { W.fits ask }
-        ensures acquired { IfOk result (λ told. IsAcquired (W.calls self.now.word) (RestsIn W.home W.rests (W.table self.now.word)) ask told.0 told.1) }
+        ensures acquired { IfOk result (λ told. IsAcquired (W.calls self.now.word) ask told.0 told.1) }
         ensures refused { IfErr result (λ no_place. IsRefusedBy self.now no_place) }
     {
         let (told, mut visitor) = self.ask_at_once(ask);
@@ -167,7 +170,7 @@ impl<R: Wait + Clock + Drop, W: WordForm> Form<R, W> {
         deadline: Deadline,
     ) -> Result<Result<u8, Error>, Full>
         requires { W.fits ask }
-        ensures answered { IfOk result (λ answer. IsAnswered (W.calls self.now.word) (RestsIn W.home W.rests (W.table self.now.word)) ask answer) }
+        ensures answered { IfOk result (λ answer. IsAnswered (W.calls self.now.word) ask answer) }
         ensures full { IfErr result (λ full. WasFull W.Place self.now) }
     {
         match self.acquire_until(ask, deadline) {
@@ -179,7 +182,7 @@ impl<R: Wait + Clock + Drop, W: WordForm> Form<R, W> {
     // Waits until the deadline for the answer of a place that is registered, takes it or cancels, and gives the place back to the pool.
     fn await_until(
         &self,
-        borrowed: BorrowedPlace<W::Place>,
+        borrowed: BorrowedPlace<W::Place, W>,
         deadline: Deadline,
     ) -> (Result<u8, Error>, Receipt)
         requires { IsOut W.table W.home self.now borrowed }

@@ -9,7 +9,6 @@ ghost use Rattle.saa_word_lock_free.specs.Places.{RestsAt};
 use crate::word_form::WordForm;
 use saa_core_waits::SpinPolicy;
 use saa_word_pool::{AllOut, Borrowed, Pool, PoolRule};
-use saa_word_threads::visitor::Visitor;
 use std::alloc::{AllocError, Global};
 use std::marker::{Model, PhantomData};
 use std::sync::Wait;
@@ -19,15 +18,15 @@ pub struct AtRest<W> {
     word: PhantomData<W>,
 }
 
-impl<W: WordForm> PoolRule<W::Place, Visitor> for AtRest<W> {
-    ghost belongs = { RestsAt W.home W.rests };
+impl<W: WordForm> PoolRule<W::Place, W> for AtRest<W> {
+    ghost belongs = { RestsAt W.table W.home W.rests };
 }
 
 /// A place that is out of the pool.
-pub type BorrowedPlace<P> = Borrowed<P, Visitor>;
+pub type BorrowedPlace<P, W> = Borrowed<P, W>;
 
 /// The witness that all places were out of the pool.
-pub type NoPlace<P> = AllOut<P, Visitor>;
+pub type NoPlace<P, W> = AllOut<P, W>;
 
 /// A primitive in one atomic word, which any task uses by `&self`, and the room of its waiters.
 ///
@@ -35,24 +34,24 @@ pub type NoPlace<P> = AllOut<P, Visitor>;
 /// [`Lock`](crate::lock::Lock). `R` is the permission to block, and `W` the word.
 #[derive(Drop)]
 pub struct Form<R: Wait + Drop, W: WordForm> {
-    rt: R,
-    word: W,
-    places: Pool<W::Place, Visitor, AtRest<W>>,
+    // (open to the crate, since `close` takes a form apart)
+    pub(crate) rt: R,
+    pub(crate) word: W,
+    pub(crate) places: Pool<W::Place, W, AtRest<W>>,
     // How often a call that may block looks, at its place, before that joins the queue.
-    spin_policy: SpinPolicy,
+    pub(crate) spin_policy: SpinPolicy,
 }
 
 impl<R: Wait + Drop, W: WordForm> Model for Form<R, W> {
     ghost use Rattle.std.specs.Prelude.{◌≡◌};
     ghost use Rattle.saa_word_pool.specs.Pools.{key_of};
     ghost use Rattle.saa_word_lock_free.specs.Forms.{FormState};
-    ghost use Rattle.saa_word_lock_free.specs.Places.{table_of};
 
     ghost Value = { FormState W };
 
-    ghost view = { λ form. record { word = form.word; spin_policy = form.spin_policy; pool = form.places.table.shared.table_id; key = key_of form.places } };
+    ghost view = { λ form. record { word = form.word; spin_policy = form.spin_policy; pool = form.places.table.shared.table_id } };
 
-    ghost invariant = { λ form. table_of (key_of form.places) ≡ W.table form.word };
+    ghost invariant = { λ form. key_of form.places ≡ form.word };
 }
 
 impl<R: Wait + Drop, W: WordForm> Form<R, W> {
@@ -71,8 +70,7 @@ impl<R: Wait + Drop, W: WordForm> Form<R, W> {
         ensures word { IfOk result (λ form. form.word ≡ word) }
         ensures spin_policy { IfOk result (λ form. form.spin_policy ≡ spin_policy) }
     {
-        let key = word.enter();
-        let places = Pool::new(alloc, places, &key)?;
+        let places = Pool::new(alloc, places, &word)?;
         Ok(Form {
             rt,
             word,
@@ -103,7 +101,7 @@ impl<R: Wait + Drop, W: WordForm> Form<R, W> {
     }
 
     // Takes a place out of the pool; it is registered as nothing.
-    pub(crate) fn borrow(&self) -> Result<BorrowedPlace<W::Place>, NoPlace<W::Place>>
+    pub(crate) fn borrow(&self) -> Result<BorrowedPlace<W::Place, W>, NoPlace<W::Place, W>>
         ensures out { IfOk result (λ borrowed. IsOut W.table W.home self.now borrowed × W.rests borrowed.value) }
         ensures refused { IfErr result (λ no_place. IsRefusedBy self.now no_place) }
     {
@@ -111,23 +109,10 @@ impl<R: Wait + Drop, W: WordForm> Form<R, W> {
     }
 
     // Gives a place back to the pool.
-    pub(crate) fn give(&self, borrowed: BorrowedPlace<W::Place>)
+    pub(crate) fn give(&self, borrowed: BorrowedPlace<W::Place, W>)
         requires out { IsOut W.table W.home self.now borrowed }
         requires rests { W.rests borrowed.value }
     {
         let _receipt = self.places.give(borrowed);
-    }
-
-    // The word at the end, once nobody uses the form any more.
-    pub(crate) fn into_word(self) -> W
-        ensures { result ≡ self.word }
-    {
-        let Form {
-            rt: _,
-            word,
-            places: _,
-            spin_policy: _,
-        } = self;
-        word
     }
 }

@@ -5,6 +5,7 @@
 //! offers the lock to the mutexes of `saa_core_guards`, which `lock_api` names; `laws` has what crates above may use.
 #![tactic(auto)]
 
+mod awaiting;
 mod blocking;
 pub mod form;
 pub mod future;

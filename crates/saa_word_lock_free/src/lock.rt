@@ -5,14 +5,15 @@
 
 ghost use Rattle.std.specs.Prelude.{◌≡◌, ◌++◌, ◌||◌, true, false, IfErr, IfOk, Ok, Some};
 ghost use Rattle.saa_core_spec.specs.declared.lock.Mode.TheVariants.{Exclusive, Shared};
-ghost use Rattle.saa_word_lock_free.specs.Forms.{IsRefusedBy, WasFull};
+ghost use Rattle.saa_word_lock_free.specs.Forms.{IsRefusedBy, TakesAt, WasFull};
 ghost use Rattle.saa_word_steps.specs.declared.call.WordCall.TheVariants.{ClearPoison, Downgrade, IsFree, IsLocked, IsPoisoned, IsShared, PoisonLock, ReleaseLock, ReleaseShare};
 ghost use Rattle.saa_word_steps.specs.declared.rules.Rules.TheVariants.{Modes};
 ghost use Rattle.saa_word_threads.specs.Dealt.{numbers};
 ghost use Rattle.saa_word_threads.specs.Locks.{about_of, table_of};
 ghost use Rattle.saa_word_threads.specs.Receipts.{IsLedOn, IsReceiptAt, said};
 ghost use Rattle.saa_word_lock_free.specs.LockCalls.{IsAcquired, IsDone, IsDoneWith, IsToldIn, IsTriedIn, IsTriedWith};
-ghost use Rattle.saa_word_lock_free.specs.Registered.{is_busy, is_yes as was_made, mode_of, unregistered};
+ghost use Rattle.saa_word_lock_free.specs.OfLock.{calls_of};
+ghost use Rattle.saa_word_lock_free.specs.Registered.{ask_of, is_busy, is_yes as was_made, mode_of, unregistered};
 
 use crate::form::{Form, NoPlace};
 use crate::future::{Acquiring, AcquiringWith, LockFuture, LockFutureWith};
@@ -278,7 +279,7 @@ impl<R: Wait + Drop> Form<R, Word> {
     /// takes nothing of the lock.
     ///
     /// An error is the witness that all places were out of the pool as it looked.
-    pub fn take_witnessed(&self, mode: Mode) -> Result<(u8, Receipt), NoPlace<Place>>
+    pub fn take_witnessed(&self, mode: Mode) -> Result<(u8, Receipt), NoPlace<Place, Word>>
         ensures acquired { IfOk result (λ told. IsAcquired self.now.word mode (Ok told.0) told.1) }
         ensures refused { IfErr result (λ no_place. IsRefusedBy self.now no_place) }
     {
@@ -322,6 +323,7 @@ impl<R: Wait + Drop> Form<R, Word> {
     ///
     /// Nothing is asked before its first poll, which joins the queue without a look where it must wait. See [`Acquiring`].
     pub fn lock_async(&self) -> LockFuture<'_, R>
+        ensures form { result.form ≡ self.now }
         ensures request { result.asking.ask ≡ Exclusive }
         ensures idle { result.asking.borrowed ≡ None }
         ensures fresh { result.asking.has_ended ≡ false }
@@ -334,6 +336,7 @@ impl<R: Wait + Drop> Form<R, Word> {
     /// The callback runs once, in the poll that joined, after the join; it may use this lock. It doesn't run where the answer is there at once, nor where no
     /// place is in.
     pub fn lock_async_with<F: FnOnce() + Drop>(&self, begin_wait: F) -> LockFutureWith<'_, R, F>
+        ensures form { result.acquiring.form ≡ self.now }
         ensures request { result.acquiring.asking.ask ≡ Exclusive }
         ensures idle { result.acquiring.asking.borrowed ≡ None }
         ensures fresh { result.acquiring.asking.has_ended ≡ false }
@@ -344,6 +347,7 @@ impl<R: Wait + Drop> Form<R, Word> {
 
     /// The future of a share of the lock: its output is that of [`Self::share_sync`], and else it is as that of [`Self::lock_async`].
     pub fn share_async(&self) -> LockFuture<'_, R>
+        ensures form { result.form ≡ self.now }
         ensures request { result.asking.ask ≡ Shared }
         ensures idle { result.asking.borrowed ≡ None }
         ensures fresh { result.asking.has_ended ≡ false }
@@ -353,6 +357,7 @@ impl<R: Wait + Drop> Form<R, Word> {
 
     /// The future of [`Self::share_async`], which calls `begin_wait` where it joins the queue, as that of [`Self::lock_async_with`].
     pub fn share_async_with<F: FnOnce() + Drop>(&self, begin_wait: F) -> LockFutureWith<'_, R, F>
+        ensures form { result.acquiring.form ≡ self.now }
         ensures request { result.acquiring.asking.ask ≡ Shared }
         ensures idle { result.acquiring.asking.borrowed ≡ None }
         ensures fresh { result.acquiring.asking.has_ended ≡ false }
@@ -379,6 +384,9 @@ impl<R: Wait + Drop> Form<R, Word> {
         ensures busy { is_busy pager.old ≡ true → result ≡ Ok false }
         ensures unchanged { was_made result ≡ false → pager.new ≡ pager.old }
         ensures mode { was_made result ≡ true → mode_of pager.new ≡ Some is_sync }
+        ensures asked { was_made result ≡ true → ask_of pager.new ≡ Some mode }
+        ensures taken { was_made result ≡ true → TakesAt calls_of self.now pager.new }
+        ensures full { IfErr result (λ full. WasFull Place self.now) }
         ensures idle { is_busy pager.old ≡ false → IfOk result (λ is_registered. is_registered ≡ true) }
     {
         if pager.is_registered() {
@@ -405,7 +413,13 @@ impl<R: Wait + Drop> Form<R, Word> {
         ensures places { result.places ≡ (about_of self.word).places }
         ensures led { IsLedOn (about_of self.word) (numbers result) (said receipt) }
     {
-        self.into_word().close_on(receipt)
+        let Form {
+            rt: _,
+            word,
+            places: _,
+            spin_policy: _,
+        } = self;
+        word.close_on(receipt)
     }
 }
 

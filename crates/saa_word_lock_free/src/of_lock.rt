@@ -37,12 +37,10 @@ impl WordForm for Lock {
 
     ghost calls = { calls_of };
 
+    ghost rests_here = { λ lock place home rests. (home, rests) };
+
     fn may_fit(_mode: Mode) -> bool {
         true
-    }
-
-    fn enter(&self) -> Visitor {
-        self.visit()
     }
 
     #[inline(always)]
@@ -56,15 +54,17 @@ impl WordForm for Lock {
         }
     }
 
-    fn give_back<R: Wait>(&self, rt: &R, mode: Mode) {
+    fn give_back<R: Wait>(&self, rt: &R, mode: Mode) -> Visitor {
         match mode {
             Mode::Exclusive => {
-                let _given = self.release_lock_once(rt);
+                let (_done, visitor) = self.release_lock_once(rt);
+                visitor
             }
             Mode::Shared => {
-                let _given = self.release_share_once(rt);
+                let (_done, visitor) = self.release_share_once(rt);
+                visitor
             }
-            Mode::WaitExclusive | Mode::WaitShared => {}
+            Mode::WaitExclusive | Mode::WaitShared => self.visit(),
         }
     }
 

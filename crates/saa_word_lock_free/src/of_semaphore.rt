@@ -39,12 +39,10 @@ impl<const MAX: usize> WordForm for SemaphoreOf<MAX> {
 
     ghost calls = { calls_of };
 
+    ghost rests_here = { λ semaphore place home rests. (home, rests) };
+
     fn may_fit(count: usize) -> bool {
         count <= MAX
-    }
-
-    fn enter(&self) -> Visitor {
-        self.visit()
     }
 
     #[inline(always)]
@@ -53,8 +51,9 @@ impl<const MAX: usize> WordForm for SemaphoreOf<MAX> {
         (told(is_granted), visitor)
     }
 
-    fn give_back<R: Wait>(&self, rt: &R, count: usize) {
-        let _given = self.release_many_once(rt, count);
+    fn give_back<R: Wait>(&self, rt: &R, count: usize) -> Visitor {
+        let (_given, visitor) = self.release_many_once(rt, count);
+        visitor
     }
 
     fn register<R: Wait>(

@@ -53,7 +53,7 @@ pub trait PagerForm: WordForm {
 impl<R: Wait + Drop, W: PagerForm> SyncResult<Registration<W>> for Form<R, W> {
     ghost use Rattle.std.proofs.Common.{refl};
     ghost use Rattle.saa_word_lock_free.specs.Forms.{TakesAt, source_of};
-    ghost use Rattle.saa_word_lock_free.specs.Registered.{is_busy, is_wrong_mode, number_of, unregistered};
+    ghost use Rattle.saa_word_lock_free.specs.Registered.{HasAnswered, IsWithdrawnFrom, is_busy, is_wrong_mode, number_of, unregistered};
     ghost use Rattle.saa_word_lock_free.specs.PagerLaws.{free_is_idle};
 
     type Result = W::Value;
@@ -70,7 +70,7 @@ impl<R: Wait + Drop, W: PagerForm> SyncResult<Registration<W>> for Form<R, W> {
 
     ghost errors = { W.errors };
 
-    ghost admits = { TakesAt W.table };
+    ghost admits = { TakesAt W.calls };
 
     ghost source = { source_of W.source };
 
@@ -81,6 +81,10 @@ impl<R: Wait + Drop, W: PagerForm> SyncResult<Registration<W>> for Form<R, W> {
     ghost is_wrong_mode = { is_wrong_mode };
 
     ghost at_once = { number_of };
+
+    ghost answers = { HasAnswered W.calls };
+
+    ghost withdraws = { IsWithdrawnFrom W.calls };
 
     ghost admits_idle = { λ form. tt };
 

@@ -5,7 +5,7 @@
 
 ghost use Rattle.std.specs.Prelude.{◌≡◌, ◌++◌, ◌↔◌, ◌≤◌, ◌<◌, ◌||◌, ◌⊎◌, ◌-◌, true, false, IfErr, IfOk, IsTrue, Ok, Some};
 ghost use Rattle.saa_core_spec.specs.declared.request.Request.TheVariants.{Permits};
-ghost use Rattle.saa_word_lock_free.specs.Forms.{IsRefusedBy, WasFull};
+ghost use Rattle.saa_word_lock_free.specs.Forms.{IsRefusedBy, TakesAt, WasFull};
 ghost use Rattle.saa_word_steps.specs.declared.call.Answer.{Answer};
 ghost use Rattle.saa_word_steps.specs.declared.call.Answer.TheVariants.{Number};
 ghost use Rattle.saa_word_steps.specs.declared.call.WordCall.TheVariants.{Available, Release, Try};
@@ -14,7 +14,8 @@ ghost use Rattle.saa_word_threads.specs.Public.{is_yes};
 ghost use Rattle.saa_word_threads.specs.Receipts.{IsLedOn, IsReceiptAt, said};
 ghost use Rattle.saa_word_threads.specs.Semaphores.{IsVisitedOnce, about_of, table_of};
 ghost use Rattle.saa_word_lock_free.specs.Calls.{IsReceivedBy};
-ghost use Rattle.saa_word_lock_free.specs.Registered.{is_busy, is_yes as was_made, mode_of, unregistered};
+ghost use Rattle.saa_word_lock_free.specs.OfSemaphore.{calls_of};
+ghost use Rattle.saa_word_lock_free.specs.Registered.{ask_of, is_busy, is_yes as was_made, mode_of, unregistered};
 ghost use Rattle.saa_word_lock_free.specs.SemaphoreCalls.{IsAcquired, IsDone, IsDoneWith, IsGranted, IsRead, IsReadWith, opened};
 
 use crate::form::{Form, NoPlace};
@@ -238,7 +239,10 @@ impl<R: Wait + Drop, const MAX: usize> Form<R, Word<MAX>> {
     /// As [`Self::acquire_many_sync`], with a receipt of what the call's visitor or its place has seen.
     ///
     /// An error is the witness that all places were out of the pool as it looked.
-    pub fn acquire_many_witnessed(&self, count: usize) -> Result<(u8, Receipt), NoPlace<Place>>
+    pub fn acquire_many_witnessed(
+        &self,
+        count: usize,
+    ) -> Result<(u8, Receipt), NoPlace<Place, Word<MAX>>>
         requires { count ≤ MAX }
         ensures acquired { IfOk result (λ told. IsAcquired self.now.word count (Ok told.0) told.1) }
         ensures refused { IfErr result (λ no_place. IsRefusedBy self.now no_place) }
@@ -288,6 +292,7 @@ impl<R: Wait + Drop, const MAX: usize> Form<R, Word<MAX>> {
     ///
     /// Nothing is asked before its first poll, which joins the queue without a look where it must wait. See [`Acquiring`].
     pub fn acquire_async(&self) -> AcquireOf<'_, R, MAX>
+        ensures form { result.form ≡ self.now }
         ensures request { result.asking.ask ≡ 1 }
         ensures idle { result.asking.borrowed ≡ None }
         ensures fresh { result.asking.has_ended ≡ false }
@@ -303,6 +308,7 @@ impl<R: Wait + Drop, const MAX: usize> Form<R, Word<MAX>> {
         &self,
         begin_wait: F,
     ) -> AcquireWithOf<'_, R, F, MAX>
+        ensures form { result.acquiring.form ≡ self.now }
         ensures request { result.acquiring.asking.ask ≡ 1 }
         ensures idle { result.acquiring.asking.borrowed ≡ None }
         ensures fresh { result.acquiring.asking.has_ended ≡ false }
@@ -315,6 +321,7 @@ impl<R: Wait + Drop, const MAX: usize> Form<R, Word<MAX>> {
     ///
     /// Nothing is asked before its first poll, which joins the queue without a look where it must wait. See [`Acquiring`].
     pub fn acquire_many_async(&self, count: usize) -> AcquireManyOf<'_, R, MAX>
+        ensures form { result.form ≡ self.now }
         ensures request { result.asking.ask ≡ count }
         ensures idle { result.asking.borrowed ≡ None }
         ensures fresh { result.asking.has_ended ≡ false }
@@ -328,6 +335,7 @@ impl<R: Wait + Drop, const MAX: usize> Form<R, Word<MAX>> {
         count: usize,
         begin_wait: F,
     ) -> AcquireManyWithOf<'_, R, F, MAX>
+        ensures form { result.acquiring.form ≡ self.now }
         ensures request { result.acquiring.asking.ask ≡ count }
         ensures idle { result.acquiring.asking.borrowed ≡ None }
         ensures fresh { result.acquiring.asking.has_ended ≡ false }
@@ -354,6 +362,9 @@ impl<R: Wait + Drop, const MAX: usize> Form<R, Word<MAX>> {
         ensures too_many { MAX < count → result ≡ Ok false }
         ensures unchanged { was_made result ≡ false → pager.new ≡ pager.old }
         ensures mode { was_made result ≡ true → mode_of pager.new ≡ Some is_sync }
+        ensures asked { was_made result ≡ true → ask_of pager.new ≡ Some count }
+        ensures taken { was_made result ≡ true → TakesAt calls_of self.now pager.new }
+        ensures full { IfErr result (λ full. WasFull Place self.now) }
         ensures idle { is_busy pager.old ≡ false → count ≤ MAX → IfOk result (λ is_registered. is_registered ≡ true) }
     {
         if count > MAX {
@@ -383,7 +394,13 @@ impl<R: Wait + Drop, const MAX: usize> Form<R, Word<MAX>> {
         ensures places { result.places ≡ (about_of self.word).places }
         ensures led { IsLedOn (about_of self.word) (numbers result) (said receipt) }
     {
-        self.into_word().close_on(receipt)
+        let Form {
+            rt: _,
+            word,
+            places: _,
+            spin_policy: _,
+        } = self;
+        word.close_on(receipt)
     }
 }
 

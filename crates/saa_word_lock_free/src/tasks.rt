@@ -2,11 +2,10 @@
 //!
 //! A future's answer has a receipt: a witness of the history that its visitor or its place had seen.
 
-ghost use Rattle.std.specs.Prelude.{◌≡◌, ◌&&◌, false, true, IfOk, IfSome, None, is_some, not};
+ghost use Rattle.std.specs.Prelude.{◌≡◌, ◌&&◌, false, true, IfErr, IfOk, IfSome, IsNone, None, is_some, not};
 ghost use Rattle.futures.specs.Poll.{IfReady, OnPending};
 ghost use Rattle.futures.specs.Task.{Hears, IsArmed, Keeps};
-ghost use Rattle.saa_word_lock_free.specs.Forms.{IsOut};
-ghost use Rattle.saa_word_lock_free.specs.Places.{RestsIn};
+ghost use Rattle.saa_word_lock_free.specs.Forms.{IsOut, WasFull};
 ghost use Rattle.saa_word_lock_free.specs.Pendings.{IsAnsweredLater, IsAwaited, MayAwait};
 
 use crate::form::{BorrowedPlace, Form};
@@ -25,7 +24,7 @@ use std::sync::Wait;
 pub struct Pending<W: WordForm> {
     pub(crate) ask: W::Ask,
     // Its place, until its answer is taken.
-    pub(crate) borrowed: Option<BorrowedPlace<W::Place>>,
+    pub(crate) borrowed: Option<BorrowedPlace<W::Place, W>>,
     pub(crate) has_ended: bool,
 }
 
@@ -54,9 +53,11 @@ impl<R: Wait + Drop, W: WordForm> Form<R, W> {
         pending: &mut Pending<W>,
         cx: &mut Context<'_>,
     ) -> (Told, bool)
-        requires admitted { MayAwait (IsOut W.table W.home self.now) W.rests (IsAwaited (W.calls self.now.word) (RestsIn W.home W.rests (W.table self.now.word)) pending.old.ask) pending.old.borrowed }
+        requires admitted { MayAwait (IsOut W.table W.home self.now) W.rests (IsAwaited (W.calls self.now.word) pending.old.ask) pending.old.borrowed }
         requires unended { pending.old.has_ended ≡ false }
-        ensures answered { IfReady result.0 (λ answer. IfOk answer (λ told. IfSome told (λ with_receipt. IsAnsweredLater (W.calls self.now.word) (RestsIn W.home W.rests (W.table self.now.word)) pending.old.ask with_receipt.0 with_receipt.1))) }
+        ensures answered { IfReady result.0 (λ answer. IfOk answer (λ told. IfSome told (λ with_receipt. IsAnsweredLater (W.calls self.now.word) pending.old.ask with_receipt.0 with_receipt.1))) }
+        ensures refused { IfReady result.0 (λ answer. IfOk answer (λ told. IsNone told → W.fits pending.old.ask → ⊥)) }
+        ensures full { IfReady result.0 (λ answer. IfErr answer (λ full. WasFull W.Place self.now)) }
         ensures armed { OnPending result.0 (IsArmed cx.new) }
         ensures heard { OnPending result.0 (Hears cx.new (W.source self.now.word)) }
         ensures kept { Keeps cx.old cx.new }
@@ -64,7 +65,7 @@ impl<R: Wait + Drop, W: WordForm> Form<R, W> {
         ensures pending { OnPending result.0 (pending.new.has_ended ≡ false) }
         ensures joined { result.1 ≡ (not (is_some pending.old.borrowed) && is_some pending.new.borrowed) }
         ensures asked { pending.new.ask ≡ pending.old.ask }
-        ensures admitted { MayAwait (IsOut W.table W.home self.now) W.rests (IsAwaited (W.calls self.now.word) (RestsIn W.home W.rests (W.table self.now.word)) pending.new.ask) pending.new.borrowed }
+        ensures admitted { MayAwait (IsOut W.table W.home self.now) W.rests (IsAwaited (W.calls self.now.word) pending.new.ask) pending.new.borrowed }
     {
         match pending.borrowed.take() {
             Some(borrowed) => (self.poll_place(pending, borrowed, cx), false),
@@ -76,7 +77,9 @@ impl<R: Wait + Drop, W: WordForm> Form<R, W> {
     fn begin(&self, pending: &mut Pending<W>, cx: &mut Context<'_>) -> (Told, bool)
         requires idle { pending.old.borrowed ≡ None }
         requires unended { pending.old.has_ended ≡ false }
-        ensures answered { IfReady result.0 (λ answer. IfOk answer (λ told. IfSome told (λ with_receipt. IsAnsweredLater (W.calls self.now.word) (RestsIn W.home W.rests (W.table self.now.word)) pending.old.ask with_receipt.0 with_receipt.1))) }
+        ensures answered { IfReady result.0 (λ answer. IfOk answer (λ told. IfSome told (λ with_receipt. IsAnsweredLater (W.calls self.now.word) pending.old.ask with_receipt.0 with_receipt.1))) }
+        ensures refused { IfReady result.0 (λ answer. IfOk answer (λ told. IsNone told → W.fits pending.old.ask → ⊥)) }
+        ensures full { IfReady result.0 (λ answer. IfErr answer (λ full. WasFull W.Place self.now)) }
         ensures armed { OnPending result.0 (IsArmed cx.new) }
         ensures heard { OnPending result.0 (Hears cx.new (W.source self.now.word)) }
         ensures kept { Keeps cx.old cx.new }
@@ -84,7 +87,7 @@ impl<R: Wait + Drop, W: WordForm> Form<R, W> {
         ensures pending { OnPending result.0 (pending.new.has_ended ≡ false) }
         ensures joined { result.1 ≡ is_some pending.new.borrowed }
         ensures asked { pending.new.ask ≡ pending.old.ask }
-        ensures admitted { MayAwait (IsOut W.table W.home self.now) W.rests (IsAwaited (W.calls self.now.word) (RestsIn W.home W.rests (W.table self.now.word)) pending.new.ask) pending.new.borrowed }
+        ensures admitted { MayAwait (IsOut W.table W.home self.now) W.rests (IsAwaited (W.calls self.now.word) pending.new.ask) pending.new.borrowed }
     {
         let ask = pending.ask;
         if !W::may_fit(ask) {
@@ -114,22 +117,24 @@ impl<R: Wait + Drop, W: WordForm> Form<R, W> {
     fn poll_place(
         &self,
         pending: &mut Pending<W>,
-        borrowed: BorrowedPlace<W::Place>,
+        borrowed: BorrowedPlace<W::Place, W>,
         cx: &mut Context<'_>,
     ) -> Told
         requires idle { pending.old.borrowed ≡ None }
         requires unended { pending.old.has_ended ≡ false }
         requires out { IsOut W.table W.home self.now borrowed }
         requires waits { W.rests borrowed.value → ⊥ }
-        requires awaited { IsAwaited (W.calls self.now.word) (RestsIn W.home W.rests (W.table self.now.word)) pending.old.ask borrowed.value }
-        ensures answered { IfReady result (λ answer. IfOk answer (λ told. IfSome told (λ with_receipt. IsAnsweredLater (W.calls self.now.word) (RestsIn W.home W.rests (W.table self.now.word)) pending.old.ask with_receipt.0 with_receipt.1))) }
+        requires awaited { IsAwaited (W.calls self.now.word) pending.old.ask borrowed.value }
+        ensures answered { IfReady result (λ answer. IfOk answer (λ told. IfSome told (λ with_receipt. IsAnsweredLater (W.calls self.now.word) pending.old.ask with_receipt.0 with_receipt.1))) }
+        ensures refused { IfReady result (λ answer. IfOk answer (λ told. IsNone told → W.fits pending.old.ask → ⊥)) }
+        ensures full { IfReady result (λ answer. IfErr answer (λ full. WasFull W.Place self.now)) }
         ensures armed { OnPending result (IsArmed cx.new) }
         ensures heard { OnPending result (Hears cx.new (W.source self.now.word)) }
         ensures kept { Keeps cx.old cx.new }
         ensures ended { IfReady result (λ answer. (pending.new.has_ended ≡ true) × (pending.new.borrowed ≡ None)) }
         ensures pending { OnPending result ((pending.new.has_ended ≡ false) × (is_some pending.new.borrowed ≡ true)) }
         ensures asked { pending.new.ask ≡ pending.old.ask }
-        ensures admitted { MayAwait (IsOut W.table W.home self.now) W.rests (IsAwaited (W.calls self.now.word) (RestsIn W.home W.rests (W.table self.now.word)) pending.new.ask) pending.new.borrowed }
+        ensures admitted { MayAwait (IsOut W.table W.home self.now) W.rests (IsAwaited (W.calls self.now.word) pending.new.ask) pending.new.borrowed }
     {
         let mut borrowed = borrowed;
         match self.word().poll_task(&mut borrowed.value, cx) {
@@ -152,13 +157,12 @@ impl<R: Wait + Drop, W: WordForm> Form<R, W> {
 
 impl<R: Wait + Drop, W: WordForm> Pends for Form<R, W> {
     ghost use Rattle.std.specs.Prelude.{is_some};
-    ghost use Rattle.saa_word_lock_free.specs.Forms.{IsOut, source_of};
-    ghost use Rattle.saa_word_lock_free.specs.Places.{RestsIn};
-    ghost use Rattle.saa_word_lock_free.specs.Pendings.{IsAwaited, MayAwait};
+    ghost use Rattle.saa_word_lock_free.specs.Forms.{IsOut, WasFull, source_of};
+    ghost use Rattle.saa_word_lock_free.specs.Pendings.{IsAwaited, IsToldLater, IsWithdrawn, MayAwait};
 
     type Pending = Pending<W>;
 
-    ghost admits_pending = { λ form pending. MayAwait (IsOut W.table W.home form) W.rests (IsAwaited (W.calls form.word) (RestsIn W.home W.rests (W.table form.word)) pending.ask) pending.borrowed };
+    ghost admits_pending = { λ form pending. MayAwait (IsOut W.table W.home form) W.rests (IsAwaited (W.calls form.word) pending.ask) pending.borrowed };
 
     ghost source = { source_of W.source };
 
@@ -167,6 +171,12 @@ impl<R: Wait + Drop, W: WordForm> Pends for Form<R, W> {
     ghost is_registered = { λ pending. is_some pending.borrowed };
 
     ghost has_ended = { λ pending. pending.has_ended };
+
+    ghost answers = { λ form pending. IsToldLater W.fits (W.calls form.word) pending.ask };
+
+    ghost withdraws = { λ form pending. IsWithdrawn (W.calls form.word) pending.borrowed };
+
+    ghost refuses = { WasFull W.Place };
 
     fn has_ended(pending: &Pending<W>) -> bool {
         pending.has_ended
@@ -202,18 +212,18 @@ impl<R: Wait + Drop, W: WordForm> Pends for Form<R, W> {
         if registration.is_wrong_mode(How::Async) {
             return Poll::Ready(Err(Error::WrongMode));
         }
-        let (kept, is_sync) = registration.take();
+        let (kept, is_sync) = self.take_kept(registration);
         match kept {
             Kept::Nothing => unreachable!(),
-            Kept::AtOnce(value, _ask) => Poll::Ready(Ok(value)),
-            Kept::AtPlace(mut borrowed) => {
-                match self.word().poll_task(&mut borrowed.value, cx) {
+            Kept::AtOnce(value, _ask, _visitor) => Poll::Ready(Ok(value)),
+            Kept::AtPlace(mut borrowed, ask) => {
+                match self.poll_kept_task(&mut borrowed.value, ask, cx) {
                     Poll::Ready(answer) => {
                         self.give(borrowed);
                         Poll::Ready(answer)
                     }
                     Poll::Pending => {
-                        *registration = Registration::at_place(borrowed, is_sync);
+                        *registration = self.keep(borrowed, ask, is_sync);
                         Poll::Pending
                     }
                 }

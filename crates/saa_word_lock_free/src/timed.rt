@@ -101,7 +101,7 @@ impl<R: Wait + Clock + Drop, const MAX: usize> Form<R, SemaphoreWord<MAX>> {
         &self,
         count: usize,
         deadline: Deadline,
-    ) -> Result<(Result<u8, Error>, Receipt), NoPlace<SemaphorePlace>>
+    ) -> Result<(Result<u8, Error>, Receipt), NoPlace<SemaphorePlace, SemaphoreWord<MAX>>>
         requires { count ≤ MAX }
         ensures acquired { IfOk result (λ told. IsAcquired self.now.word count told.0 told.1) }
         ensures refused { IfErr result (λ no_place. IsRefusedBy self.now no_place) }
@@ -181,7 +181,7 @@ impl<R: Wait + Clock + Drop> Form<R, LockWord> {
         &self,
         mode: Mode,
         deadline: Deadline,
-    ) -> Result<(Result<u8, Error>, Receipt), NoPlace<LockPlace>>
+    ) -> Result<(Result<u8, Error>, Receipt), NoPlace<LockPlace, LockWord>>
         ensures acquired { IfOk result (λ told. IsAcquiredIn self.now.word mode told.0 told.1) }
         ensures refused { IfErr result (λ no_place. IsRefusedBy self.now no_place) }
     {

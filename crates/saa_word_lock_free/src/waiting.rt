@@ -1,10 +1,9 @@
 //! What a form offers to waits: registrations, polls, waits and cancels. A registration is answered at once, or has a place of the pool.
 
-ghost use Rattle.std.specs.Prelude.{◌≡◌, false, true, IfOk};
-ghost use Rattle.saa_core_spec.specs.Errors.{error_of, is_not_ready};
-ghost use Rattle.saa_word_lock_free.specs.Registered.{IsPolled, IsRegistered, at_place, is_busy, unregistered};
+ghost use Rattle.std.specs.Prelude.{◌≡◌, false, true, IfErr, IfOk};
+ghost use Rattle.saa_word_lock_free.specs.Registered.{IsRegistered, is_busy};
 
-use crate::form::{BorrowedPlace, Form};
+use crate::form::Form;
 use crate::registration::{Kept, Registration};
 use crate::word_form::WordForm;
 use saa_core_spec::polling::{Error, How};
@@ -21,19 +20,19 @@ pub(crate) const POISONED: u8 = 2;
 
 impl<R: Wait + Drop, W: WordForm> Waitable for Form<R, W> {
     ghost use Rattle.saa_word_lock_free.specs.Forms.{TakesAt};
-    ghost use Rattle.saa_word_lock_free.specs.Registered.{IsPolled, IsRegistered, unregistered};
+    ghost use Rattle.saa_word_lock_free.specs.Registered.{IsCancelled, IsPolled, IsRegistered};
 
     type Ask = W::Ask;
 
     type Registration = Registration<W>;
 
-    ghost admits = { TakesAt W.table };
+    ghost admits = { TakesAt W.calls };
 
-    ghost registers = { λ ask is_sync. IsRegistered is_sync };
+    ghost registers = { IsRegistered };
 
-    ghost polls = { IsPolled };
+    ghost polls = { IsPolled W.calls };
 
-    ghost cancels = { λ old new. new ≡ unregistered };
+    ghost cancels = { IsCancelled W.calls };
 
     fn register(
         &self,
@@ -61,16 +60,13 @@ impl<R: Wait + Drop, W: WordForm> Waitable for Form<R, W> {
         if registration.is_wrong_mode(how) {
             return Err(Error::WrongMode);
         }
-        let (kept, is_sync) = registration.take();
+        let (kept, is_sync) = self.take_kept(registration);
         match kept {
             Kept::Nothing => unreachable!(),
-            Kept::AtOnce(value, _ask) => Ok(value),
-            Kept::AtPlace(mut borrowed) => {
-                let answer = match how {
-                    How::Sync => self.word().poll(self.rt(), &mut borrowed.value),
-                    How::Async | How::Try => self.word().try_poll(&mut borrowed.value),
-                };
-                self.settle(registration, borrowed, is_sync, answer);
+            Kept::AtOnce(value, _ask, _visitor) => Ok(value),
+            Kept::AtPlace(mut borrowed, ask) => {
+                let answer = self.poll_kept(&mut borrowed.value, ask, how);
+                self.settle(registration, borrowed, ask, is_sync, answer);
                 answer
             }
         }
@@ -85,15 +81,15 @@ impl<R: Wait + Drop, W: WordForm> Waitable for Form<R, W> {
     }
 
     fn cancel_registration(&self, registration: &mut Registration<W>) {
-        let (kept, _is_sync) = registration.take();
+        let (kept, _is_sync) = self.take_kept(registration);
         match kept {
             Kept::Nothing => {}
-            Kept::AtOnce(value, ask) => {
+            Kept::AtOnce(value, ask, _visitor) => {
                 if value == GRANTED {
-                    self.word().give_back(self.rt(), ask);
+                    let _giver = self.word().give_back(self.rt(), ask);
                 }
             }
-            Kept::AtPlace(mut borrowed) => {
+            Kept::AtPlace(mut borrowed, _ask) => {
                 self.word().cancel(self.rt(), &mut borrowed.value);
                 self.give(borrowed);
             }
@@ -113,15 +109,13 @@ impl<R: Wait + Clock + Drop, W: WordForm> WaitableUntil for Form<R, W> {
         if registration.is_wrong_mode(How::Sync) {
             return Err(Error::WrongMode);
         }
-        let (kept, is_sync) = registration.take();
+        let (kept, is_sync) = self.take_kept(registration);
         match kept {
             Kept::Nothing => unreachable!(),
-            Kept::AtOnce(value, _ask) => Ok(value),
-            Kept::AtPlace(mut borrowed) => {
-                let answer = self
-                    .word()
-                    .poll_until(self.rt(), &mut borrowed.value, deadline);
-                self.settle(registration, borrowed, is_sync, answer);
+            Kept::AtOnce(value, _ask, _visitor) => Ok(value),
+            Kept::AtPlace(mut borrowed, ask) => {
+                let answer = self.poll_kept_until(&mut borrowed.value, ask, deadline);
+                self.settle(registration, borrowed, ask, is_sync, answer);
                 answer
             }
         }
@@ -141,7 +135,7 @@ impl<R: Wait + Clock + Drop, W: WordForm> WaitableUntil for Form<R, W> {
 }
 
 impl<R: Wait + Drop, W: WordForm> Form<R, W> {
-    ghost use Rattle.saa_word_lock_free.specs.Forms.{IsOut, TakesAt};
+    ghost use Rattle.saa_word_lock_free.specs.Forms.{TakesAt, WasFull};
 
     // Registers for what is asked: a visitor asks at once, and where that would have to wait a place joins the queue.
     pub(crate) fn register_at(
@@ -150,49 +144,27 @@ impl<R: Wait + Drop, W: WordForm> Form<R, W> {
         ask: W::Ask,
         is_sync: bool,
     ) -> Result<bool, Full>
-        requires { TakesAt W.table self.now registration.old }
-        ensures registered { IsRegistered is_sync registration.old registration.new result }
+        requires { TakesAt W.calls self.now registration.old }
+        ensures registered { IsRegistered ask is_sync registration.old registration.new result }
         ensures sure { is_busy registration.old ≡ false → W.fits ask → IfOk result (λ is_registered. is_registered ≡ true) }
-        ensures admitted { TakesAt W.table self.now registration.new }
+        ensures full { IfErr result (λ full. WasFull W.Place self.now) }
+        ensures admitted { TakesAt W.calls self.now registration.new }
     {
         if registration.is_registered() || !W::may_fit(ask) {
             return Ok(false);
         }
-        let (told, _visitor) = self.ask_at_once(ask);
+        let (told, visitor) = self.ask_at_once(ask);
         if let Some(value) = told {
-            *registration = Registration::at_once(value, ask, is_sync);
+            *registration = Registration::at_once(value, ask, visitor, is_sync);
             return Ok(true);
         }
         match self.borrow() {
             Ok(borrowed) => {
                 let borrowed = self.join(borrowed, ask, NONE);
-                *registration = Registration::at_place(borrowed, is_sync);
+                *registration = self.keep(borrowed, ask, is_sync);
                 Ok(true)
             }
             Err(_no_place) => Err(Full),
-        }
-    }
-
-    // Puts a place back where it was kept, if its answer isn't there yet, and else into the pool.
-    fn settle(
-        &self,
-        registration: &mut Registration<W>,
-        borrowed: BorrowedPlace<W::Place>,
-        is_sync: bool,
-        answer: Result<u8, Error>,
-    )
-        requires out { IsOut W.table W.home self.now borrowed }
-        requires idle { registration.old ≡ unregistered }
-        requires rests { is_not_ready (error_of answer) ≡ false → W.rests borrowed.value }
-        requires waits { is_not_ready (error_of answer) ≡ true → W.rests borrowed.value → ⊥ }
-        ensures kept { is_not_ready (error_of answer) ≡ true → registration.new ≡ at_place (W.home borrowed.value) borrowed.seat.table_id borrowed.seat.me.0.key is_sync }
-        ensures given { is_not_ready (error_of answer) ≡ false → registration.new ≡ unregistered }
-        ensures admitted { TakesAt W.table self.now registration.new }
-    {
-        if matches!(answer, Err(Error::NotReady)) {
-            *registration = Registration::at_place(borrowed, is_sync);
-        } else {
-            self.give(borrowed);
         }
     }
 }

@@ -48,24 +48,23 @@ pub trait WordForm: Sized + Drop {
 
     ghost rests: { Self.Place → Type 0 };
 
-    // What the calls do.
+    // What the calls do; a place of the word's table that is registered as nothing may rest in a pool.
     ghost calls: { Self → WordCalls Self.Ask Self.Place };
+
+    ghost rests_here: { (word : Self) (place : Self.Place) → home place ≡ table word → rests place → (calls word).rests place };
 
     /// Whether an ask is for no more than there ever is.
     fn may_fit(ask: Self::Ask) -> bool
         ensures { IsTrue result ↔ fits ask };
-
-    /// A visitor that has made no call.
-    fn enter(&self) -> Visitor
-        ensures { table_of result ≡ table self.now };
 
     /// Asks once, with no place, and waits for nothing. What can't be asked so is refused.
     fn try_once<R: Wait>(&self, rt: &R, ask: Self::Ask) -> (Result<(), TryLockError>, Visitor)
         ensures tried { (calls self.now).tries ask result.0 result.1 }
         ensures ours { table_of result.1 ≡ table self.now };
 
-    /// Gives back what an ask took.
-    fn give_back<R: Wait>(&self, rt: &R, ask: Self::Ask);
+    /// Gives back what an ask took, by a visitor.
+    fn give_back<R: Wait>(&self, rt: &R, ask: Self::Ask) -> Visitor
+        ensures { (calls self.now).gives_back ask result };
 
     /// Registers a place, which looks and yields first, as often as the spin policy says.
     fn register<R: Wait>(

@@ -1,4 +1,4 @@
-use Rattle.std.proofs.Common.{refl, subst, sym, ◌∙◌, inl, inr}
+use Rattle.std.proofs.Common.{refl, subst, sym, ◌∙◌, inl}
 use Rattle.saa_word_lock_free.proofs.form.Form.acquire_witnessed.Goals as goal
 
 pub returns-in-Some-clause-acquired : goal.returns-in-Some-clause-acquired

@@ -1,4 +1,4 @@
-use Rattle.std.proofs.Common.{subst, suc, ◌∙◌, ◌+◌}
+use Rattle.std.proofs.Common.{subst, suc, ◌∙◌}
 use Rattle.std.specs.Prelude.{Err}
 use Rattle.saa_core_spec.specs.declared.polling.Error.TheVariants.{NotReady}
 use Rattle.saa_word_lock_free.proofs.form.Form.poll_place.Goals as goal

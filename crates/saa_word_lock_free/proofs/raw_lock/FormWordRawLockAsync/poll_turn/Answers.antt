@@ -5,10 +5,8 @@ use Rattle.futures.specs.declared.task.Poll.TheVariants.{Ready}
 use Rattle.futures.specs.Poll.{IfReady}
 use Rattle.saa_core_spec.specs.declared.request.Full.{Full}
 use Rattle.saa_word_threads.specs.declared.receipt.Receipt.{Receipt}
-use Rattle.saa_word_threads.specs.Locks.{table_of}
-use Rattle.saa_word_lock_free.specs.OfLock.{Rests, calls_of, home_of}
+use Rattle.saa_word_lock_free.specs.OfLock.{calls_of}
 use Rattle.saa_word_lock_free.specs.Pendings.{IsAnsweredLater}
-use Rattle.saa_word_lock_free.specs.Places.{RestsIn}
 use Rattle.saa_word_lock_free.proofs.Turning.{later-is-turn}
 use Rattle.saa_word_lock_free.proofs.raw_lock.FormWordRawLockAsync.poll_turn.Goals as goal
 
@@ -18,7 +16,7 @@ returns-then-value-eq-GRANTED-clause-granted g c =
     let asked = c.args.pending.now.ask in
     let Told = Option (ℕ × Receipt) in
     let Q : Poll (Result Told Full) → Type 0 = λ polled. IfReady polled (λ answer. IfOk answer (λ told. IfSome told (λ with_receipt.
-    IsAnsweredLater (calls_of lock) (RestsIn home_of Rests (table_of lock)) asked with_receipt.0 with_receipt.1))) in
+    IsAnsweredLater (calls_of lock) asked with_receipt.0 with_receipt.1))) in
     let is = c.in-Ready-Ok-Some.is ∙ ap (λ (answer : Result Told Full). Ready answer) (c.in-Ready-Ok-Some.field-0-is ∙ ap (λ (told : Told). Ok told) c.in-Ready-Ok-Some.field-0-0-is) in
     later-is-turn lock asked c.args.mode c.in-Ready-Ok-Some.value c.in-Ready-Ok-Some.receipt c.requires.asked c.if-value-eq-GRANTED.true
     (subst Q is c.advance_witnessed-told.ensures.answered)

@@ -1,5 +1,4 @@
 use Rattle.std.proofs.Common.{subst}
-use Rattle.saa_word_threads.specs.declared.semaphore.SemaphoreOf.{SemaphoreOf}
 use Rattle.saa_word_lock_free.specs.SemaphoreCalls.{IsReadWith}
 use Rattle.saa_word_steps.specs.declared.call.WordCall.TheVariants.{Available}
 use Rattle.saa_word_steps.specs.declared.call.Answer.TheVariants.{Number}

@@ -1,5 +1,4 @@
 use Rattle.std.proofs.Common.{subst}
-use Rattle.saa_word_threads.specs.declared.semaphore.SemaphoreOf.{SemaphoreOf}
 use Rattle.saa_word_lock_free.specs.SemaphoreCalls.{IsDoneWith}
 use Rattle.saa_word_steps.specs.declared.call.WordCall.TheVariants.{Try}
 use Rattle.saa_word_lock_free.proofs.semaphore.Form+R+Word+MAX.try_acquire_many_witnessed.Goals as goal
