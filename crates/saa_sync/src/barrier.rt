@@ -12,12 +12,11 @@ ghost use Rattle.saa_core.specs.Beginning.{mode_of};
 ghost use Rattle.saa_sync.specs.Forms.{spin_policy_of, waiter_policy_of};
 
 use crate::form::{Form, PagerCore};
-use crate::future::barrier::{Acquiring, AcquiringWith, ArriveFuture, ArriveFutureWith};
+use crate::future::barrier::{ArriveFuture, ArriveFutureWith};
 use crate::pager::Pager;
 use crate::parker::WAITER;
 use crate::spin_policy::NONE;
 pub use saa_core::barrier::{BarrierAnswer, BarrierCall, BarrierCore};
-use saa_core::future::PendingRegistration;
 use saa_core::primitive::Primitive;
 use saa_core::ticket::{Error, Full};
 use std::alloc::{AllocError, Global};
@@ -106,7 +105,7 @@ impl<R: Wait + Drop> Form<R, BarrierCore> {
         ensures idle { result.asking.ticket ≡ Unregistered }
         ensures fresh { result.asking.has_ended ≡ false }
     {
-        Acquiring::new(self, PendingRegistration::new(()))
+        self.future(())
     }
 
     /// The future of [`Self::wait_async`], which calls `begin_wait` where it joins the queue.
@@ -120,7 +119,7 @@ impl<R: Wait + Drop> Form<R, BarrierCore> {
         ensures fresh { result.acquiring.asking.has_ended ≡ false }
         ensures callback { result.begin_wait ≡ Some begin_wait }
     {
-        AcquiringWith::new(self.wait_async(), begin_wait)
+        self.future_with((), begin_wait)
     }
 
     /// Registers a pager as an arrival, to be polled as sync or as async.

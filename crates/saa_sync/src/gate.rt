@@ -14,11 +14,10 @@ ghost use Rattle.saa_sync.specs.Forms.{spin_policy_of, waiter_policy_of};
 ghost use Rattle.saa_sync.specs.GateAnswers.{gate_fault, gate_reading};
 
 use crate::form::{Form, PagerCore};
-use crate::future::gate::{Acquiring, AcquiringWith, Enter, EnterWith};
+use crate::future::gate::{Enter, EnterWith};
 use crate::pager::Pager;
 use crate::parker::WAITER;
 use crate::spin_policy::NONE;
-use saa_core::future::PendingRegistration;
 pub use saa_core::gate::{Error, GateAnswer, GateCall, GateCore, State};
 use saa_core::primitive::Primitive;
 use saa_core::ticket::Full;
@@ -142,7 +141,7 @@ impl<R: Wait + Drop> Form<R, GateCore> {
         ensures idle { result.asking.ticket ≡ Unregistered }
         ensures fresh { result.asking.has_ended ≡ false }
     {
-        Acquiring::new(self, PendingRegistration::new(()))
+        self.future(())
     }
 
     /// The future of [`Self::enter_async`], which calls `begin_wait` where it joins the queue.
@@ -156,7 +155,7 @@ impl<R: Wait + Drop> Form<R, GateCore> {
         ensures fresh { result.acquiring.asking.has_ended ≡ false }
         ensures callback { result.begin_wait ≡ Some begin_wait }
     {
-        AcquiringWith::new(self.enter_async(), begin_wait)
+        self.future_with((), begin_wait)
     }
 
     /// Registers a pager to pass the gate, to be polled as sync or as async.

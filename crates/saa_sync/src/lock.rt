@@ -11,13 +11,10 @@ ghost use Rattle.saa_core.specs.Beginning.{mode_of};
 ghost use Rattle.saa_sync.specs.Forms.{spin_policy_of, waiter_policy_of};
 
 use crate::form::{Form, PagerCore};
-use crate::future::lock::{
-    Acquiring, AcquiringWith, LockFuture, LockFutureWith, ShareFuture, ShareFutureWith,
-};
+use crate::future::lock::{LockFuture, LockFutureWith, ShareFuture, ShareFutureWith};
 use crate::pager::Pager;
 use crate::parker::WAITER;
 use crate::spin_policy::{DEFAULT, SpinPolicy};
-use saa_core::future::PendingRegistration;
 pub use saa_core::lock::{LockAnswer, LockCall, LockCore, Mode, TryLockError};
 use saa_core::primitive::Primitive;
 use saa_core::ticket::{Error, Full};
@@ -204,7 +201,7 @@ impl<R: Wait + Drop> Form<R, LockCore> {
         ensures idle { result.asking.ticket ≡ Unregistered }
         ensures fresh { result.asking.has_ended ≡ false }
     {
-        Acquiring::new(self, PendingRegistration::new(Mode::Exclusive))
+        self.future(Mode::Exclusive)
     }
 
     /// The future of [`Self::lock_async`], which calls `begin_wait` where it joins the queue.
@@ -218,7 +215,7 @@ impl<R: Wait + Drop> Form<R, LockCore> {
         ensures fresh { result.acquiring.asking.has_ended ≡ false }
         ensures callback { result.begin_wait ≡ Some begin_wait }
     {
-        AcquiringWith::new(self.lock_async(), begin_wait)
+        self.future_with(Mode::Exclusive, begin_wait)
     }
 
     /// The future of a share of the lock: its output is that of [`Self::share_sync`].
@@ -230,7 +227,7 @@ impl<R: Wait + Drop> Form<R, LockCore> {
         ensures idle { result.asking.ticket ≡ Unregistered }
         ensures fresh { result.asking.has_ended ≡ false }
     {
-        Acquiring::new(self, PendingRegistration::new(Mode::Shared))
+        self.future(Mode::Shared)
     }
 
     /// The future of [`Self::share_async`], which calls `begin_wait` where it joins the queue.
@@ -244,7 +241,7 @@ impl<R: Wait + Drop> Form<R, LockCore> {
         ensures fresh { result.acquiring.asking.has_ended ≡ false }
         ensures callback { result.begin_wait ≡ Some begin_wait }
     {
-        AcquiringWith::new(self.share_async(), begin_wait)
+        self.future_with(Mode::Shared, begin_wait)
     }
 
     /// Registers a pager in a mode, to be polled as sync or as async.

@@ -11,14 +11,11 @@ ghost use Rattle.saa_core.specs.Beginning.{mode_of};
 ghost use Rattle.saa_sync.specs.Forms.{spin_policy_of, waiter_policy_of};
 
 use crate::form::{Form, PagerCore};
-use crate::future::semaphore::{
-    AcquireManyOf, AcquireManyWithOf, AcquireOf, AcquireWithOf, Acquiring, AcquiringWith,
-};
+use crate::future::semaphore::{AcquireManyOf, AcquireManyWithOf, AcquireOf, AcquireWithOf};
 use crate::pager::Pager;
 use crate::parker::WAITER;
 pub use crate::permit::{Permit, PermitFrom, PermitOf, TakesBack};
 use crate::spin_policy::{DEFAULT, SpinPolicy};
-use saa_core::future::PendingRegistration;
 use saa_core::primitive::Primitive;
 pub use saa_core::semaphore::{SemaphoreAnswer, SemaphoreCall, SemaphoreCore, SemaphoreCoreOf};
 use saa_core::ticket::{Error, Full};
@@ -225,7 +222,7 @@ impl<R: Wait + Drop, const MAX: usize> Form<R, SemaphoreCoreOf<MAX>> {
         ensures idle { result.asking.ticket ≡ Unregistered }
         ensures fresh { result.asking.has_ended ≡ false }
     {
-        Acquiring::new(self, PendingRegistration::new(1))
+        self.future(1)
     }
 
     /// The future of [`Self::acquire_async`], which calls `begin_wait` where it joins the queue.
@@ -242,7 +239,7 @@ impl<R: Wait + Drop, const MAX: usize> Form<R, SemaphoreCoreOf<MAX>> {
         ensures fresh { result.acquiring.asking.has_ended ≡ false }
         ensures callback { result.begin_wait ≡ Some begin_wait }
     {
-        AcquiringWith::new(self.acquire_async(), begin_wait)
+        self.future_with(1, begin_wait)
     }
 
     /// The future of `count` permits, all at once: its output is that of [`Self::acquire_many_sync`].
@@ -254,7 +251,7 @@ impl<R: Wait + Drop, const MAX: usize> Form<R, SemaphoreCoreOf<MAX>> {
         ensures idle { result.asking.ticket ≡ Unregistered }
         ensures fresh { result.asking.has_ended ≡ false }
     {
-        Acquiring::new(self, PendingRegistration::new(count))
+        self.future(count)
     }
 
     /// The future of [`Self::acquire_many_async`], which calls `begin_wait` where it joins the queue.
@@ -272,7 +269,7 @@ impl<R: Wait + Drop, const MAX: usize> Form<R, SemaphoreCoreOf<MAX>> {
         ensures fresh { result.acquiring.asking.has_ended ≡ false }
         ensures callback { result.begin_wait ≡ Some begin_wait }
     {
-        AcquiringWith::new(self.acquire_many_async(count), begin_wait)
+        self.future_with(count, begin_wait)
     }
 
     /// Registers a pager for `count` permits, to be polled as sync or as async.

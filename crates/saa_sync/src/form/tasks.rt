@@ -2,12 +2,16 @@
 //!
 //! What a poll does to the core is `PendingRegistration`'s, with no mutex and no waker.
 
+ghost use Rattle.std.specs.Prelude.{◌≡◌, false, Some};
+ghost use Rattle.saa_core.specs.declared.ticket.Registration.TheVariants.{Unregistered};
+
 use super::Form;
 use futures::task::{Context, Poll};
 use saa_core::future::{PendingRegistration, Progress};
 use saa_core::primitive::Primitive;
 use saa_core::ticket::{Error, Full, How, Ticket};
 use saa_core_waits::Pends;
+use saa_core_waits::future::{Acquiring, AcquiringWith, AnswerReader};
 use std::sync::Wait;
 
 impl<R: Wait + Drop, P: Primitive> Pends for Form<R, P> {
@@ -86,5 +90,34 @@ impl<R: Wait + Drop, P: Primitive> Pends for Form<R, P> {
         pending.cancel_on(&mut locked.core);
         let _unused = locked.wakers.take_of(slot);
         self.leave(locked);
+    }
+}
+
+impl<R: Wait + Drop, P: Primitive> Form<R, P> {
+    // The future of what is asked, as the calls of each primitive hand it out. Nothing is asked before its first poll.
+    #[inline(always)]
+    pub(crate) fn future<Q: AnswerReader>(&self, ask: P::Ask) -> Acquiring<'_, Self, Q>
+        ensures form { result.form ≡ self.now }
+        ensures request { result.asking.request ≡ P.request ask }
+        ensures idle { result.asking.ticket ≡ Unregistered }
+        ensures fresh { result.asking.has_ended ≡ false }
+    {
+        Acquiring::new(self, PendingRegistration::new(ask))
+    }
+
+    // The same future, which calls `begin_wait` where it joins the queue.
+    #[inline(always)]
+    pub(crate) fn future_with<Q: AnswerReader, F: FnOnce() + Drop>(
+        &self,
+        ask: P::Ask,
+        begin_wait: F,
+    ) -> AcquiringWith<'_, Self, Q, F>
+        ensures form { result.acquiring.form ≡ self.now }
+        ensures request { result.acquiring.asking.request ≡ P.request ask }
+        ensures idle { result.acquiring.asking.ticket ≡ Unregistered }
+        ensures fresh { result.acquiring.asking.has_ended ≡ false }
+        ensures callback { result.begin_wait ≡ Some begin_wait }
+    {
+        AcquiringWith::new(self.future(ask), begin_wait)
     }
 }
