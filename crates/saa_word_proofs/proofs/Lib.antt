@@ -3,3 +3,4 @@ pub mod ConservationLemmas
 pub mod OrderLemmas
 pub mod StepBoundLemmas
 pub mod RefinementLemmas
+pub mod TurnLemmas

@@ -43,7 +43,7 @@ split-run needs state (event ∷ front) rest last run =
 abbrev pub AreOnce : AbstractState → Type 0
 AreOnce state = (place : ℕ) → held_by place state ≤ 1
 
-once-kept : (needs : Needs) (state : AbstractState) (place : ℕ) (event : Event) → IsEnabled needs state place event → AreOnce state
+pub once-kept : (needs : Needs) (state : AbstractState) (place : ℕ) (event : Event) → IsEnabled needs state place event → AreOnce state
     → AreOnce (after_event needs state place event)
 once-kept needs state place event allowed was = run-once needs state ((place, event) ∷ []) (after_event needs state place event) (allowed, refl) was
 

@@ -14,3 +14,4 @@ pub mod Promises
 pub mod Blocking
 pub mod History
 pub mod Order
+pub mod Turns
