@@ -13,3 +13,4 @@ pub mod RegistrationLaws
 pub mod Inner
 pub mod Visiting
 pub mod PendingLemmas
+pub mod Walking

@@ -11,3 +11,5 @@ pub mod Pending
 pub mod Straight
 pub mod SpinPolicies
 pub mod Receipts
+pub mod Beginnings
+pub mod Walks

@@ -1,17 +1,19 @@
 //! A whole call of a place: the steps from its start to its answer.
 
 ghost use Rattle.std.specs.Prelude.{◌≡◌, true};
+ghost use Rattle.saa_word_steps.specs.Steps.{finished};
 ghost use Rattle.saa_word_threads.specs.Called.{is_single};
-ghost use Rattle.saa_word_threads.specs.Pending.{BeganAt, HasEnded, IsAt, IsCalledAt, IsPending, IsSameSeat, Takes, needs, withheld};
+ghost use Rattle.saa_word_threads.specs.Pending.{BeganAt, GoesOn, HasEnded, IsAt, IsCalledAt, IsPending, IsSameSeat, Takes, needs, withheld};
 ghost use Rattle.saa_word_threads.specs.Public.{HasLeft, IsSamePlace, spin_policy_of};
 
 use crate::form::Form;
 use crate::place::{Left, Place};
 use crate::table::View;
+use crate::walk::{Course, Walk};
 use crate::watch::{Moment, Unwatched, Watch};
 use atomic_table::Seat;
 use saa_word_steps::call::{Answer, WordCall};
-use saa_word_steps::place::{Next, Place as Position, Registration, Stage};
+use saa_word_steps::place::{Back, Next, Place as Position, Registration, Stage, Taking};
 use std::marker::Brand;
 use std::snapshot::Snapshot;
 use std::sync::Wait;
@@ -38,6 +40,10 @@ impl Pending {
             seat: Snapshot::of(&place.seat),
         }
     }
+}
+
+impl Course for Pending {
+    ghost begun = { λ pending. record { call = pending.call.value; was = pending.registered.value; view = pending.seat.value.me.0 } };
 }
 
 impl Form {
@@ -112,6 +118,35 @@ impl Form {
         Left { seat, number }
     }
 
+    // Makes the next step of a pending call; where that begins a walk, it makes the whole walk.
+    fn go<R: Wait, W: Watch>(
+        &self,
+        rt: &R,
+        watch: &W,
+        seat: &mut Seat<(), View>,
+        place: Position,
+        pending: &Pending,
+    ) -> Next
+        requires { IsPending self.now pending.now place seat.old }
+        ensures same { IsSameSeat seat.old seat.new }
+        ensures next { GoesOn self.now pending.now place result seat.new }
+    {
+        let Stage::BackLoad {
+            seen,
+            current,
+            newer,
+        } = place.stage
+        else {
+            return self.act::<Brand, W>(watch, seat, place, pending);
+        };
+        let walk = Walk {
+            course: pending,
+            place,
+        };
+        self.settle(rt, watch, seat, &walk, seen, current, newer);
+        finish(place)
+    }
+
     // Goes on with a call to its end, from the stage that its place is at.
     pub(crate) fn go_on<R: Wait, W: Watch>(
         &self,
@@ -130,7 +165,7 @@ impl Form {
             if publishes(place.stage) {
                 watch.at(Moment::Publishes);
             }
-            match self.act::<Brand, W>(watch, seat, place, &pending) {
+            match self.go(rt, watch, seat, place, &pending) {
                 Next::Going(next) => place = next,
                 Next::Waits => {
                     watch.at(Moment::IsBlocked);
@@ -149,4 +184,25 @@ pub(crate) fn publishes(stage: Stage) -> bool {
         stage,
         Stage::Close { .. } | Stage::Empty { .. } | Stage::GoRound { .. }
     )
+}
+
+// How a place goes on that is done with the queue.
+pub(crate) fn finish(place: Position) -> Next
+    ensures { result ≡ finished place place.back }
+{
+    let quiet = Position {
+        stage: Stage::Quiet,
+        ..place
+    };
+    match place.back {
+        Back::Tells => Next::Done(quiet, Answer::Bool(true)),
+        Back::Ends => Next::Done(quiet, Answer::Unit),
+        Back::Takes(request) => {
+            let taking = Taking::Gives(request);
+            Next::Going(Position {
+                stage: Stage::Take { taking },
+                ..place
+            })
+        }
+    }
 }

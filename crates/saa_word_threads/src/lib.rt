@@ -34,6 +34,7 @@ mod visit;
 pub mod visitor;
 mod waiting;
 mod wakers;
+mod walk;
 mod watch;
 pub mod words;
 mod written;

@@ -86,7 +86,7 @@ impl Form {
     }
 
     // Adds a number to a word.
-    fn add<M: Mover>(&self, seat: &mut Seat<(), View>, index: usize, number: u64) -> u64
+    pub(crate) fn add<M: Mover>(&self, seat: &mut Seat<(), View>, index: usize, number: u64) -> u64
         requires table { IsAt self.now seat.old × (M.about ≡ about_of self.now) }
         requires next { MakesNext self.now M.me M.place (Add index number) seat.old }
         ensures same { IsSameSeat seat.old seat.new }
@@ -96,7 +96,7 @@ impl Form {
     }
 
     // Writes a word, and wakes the place that waits for it, if any does.
-    fn store<M: Mover, W: Watch>(
+    pub(crate) fn store<M: Mover, W: Watch>(
         &self,
         watch: &W,
         seat: &mut Seat<(), View>,

@@ -14,11 +14,12 @@ ghost use Rattle.saa_word_threads.specs.Public.{is_yes};
 ghost use Rattle.saa_word_threads.specs.Visits.{IsEntering, IsNewVisitor};
 
 use crate::answers::yes;
-use crate::call::publishes;
+use crate::call::{finish, publishes};
 use crate::form::Form;
 use crate::main_word::lowered;
 use crate::table::{Entered, Mover, View};
 use crate::visitor::Visitor;
+use crate::walk::{Course, Walk};
 use crate::watch::{Moment, Pause, Watch};
 use atomic_table::Seat;
 use saa_core_words::word::Word;
@@ -49,6 +50,12 @@ impl Visit {
             seat: Snapshot::of(&visitor.seat),
         }
     }
+}
+
+impl Course for Visit {
+    ghost use Rattle.saa_word_steps.specs.declared.place.Registration.TheVariants.{Idle};
+
+    ghost begun = { λ visit. record { call = visit.call.value; was = Idle; view = visit.seat.value.me.0 } };
 }
 
 impl Form {
@@ -275,7 +282,7 @@ impl Form {
             if publishes(place.stage) {
                 watch.at(Moment::Publishes);
             }
-            match self.visit_act::<Brand, W>(watch, seat, place, &visit) {
+            match self.visit_go(rt, watch, seat, place, &visit) {
                 Next::Going(next) => place = next,
                 Next::Waits => {
                     watch.at(Moment::IsBlocked);
@@ -285,6 +292,36 @@ impl Form {
             }
         }
         unreachable!()
+    }
+
+    // Makes the next step of a visitor's call; where that begins a walk, it makes the whole walk.
+    fn visit_go<R: Wait, W: Watch>(
+        &self,
+        rt: &R,
+        watch: &W,
+        seat: &mut Seat<(), View>,
+        place: Position,
+        visit: &Visit,
+    ) -> Next
+        requires table { IsVisitorSeat self.now seat.old }
+        requires in_call { IsVisitPending self.now visit.now place seat.old }
+        ensures same { IsSameVisitor seat.old seat.new }
+        ensures in_call { VisitGoesOn self.now visit.now place result seat.new }
+    {
+        let Stage::BackLoad {
+            seen,
+            current,
+            newer,
+        } = place.stage
+        else {
+            return self.visit_act::<Brand, W>(watch, seat, place, visit);
+        };
+        let walk = Walk {
+            course: visit,
+            place,
+        };
+        self.settle(rt, watch, seat, &walk, seen, current, newer);
+        finish(place)
     }
 
     // Makes the operation of the stage that a visitor is at, and goes on with the number found.

@@ -4,10 +4,6 @@ use Rattle.saa_word_steps.specs.Needs.{needs_of}
 use Rattle.saa_word_threads.specs.Visits.{InVisit}
 use Rattle.saa_word_threads.proofs.form.Form.visit_on.Given as goal
 
--- each step is of the visitor as it stands
-abbrev pub ghosts-visit_act : goal.ghosts-visit_act
-ghosts-visit_act g a = record { about = a.self.now.table.shared.key; place = a.place; me = a.seat.now.me.0.number }
-
 abbrev pub invariant-loop : goal.invariant-loop
 invariant-loop g l = record {
   table : l.seat.table_id ≡ l.fn.seat.table_id;

@@ -1,0 +1,8 @@
+use Rattle.saa_word_threads.proofs.form.Form.show_one.Given as goal
+
+-- each step is of the stage that the walk is at
+abbrev pub ghosts-walk_load : goal.ghosts-walk_load
+ghosts-walk_load g a = record { about = a.self.now.table.shared.key; place = a.at.value; me = a.seat.now.me.0.number }
+
+abbrev pub ghosts-walk_store : goal.ghosts-walk_store
+ghosts-walk_store g a = record { about = a.self.now.table.shared.key; place = a.at.value; me = a.seat.now.me.0.number }

@@ -1,0 +1,14 @@
+use Rattle.saa_word_steps.specs.declared.place.Stage.TheVariants.{Forward}
+use Rattle.saa_word_threads.specs.Pending.{IsSameSeat}
+use Rattle.saa_word_threads.specs.Walks.{IsUnderway, at_stage}
+use Rattle.saa_word_threads.proofs.form.Form.walk_forward.Given as goal
+
+-- each step is of the stage that the walk is at
+abbrev pub ghosts-walk_load : goal.ghosts-walk_load
+ghosts-walk_load g a = record { about = a.self.now.table.shared.key; place = a.at.value; me = a.seat.now.me.0.number }
+
+abbrev pub invariant-loop : goal.invariant-loop
+invariant-loop g l = record {
+  same : IsSameSeat l.fn.seat l.seat;
+  underway : IsUnderway l.self (g.C.Course.begun l.walk.course.now) (at_stage l.walk.place (Forward l.seen l.current l.count)) l.seat;
+}
