@@ -14,14 +14,14 @@ use Rattle.saa_word_steps.specs.declared.place.Registration.TheVariants.{Once}
 use Rattle.saa_word_steps.specs.declared.place.Back.{Back}
 use Rattle.saa_word_steps.specs.declared.place.Back.TheVariants.{Tells, Ends, Takes}
 use Rattle.saa_word_steps.specs.declared.place.Given.TheVariants.{Asked}
-use Rattle.saa_word_steps.specs.declared.place.Stage.TheVariants.{Quiet, AskLoad, AskExchange, ReleaseLoad, ReleaseExchange}
+use Rattle.saa_word_steps.specs.declared.place.Stage.TheVariants.{Quiet, AskLoad, AskExchange, BackLoad, ReleaseLoad, ReleaseExchange}
 use Rattle.saa_word_steps.specs.Needs.{Needs, fits_count, left_count}
-use Rattle.saa_word_steps.specs.Steps.{decided, finished, gave_nothing, given, given_to, going, granted, next_of, released}
+use Rattle.saa_word_steps.specs.Steps.{decided, finished, gave_nothing, given, given_to, going, granted, next_of, released, walking}
 use Rattle.saa_word_steps.specs.Readings.{tried_answer}
 use Rattle.saa_word_threads.specs.declared.call.Pending.{Pending}
 use Rattle.saa_word_threads.specs.declared.form.Form.{Form}
 use Rattle.saa_word_threads.specs.Pending.{GoesOn, HasEnded, HasFound, IsPending, Seat, needs}
-use Rattle.saa_word_threads.specs.Straight.{grants_at, lowers_to}
+use Rattle.saa_word_threads.specs.Straight.{grants_at, lowers_to, takes_flag}
 use Rattle.saa_word_threads.specs.Told.{prepares, unless_joining}
 
 both : (one other : Bool) → one && other ≡ true → (one ≡ true) × (other ≡ true)
@@ -115,15 +115,11 @@ module _ (form : Form) (pending : Pending) (rest : Place) (ask : Ask) (seen : Wo
 
 -- a word of which something is left
 pub left-some : (needs : Needs) (seen : Word) (request left : ℕ) → lowers_to needs seen request ≡ Some left
-    → (seen.is_poisoned ≡ false) × (seen.tail == 0 ≡ true) × (left_count needs seen.count request ≡ Some left)
+    → (seen.is_poisoned ≡ false) × (left_count needs seen.count request ≡ Some left)
 left-some needs seen request left lowers =
     elim (cases_Bool seen.is_poisoned) [
       | inl poisoned ↦ (let wrong = rw poisoned at lowers in absurd (cc))
-      | inr calm ↦
-          elim (cases_Bool (seen.tail == 0)) [
-            | inl none ↦ (calm, none, rw (calm, none) at lowers)
-            | inr some ↦ (let wrong = rw (calm, some) at lowers in absurd (cc))
-          ]
+      | inr calm ↦ (calm, rw calm at lowers)
     ]
 
 -- a look at it goes on to the exchange
@@ -132,7 +128,7 @@ given-straight : (needs : Needs) (place : Place) (request left : ℕ) (seen : Wo
 given-straight needs place request left seen lowers =
     let is = left-some needs seen request left lowers in
     let calm : seen.is_poisoned ≡ false = is.0 in
-    let some : left_count needs seen.count request ≡ Some left = is.2 in
+    let some : left_count needs seen.count request ≡ Some left = is.1 in
     rw (calm, some) refl
 
 pub give-goes : (needs : Needs) (me : ℕ) (rest : Place) (request left found : ℕ) (seen : Word) → seen ≡ word_of count_bits found
@@ -197,16 +193,26 @@ give-misses needs me rest request seen one old is found joins =
 pub lowered : (needs : Needs) (seen : Word) (request left : ℕ) → lowers_to needs seen request ≡ Some left
     → record { count = left; is_flagged = seen.is_flagged || not (seen.tail == 0); is_poisoned = false; tail = seen.tail } ≡ released needs seen (Asked request)
 lowered needs seen request left lowers =
-    let some : left_count needs seen.count request ≡ Some left = (left-some needs seen request left lowers).2 in rw some refl
+    let some : left_count needs seen.count request ≡ Some left = (left-some needs seen request left lowers).1 in rw some refl
 
--- it is given back
-pub give-made : (form : Form) (pending : Pending) (rest : Place) (request left : ℕ) (seen : Word) (other : ℕ) (at : Place) (seat : Seat)
-    → at ≡ record rest { stage = ReleaseExchange (Asked request) seen; back = Tells } → other ≡ word_number count_bits seen
-    → lowers_to (needs form) seen request ≡ Some left → HasFound form pending at other seat
-    → HasEnded form pending (record rest { stage = Quiet; back = Tells }) (Says true) seat
-give-made form pending rest request left seen other at seat is hit lowers has =
-    let test : other == word_number count_bits seen ≡ true = same-number other (word_number count_bits seen) hit in
-    let none : seen.tail == 0 ≡ true = (left-some (needs form) seen request left lowers).1 in
-    let found : HasFound form pending (record rest { stage = ReleaseExchange (Asked request) seen; back = Tells }) other seat =
-    subst (λ (p : Place). HasFound form pending p other seat) is has in
-    rw (test, none) at found
+-- it is given back: where there are waiters that nobody else settles, its place goes on to walk the queue, and else it is done
+module _ (form : Form) (pending : Pending) (rest : Place) (request : ℕ) (seen : Word) (other : ℕ) (at : Place) (seat : Seat)
+    (is : at ≡ record rest { stage = ReleaseExchange (Asked request) seen; back = Tells }) (hit : other ≡ word_number count_bits seen)
+    (has : HasFound form pending at other seat) where
+  gave : GoesOn form pending (record rest { stage = ReleaseExchange (Asked request) seen; back = Tells })
+      (unless_joining (record rest { stage = ReleaseExchange (Asked request) seen; back = Tells })
+      (if takes_flag seen
+      then walking (record rest { stage = ReleaseExchange (Asked request) seen; back = Tells }) (released (needs form) seen (Asked request))
+      else finished (record rest { stage = ReleaseExchange (Asked request) seen; back = Tells }) Tells)) seat
+  gave =
+      let test : other == word_number count_bits seen ≡ true = same-number other (word_number count_bits seen) hit in
+      let found : HasFound form pending (record rest { stage = ReleaseExchange (Asked request) seen; back = Tells }) other seat =
+      subst (λ (p : Place). HasFound form pending p other seat) is has in
+      rw test at found
+
+  pub give-made : takes_flag seen ≡ false → HasEnded form pending (record rest { stage = Quiet; back = Tells }) (Says true) seat
+  give-made rests = rw rests at gave
+
+  pub give-settles : takes_flag seen ≡ true → (first : Word) → first ≡ released (needs form) seen (Asked request)
+      → IsPending form pending (record rest { stage = BackLoad first first.tail 0; back = Tells }) seat
+  give-settles holds first same = rw same (rw holds at gave)

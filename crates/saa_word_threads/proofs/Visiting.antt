@@ -24,18 +24,18 @@ use Rattle.saa_word_steps.specs.declared.place.Stage.{Stage}
 use Rattle.saa_word_steps.specs.declared.place.Stage.TheVariants.{Quiet, ReadLoad, AskLoad, AskExchange, Prepare, Join, ReleaseLoad, ReleaseExchange, BackLoad, BackStore, Forward, CutToClose, CutToGoRound, Close, Empty, GoRound, ShowLoad, ShowStore, Take, LookLoad, PoisonLoad, PoisonExchange, Clear}
 use Rattle.saa_word_steps.specs.Needs.{Needs, fits_count}
 use Rattle.saa_word_steps.specs.Readings.{is_taken, tried_answer}
-use Rattle.saa_word_steps.specs.Steps.{closing, decided, finished, gave_nothing, given, given_to, granted, left_from, looked_at, next_of, operation_of, poisoning, shown_all, started, word_at}
+use Rattle.saa_word_steps.specs.Steps.{closing, decided, finished, gave_nothing, given, given_to, granted, left_from, looked_at, next_of, operation_of, poisoning, released, shown_all, started, word_at}
 use Rattle.saa_word_proofs.specs.Promises.{idle_place}
 use Rattle.saa_word_proofs.specs.Refinement.{IsVisiting, uses_own}
 use Rattle.saa_word_proofs.specs.StepRefinement.{place_after}
 use Rattle.saa_word_threads.specs.declared.table.Role.TheVariants.{Acting}
 use Rattle.saa_word_threads.specs.declared.table.View.{View}
 use Rattle.saa_word_threads.specs.Called.{HasEvents, IsCalled, InCall}
-use Rattle.saa_word_threads.specs.Straight.{grants_at, lowers_to}
+use Rattle.saa_word_threads.specs.Straight.{grants_at, lowers_to, takes_flag}
 use Rattle.saa_word_threads.specs.Told.{IsNext, RestsAfter, Moves}
 use Rattle.saa_word_threads.specs.Visits.{InVisit, VisitNext}
 use Rattle.saa_word_threads.proofs.Calling.{in-call-begins, in-call-done, in-call-going, in-call-since, in-call-waits}
-use Rattle.saa_word_threads.proofs.Going.{ask-goes, give-goes, left-some, same-number}
+use Rattle.saa_word_threads.proofs.Going.{ask-goes, give-goes, same-number}
 
 -- No number
 
@@ -252,29 +252,33 @@ pub visit-tried : (needs : Needs) (withheld places : ℕ) (call : WordCall) (beg
 visit-tried needs withheld places call began v request found seen hit next =
     let test : found == word_number count_bits seen ≡ true = same-number found (word_number count_bits seen) hit in rw test at next
 
-pub visit-gave : (needs : Needs) (withheld places : ℕ) (call : WordCall) (began v : View) (request left found : ℕ) (seen : Word) → found ≡ word_number count_bits seen
-    → lowers_to needs seen request ≡ Some left
-    → VisitNext needs withheld places call began (record idle_place { stage = ReleaseExchange (Asked request) seen }) v
-    (next_of needs 0 (record idle_place { stage = ReleaseExchange (Asked request) seen }) (ReleaseExchange (Asked request) seen) found)
-    → HasEvents needs withheld call Idle (Says true) Idle began v × (v.position ≡ idle_place)
-visit-gave needs withheld places call began v request left found seen hit lowers next =
-    let test : found == word_number count_bits seen ≡ true = same-number found (word_number count_bits seen) hit in
-    let none : seen.tail == 0 ≡ true = (left-some needs seen request left lowers).1 in
-    rw (test, none) at next
+module _ (needs : Needs) (withheld places : ℕ) (call : WordCall) (began v : View) (request found : ℕ) (seen : Word) (hit : found ≡ word_number count_bits seen)
+    (next : VisitNext needs withheld places call began (record idle_place { stage = ReleaseExchange (Asked request) seen }) v
+    (next_of needs 0 (record idle_place { stage = ReleaseExchange (Asked request) seen }) (ReleaseExchange (Asked request) seen) found)) where
+  pub visit-gave : takes_flag seen ≡ false → HasEvents needs withheld call Idle (Says true) Idle began v × (v.position ≡ idle_place)
+  visit-gave rests = let test : found == word_number count_bits seen ≡ true = same-number found (word_number count_bits seen) hit in rw (test, rests) at next
+
+  -- it holds the flag, and goes on to walk the queue
+  pub visit-settles : takes_flag seen ≡ true → (first : Word) → first ≡ released needs seen (Asked request)
+      → InVisit needs places call began (record idle_place { stage = BackLoad first first.tail 0 }) v
+  visit-settles holds first same =
+      let test : found == word_number count_bits seen ≡ true = same-number found (word_number count_bits seen) hit in rw same (rw (test, holds) at next)
 
 -- the same by other names
-pub visit-gave-so : (needs : Needs) (withheld places : ℕ) (call picked : WordCall) (began picked_began v : View) (place : Place) (request left found : ℕ) (seen : Word)
-    → picked ≡ call → picked_began ≡ began → place ≡ record idle_place { stage = ReleaseExchange (Asked request) seen }
-    → found ≡ word_number count_bits seen → lowers_to needs seen request ≡ Some left
-    → VisitNext needs withheld places picked picked_began place v (next_of needs 0 place place.stage found)
-    → HasEvents needs withheld call Idle (Says true) Idle began v × (v.position ≡ idle_place)
-visit-gave-so needs withheld places call picked began picked_began v place request left found seen is_call is_began is hit lowers next =
-    visit-gave needs withheld places call began v request left found seen hit lowers
-    (subst (λ (w : WordCall). VisitNext needs withheld places w began (record idle_place { stage = ReleaseExchange (Asked request) seen }) v
-    (next_of needs 0 (record idle_place { stage = ReleaseExchange (Asked request) seen }) (ReleaseExchange (Asked request) seen) found)) is_call
-    (subst (λ (u : View). VisitNext needs withheld places picked u (record idle_place { stage = ReleaseExchange (Asked request) seen }) v
-    (next_of needs 0 (record idle_place { stage = ReleaseExchange (Asked request) seen }) (ReleaseExchange (Asked request) seen) found)) is_began
-    (subst (λ (p : Place). VisitNext needs withheld places picked picked_began p v (next_of needs 0 p p.stage found)) is next)))
+module _ (needs : Needs) (withheld places : ℕ) (call picked : WordCall) (began picked_began v : View) (place : Place) (request found : ℕ) (seen : Word)
+    (is_call : picked ≡ call) (is_began : picked_began ≡ began) (is : place ≡ record idle_place { stage = ReleaseExchange (Asked request) seen })
+    (hit : found ≡ word_number count_bits seen) (next : VisitNext needs withheld places picked picked_began place v (next_of needs 0 place place.stage found)) where
+  so-next : VisitNext needs withheld places call began (record idle_place { stage = ReleaseExchange (Asked request) seen }) v
+      (next_of needs 0 (record idle_place { stage = ReleaseExchange (Asked request) seen }) (ReleaseExchange (Asked request) seen) found)
+  so-next =
+      subst (λ (w : WordCall). VisitNext needs withheld places w began (record idle_place { stage = ReleaseExchange (Asked request) seen }) v
+      (next_of needs 0 (record idle_place { stage = ReleaseExchange (Asked request) seen }) (ReleaseExchange (Asked request) seen) found)) is_call
+      (subst (λ (u : View). VisitNext needs withheld places picked u (record idle_place { stage = ReleaseExchange (Asked request) seen }) v
+      (next_of needs 0 (record idle_place { stage = ReleaseExchange (Asked request) seen }) (ReleaseExchange (Asked request) seen) found)) is_began
+      (subst (λ (p : Place). VisitNext needs withheld places picked picked_began p v (next_of needs 0 p p.stage found)) is next))
+
+  pub visit-gave-so : takes_flag seen ≡ false → HasEvents needs withheld call Idle (Says true) Idle began v × (v.position ≡ idle_place)
+  visit-gave-so rests = visit-gave needs withheld places call began v request found seen hit so-next rests
 
 -- Calls that need no word
 

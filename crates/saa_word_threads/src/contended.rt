@@ -4,15 +4,17 @@
 
 ghost use Rattle.std.specs.Prelude.{◌≡◌};
 ghost use Rattle.saa_core_words.specs.Words.{count_bits, word_of};
+ghost use Rattle.saa_word_steps.specs.declared.place.Back.TheVariants.{Tells};
 ghost use Rattle.saa_word_steps.specs.declared.place.Given.TheVariants.{Asked};
-ghost use Rattle.saa_word_steps.specs.declared.place.Stage.TheVariants.{AskLoad, AskExchange, ReleaseLoad, ReleaseExchange};
+ghost use Rattle.saa_word_steps.specs.declared.place.Stage.TheVariants.{AskLoad, AskExchange, BackLoad, ReleaseLoad, ReleaseExchange};
 ghost use Rattle.saa_word_steps.specs.Steps.{IsRanged};
-ghost use Rattle.saa_word_threads.specs.Pending.{HasEnded, HasFound, IsSameSeat, needs};
+ghost use Rattle.saa_word_threads.specs.Pending.{HasEnded, HasFound, IsPending, IsSameSeat, needs};
 
 use crate::call::Pending;
 use crate::form::Form;
 use crate::looking::unless_joining;
 use crate::table::View;
+use crate::walk::Walk;
 use crate::watch::Watch;
 use atomic_table::Seat;
 use saa_core_waits::spin_policy::{NONE, SpinPolicy};
@@ -127,6 +129,30 @@ impl Form {
         let (given, seen) = (Given::Asked(request), Word::unpack(first));
         let stage = Stage::ReleaseExchange { given, seen };
         self.follow(rt, watch, seat, position, stage, found, NONE, pending)
+    }
+
+    // Settles the queue for a place that gave something back and holds the flag.
+    pub(crate) fn give_settling<R: Wait, W: Watch>(
+        &self,
+        rt: &R,
+        watch: &W,
+        seat: &mut Seat<(), View>,
+        position: &mut Position,
+        first: Word,
+        pending: Pending,
+    ) -> Answer
+        requires back { position.old.back ≡ Tells }
+        requires pending { IsPending self.now pending (record position.old { stage = BackLoad first first.tail 0 }) seat.old }
+        ensures same { IsSameSeat seat.old seat.new }
+        ensures ended { HasEnded self.now pending position.new result seat.new }
+    {
+        let walk = Walk {
+            course: &pending,
+            place: *position,
+        };
+        self.settle(rt, watch, seat, &walk, first, first.tail, 0);
+        position.stage = Stage::Quiet;
+        Answer::Bool(true)
     }
 
     // Goes on with a call whose place has just found this number at this stage: it looks on while its spins last, and then goes step by step.

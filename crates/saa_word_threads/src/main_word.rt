@@ -4,7 +4,7 @@
 
 ghost use Rattle.std.specs.Prelude.{◌≡◌, ◌==◌, ◌||◌, false, not};
 ghost use Rattle.saa_word_threads.specs.Pending.{needs};
-ghost use Rattle.saa_word_threads.specs.Straight.{grants_at, lowers_to};
+ghost use Rattle.saa_word_threads.specs.Straight.{grants_at, lowers_to, takes_flag};
 
 use crate::form::Form;
 use saa_core_words::word::Word;
@@ -21,18 +21,25 @@ impl Form {
             && self.rules.takes(ask.request) != 0
     }
 
-    // The count of a word once a request is given back by an exchange: where it isn't poisoned, there is no waiter, and so much is taken.
+    // The count of a word once a request is given back by an exchange: where it isn't poisoned, and so much is taken.
     pub(crate) fn lowers(&self, seen: Word, request: u16) -> Option<u16>
         ensures { result ≡ lowers_to (needs self.now) seen request }
     {
-        if seen.is_poisoned || seen.tail != 0 {
+        if seen.is_poisoned {
             return None;
         }
         self.rules.less(seen.count, request)
     }
 }
 
-// A word with no waiters, with this count.
+// Whether who lowers a word holds the flag then.
+pub(crate) fn takes_flag(seen: Word) -> bool
+    ensures { result ≡ takes_flag seen }
+{
+    seen.tail != 0 && !seen.is_flagged
+}
+
+// A word with this count, and the flag set where there are waiters.
 pub(crate) fn lowered(seen: Word, count: u16) -> Word
     ensures { result ≡ record { count = count; is_flagged = seen.is_flagged || not (seen.tail == 0); is_poisoned = false; tail = seen.tail } }
 {

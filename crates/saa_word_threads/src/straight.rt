@@ -1,7 +1,8 @@
 //! The straight path of an uncontended call: it loads the main word, and exchanges it.
 //!
 //! These are the very steps of `seek`, of the same stages, but the stages that the place is at are seen by contracts alone, so that nothing is
-//! built or copied. Where there is a waiter or the exchange fails, the call goes on from the stage that it has reached (`contended`).
+//! built or copied. Where an ask finds a waiter, or an exchange fails, the call goes on from the stage that it has reached (`contended`); a release
+//! that finds waiters exchanges the word too, and settles the queue then.
 
 ghost use Rattle.std.specs.Prelude.{◌≡◌, false};
 ghost use Rattle.saa_word_steps.specs.declared.call.WordCall.TheVariants.{Poll};
@@ -18,7 +19,7 @@ ghost use Rattle.saa_word_threads.specs.Public.{IsSamePlace, is_granted, is_yes,
 use crate::answers::{granted, yes};
 use crate::call::Pending;
 use crate::form::Form;
-use crate::main_word::lowered;
+use crate::main_word::{lowered, takes_flag};
 use crate::place::Place;
 use crate::table::View;
 use crate::watch::{Moment, Watch};
@@ -156,7 +157,7 @@ impl Form {
         granted(self.call(rt, watch, place, WordCall::Poll))
     }
 
-    // Gives back what a request took: of a word with no waiters by one exchange. Whether the answer is yes.
+    // Gives back what a request took, by one exchange, and settles the queue where there are waiters. Whether the answer is yes.
     #[inline(always)]
     pub(crate) fn give<R: Wait, W: Watch>(
         &self,
@@ -197,6 +198,17 @@ impl Form {
         if other != old {
             let (seat, position) = (&mut place.seat, &mut place.position);
             return yes(self.give_anew(rt, watch, seat, position, request, (found, other), pending));
+        }
+        if takes_flag(seen) {
+            let (seat, position) = (&mut place.seat, &mut place.position);
+            return yes(self.give_settling(
+                rt,
+                watch,
+                seat,
+                position,
+                lowered(seen, count),
+                pending,
+            ));
         }
         true
     }

@@ -5,7 +5,7 @@ ghost use Rattle.saa_word_steps.specs.declared.call.Answer.{Answer};
 ghost use Rattle.saa_word_steps.specs.declared.operation.Operation.TheVariants.{Load, Exchange};
 ghost use Rattle.saa_word_steps.specs.declared.place.Given.TheVariants.{Asked};
 ghost use Rattle.saa_word_steps.specs.declared.place.Next.TheVariants.{Going};
-ghost use Rattle.saa_word_steps.specs.declared.place.Stage.TheVariants.{AskLoad, ReadLoad};
+ghost use Rattle.saa_word_steps.specs.declared.place.Stage.TheVariants.{AskLoad, BackLoad, ReadLoad};
 ghost use Rattle.saa_word_steps.specs.Steps.{IsRanged, going, operation_of, released_as, started};
 ghost use Rattle.saa_word_proofs.specs.Promises.{idle_place};
 ghost use Rattle.saa_word_proofs.specs.Refinement.{IsVisiting};
@@ -16,7 +16,7 @@ ghost use Rattle.saa_word_threads.specs.Visits.{IsEntering, IsNewVisitor};
 use crate::answers::yes;
 use crate::call::{finish, publishes};
 use crate::form::Form;
-use crate::main_word::lowered;
+use crate::main_word::{lowered, takes_flag};
 use crate::table::{Entered, Mover, View};
 use crate::visitor::Visitor;
 use crate::walk::{Course, Walk};
@@ -121,7 +121,7 @@ impl Form {
         self.granted_try()
     }
 
-    // Gives back what a request took, at a visitor: of a word with no waiters by one exchange. Whether the answer is yes.
+    // Gives back what a request took, at a visitor, by one exchange, and settles the queue where there are waiters. Whether the answer is yes.
     #[inline(always)]
     pub(crate) fn visit_give<R: Wait, W: Watch>(
         &self,
@@ -153,6 +153,10 @@ impl Form {
         if other != old {
             let stage = Stage::ReleaseExchange { given, seen };
             return yes(self.visit_follow(rt, watch, &mut visitor.seat, stage, other, visit));
+        }
+        if takes_flag(seen) {
+            let first = lowered(seen, count);
+            return yes(self.visit_settling(rt, watch, &mut visitor.seat, first, visit));
         }
         true
     }
@@ -236,6 +240,28 @@ impl Form {
         ensures in_call { VisitHasFound self.now visit.now at.value result seat.new }
     {
         self.exchange::<M>(seat, 0, old, new)
+    }
+
+    // Settles the queue for a visitor that gave something back and holds the flag.
+    fn visit_settling<R: Wait, W: Watch>(
+        &self,
+        rt: &R,
+        watch: &W,
+        seat: &mut Seat<(), View>,
+        first: Word,
+        visit: Visit,
+    ) -> Answer
+        requires table { IsVisitorSeat self.now seat.old }
+        requires in_call { IsVisitPending self.now visit (record idle_place { stage = BackLoad first first.tail 0 }) seat.old }
+        ensures same { IsSameVisitor seat.old seat.new }
+        ensures ended { VisitHasEnded self.now visit result seat.new }
+    {
+        let walk = Walk {
+            course: &visit,
+            place: standing(Stage::Quiet),
+        };
+        self.settle(rt, watch, seat, &walk, first, first.tail, 0);
+        Answer::Bool(true)
     }
 
     // Goes on with a call of a visitor that has just found this number at a stage, step by step.

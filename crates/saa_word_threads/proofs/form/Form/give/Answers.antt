@@ -65,7 +65,7 @@ returns-clause-called g c =
       pending-called c.args.self.now c.of-pending.result c.args.place.now c.args.call
           (record c.args.place.now.position { stage = ReleaseLoad (Asked c.args.request); back = Tells })
           (record c.args.place.now.position { stage = Quiet; back = Tells }) (Says true) c.seek_by_exchange-other.new.seat c.of-pending.ensures c.requires.starts
-          (give-made c.args.self.now c.of-pending.result c.args.place.now.position c.args.request c.in-Some.count c.unpack-seen.result
-          c.seek_by_exchange-other.result c.of-changing.result.value c.seek_by_exchange-other.new.seat c.of-changing.ensures hit lowers
-          c.seek_by_exchange-other.ensures.found),
+          (give-made c.args.self.now c.of-pending.result c.args.place.now.position c.args.request c.unpack-seen.result
+          c.seek_by_exchange-other.result c.of-changing.result.value c.seek_by_exchange-other.new.seat c.of-changing.ensures hit
+          c.seek_by_exchange-other.ensures.found (search rules)),
     )

@@ -32,7 +32,7 @@ returns-clause-called g c =
           c.args.visitor.now.seat.me.0 c.visit_change-other.new.seat.me.0 c.requires.starts
           (visit-gave-so (needs_of c.args.self.now.rules) c.args.self.now.table.shared.key.withheld c.args.self.now.places c.args.call c.of-visit.result.call.value c.args.visitor.now.seat.me.0
           c.of-visit.result.seat.value.me.0 c.visit_change-other.new.seat.me.0 c.of-changing.result.value c.args.request
-          c.in-Some.count c.visit_change-other.result c.unpack-seen.result c.of-visit.ensures.call
-          (ap (λ (s : Seat (Unit {0}) View). s.me.0) c.of-visit.ensures.seat) (c.of-changing.ensures ∙ c.standing-2.ensures) hit lowers
-          c.visit_change-other.ensures.in_call).0,
+          c.visit_change-other.result c.unpack-seen.result c.of-visit.ensures.call
+          (ap (λ (s : Seat (Unit {0}) View). s.me.0) c.of-visit.ensures.seat) (c.of-changing.ensures ∙ c.standing-2.ensures) hit
+          c.visit_change-other.ensures.in_call (search rules)).0,
     )
