@@ -37,7 +37,8 @@ use std::sync::{Mutex, Wait};
 #[derive(Drop)]
 pub struct Form<R: Wait + Drop, P: Primitive> {
     rt: R,
-    mutex: Mutex<Locked<P>>,
+    // On cache lines of its own: what calls read without it would be held up by every turn there.
+    mutex: CachePadded<Mutex<Locked<P>>>,
     // One for each slot of the room, each on cache lines of its own: a task that looks at its parker would be held up by every unpark
     // of its neighbours, which cost two threads that take turns a third of the time.
     parkers: Vec<CachePadded<Parker>>,
@@ -74,7 +75,7 @@ impl<R: Wait + Drop, P: Primitive> Form<R, P> {
         let wakers = Wakers::with_room(alloc, room)?;
         Ok(Form {
             rt,
-            mutex: Mutex::new(Locked::new(core, wakers)),
+            mutex: CachePadded::new(Mutex::new(Locked::new(core, wakers))),
             parkers,
             waiting,
             hint: CachePadded::new(Hint::new()),

@@ -39,15 +39,16 @@ pub(crate) struct Wakes {
 /// What is under the mutex.
 #[derive(Drop)]
 pub(crate) struct Locked<P: Primitive> {
-    /// The core, to be lent to one step at a time.
-    pub(crate) core: P,
-    /// The wakers of the tasks that poll for an answer.
-    pub(crate) wakers: Wakers,
-    // How often calls locked the mutex, which tests read. It wraps around.
+    // How often calls locked the mutex, which tests read. It wraps around. The counts come first: they are written in each turn, and so
+    // are on the mutex's cache line.
     pub(crate) turns: u64,
     // What tests read too: what calls spent that found the mutex taken and had it at a later try, and what waiters spent before they parked.
     pub(crate) contended: Spent,
     pub(crate) spun: Spent,
+    /// The core, to be lent to one step at a time.
+    pub(crate) core: P,
+    /// The wakers of the tasks that poll for an answer.
+    pub(crate) wakers: Wakers,
 }
 
 impl<P: Primitive> Locked<P> {

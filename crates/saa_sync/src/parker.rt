@@ -11,10 +11,11 @@ use std::sync::{Condvar, CondvarTimeouts, MutexGuard, Wait};
 use std::time::{Clock, Duration};
 
 /// How long a waiter stays awake, in every threaded form. Measured with 2, 4 and 8 threads on 4 processors: a sleep costs some five
-/// microseconds and a wake that comes sooner is the common one, but with more threads than processors looks alone are
-/// ruinous.
+/// microseconds and a wake that comes sooner is the common one, so a waiter yields long before it parks. It looks without a yield for less
+/// than the time of a hand-off: where calls join at once, and as many threads take turns as there are processors, 500 looks made a turn a
+/// third longer and the longest waits four times as long; with more threads than processors looks alone are ruinous.
 pub const WAITER: SpinPolicy = SpinPolicy {
-    looks: 500,
+    looks: 50,
     yields: 500,
 };
 

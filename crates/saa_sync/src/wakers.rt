@@ -51,10 +51,14 @@ impl Wakers {
         }
     }
 
-    /// Takes out the waker of a slot, if there is one.
+    /// Takes out the waker of a slot, if there is one. Where none is it only reads, so that threads which wait share the places' cache lines.
     #[inline(always)]
     pub(crate) fn take(&mut self, slot: u16) -> Option<Waker> {
-        self.places.get_mut(usize::from(slot))?.take()
+        let place = self.places.get_mut(usize::from(slot))?;
+        if place.is_none() {
+            return None;
+        }
+        place.take()
     }
 
     /// Takes out the waker of a slot, if there is a slot and a waker.

@@ -334,7 +334,7 @@ fn patience_is_what_is_said_of_it(rt: HostRuntime) {
     };
     same!(rt; DEFAULT, said);
     let said = SpinPolicy {
-        looks: 500,
+        looks: 50,
         yields: 500,
     };
     same!(rt; WAITER, said);
