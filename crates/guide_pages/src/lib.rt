@@ -1,6 +1,6 @@
-//! Programs that the pages of the guide and docs/PROGRAMS.md show, a module each: a test is the `main` of its page.
+//! Programs that the pages of the guide and docs/PROGRAMS.md show or lead to, a module each: a test is the `main` of its page.
 //!
-//! Each module is the whole program of its page, but for the word `#[test]` above its `main`; `printed/` has what it prints. They stand in one
+//! Each module is a whole program, but for the word `#[test]` above its `main`; `printed/` has what it prints. They stand in one
 //! crate because each program takes the gate some 50 processor seconds before its first function: the proofs of what it links.
 #![tactic(auto)]
 
