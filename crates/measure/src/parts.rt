@@ -100,8 +100,9 @@ fn print_line<R: Print + Clock + RandomSource + AllocGlobal + Threads + Wait + S
         Line::Crowd(kind, how) => {
             print_figures(rt, case, crowd(rt, alloc, kind, how, case, adds))
         }
-        Line::Waits(kind, how) => {
-            print_figures(rt, case, waits(rt, alloc, kind, how, case, adds))
+        Line::Waits(kind, how, tenths) => {
+            let inside = adds.saturating_mul(tenths) / 10;
+            print_figures(rt, case, waits(rt, alloc, kind, how, case, inside))
         }
         Line::Adds => print_adds(rt, adds),
     }

@@ -6,7 +6,7 @@ use crate::meeting::Meeting;
 use crate::takers::{At, AtPlace, Enter};
 use saa_sync::lock::Lock;
 use saa_sync::lock_api;
-use saa_sync::spin_policy::{DEFAULT, NONE, SpinPolicy};
+use saa_sync::spin_policy::SpinPolicy;
 use saa_word_forms::mutex::Mutex as WordMutex;
 use saa_word_lock_free::lock::Lock as LockFreeLock;
 use saa_word_lock_free::lock_api::Mutex as LockFreeMutex;
@@ -22,20 +22,18 @@ const ROOM: u16 = 32;
 /// The lock at which threads meet.
 #[derive(Clone, Copy)]
 pub enum Kind {
-    /// A lock.
-    Lock,
-    /// A lock at which each call registers at its first turn at the mutex.
-    StrictLock,
-    /// A mutex round a number.
-    Mutex,
-    /// The word's lock.
-    WordLock,
+    /// A lock, with this spin policy.
+    Lock(SpinPolicy),
+    /// A mutex round a number, with this spin policy.
+    Mutex(SpinPolicy),
+    /// The word's lock, whose calls spin so.
+    WordLock(SpinPolicy),
     /// The mutex round a number on the word's lock.
     WordMutex,
-    /// The lock-free lock.
-    LockFreeLock,
-    /// The lock-free mutex round a number.
-    LockFreeMutex,
+    /// The lock-free lock, with this spin policy.
+    LockFreeLock(SpinPolicy),
+    /// The lock-free mutex round a number, with this spin policy.
+    LockFreeMutex(SpinPolicy),
     /// std's mutex round a number.
     StdMutex,
     /// std's reader-writer lock round a number, which all read.
@@ -50,13 +48,12 @@ pub fn meet_at<R: Threads + Wait + Clock + Sync>(
     meeting: &Meeting,
 ) {
     match kind {
-        Kind::Lock => meet_at_lock(rt, alloc, meeting, DEFAULT),
-        Kind::StrictLock => meet_at_lock(rt, alloc, meeting, NONE),
-        Kind::Mutex => meet_at_mutex(rt, alloc, meeting),
-        Kind::WordLock => meet_at_word_lock(rt, alloc, meeting),
+        Kind::Lock(spins) => meet_at_lock(rt, alloc, meeting, spins),
+        Kind::Mutex(spins) => meet_at_mutex(rt, alloc, meeting, spins),
+        Kind::WordLock(spins) => meet_at_word_lock(rt, alloc, meeting, spins),
         Kind::WordMutex => meet_at_word_mutex(rt, alloc, meeting),
-        Kind::LockFreeLock => meet_at_lock_free_lock(rt, alloc, meeting),
-        Kind::LockFreeMutex => meet_at_lock_free_mutex(rt, alloc, meeting),
+        Kind::LockFreeLock(spins) => meet_at_lock_free_lock(rt, alloc, meeting, spins),
+        Kind::LockFreeMutex(spins) => meet_at_lock_free_mutex(rt, alloc, meeting, spins),
         Kind::StdMutex => meet(rt, alloc, meeting, &Mutex::new(0u64)),
         Kind::StdRwLock => meet(rt, alloc, meeting, &RwLock::new(0u64)),
     }
@@ -66,15 +63,20 @@ fn meet_at_lock<R: Threads + Wait + Clock + Sync>(
     rt: &R,
     alloc: Global,
     meeting: &Meeting,
-    patience: SpinPolicy,
+    spins: SpinPolicy,
 ) {
-    if let Ok(lock) = Lock::with_spin_policy(rt, alloc, ROOM, patience) {
+    if let Ok(lock) = Lock::with_spin_policy(rt, alloc, ROOM, spins) {
         meet(rt, alloc, meeting, &lock);
     }
 }
 
-fn meet_at_mutex<R: Threads + Wait + Clock + Sync>(rt: &R, alloc: Global, meeting: &Meeting) {
-    if let Ok(mutex) = lock_api::Mutex::new(rt, alloc, 0u64, ROOM) {
+fn meet_at_mutex<R: Threads + Wait + Clock + Sync>(
+    rt: &R,
+    alloc: Global,
+    meeting: &Meeting,
+    spins: SpinPolicy,
+) {
+    if let Ok(mutex) = lock_api::Mutex::with_spin_policy(rt, alloc, 0u64, ROOM, spins) {
         meet(rt, alloc, meeting, &mutex);
     }
 }
@@ -83,8 +85,9 @@ fn meet_at_lock_free_lock<R: Threads + Wait + Clock + Sync>(
     rt: &R,
     alloc: Global,
     meeting: &Meeting,
+    spins: SpinPolicy,
 ) {
-    if let Ok(lock) = LockFreeLock::new(rt, alloc, ROOM) {
+    if let Ok(lock) = LockFreeLock::with_spin_policy(rt, alloc, ROOM, spins) {
         meet(rt, alloc, meeting, &lock);
     }
 }
@@ -93,8 +96,9 @@ fn meet_at_lock_free_mutex<R: Threads + Wait + Clock + Sync>(
     rt: &R,
     alloc: Global,
     meeting: &Meeting,
+    spins: SpinPolicy,
 ) {
-    if let Ok(mutex) = LockFreeMutex::new(rt, alloc, 0u64, ROOM) {
+    if let Ok(mutex) = LockFreeMutex::with_spin_policy(rt, alloc, 0u64, ROOM, spins) {
         meet(rt, alloc, meeting, &mutex);
     }
 }
@@ -116,7 +120,12 @@ fn meet<R: Threads + Wait + Clock + Sync, L: Enter>(
     );
 }
 
-fn meet_at_word_lock<R: Threads + Wait + Clock + Sync>(rt: &R, alloc: Global, meeting: &Meeting) {
+fn meet_at_word_lock<R: Threads + Wait + Clock + Sync>(
+    rt: &R,
+    alloc: Global,
+    meeting: &Meeting,
+    spins: SpinPolicy,
+) {
     let Ok((lock, places)) = WordLock::new(alloc, meeting.threads()) else {
         return;
     };
@@ -126,7 +135,11 @@ fn meet_at_word_lock<R: Threads + Wait + Clock + Sync>(rt: &R, alloc: Global, me
         &|place|
             requires { IsDealtBy lock place }
         {
-            let taker = AtPlace { lock: &lock, place };
+            let taker = AtPlace {
+                lock: &lock,
+                place,
+                spins,
+            };
             meeting.attend(rt, taker);
         },
     );

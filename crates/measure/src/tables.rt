@@ -7,6 +7,7 @@ use crate::lines::Action;
 use crate::loads::Load;
 use crate::meeting::How;
 use crate::places::Kind;
+use saa_sync::spin_policy::{DEFAULT, NONE};
 
 /// What a line says.
 #[derive(Clone, Copy)]
@@ -21,8 +22,8 @@ pub enum Line {
     IdlePolls,
     /// What a turn costs that threads take so at one lock, for each work of a turn.
     Crowd(Kind, How),
-    /// How long a thread waits for such a turn among others.
-    Waits(Kind, How),
+    /// How long a thread waits for its turn, which is empty, among others that take turns of so many tenths of a microsecond.
+    Waits(Kind, How, u64),
     /// How many adds take a microsecond.
     Adds,
 }
@@ -432,7 +433,7 @@ static CORES: [Entry; 3] = [
 ];
 
 // What a turn costs at one lock at which threads meet.
-static CROWDS: [Entry; 14] = [
+static CROWDS: [Entry; 18] = [
     (
         "at one lock             threads      nothing ns    100 inside ns  1,000 inside ns     100 both ns   1,000 both ns",
         Line::Text,
@@ -441,37 +442,49 @@ static CROWDS: [Entry; 14] = [
     ),
     (
         "Lock",
-        Line::Crowd(Kind::Lock, How::Called),
+        Line::Crowd(Kind::Lock(DEFAULT), How::Called),
         COUNTED,
         TO_EIGHT,
     ),
     (
         "Lock, strict",
-        Line::Crowd(Kind::StrictLock, How::Called),
+        Line::Crowd(Kind::Lock(NONE), How::Called),
         COUNTED,
         TO_EIGHT,
     ),
     (
         "Lock, shared",
-        Line::Crowd(Kind::Lock, How::Shared),
+        Line::Crowd(Kind::Lock(DEFAULT), How::Shared),
         COUNTED,
         TO_EIGHT,
     ),
     (
         "Mutex",
-        Line::Crowd(Kind::Mutex, How::Called),
+        Line::Crowd(Kind::Mutex(DEFAULT), How::Called),
+        COUNTED,
+        TO_EIGHT,
+    ),
+    (
+        "Mutex, strict",
+        Line::Crowd(Kind::Mutex(NONE), How::Called),
         COUNTED,
         TO_EIGHT,
     ),
     (
         "word::Lock",
-        Line::Crowd(Kind::WordLock, How::Called),
+        Line::Crowd(Kind::WordLock(DEFAULT), How::Called),
+        COUNTED,
+        TO_EIGHT,
+    ),
+    (
+        "word::Lock, strict",
+        Line::Crowd(Kind::WordLock(NONE), How::Called),
         COUNTED,
         TO_EIGHT,
     ),
     (
         "word::Lock, shared",
-        Line::Crowd(Kind::WordLock, How::Shared),
+        Line::Crowd(Kind::WordLock(DEFAULT), How::Shared),
         COUNTED,
         TO_EIGHT,
     ),
@@ -483,19 +496,31 @@ static CROWDS: [Entry; 14] = [
     ),
     (
         "lock_free::Lock",
-        Line::Crowd(Kind::LockFreeLock, How::Called),
+        Line::Crowd(Kind::LockFreeLock(DEFAULT), How::Called),
+        COUNTED,
+        TO_EIGHT,
+    ),
+    (
+        "lock_free::Lock, strict",
+        Line::Crowd(Kind::LockFreeLock(NONE), How::Called),
         COUNTED,
         TO_EIGHT,
     ),
     (
         "lock_free::Lock, shared",
-        Line::Crowd(Kind::LockFreeLock, How::Shared),
+        Line::Crowd(Kind::LockFreeLock(DEFAULT), How::Shared),
         COUNTED,
         TO_EIGHT,
     ),
     (
         "lock_free::Mutex",
-        Line::Crowd(Kind::LockFreeMutex, How::Called),
+        Line::Crowd(Kind::LockFreeMutex(DEFAULT), How::Called),
+        COUNTED,
+        TO_EIGHT,
+    ),
+    (
+        "lock_free::Mutex, strict",
+        Line::Crowd(Kind::LockFreeMutex(NONE), How::Called),
         COUNTED,
         TO_EIGHT,
     ),
@@ -514,66 +539,186 @@ static CROWDS: [Entry; 14] = [
     ("adds", Line::Adds, 1, ONCE),
 ];
 
-// How long a thread waits for its turn, which is empty, among others that take turns of a microsecond.
-static WAITS: [Entry; 10] = [
+// How long a thread waits for its turn, which is empty, among others that take turns with nothing or a microsecond inside.
+static WAITS: [Entry; 30] = [
     (
-        "a wait at one lock      threads       median ns          99% ns      longest ns",
+        "a wait, turns of nothing   threads       median ns          99% ns      longest ns",
         Line::Text,
         1,
         ONCE,
     ),
     (
-        "Lock, a call",
-        Line::Waits(Kind::Lock, How::Called),
+        "Lock",
+        Line::Waits(Kind::Lock(DEFAULT), How::Called, 0),
         1,
-        FROM_TWO,
+        TO_EIGHT,
     ),
     (
         "Lock, joined",
-        Line::Waits(Kind::Lock, How::Joined),
+        Line::Waits(Kind::Lock(DEFAULT), How::Joined, 0),
         1,
-        FROM_TWO,
+        TO_EIGHT,
     ),
     (
-        "Lock, strict, a call",
-        Line::Waits(Kind::StrictLock, How::Called),
+        "Lock, strict",
+        Line::Waits(Kind::Lock(NONE), How::Called, 0),
         1,
-        FROM_TWO,
+        TO_EIGHT,
     ),
     (
-        "Lock, strict, joined",
-        Line::Waits(Kind::StrictLock, How::Joined),
+        "Mutex",
+        Line::Waits(Kind::Mutex(DEFAULT), How::Called, 0),
         1,
-        FROM_TWO,
+        TO_EIGHT,
     ),
     (
-        "word::Lock, a call",
-        Line::Waits(Kind::WordLock, How::Called),
+        "Mutex, strict",
+        Line::Waits(Kind::Mutex(NONE), How::Called, 0),
         1,
-        FROM_TWO,
+        TO_EIGHT,
+    ),
+    (
+        "word::Lock",
+        Line::Waits(Kind::WordLock(DEFAULT), How::Called, 0),
+        1,
+        TO_EIGHT,
     ),
     (
         "word::Lock, joined",
-        Line::Waits(Kind::WordLock, How::Joined),
+        Line::Waits(Kind::WordLock(DEFAULT), How::Joined, 0),
         1,
-        FROM_TWO,
+        TO_EIGHT,
     ),
     (
-        "lock_free::Lock, a call",
-        Line::Waits(Kind::LockFreeLock, How::Called),
+        "word::Lock, strict",
+        Line::Waits(Kind::WordLock(NONE), How::Called, 0),
         1,
-        FROM_TWO,
+        TO_EIGHT,
+    ),
+    (
+        "lock_free::Lock",
+        Line::Waits(Kind::LockFreeLock(DEFAULT), How::Called, 0),
+        1,
+        TO_EIGHT,
     ),
     (
         "lock_free::Lock, joined",
-        Line::Waits(Kind::LockFreeLock, How::Joined),
+        Line::Waits(Kind::LockFreeLock(DEFAULT), How::Joined, 0),
         1,
-        FROM_TWO,
+        TO_EIGHT,
+    ),
+    (
+        "lock_free::Lock, strict",
+        Line::Waits(Kind::LockFreeLock(NONE), How::Called, 0),
+        1,
+        TO_EIGHT,
+    ),
+    (
+        "lock_free::Mutex",
+        Line::Waits(Kind::LockFreeMutex(DEFAULT), How::Called, 0),
+        1,
+        TO_EIGHT,
+    ),
+    (
+        "lock_free::Mutex, strict",
+        Line::Waits(Kind::LockFreeMutex(NONE), How::Called, 0),
+        1,
+        TO_EIGHT,
     ),
     (
         "std::sync::Mutex",
-        Line::Waits(Kind::StdMutex, How::Called),
+        Line::Waits(Kind::StdMutex, How::Called, 0),
         1,
-        FROM_TWO,
+        TO_EIGHT,
+    ),
+    (
+        "a wait, turns of 1,000 ns  threads       median ns          99% ns      longest ns",
+        Line::Text,
+        1,
+        ONCE,
+    ),
+    (
+        "Lock",
+        Line::Waits(Kind::Lock(DEFAULT), How::Called, 10),
+        1,
+        TO_EIGHT,
+    ),
+    (
+        "Lock, joined",
+        Line::Waits(Kind::Lock(DEFAULT), How::Joined, 10),
+        1,
+        TO_EIGHT,
+    ),
+    (
+        "Lock, strict",
+        Line::Waits(Kind::Lock(NONE), How::Called, 10),
+        1,
+        TO_EIGHT,
+    ),
+    (
+        "Mutex",
+        Line::Waits(Kind::Mutex(DEFAULT), How::Called, 10),
+        1,
+        TO_EIGHT,
+    ),
+    (
+        "Mutex, strict",
+        Line::Waits(Kind::Mutex(NONE), How::Called, 10),
+        1,
+        TO_EIGHT,
+    ),
+    (
+        "word::Lock",
+        Line::Waits(Kind::WordLock(DEFAULT), How::Called, 10),
+        1,
+        TO_EIGHT,
+    ),
+    (
+        "word::Lock, joined",
+        Line::Waits(Kind::WordLock(DEFAULT), How::Joined, 10),
+        1,
+        TO_EIGHT,
+    ),
+    (
+        "word::Lock, strict",
+        Line::Waits(Kind::WordLock(NONE), How::Called, 10),
+        1,
+        TO_EIGHT,
+    ),
+    (
+        "lock_free::Lock",
+        Line::Waits(Kind::LockFreeLock(DEFAULT), How::Called, 10),
+        1,
+        TO_EIGHT,
+    ),
+    (
+        "lock_free::Lock, joined",
+        Line::Waits(Kind::LockFreeLock(DEFAULT), How::Joined, 10),
+        1,
+        TO_EIGHT,
+    ),
+    (
+        "lock_free::Lock, strict",
+        Line::Waits(Kind::LockFreeLock(NONE), How::Called, 10),
+        1,
+        TO_EIGHT,
+    ),
+    (
+        "lock_free::Mutex",
+        Line::Waits(Kind::LockFreeMutex(DEFAULT), How::Called, 10),
+        1,
+        TO_EIGHT,
+    ),
+    (
+        "lock_free::Mutex, strict",
+        Line::Waits(Kind::LockFreeMutex(NONE), How::Called, 10),
+        1,
+        TO_EIGHT,
+    ),
+    (
+        "std::sync::Mutex",
+        Line::Waits(Kind::StdMutex, How::Called, 10),
+        1,
+        TO_EIGHT,
     ),
 ];

@@ -6,6 +6,7 @@ use crate::meeting::How;
 use saa_sync::lock::{Lock, Mode};
 use saa_sync::lock_api;
 use saa_sync::pager::Pager;
+use saa_sync::spin_policy::{NONE, SpinPolicy};
 use saa_word_forms::mutex::MutexWorker;
 use saa_word_threads::lock::{Lock as WordLock, Mode as WordMode, Place};
 use std::sync::atomic::{AtomicU64, Ordering};
@@ -129,23 +130,17 @@ pub struct AtPlace<'l> {
     pub lock: &'l WordLock,
     /// The place.
     pub place: Place,
+    /// How long its calls spin before they join the waiters.
+    pub spins: SpinPolicy,
     ghost dealt: { IsDealtBy lock.now place },
 }
 
 impl AtPlace<'_> {
-    // Takes the lock alone, by one call.
+    // Takes the lock alone, and joins the waiters once so many spins are over.
     #[inline(always)]
-    fn take_called<R: Wait>(&mut self, rt: &R, work: &Work) {
-        if self.lock.lock(rt, &mut self.place) {
-            work.work();
-            self.lock.release_lock(rt, &mut self.place);
-        }
-    }
-
-    // Joins the waiters at once.
-    #[inline(always)]
-    fn take_joined<R: Wait>(&mut self, rt: &R, work: &Work) {
-        if self.lock.register(rt, &mut self.place, WordMode::Exclusive)
+    fn take_spinning<R: Wait>(&mut self, rt: &R, spins: SpinPolicy, work: &Work) {
+        let (lock, place) = (self.lock, &mut self.place);
+        if lock.register_spinning(rt, place, WordMode::Exclusive, spins)
             && self.lock.poll(rt, &mut self.place) == Ok(true)
         {
             work.work();
@@ -167,8 +162,8 @@ impl Taker for AtPlace<'_> {
     #[inline(always)]
     fn take_turn<R: Wait>(&mut self, rt: &R, how: How, work: &Work) {
         match how {
-            How::Called => self.take_called(rt, work),
-            How::Joined => self.take_joined(rt, work),
+            How::Called => self.take_spinning(rt, self.spins, work),
+            How::Joined => self.take_spinning(rt, NONE, work),
             How::Shared => self.take_shared(rt, work),
         }
     }

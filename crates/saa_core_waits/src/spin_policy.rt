@@ -17,7 +17,7 @@ pub struct SpinPolicy {
     pub yields: u32,
 }
 
-/// The spin policy of a call that isn't registered yet, where it has no other.
+/// The spin policy of a lock's call that isn't registered yet, where it has no other. A semaphore's has [`NONE`].
 ///
 /// The rests between the looks are 10,232 spin hints, 50 to 60 microseconds on the machines where that was measured; a yield lasts as
 /// long as the scheduler makes it. Measured with 2, 4 and 8 threads on 4 processors: where turns take a microsecond or less, mostly no

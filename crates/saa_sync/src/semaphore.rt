@@ -15,7 +15,7 @@ use crate::future::semaphore::{AcquireManyOf, AcquireManyWithOf, AcquireOf, Acqu
 use crate::pager::Pager;
 use crate::parker::WAITER;
 pub use crate::permit::{Permit, PermitFrom, PermitOf, TakesBack};
-use crate::spin_policy::{DEFAULT, SpinPolicy};
+use crate::spin_policy::{NONE, SpinPolicy};
 use saa_core::primitive::Primitive;
 pub use saa_core::semaphore::{SemaphoreAnswer, SemaphoreCall, SemaphoreCore, SemaphoreCoreOf};
 use saa_core::ticket::{Error, Full};
@@ -26,8 +26,8 @@ use std::sync::atomic::Ordering;
 /// Up to `MAX` permits that threads share, 1 to 65,535.
 ///
 /// Waiters are granted in FIFO order of joining the queue: no later request passes a waiter, a request for 0 permits included. A call
-/// that may block, and isn't timed, first tries and spins for a bounded number of times ([`SpinPolicy`]); until it joins it is no
-/// waiter, and nothing orders it. `R` is the permission to block, as a reference to the runtime. Every call may wait for the mutex,
+/// that can't be granted joins at its first turn at the mutex, unless the semaphore has a spin policy ([`SpinPolicy`]): then a call that may block, and
+/// isn't timed, first tries and spins so often; until it joins it is no waiter, and nothing orders it. `R` is the permission to block, as a reference to the runtime. Every call may wait for the mutex,
 /// which is held for one short step of the core at a time. No call but making takes memory.
 ///
 /// Each ticket and pager is used with the semaphore that it was registered in.
@@ -60,7 +60,7 @@ impl<R: Wait + Drop, const MAX: usize> Form<R, SemaphoreCoreOf<MAX>> {
         requires bound { 0 < MAX }
         requires narrow { MAX < 65536 }
         ensures no_room { room ≡ 0 → IsOk result }
-        ensures spin_policy { IfOk result (λ semaphore. spin_policy_of semaphore ≡ DEFAULT) }
+        ensures spin_policy { IfOk result (λ semaphore. spin_policy_of semaphore ≡ NONE) }
         ensures waiter { IfOk result (λ semaphore. waiter_policy_of semaphore ≡ WAITER) }
     {
         Self::with_permits(rt, alloc, MAX, room)
@@ -75,14 +75,14 @@ impl<R: Wait + Drop, const MAX: usize> Form<R, SemaphoreCoreOf<MAX>> {
         requires bound { 0 < MAX }
         requires narrow { MAX < 65536 }
         ensures no_room { room ≡ 0 → IsOk result }
-        ensures spin_policy { IfOk result (λ semaphore. spin_policy_of semaphore ≡ DEFAULT) }
+        ensures spin_policy { IfOk result (λ semaphore. spin_policy_of semaphore ≡ NONE) }
         ensures waiter { IfOk result (λ semaphore. waiter_policy_of semaphore ≡ WAITER) }
     {
-        Self::with_spin_policy(rt, alloc, permits, room, DEFAULT)
+        Self::with_spin_policy(rt, alloc, permits, room, NONE)
     }
 
-    /// As [`Self::with_permits`], with a spin policy of its own for calls that aren't registered yet; [`NONE`](crate::spin_policy::NONE) has each
-    /// call register at its first turn at the mutex, so that grants come in the order of these turns.
+    /// As [`Self::with_permits`], with a spin policy for calls that aren't registered yet: with [`DEFAULT`](crate::spin_policy::DEFAULT) short turns under
+    /// contention cost less, and a call that finds no permit again and again waits longer.
     pub fn with_spin_policy(
         rt: R,
         alloc: Global,

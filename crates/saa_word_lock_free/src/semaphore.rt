@@ -27,7 +27,7 @@ use crate::registration::Registration;
 use crate::tasks::Pending;
 use crate::word_form::WordForm;
 use saa_core_spec::request::Full;
-use saa_core_waits::spin_policy::{DEFAULT, SpinPolicy};
+use saa_core_waits::spin_policy::{NONE, SpinPolicy};
 use saa_word_threads::receipt::Receipt;
 use saa_word_threads::semaphore::{Error, Place, SemaphoreOf as Word, Words};
 use std::alloc::{AllocError, Global};
@@ -69,7 +69,7 @@ impl<R: Wait + Drop, const MAX: usize> Form<R, Word<MAX>> {
         requires bound { 0 < MAX }
         requires narrow { MAX < 65536 }
         ensures made { IfOk result (λ semaphore. about_of semaphore.word ≡ opened MAX MAX room) }
-        ensures spin_policy { IfOk result (λ semaphore. semaphore.spin_policy ≡ DEFAULT) }
+        ensures spin_policy { IfOk result (λ semaphore. semaphore.spin_policy ≡ NONE) }
     {
         Self::with_permits(rt, alloc, MAX, room)
     }
@@ -82,13 +82,14 @@ impl<R: Wait + Drop, const MAX: usize> Form<R, Word<MAX>> {
         requires bound { 0 < MAX }
         requires narrow { MAX < 65536 }
         ensures made { IfOk result (λ semaphore. about_of semaphore.word ≡ opened MAX permits room) }
-        ensures spin_policy { IfOk result (λ semaphore. semaphore.spin_policy ≡ DEFAULT) }
+        ensures spin_policy { IfOk result (λ semaphore. semaphore.spin_policy ≡ NONE) }
     {
-        Self::with_spin_policy(rt, alloc, permits, room, DEFAULT)
+        Self::with_spin_policy(rt, alloc, permits, room, NONE)
     }
 
     /// As [`Self::with_permits`], with a spin policy of its own: how often a call that may block, and isn't timed, looks and yields at its place before that
-    /// joins the queue. With [`NONE`](saa_core_waits::spin_policy::NONE) it joins at once.
+    /// joins the queue. With [`DEFAULT`](saa_core_waits::spin_policy::DEFAULT) short turns under contention cost less, and a call that finds no permit again and
+    /// again waits longer.
     pub fn with_spin_policy(
         rt: R,
         alloc: Global,

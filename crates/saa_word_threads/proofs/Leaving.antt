@@ -23,7 +23,8 @@ use Rattle.saa_word_threads.specs.declared.table.Role.TheVariants.{Acting, Spent
 use Rattle.saa_word_threads.specs.declared.table.View.{View}
 use Rattle.saa_word_threads.specs.Dealt.{AreLedTo, IsOf, has_number}
 use Rattle.saa_word_threads.specs.Gathered.{IsAmong, Knows}
-use Rattle.saa_word_threads.specs.Kept.{AreGathered, Fits, FitsAs, IsGathered, Kept, departed, gathering, is_unnumbered, row_of, spent}
+use Rattle.saa_word_threads.specs.Kept.{AreGathered, Fits, FitsAs, IsGathered, Kept, departed, gathering, is_unnumbered, spent}
+use Rattle.saa_word_threads.specs.Cells.{row_of}
 use Rattle.saa_word_threads.proofs.Gathering.{found-within, gathered-stay, place-fits, spent-apart}
 use Rattle.saa_word_threads.proofs.Opening.{shows}
 
@@ -224,10 +225,10 @@ module _ (about : About) (s : State (Unit {0}) View) (kept : Kept about s) (seat
 -- nothing is owed where no place is registered in the queue
 settled-all : (about : About) (s : State (Unit {0}) View) (words : List ℕ) (views : List View) (kept : Kept about s) → s.words ≡ words
     → ((number : ℕ) → has_number number views ≡ true → is_slot (kept.standing number).registration ≡ false)
-    → ((number : ℕ) → number < about.places → has_number number views ≡ true) → IsAtRest (needs_of about.rules) (row_of words) kept.last
+    → ((number : ℕ) → number < about.places → has_number number views ≡ true) → IsAtRest (needs_of about.rules) (row_of about.places words) kept.last
 settled-all about s words views kept is out all =
-    subst (λ (l : List ℕ). IsAtRest (needs_of about.rules) (row_of l) kept.last) is
-    (rest-unregistered (needs_of about.rules) about.places (row_of s.words) kept.standing kept.last kept.refines (λ number.
+    subst (λ (l : List ℕ). IsAtRest (needs_of about.rules) (row_of about.places l) kept.last) is
+    (rest-unregistered (needs_of about.rules) about.places (row_of about.places s.words) kept.standing kept.last kept.refines (λ number.
     elim (cases_Bool (is_slot (kept.standing number).registration)) [
       | inl slot ↦ out number (all number (kept.refines.seats.within number slot))
       | inr none ↦ none

@@ -1,3 +1,4 @@
+pub mod CellLemmas
 pub mod Growing
 pub mod Paying
 pub mod Gathering

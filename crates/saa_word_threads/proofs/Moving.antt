@@ -1,5 +1,5 @@
 -- Each step of a place keeps the table's rule, and tells the place what it does.
-use Rattle.std.proofs.Common.{◌≡◌, ◌≢◌, ℕ, ◌+◌, ◌^◌, ◌<◌, ◌≤◌, ◌⊎◌, ◌==◌, ◌&&◌, ◌||◌, Bool, true, false, List, [], ◌∷◌, ◌++◌, length, get_or, refl, sym, ap, subst, ◌∙◌, arith, inl, inr, append-nil, append_assoc}
+use Rattle.std.proofs.Common.{◌≡◌, ◌≢◌, ℕ, ◌+◌, ◌^◌, ◌<◌, ◌≤◌, ◌⊎◌, ◌==◌, ◌&&◌, ◌||◌, Bool, true, false, List, [], ◌∷◌, ◌++◌, length, refl, sym, ap, subst, ◌∙◌, arith, inl, inr, append-nil, append_assoc}
 use Rattle.std.proofs.Math.ListN.{set, length-set}
 use Rattle.std.proofs.lemmas.List.{get_or-set_same, get_or-set_other, set-get_or}
 use Rattle.std.proofs.lemmas.Bool.{cases_Bool}
@@ -31,9 +31,11 @@ use Rattle.saa_word_threads.specs.declared.table.Departed.{Departed}
 use Rattle.saa_word_threads.specs.declared.table.Role.{Role}
 use Rattle.saa_word_threads.specs.declared.table.Role.TheVariants.{Dealer, Acting, Receipt, Spent}
 use Rattle.saa_word_threads.specs.declared.table.View.{View}
-use Rattle.saa_word_threads.specs.Kept.{AreGathered, BeginsWithEach, Fits, FitsAs, IsFree, Kept, departed, is_unnumbered, row_of}
+use Rattle.saa_word_threads.specs.Kept.{AreGathered, BeginsWithEach, Fits, FitsAs, IsFree, Kept, departed, is_unnumbered}
+use Rattle.saa_word_threads.specs.Cells.{cell_of, row_of}
 use Rattle.saa_word_steps.specs.declared.rules.Rules.{Rules}
 use Rattle.saa_word_threads.specs.Told.{Begins, Extends, IsLegal, IsNext, IsLookOnly, Moves, is_showing, prepares}
+use Rattle.saa_word_threads.proofs.CellLemmas.{cell-inside, cells-apart}
 use Rattle.saa_word_threads.proofs.Beginning.{begins-refines, updated-twice}
 use Rattle.saa_word_threads.proofs.Gathering.{found-within, gathered-stay, place-fits, spent-apart}
 use Rattle.saa_word_threads.proofs.Growing.{has-append, has-other, never-append, never-same, part-append, part-none, part-own, run-append, seen-apart, seen-on, seen-part, visitor-names}
@@ -41,17 +43,18 @@ use Rattle.saa_word_threads.proofs.Paying.{owes-nothing, seen-legal}
 
 -- Lists
 
--- a list with one element written is a function with one value changed
-pub set-updated : (words : List ℕ) (at number : ℕ) → at < length words → row_of (set words at number) ≡ updated (row_of words) at number
-set-updated words at number inside =
-    all-same (row_of (set words at number)) (updated (row_of words) at number) (λ other.
+-- words with one of them written are a function with one value changed
+pub set-updated : (places : ℕ) (cells : List ℕ) (at number : ℕ) → cell_of places at < length cells
+    → row_of places (set cells (cell_of places at) number) ≡ updated (row_of places cells) at number
+set-updated places cells at number inside =
+    all-same (row_of places (set cells (cell_of places at) number)) (updated (row_of places cells) at number) (λ other.
     elim (cases_Bool (other == at)) [
       | inl same ↦
           let is : other ≡ at = same_number other at same in
-          rw same (ap (λ (n : ℕ). get_or (set words at number) n 0) is ∙ get_or-set_same words at number 0 inside)
+          rw same (ap (λ (n : ℕ). row_of places (set cells (cell_of places at) number) n) is ∙ get_or-set_same cells (cell_of places at) number 0 inside)
       | inr apart ↦
           let differs : other ≢ at = λ is. let wrong : other == at ≡ true = ap (λ (n : ℕ). other == n) (sym is) ∙ number_same other in absurd (cc) in
-          rw apart (get_or-set_other words at other number 0 differs)
+          rw apart (get_or-set_other cells (cell_of places at) (cell_of places other) number 0 (cells-apart places other at differs))
     ])
 
 -- numbers that differ
@@ -174,11 +177,11 @@ module _ (history : List (ℕ × Event)) (standing : ℕ → Place) (places deal
       }
 
 -- what a word is written as that it was, and a view that stays, change nothing
-unchanged : (about : About) (s : State (Unit {0}) View) (kept : Kept about s) (at number seat : ℕ) (v : View) → number ≡ row_of s.words at
-    → get_elem? s.views seat ≡ some v → Kept about (record { words = set s.words at number; homes = s.homes; views = set s.views seat v })
+unchanged : (about : About) (s : State (Unit {0}) View) (kept : Kept about s) (at number seat : ℕ) (v : View) → number ≡ row_of about.places s.words at
+    → get_elem? s.views seat ≡ some v → Kept about (record { words = set s.words (cell_of about.places at) number; homes = s.homes; views = set s.views seat v })
 unchanged about s kept at number seat v same is =
     subst (λ (words : List ℕ). Kept about (record { words = words; homes = s.homes; views = set s.views seat v }))
-    (sym (ap (λ (n : ℕ). set s.words at n) same ∙ set-get_or s.words at 0))
+    (sym (ap (λ (n : ℕ). set s.words (cell_of about.places at) n) same ∙ set-get_or s.words (cell_of about.places at) 0))
     (subst (λ (views : List View). Kept about (record { words = s.words; homes = s.homes; views = views })) (sym (set_again s.views seat v is)) kept)
 
 -- The step
@@ -190,21 +193,21 @@ module _ (about : About) (few : about.places < 65536) (wide : (needs_of about.ru
     fits : FitsAs kept.history kept.standing about.places kept.dealt seat v Acting
     fits = place-fits kept.history kept.standing about.places kept.dealt seat v acts (kept.each seat v at)
 
-    begun : Refines (needs_of about.rules) about.places (row_of s.words) (updated kept.standing v.number place) kept.last
+    begun : Refines (needs_of about.rules) about.places (row_of about.places s.words) (updated kept.standing v.number place) kept.last
     begun =
-        begins-refines (needs_of about.rules) wide about.places (row_of s.words) kept.last v.number kept.standing v.position place fits.1
+        begins-refines (needs_of about.rules) wide about.places (row_of about.places s.words) kept.last v.number kept.standing v.position place fits.1
         (never-joins about.places v.number place.stage here) begins kept.refines
 
-    pub made : Stepped (needs_of about.rules) about.places (row_of s.words) (updated kept.standing v.number place) kept.last v.number place
+    pub made : Stepped (needs_of about.rules) about.places (row_of about.places s.words) (updated kept.standing v.number place) kept.last v.number place
     made =
-        stepped-at (needs_of about.rules) (rules-lawful about.rules) wide about.places few v.number (row_of s.words)
+        stepped-at (needs_of about.rules) (rules-lawful about.rules) wide about.places few v.number (row_of about.places s.words)
         (updated kept.standing v.number place) kept.last place (updated-at kept.standing v.number place) begun
 
     abbrev operation : Operation
     operation = operation_of (needs_of about.rules) about.places v.number place.stage
 
     abbrev found : ℕ
-    found = row_of s.words (word_at operation)
+    found = row_of about.places s.words (word_at operation)
 
     abbrev behind : Place
     behind = place_after place (next_of (needs_of about.rules) v.number place place.stage found)
@@ -216,13 +219,14 @@ module _ (about : About) (few : about.places < 65536) (wide : (needs_of about.ru
     standing = updated kept.standing v.number behind
 
     abbrev after : State (Unit {0}) View
-    after = record { words = set s.words (word_at operation) (written_by operation found); homes = s.homes; views = set s.views seat view }
+    after = record { words = set s.words (cell_of about.places (word_at operation)) (written_by operation found); homes = s.homes; views = set s.views seat view }
 
-    refined : Refines (needs_of about.rules) about.places (row_of after.words) standing made.last
+    refined : Refines (needs_of about.rules) about.places (row_of about.places after.words) standing made.last
     refined =
         subst (λ (r : ℕ → ℕ). Refines (needs_of about.rules) about.places r standing made.last)
-        (sym (set-updated s.words (word_at operation) (written_by operation found) (let i = made.inside in let w = kept.wide in omega arith)))
-        (subst (λ (f : ℕ → Place). Refines (needs_of about.rules) about.places (row_after (row_of s.words) operation) f made.last)
+        (sym (set-updated about.places s.words (word_at operation) (written_by operation found)
+        (subst (λ (n : ℕ). cell_of about.places (word_at operation) < n) (sym kept.wide) (cell-inside about.places (word_at operation) made.inside))))
+        (subst (λ (f : ℕ → Place). Refines (needs_of about.rules) about.places (row_after (row_of about.places s.words) operation) f made.last)
         (updated-twice kept.standing v.number place behind) made.refines)
 
     plays : is_unnumbered v.role ≡ false
@@ -299,7 +303,7 @@ module _ (about : About) (few : about.places < 65536) (wide : (needs_of about.ru
     visitor-never beyond =
         never-same made.events (named_at (needs_of about.rules) place.stage found) made.names
         (visitor-names (needs_of about.rules) place.stage found
-        (visiting-at (needs_of about.rules) (rules-lawful about.rules) wide about.places few v.number (row_of s.words)
+        (visiting-at (needs_of about.rules) (rules-lawful about.rules) wide about.places few v.number (row_of about.places s.words)
         (updated kept.standing v.number place) kept.last place (updated-at kept.standing v.number place) begun beyond))
 
     visits-after : (number : ℕ) → about.places ≤ number → never_waits (part_of number (kept.history ++ of_place v.number made.events)) ≡ true
@@ -323,7 +327,7 @@ module _ (about : About) (few : about.places < 65536) (wide : (needs_of about.ru
       dealt = kept.dealt;
       run =
           run-append (needs_of about.rules) (opening about.withheld) kept.last made.last kept.history (of_place v.number made.events) kept.run made.run;
-      wide = length-set s.words (word_at operation) (written_by operation found) ∙ kept.wide;
+      wide = length-set s.words (cell_of about.places (word_at operation)) (written_by operation found) ∙ kept.wide;
       few = kept.few;
       refines = refined;
       each = λ other w is. each-after other w (at_set s.views seat other view w is);
@@ -347,7 +351,7 @@ module _ (about : About) (few : about.places < 65536) (wide : (needs_of about.ru
       extends = moved-extends kept.history kept.standing about.places kept.dealt seat v made.events behind acts fits;
       legal = seen.0;
       shown = λ never. seen.1
-          (owes-nothing (needs_of about.rules) about.places (row_of after.words) standing made.last refined v.number
+          (owes-nothing (needs_of about.rules) about.places (row_of about.places after.words) standing made.last refined v.number
           (ap (λ (p : Place). is_showing p.stage) (updated-at kept.standing v.number behind) ∙ never));
       own =
           seen-part v.number (kept.history ++ of_place v.number made.events)
@@ -355,17 +359,17 @@ module _ (about : About) (few : about.places < 65536) (wide : (needs_of about.ru
           ∙ ap (λ (l : List Event). part_of v.number kept.history ++ l) (part-own v.number made.events)
           ∙ sym (ap (λ (l : List Event). l ++ made.events) fits.3);
       ready =
-          ready-at (needs_of about.rules) (rules-lawful about.rules) wide about.places few v.number (row_of after.words) standing made.last
+          ready-at (needs_of about.rules) (rules-lawful about.rules) wide about.places few v.number (row_of about.places after.words) standing made.last
           behind (updated-at kept.standing v.number behind) refined;
       visits =
-          visiting-at (needs_of about.rules) (rules-lawful about.rules) wide about.places few v.number (row_of after.words) standing made.last
+          visiting-at (needs_of about.rules) (rules-lawful about.rules) wide about.places few v.number (row_of about.places after.words) standing made.last
           behind (updated-at kept.standing v.number behind) refined;
     }
 
   -- Whatever the table is when a place makes the operation of its stage, that keeps the rule, and tells the place what it does
   pub moves : (slots id : ℕ) (me : Me (Unit {0}) View) (place : Place) → me.0.role ≡ Acting
       → (me.0.number < about.places) ⊎ IsVisiting place.stage → Begins (needs_of about.rules) me.0.position place
-      → Allows (Kept about) slots id me (word_at (operation_of (needs_of about.rules) about.places me.0.number place.stage))
+      → Allows (Kept about) slots id me (cell_of about.places (word_at (operation_of (needs_of about.rules) about.places me.0.number place.stage)))
       (written_by (operation_of (needs_of about.rules) about.places me.0.number place.stage))
       (λ number next. Moves (needs_of about.rules) about.withheld about.places place (next_of (needs_of about.rules) me.0.number place place.stage number) number me.0 next.0 × (next.1 ≡ me.1))
   moves slots id me place acts here begins = λ s kept sized at small. (
@@ -381,12 +385,12 @@ module _ (about : About) (few : about.places < 65536) (wide : (needs_of about.ru
       → (me.0.number < about.places) ⊎ IsVisiting place.stage → Begins (needs_of about.rules) me.0.position place
       → ((found : ℕ) → prepares (next_of (needs_of about.rules) me.0.number place place.stage found) ≡ true
       → written_by (operation_of (needs_of about.rules) about.places me.0.number place.stage) found ≡ found)
-      → Allows (Kept about) slots id me (word_at (operation_of (needs_of about.rules) about.places me.0.number place.stage))
+      → Allows (Kept about) slots id me (cell_of about.places (word_at (operation_of (needs_of about.rules) about.places me.0.number place.stage)))
       (written_by (operation_of (needs_of about.rules) about.places me.0.number place.stage))
       (λ number next. IsLookOnly (needs_of about.rules) about.withheld about.places me.0.number place number me.0 next.0 × (next.1 ≡ me.1))
   seeks slots id me place acts here begins same = λ s kept sized at small.
       let op : Operation = operation_of (needs_of about.rules) about.places me.0.number place.stage in
-      let number : ℕ = row_of s.words (word_at op) in
+      let number : ℕ = row_of about.places s.words (word_at op) in
       elim (cases_Bool (prepares (next_of (needs_of about.rules) me.0.number place place.stage number))) [
         | inl joins ↦ (
           me.0,
@@ -408,18 +412,20 @@ module _ (about : About) (few : about.places < 65536) (wide : (needs_of about.ru
 pub allowed : (about : About) (rules : Rules) (places : ℕ) (picked : About) (place : Place) (number slots id : ℕ) (me : Me (Unit {0}) View) (operation : Operation)
     → about.rules ≡ rules → about.places ≡ places → places < 65536 → (needs_of rules).top < 2 ^ count_bits → picked ≡ about
     → IsNext (needs_of rules) places number place operation me.0
-    → Allows (Kept about) slots id me (word_at operation) (written_by operation)
+    → Allows (Kept about) slots id me (cell_of places (word_at operation)) (written_by operation)
     (λ found next. Moves (needs_of picked.rules) picked.withheld picked.places place (next_of (needs_of picked.rules) number place place.stage found) found me.0 next.0 × (next.1 ≡ me.1))
 allowed about rules places picked place number slots id me operation rules_are places_are few wide picks is =
-    subst (λ (a : About). Allows (Kept about) slots id me (word_at operation) (written_by operation)
+    subst (λ (n : ℕ). Allows (Kept about) slots id me (cell_of n (word_at operation)) (written_by operation)
+    (λ found next. Moves (needs_of picked.rules) picked.withheld picked.places place (next_of (needs_of picked.rules) number place place.stage found) found me.0 next.0 × (next.1 ≡ me.1))) places_are
+    (subst (λ (a : About). Allows (Kept about) slots id me (cell_of about.places (word_at operation)) (written_by operation)
     (λ found next. Moves (needs_of a.rules) a.withheld a.places place (next_of (needs_of a.rules) number place place.stage found) found me.0 next.0 × (next.1 ≡ me.1))) (sym picks)
-    (subst (λ (o : Operation). Allows (Kept about) slots id me (word_at o) (written_by o)
+    (subst (λ (o : Operation). Allows (Kept about) slots id me (cell_of about.places (word_at o)) (written_by o)
     (λ found next. Moves (needs_of about.rules) about.withheld about.places place (next_of (needs_of about.rules) number place place.stage found) found me.0 next.0 × (next.1 ≡ me.1))) made_is
     (subst (λ (n : ℕ). Allows (Kept about) slots id me
-    (word_at (operation_of (needs_of about.rules) about.places n place.stage)) (written_by (operation_of (needs_of about.rules) about.places n place.stage))
+    (cell_of about.places (word_at (operation_of (needs_of about.rules) about.places n place.stage))) (written_by (operation_of (needs_of about.rules) about.places n place.stage))
     (λ found next. Moves (needs_of about.rules) about.withheld about.places place (next_of (needs_of about.rules) n place place.stage found) found me.0 next.0 × (next.1 ≡ me.1))) is.number
     (moves about (subst (λ n. n < 65536) (sym places_are) few) (subst (λ (r : Rules). (needs_of r).top < 2 ^ count_bits) (sym rules_are) wide) slots id me place
-    is.role here (subst (λ (r : Rules). Begins (needs_of r) me.0.position place) (sym rules_are) is.begins))))
+    is.role here (subst (λ (r : Rules). Begins (needs_of r) me.0.position place) (sym rules_are) is.begins)))))
   where
     here : (me.0.number < about.places) ⊎ IsVisiting place.stage
     here =
@@ -438,22 +444,24 @@ pub allowed-look : (about : About) (rules : Rules) (places : ℕ) (picked : Abou
     (me : Me (Unit {0}) View) (made : Operation) → about.rules ≡ rules → about.places ≡ places → places < 65536 → (needs_of rules).top < 2 ^ count_bits
     → (picked ≡ about) × (picked_place ≡ place) × (picked_number ≡ number) → IsNext (needs_of rules) places number place made me.0
     → ((found : ℕ) → prepares (next_of (needs_of rules) number place place.stage found) ≡ true → written_by made found ≡ found)
-    → Allows (Kept about) slots id me (word_at made) (written_by made)
+    → Allows (Kept about) slots id me (cell_of places (word_at made)) (written_by made)
     (λ found next. IsLookOnly (needs_of picked.rules) picked.withheld picked.places picked_number picked_place found me.0 next.0 × (next.1 ≡ me.1))
 allowed-look about rules places picked picked_place place picked_number number slots id me made rules_are places_are few wide picks is same =
-    subst (λ (a : About). Allows (Kept about) slots id me (word_at made) (written_by made)
+    subst (λ (n : ℕ). Allows (Kept about) slots id me (cell_of n (word_at made)) (written_by made)
+    (λ found next. IsLookOnly (needs_of picked.rules) picked.withheld picked.places picked_number picked_place found me.0 next.0 × (next.1 ≡ me.1))) places_are
+    (subst (λ (a : About). Allows (Kept about) slots id me (cell_of about.places (word_at made)) (written_by made)
     (λ found next. IsLookOnly (needs_of a.rules) a.withheld a.places picked_number picked_place found me.0 next.0 × (next.1 ≡ me.1))) (sym picks.0)
-    (subst (λ (p : Place). Allows (Kept about) slots id me (word_at made) (written_by made)
+    (subst (λ (p : Place). Allows (Kept about) slots id me (cell_of about.places (word_at made)) (written_by made)
     (λ found next. IsLookOnly (needs_of about.rules) about.withheld about.places picked_number p found me.0 next.0 × (next.1 ≡ me.1))) (sym picks.1)
-    (subst (λ (n : ℕ). Allows (Kept about) slots id me (word_at made) (written_by made)
+    (subst (λ (n : ℕ). Allows (Kept about) slots id me (cell_of about.places (word_at made)) (written_by made)
     (λ found next. IsLookOnly (needs_of about.rules) about.withheld about.places n place found me.0 next.0 × (next.1 ≡ me.1))) (sym picks.2)
-    (subst (λ (o : Operation). Allows (Kept about) slots id me (word_at o) (written_by o)
+    (subst (λ (o : Operation). Allows (Kept about) slots id me (cell_of about.places (word_at o)) (written_by o)
     (λ found next. IsLookOnly (needs_of about.rules) about.withheld about.places number place found me.0 next.0 × (next.1 ≡ me.1))) made_is
     (subst (λ (n : ℕ). Allows (Kept about) slots id me
-    (word_at (operation_of (needs_of about.rules) about.places n place.stage)) (written_by (operation_of (needs_of about.rules) about.places n place.stage))
+    (cell_of about.places (word_at (operation_of (needs_of about.rules) about.places n place.stage))) (written_by (operation_of (needs_of about.rules) about.places n place.stage))
     (λ found next. IsLookOnly (needs_of about.rules) about.withheld about.places n place found me.0 next.0 × (next.1 ≡ me.1))) is.number
     (seeks about (subst (λ n. n < 65536) (sym places_are) few) (subst (λ (r : Rules). (needs_of r).top < 2 ^ count_bits) (sym rules_are) wide) slots id me place
-    is.role here (subst (λ (r : Rules). Begins (needs_of r) me.0.position place) (sym rules_are) is.begins) same_here)))))
+    is.role here (subst (λ (r : Rules). Begins (needs_of r) me.0.position place) (sym rules_are) is.begins) same_here))))))
   where
     here : (me.0.number < about.places) ⊎ IsVisiting place.stage
     here =

@@ -1,5 +1,5 @@
 -- How a table begins, how one place more is dealt, and what it is at the end.
-use Rattle.std.proofs.Common.{◌≡◌, ◌≢◌, ℕ, zero, suc, ◌+◌, ◌^◌, ◌<◌, ◌≤◌, ◌⊎◌, ◌==◌, true, false, List, [], ◌∷◌, ◌++◌, length, replicate, get_or, refl, sym, ap, subst, ◌∙◌, arith, inl, inr}
+use Rattle.std.proofs.Common.{◌≡◌, ◌≢◌, ℕ, zero, suc, ◌+◌, ◌^◌, ◌<◌, ◌≤◌, ◌⊎◌, ◌==◌, Bool, true, false, List, [], ◌∷◌, ◌++◌, length, replicate, get_or, refl, sym, ap, subst, ◌∙◌, arith, inl, inr}
 use Rattle.std.proofs.Common.{Option as Maybe, Some, None, nat_lt, if◌then◌else◌}
 use Rattle.std.proofs.Math.ListN.{set, length-set}
 use Rattle.std.proofs.lemmas.List.{get_or-set_same, get_or-set_other, length-replicate}
@@ -27,8 +27,10 @@ use Rattle.saa_word_threads.specs.declared.table.Role.{Role}
 use Rattle.saa_word_threads.specs.declared.table.Role.TheVariants.{Dealer, Acting, Receipt, Spent}
 use Rattle.saa_word_threads.specs.declared.table.View.{View}
 use Rattle.saa_word_threads.specs.Dealt.{AreNew, IsLedTo, IsNew}
-use Rattle.saa_word_threads.specs.Kept.{AreGathered, BeginsWithEach, Fits, FitsAs, IsFree, IsNumber, Kept, dealer, departed, fresh_view, is_unnumbered, receipt_of, row_of}
+use Rattle.saa_word_threads.specs.Kept.{AreGathered, BeginsWithEach, Fits, FitsAs, IsFree, IsNumber, Kept, dealer, departed, fresh_view, is_unnumbered, receipt_of}
+use Rattle.saa_word_threads.specs.Cells.{cell_of, cells_of, row_of}
 use Rattle.saa_word_threads.specs.Visits.{IsEntering}
+use Rattle.saa_word_threads.proofs.CellLemmas.{cells-apart}
 use Rattle.saa_word_threads.proofs.Gathering.{found-within, gathered-stay, place-fits}
 use Rattle.saa_word_threads.proofs.Growing.{none-seen, part-none, seen-part}
 
@@ -39,15 +41,18 @@ replicated zero value index is = refl
 replicated (suc count) value zero is = is
 replicated (suc count) value (suc index) is = replicated count value index is
 
-opening-words : (count places index : ℕ) → opening_row count index ≡ row_of (set (replicate (places + places + 1) 0) 0 count) index
+opening-words : (count places index : ℕ) → opening_row count index ≡ row_of places (set (replicate (cells_of places) 0) 0 count) index
 opening-words count places zero =
-    let within : 0 < length {A = ℕ} (replicate (places + places + 1) 0) =
-    (let long : length {A = ℕ} (replicate (places + places + 1) 0) ≡ places + places + 1 = length-replicate (places + places + 1) 0 in omega arith) in
-    sym (get_or-set_same (replicate (places + places + 1) 0) 0 count 0 within)
+    let within : 0 < length {A = ℕ} (replicate (cells_of places) 0) =
+    (let long : length {A = ℕ} (replicate (cells_of places) 0) ≡ cells_of places = length-replicate (cells_of places) 0 in omega arith) in
+    sym (get_or-set_same (replicate (cells_of places) 0) 0 count 0 within)
 opening-words count places (suc index) =
     let test : suc index == 0 ≡ false = grind (arith, nat_tests) in
-    let apart : suc index ≢ 0 = λ e. omega arith in
-    rw test (sym (get_or-set_other (replicate (places + places + 1) 0) 0 (suc index) count 0 apart ∙ replicated (places + places + 1) 0 (suc index) refl))
+    let apart : cell_of places (suc index) ≢ 0 = cells-apart places (suc index) 0 (λ e. omega arith) in
+    let reads : get_or (set (replicate (cells_of places) 0) 0 count) (cell_of places (suc index)) 0 ≡ 0 =
+    get_or-set_other (replicate (cells_of places) 0) 0 (cell_of places (suc index)) count 0 apart
+    ∙ replicated (cells_of places) 0 (cell_of places (suc index)) refl in
+    ap (λ (b : Bool). if b then count else 0) test ∙ sym reads
 
 module _ (about : About) (wide : (needs_of about.rules).top < 2 ^ count_bits) (count : about.withheld ≤ (needs_of about.rules).top) where
   first-fits : (seat : ℕ) (v : View) → get_elem? (dealer 0 ∷ []) seat ≡ some v → Fits [] (λ place. idle_place) about.places 0 seat v
@@ -62,7 +67,7 @@ module _ (about : About) (wide : (needs_of about.rules).top < 2 ^ count_bits) (c
   first-gathers zero v is plays = subst (λ (u : View). AreGathered (dealer 0 ∷ []) u.gathered) (some-injective (dealer 0) v is) tt
   first-gathers (suc seat) v is plays = absurd (some-ne-none v (sym is))
 
-  pub kept-opening : (words : List ℕ) → words ≡ set (replicate (about.places + about.places + 1) 0) 0 about.withheld
+  pub kept-opening : (words : List ℕ) → words ≡ set (replicate (cells_of about.places) 0) 0 about.withheld
       → Kept about (table_opening words [] (dealer 0))
   kept-opening words is = record {
     history = [];
@@ -72,12 +77,12 @@ module _ (about : About) (wide : (needs_of about.rules).top < 2 ^ count_bits) (c
     run = refl;
     few = omega arith;
     wide =
-        ap (λ (l : List ℕ). length l) is ∙ length-set (replicate (about.places + about.places + 1) 0) 0 about.withheld
-        ∙ length-replicate (about.places + about.places + 1) 0;
+        ap (λ (l : List ℕ). length l) is ∙ length-set (replicate (cells_of about.places) 0) 0 about.withheld
+        ∙ length-replicate (cells_of about.places) 0;
     refines =
-        subst (λ (l : List ℕ). Refines (needs_of about.rules) about.places (row_of l) (λ place. idle_place) (opening about.withheld)) (sym is)
+        subst (λ (l : List ℕ). Refines (needs_of about.rules) about.places (row_of about.places l) (λ place. idle_place) (opening about.withheld)) (sym is)
         (subst (λ (r : ℕ → ℕ). Refines (needs_of about.rules) about.places r (λ place. idle_place) (opening about.withheld))
-        (all-same (opening_row about.withheld) (row_of (set (replicate (about.places + about.places + 1) 0) 0 about.withheld))
+        (all-same (opening_row about.withheld) (row_of about.places (set (replicate (cells_of about.places) 0) 0 about.withheld))
         (opening-words about.withheld about.places))
         (opens (needs_of about.rules) wide about.places about.withheld count));
     each = first-fits;
@@ -334,13 +339,13 @@ new-more table from (first ∷ places) place all one =
 -- The end
 
 pub shows : (about : About) (s : State (Unit {0}) View) (words : List ℕ) (kept : Kept about s) → s.words ≡ words
-    → Observes (needs_of about.rules) about.places (row_of words) kept.last
+    → Observes (needs_of about.rules) about.places (row_of about.places words) kept.last
 shows about s words kept is =
-    subst (λ (l : List ℕ). Observes (needs_of about.rules) about.places (row_of l) kept.last) is
-    (says-so (needs_of about.rules) about.places (row_of s.words) kept.standing kept.last kept.refines)
+    subst (λ (l : List ℕ). Observes (needs_of about.rules) about.places (row_of about.places l) kept.last) is
+    (says-so (needs_of about.rules) about.places (row_of about.places s.words) kept.standing kept.last kept.refines)
 
 pub leads-to : (about : About) (s : State (Unit {0}) View) (words : List ℕ) (kept : Kept about s) → s.words ≡ words
-    → LeadsTo (needs_of about.rules) about.places about.withheld kept.history (row_of words)
+    → LeadsTo (needs_of about.rules) about.places about.withheld kept.history (row_of about.places words)
 leads-to about s words kept is = record { last = kept.last; run = kept.run; shown = shows about s words kept is }
 
 pub led-to : (about : About) (s : State (Unit {0}) View) (seat : ℕ) (v : View) (words : List ℕ) → Kept about s → get_elem? s.views seat ≡ some v
@@ -362,11 +367,11 @@ found-number [] index number is = absurd (some-ne-none number (sym is))
 found-number (word ∷ words) zero number is = sym (some-injective word number is)
 found-number (word ∷ words) (suc index) number is = found-number words index number is
 
-pub number-at : (words : List ℕ) (places place number index : ℕ) → place < places → get_elem? words index ≡ some number
-    → ◌≡◌ {A = Maybe ℕ} (Some number) (if nat_lt place places then Some (get_or words index 0) else None)
-number-at words places place number index within is =
+pub number-at : (cells : List ℕ) (places place number word : ℕ) → place < places → get_elem? cells (cell_of places word) ≡ some number
+    → ◌≡◌ {A = Maybe ℕ} (Some number) (if nat_lt place places then Some (row_of places cells word) else None)
+number-at cells places place number word within is =
     let test : nat_lt place places ≡ true = grind (arith, nat_tests) in
-    rw test (ap (λ (n : ℕ). Some n) (found-number words index number is))
+    rw test (ap (λ (n : ℕ). Some n) (found-number cells (cell_of places word) number is))
 
 -- new places of a table are of that table
 pub new-of : (table : TableId) (from : ℕ) (places : List Place) → AreNew table from places → (index : ℕ) (unknown : Place) → index < length places

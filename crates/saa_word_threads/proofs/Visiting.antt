@@ -28,6 +28,7 @@ use Rattle.saa_word_steps.specs.Steps.{closing, decided, finished, gave_nothing,
 use Rattle.saa_word_proofs.specs.Promises.{idle_place}
 use Rattle.saa_word_proofs.specs.Refinement.{IsVisiting, uses_own}
 use Rattle.saa_word_proofs.specs.StepRefinement.{place_after}
+use Rattle.saa_word_threads.specs.Cells.{cells_of}
 use Rattle.saa_word_threads.specs.declared.table.Role.TheVariants.{Acting}
 use Rattle.saa_word_threads.specs.declared.table.View.{View}
 use Rattle.saa_word_threads.specs.Called.{HasEvents, IsCalled, InCall}
@@ -220,7 +221,7 @@ moves-so needs withheld places one me found picked place v w is_place is_me move
     (subst (λ (p : Place). Moves needs withheld places p (next_of needs one p p.stage found) found v w) is_place moved)
 
 -- a visitor's number is none of a place
-pub number-beyond : (places words other number : ℕ) → words ≡ places + places + 1 → other ≡ words → other ≤ number + number + 1 → places ≤ number
+pub number-beyond : (places words other number : ℕ) → words ≡ cells_of places → other ≡ words → other ≤ cells_of number → places ≤ number
 number-beyond places words other number wide same beyond = omega (arith, wide, same, beyond)
 
 -- A call that goes straight

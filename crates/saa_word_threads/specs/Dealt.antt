@@ -1,5 +1,5 @@
 -- What a form deals as it is made, and what it gives as it is closed.
-use Rattle.std.specs.Prelude.{◌≡◌, ℕ, ◌+◌, ◌<◌, ◌≤◌, Bool, true, false, ◌||◌, ◌==◌, nat_lt, if◌then◌else◌, All, List, [], ◌∷◌, Option, Some, None, slice_index}
+use Rattle.std.specs.Prelude.{◌≡◌, ℕ, ◌+◌, ◌<◌, ◌≤◌, Bool, true, false, ◌||◌, ◌==◌, nat_lt, if◌then◌else◌, All, List, [], ◌∷◌, Option, Some, None}
 use Rattle.std.specs.Slots.{slots_items}
 use Rattle.atomic_table.specs.Seated.{TableId}
 use Rattle.saa_word_steps.specs.declared.event.Event.{Event}
@@ -10,7 +10,8 @@ use Rattle.saa_word_threads.specs.declared.table.About.{About}
 use Rattle.saa_word_threads.specs.declared.table.View.{View}
 use Rattle.saa_word_threads.specs.declared.place.Place.{Place}
 use Rattle.saa_word_threads.specs.declared.words.Words.{Words}
-use Rattle.saa_word_threads.specs.Kept.{fresh_view, row_of}
+use Rattle.saa_word_threads.specs.Kept.{fresh_view}
+use Rattle.saa_word_threads.specs.Cells.{row_of}
 
 -- a place of a table that has this number, is idle, and has done nothing yet
 abbrev pub IsNew : TableId → ℕ → Place → Type 0
@@ -26,7 +27,7 @@ AreNew table number (place ∷ rest) = IsNew table number place × AreNew table 
 -- last event, and its part at that place is just the place's events
 pub record IsLedTo (about : About) (words : List ℕ) (v : View) : Type 0 where
   pub history : List (ℕ × Event)
-  pub leads : LeadsTo (needs_of about.rules) about.places about.withheld history (row_of words)
+  pub leads : LeadsTo (needs_of about.rules) about.places about.withheld history (row_of about.places words)
   pub begins : BeginsWith history v.seen
   pub latest : v.seen ≡ seen_by v.number history
   pub part : v.part ≡ part_of v.number history
@@ -45,10 +46,10 @@ has_number number (v ∷ rest) = (v.number == number) || has_number number rest
 -- Where views of all places are here, nothing is owed at the end: the flag is clear, each answer that was granted is shown, and the queue is settled
 pub record AreLedTo (about : About) (words : List ℕ) (views : List View) : Type 0 where
   pub history : List (ℕ × Event)
-  pub leads : LeadsTo (needs_of about.rules) about.places about.withheld history (row_of words)
+  pub leads : LeadsTo (needs_of about.rules) about.places about.withheld history (row_of about.places words)
   pub each : All (IsOf history) views
   pub others : (number : ℕ) → about.places ≤ number → never_waits (part_of number history) ≡ true
-  pub settled : ((number : ℕ) → number < about.places → has_number number views ≡ true) → IsAtRest (needs_of about.rules) (row_of words) leads.last
+  pub settled : ((number : ℕ) → number < about.places → has_number number views ≡ true) → IsAtRest (needs_of about.rules) (row_of about.places words) leads.last
 
 -- the numbers of the words at the end
 abbrev pub numbers : Words → List ℕ
@@ -56,4 +57,4 @@ numbers words = slots_items words.closed.words
 
 -- the number of a place's word, at its index
 abbrev pub number_at : Words → ℕ → ℕ → Option ℕ
-number_at words place index = if nat_lt place words.places then Some (slice_index (numbers words) index) else None
+number_at words place index = if nat_lt place words.places then Some (row_of words.places (numbers words) index) else None

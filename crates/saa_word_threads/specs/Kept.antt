@@ -1,5 +1,5 @@
 -- What is always so of a table: one legal history leads to its words, and each place and each visitor knows what it has seen of that history.
-use Rattle.std.specs.Prelude.{◌≡◌, ◌≢◌, ℕ, ◌+◌, ◌<◌, ◌≤◌, ◌⊎◌, Bool, true, false, List, [], ◌∷◌, ◌++◌, length, slice_index}
+use Rattle.std.specs.Prelude.{◌≡◌, ◌≢◌, ℕ, ◌+◌, ◌<◌, ◌≤◌, ◌⊎◌, Bool, true, false, List, [], ◌∷◌, ◌++◌, length}
 use mathlib.Core.Option.{some}
 use lib.ListN.{get_elem?}
 use Rattle.atomic_table.specs.Table.{State}
@@ -16,6 +16,7 @@ use Rattle.saa_word_threads.specs.declared.table.Role.{Role}
 use Rattle.saa_word_threads.specs.declared.table.Role.TheVariants.{Dealer, Acting, Receipt, Spent}
 use Rattle.saa_word_threads.specs.declared.table.View.{View}
 use Rattle.saa_word_threads.specs.declared.table.About.{About}
+use Rattle.saa_word_threads.specs.Cells.{cells_of, row_of}
 
 -- the view of the dealer, which has dealt so many places
 abbrev pub dealer : ℕ → View
@@ -80,10 +81,6 @@ abbrev pub AreGathered : List View → List Departed → Type 0
 AreGathered views [] = Unit {0}
 AreGathered views (gone ∷ rest) = IsGathered views gone × AreGathered views rest
 
--- the words as a row
-abbrev pub row_of : List ℕ → ℕ → ℕ
-row_of words index = slice_index words index
-
 -- no seat of these has this number
 abbrev pub IsFree : List View → ℕ → Type 0
 IsFree views number = (seat : ℕ) (v : View) → get_elem? views seat ≡ some v → is_unnumbered v.role ≡ false → v.number ≢ number
@@ -97,9 +94,9 @@ pub record Kept (about : About) (s : State (Unit {0}) View) : Type 0 where
   pub standing : ℕ → Place
   pub dealt : ℕ
   pub run : IsRun (needs_of about.rules) (opening about.withheld) history last
-  pub wide : length s.words ≡ about.places + about.places + 1
+  pub wide : length s.words ≡ cells_of about.places
   pub few : dealt ≤ about.places
-  pub refines : Refines (needs_of about.rules) about.places (row_of s.words) standing last
+  pub refines : Refines (needs_of about.rules) about.places (row_of about.places s.words) standing last
   pub each : (seat : ℕ) (v : View) → get_elem? s.views seat ≡ some v → Fits history standing about.places dealt seat v
   pub gathers : (seat : ℕ) (v : View) → get_elem? s.views seat ≡ some v → is_unnumbered v.role ≡ false → AreGathered s.views v.gathered
   pub apart : (one other : ℕ) (v w : View) → get_elem? s.views one ≡ some v → get_elem? s.views other ≡ some w → is_unnumbered v.role ≡ false

@@ -1,3 +1,4 @@
+pub mod Cells
 pub mod Kept
 pub mod Gathered
 pub mod Told

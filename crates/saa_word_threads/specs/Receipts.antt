@@ -7,7 +7,8 @@ use Rattle.saa_word_proofs.specs.History.{LeadsTo}
 use Rattle.saa_word_threads.specs.declared.table.About.{About}
 use Rattle.saa_word_threads.specs.declared.table.Departed.{Departed}
 use Rattle.saa_word_threads.specs.declared.receipt.Receipt.{Receipt}
-use Rattle.saa_word_threads.specs.Kept.{BeginsWithEach, departed, row_of}
+use Rattle.saa_word_threads.specs.Kept.{BeginsWithEach, departed}
+use Rattle.saa_word_threads.specs.Cells.{row_of}
 
 -- what a receipt says: what was seen as it was given, and the part in that of the place or visitor that gave it; and what was joined to it
 abbrev pub said : Receipt → List Departed
@@ -21,5 +22,5 @@ IsReceiptAt table receipt = receipt.seat.table_id ≡ table
 -- of the place or visitor that had seen it
 pub record IsLedOn (about : About) (words : List ℕ) (said : List Departed) : Type 0 where
   pub history : List (ℕ × Event)
-  pub leads : LeadsTo (needs_of about.rules) about.places about.withheld history (row_of words)
+  pub leads : LeadsTo (needs_of about.rules) about.places about.withheld history (row_of about.places words)
   pub begins : BeginsWithEach history said

@@ -103,7 +103,7 @@ impl Form {
         }
         watch.at(Moment::Wakes(place as u16));
         if mark & PARKED != 0 {
-            self.table.shared.wake_one(index);
+            self.table.shared.wake_one(self.cell(index));
         }
         if mark & POLLED != 0 {
             drop(self.wakers.take(place));

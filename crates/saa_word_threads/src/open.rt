@@ -6,6 +6,7 @@ ghost use Rattle.saa_word_steps.specs.Needs.{needs_of};
 ghost use Rattle.saa_word_proofs.specs.Registering.{is_slot};
 ghost use Rattle.saa_word_threads.specs.declared.table.Role.TheVariants.{Acting};
 ghost use Rattle.saa_word_threads.specs.declared.table.View.{View};
+ghost use Rattle.saa_word_threads.specs.Cells.{cells_of};
 ghost use Rattle.saa_word_threads.specs.Kept.{dealer, gathering};
 ghost use Rattle.saa_word_threads.specs.Gathered.{IsWitness};
 ghost use Rattle.saa_word_threads.specs.Dealt.{AreLedTo, AreNew, IsLedTo, IsNew, numbers};
@@ -186,9 +187,9 @@ impl Form {
 
 // The words of a form of which so much is taken from the start: all are 0 but the main word.
 fn opening_words(alloc: Global, withheld: u16, places: u16) -> Result<Vec<u64>, AllocError>
-    ensures { IfOk result (λ words. words.items ≡ slice_set (replicate (places + places + 1) 0) 0 withheld) }
+    ensures { IfOk result (λ words. words.items ≡ slice_set (replicate (cells_of places) 0) 0 withheld) }
 {
-    let count = usize::from(places) + usize::from(places) + 1;
+    let count = 9 * usize::from(places) + 16;
     let mut words = Vec::from_elem(alloc, 0u64, count)?;
     words[0] = u64::from(withheld);
     Ok(words)

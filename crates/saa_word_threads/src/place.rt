@@ -3,10 +3,11 @@
 //! Places are dealt by the form that they are used with, and by nothing else; they can't be copied. Between its calls a place is as it was
 //! behind its last step, or has taken an answer that was given at once since.
 
-ghost use Rattle.std.specs.Prelude.{◌≡◌, ◌+◌, ◌<◌, [], false};
+ghost use Rattle.std.specs.Prelude.{◌≡◌, ◌<◌, [], false};
 ghost use Rattle.saa_word_steps.specs.Readings.{is_idle};
 ghost use Rattle.saa_word_proofs.specs.Registering.{is_slot};
 ghost use Rattle.saa_word_threads.specs.declared.table.Role.TheVariants.{Acting};
+ghost use Rattle.saa_word_threads.specs.Cells.{cells_of};
 ghost use Rattle.saa_word_threads.specs.Told.{RestsAfter};
 
 use crate::straight::LastAsk;
@@ -27,7 +28,7 @@ pub struct Place {
     pub(crate) last_ask: LastAsk,
     ghost numbered: { (seat.me.0.role ≡ Acting) × (seat.me.0.number ≡ number) },
     ghost empty: { seat.me.1 ≡ [] },
-    ghost within: { number + number + 1 < seat.table_id.words },
+    ghost within: { cells_of number < seat.table_id.words },
     ghost since: { RestsAfter seat.me.0.position position },
 }
 

@@ -13,7 +13,7 @@ ghost use Rattle.saa_word_steps.specs.declared.rules.Rules.TheVariants.{Permits}
 ghost use Rattle.saa_word_threads.specs.Dealt.{AreLedTo, AreNew, IsLedTo, numbers};
 ghost use Rattle.saa_word_threads.specs.Kept.{departed};
 ghost use Rattle.saa_word_threads.specs.Receipts.{IsReceiptAt, said};
-ghost use Rattle.saa_word_threads.specs.SpinPolicies.{none, waiting};
+ghost use Rattle.saa_word_threads.specs.SpinPolicies.{none};
 ghost use Rattle.saa_word_threads.specs.Public.{is_yes, spin_policy_of, polled, view_left};
 ghost use Rattle.futures.specs.Task.{Hears, IsArmed, Keeps};
 ghost use Rattle.futures.specs.Poll.{IfReady, OnPending};
@@ -27,7 +27,7 @@ use crate::watch::{Unwatched, Watch};
 pub use crate::words::Words;
 use futures::task::{self, Context};
 use saa_core_waits::Deadline;
-use saa_core_waits::spin_policy::{DEFAULT, NONE, SpinPolicy};
+use saa_core_waits::spin_policy::{NONE, SpinPolicy};
 pub use saa_word_steps::call::Error;
 use saa_word_steps::call::{Answer, WordCall};
 use saa_word_steps::place::Ask;
@@ -102,18 +102,17 @@ impl<const MAX: usize> SemaphoreOf<MAX> {
 
     /// Takes `count` permits, and waits for them where it must.
     ///
-    /// It looks at the word, and yields, a bounded number of times first, and takes the permits where they are available and there is no
-    /// waiter; then the place joins the waiters. To join at once, `register` and then `poll`. `false`, without waiting, for a count above
+    /// Where they aren't available, or there is a waiter, the place joins the waiters at once. `false`, without waiting, for a count above
     /// [`Self::MAX_PERMITS`] and at a place that is registered.
     pub fn acquire_many<R: Wait>(&self, rt: &R, place: &mut Place, count: usize) -> bool
         requires { IsDealtBy self.now place.old }
         ensures waited { IsWaited self.now count place.old result place.new }
-        ensures spin_policy { spin_policy_of place.new ≡ waiting }
+        ensures spin_policy { spin_policy_of place.new ≡ none }
     {
-        self.wait_with_policy(rt, &Unwatched, place, count, DEFAULT)
+        self.wait_with_policy(rt, &Unwatched, place, count, NONE)
     }
 
-    // Waits as `acquire_many` does, and joins the waiters once its spins are over.
+    // Waits, and joins the waiters once its spins are over.
     #[inline(always)]
     pub(crate) fn wait_with_policy<R: Wait, W: Watch>(
         &self,

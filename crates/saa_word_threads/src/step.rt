@@ -64,7 +64,7 @@ impl Form {
         ensures same { IsSameSeat seat.old seat.new }
         ensures moved { HasMoved self.now M.me M.place result seat.old seat.new }
     {
-        self.table.shared.load::<Moved<M>>(seat, index)
+        self.table.shared.load::<Moved<M>>(seat, self.cell(index))
     }
 
     // Writes `new` where a word is `old`.
@@ -82,7 +82,7 @@ impl Form {
     {
         self.table
             .shared
-            .compare_exchange::<Moved<M>>(seat, index, old, new)
+            .compare_exchange::<Moved<M>>(seat, self.cell(index), old, new)
     }
 
     // Adds a number to a word.
@@ -92,7 +92,9 @@ impl Form {
         ensures same { IsSameSeat seat.old seat.new }
         ensures moved { HasMoved self.now M.me M.place result seat.old seat.new }
     {
-        self.table.shared.fetch_add::<Moved<M>>(seat, index, number)
+        self.table
+            .shared
+            .fetch_add::<Moved<M>>(seat, self.cell(index), number)
     }
 
     // Writes a word, and wakes the place that waits for it, if any does.
@@ -121,7 +123,9 @@ impl Form {
         ensures same { IsSameSeat seat.old seat.new }
         ensures moved { HasMoved self.now M.me M.place result seat.old seat.new }
     {
-        self.table.shared.swap::<Moved<M>>(seat, index, number)
+        self.table
+            .shared
+            .swap::<Moved<M>>(seat, self.cell(index), number)
     }
 
     // Tells that an answer is about to be written, where this is an answer word.

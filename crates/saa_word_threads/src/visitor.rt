@@ -2,8 +2,9 @@
 //!
 //! A form has any number of them; each enters by a load, with a number that no place has. Between its calls a visitor is registered as nothing.
 
-ghost use Rattle.std.specs.Prelude.{◌≡◌, ◌+◌, ◌≤◌};
+ghost use Rattle.std.specs.Prelude.{◌≡◌, ◌≤◌};
 ghost use Rattle.saa_word_proofs.specs.Promises.{idle_place};
+ghost use Rattle.saa_word_threads.specs.Cells.{cells_of};
 ghost use Rattle.saa_word_threads.specs.declared.table.Role.TheVariants.{Acting};
 
 use crate::table::View;
@@ -16,5 +17,5 @@ use atomic_table::Seat;
 pub struct Visitor {
     pub(crate) seat: Seat<(), View>,
     ghost rests: { (seat.me.0.role ≡ Acting) × (seat.me.0.position ≡ idle_place) },
-    ghost beyond: { seat.table_id.words ≤ seat.me.0.number + seat.me.0.number + 1 },
+    ghost beyond: { seat.table_id.words ≤ cells_of seat.me.0.number },
 }

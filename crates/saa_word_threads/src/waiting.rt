@@ -9,7 +9,7 @@ use saa_word_steps::place::Stage;
 use std::sync::Wait;
 
 // How often a place looks at its answer word before it begins to yield, and how often it yields before it parks.
-const LOOKS: u32 = 500;
+const LOOKS: u32 = 50;
 
 const YIELDS: u32 = 500;
 
@@ -47,10 +47,8 @@ impl Form {
     fn await_answer<R: Wait, W: Watch, L: Limit>(&self, rt: &R, watch: &W, me: u16, limit: &L)
         requires { me < self.now.places }
     {
-        let index = usize::from(self.places) + usize::from(me) + 1;
-        if self.spins_until_changed(watch, index)
-            || self.yields_until_changed(watch, index, limit)
-        {
+        let cell = self.cell(usize::from(self.places) + usize::from(me) + 1);
+        if self.spins_until_changed(watch, cell) || self.yields_until_changed(watch, cell, limit) {
             return;
         }
         let Some(left) = limit.left() else {
@@ -61,19 +59,19 @@ impl Form {
         let place = usize::from(me);
         self.marks.set_parked(place);
         watch.at(Moment::Parks);
-        self.table.shared.park_timeout(rt, index, 0, left);
+        self.table.shared.park_timeout(rt, cell, 0, left);
         watch.at(Moment::IsBack);
         self.marks.clear_parked(place);
     }
 
     // Spins until an answer word has changed, or so often that it is time to yield; whether it has changed.
     #[inline(always)]
-    fn spins_until_changed<W: Watch>(&self, watch: &W, index: usize) -> bool
-        requires { index < self.now.places + self.now.places + 1 }
+    fn spins_until_changed<W: Watch>(&self, watch: &W, cell: usize) -> bool
+        requires { cell < self.now.table.shared.table_id.words }
     {
         for _turn in 0..LOOKS {
             watch.at(Moment::LooksForAnswer);
-            if self.table.shared.peek(index) != 0 {
+            if self.table.shared.peek(cell) != 0 {
                 return true;
             }
             Pause::SpinsForAnswer.make(watch);
@@ -83,11 +81,11 @@ impl Form {
 
     // Yields until an answer word has changed, or so often that it is time to park, or the time is up; whether it has changed.
     #[inline(always)]
-    fn yields_until_changed<W: Watch, L: Limit>(&self, watch: &W, index: usize, limit: &L) -> bool
-        requires { index < self.now.places + self.now.places + 1 }
+    fn yields_until_changed<W: Watch, L: Limit>(&self, watch: &W, cell: usize, limit: &L) -> bool
+        requires { cell < self.now.table.shared.table_id.words }
     {
         for _turn in 0..YIELDS {
-            if self.table.shared.peek(index) != 0 {
+            if self.table.shared.peek(cell) != 0 {
                 return true;
             }
             if limit.left().is_none() {

@@ -2,7 +2,9 @@
 
 ghost use Rattle.std.specs.Prelude.{◌≡◌, ◌+◌};
 ghost use Rattle.std.specs.Slots.{IsFull, slots_len};
+ghost use Rattle.saa_word_threads.specs.Cells.{cells_of};
 
+use crate::form::cell_in;
 use atomic_table::Closed;
 use std::alloc::Global;
 
@@ -11,7 +13,7 @@ pub struct Words {
     pub(crate) closed: Closed<(), Global>,
     pub(crate) places: u16,
     ghost full: { IsFull closed.words },
-    ghost wide: { slots_len closed.words ≡ places + places + 1 },
+    ghost wide: { slots_len closed.words ≡ cells_of places },
     ghost slotless: { slots_len closed.slots ≡ 0 },
 }
 
@@ -33,7 +35,8 @@ impl Words {
         if place >= self.places {
             return None;
         }
-        Some(self.closed.word(usize::from(place) + 1))
+        let cell = cell_in(self.places, usize::from(place) + 1);
+        Some(self.closed.word(cell))
     }
 
     /// The number of a place's answer word; `None` exactly for a number of no place. Costs O(1).
@@ -43,8 +46,8 @@ impl Words {
         if place >= self.places {
             return None;
         }
-        let index = usize::from(self.places) + usize::from(place) + 1;
-        Some(self.closed.word(index))
+        let word = usize::from(self.places) + usize::from(place) + 1;
+        Some(self.closed.word(cell_in(self.places, word)))
     }
 }
 

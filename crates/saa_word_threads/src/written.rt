@@ -41,7 +41,10 @@ impl Form {
         ensures moved { HasMoved self.now M.me M.place result.0 seat.old seat.new }
         ensures written { result.1.index ≡ index }
     {
-        let found = self.table.shared.swap::<Moved<M>>(seat, index, number);
+        let found = self
+            .table
+            .shared
+            .swap::<Moved<M>>(seat, self.cell(index), number);
         (found, Written { index })
     }
 }

@@ -32,6 +32,8 @@ mod rows;
 #[cfg(test)]
 mod semaphore_forms;
 #[cfg(test)]
+mod stamps;
+#[cfg(test)]
 mod stories;
 #[cfg(test)]
 mod told;

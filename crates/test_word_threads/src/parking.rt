@@ -27,11 +27,11 @@ const OWNER: u16 = 0;
 /// are 2,040, and for 1,024 eight times more; it yields 100 times; it takes nothing.
 pub const ASKED: [u64; 4] = [117, 10_232, 100, 0];
 
-// What a waiter does before it parks: it looks 500 times, spins and then yields as often, and parks once.
-const ASLEEP: [u64; 5] = [500, 500, 500, 1, 0];
+// What a waiter does before it parks: it looks 50 times and spins, then yields 500 times, and parks once.
+const ASLEEP: [u64; 5] = [50, 50, 500, 1, 0];
 
-/// What a waiter does before it parks and is woken: it looks 500 times, spins and then yields as often, parks once, and comes back.
-pub const WOKEN: [u64; 5] = [500, 500, 500, 1, 1];
+/// What a waiter does before it parks and is woken: it looks 50 times and spins, then yields 500 times, parks once, and comes back.
+pub const WOKEN: [u64; 5] = [50, 50, 500, 1, 1];
 
 // Far more looks, or yields, than a waiter has before it parks.
 const MANY: u64 = 50_000;

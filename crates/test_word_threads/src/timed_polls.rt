@@ -122,8 +122,8 @@ fn a_poll_ends_with_its_answer_or_in_time(rt: HostRuntime) {
 
 // So often a limit is asked in three waits, until it says that the time is up, and what is counted of each wait.
 static ENDS: [(u64, [u64; 5]); 3] = [
-    (TIL_PARKED, [500, 500, 500, 1, 1]),
-    (101, [500, 500, 100, 0, 0]),
+    (TIL_PARKED, [50, 50, 500, 1, 1]),
+    (101, [50, 50, 100, 0, 0]),
     (0, [0; 5]),
 ];
 

@@ -1,4 +1,4 @@
-use Rattle.std.proofs.Common.{◌<◌, refl, subst, sym}
+use Rattle.std.proofs.Common.{arith, refl, sym}
 use Rattle.saa_word_steps.specs.declared.operation.Operation.TheVariants.{Load}
 use Rattle.saa_word_threads.proofs.Moving.{allowed-look}
 use Rattle.saa_word_threads.proofs.PendingLemmas.{looks-so, pending-looks, pending-makes}
@@ -9,7 +9,7 @@ load-requires g c =
     let next =
     pending-makes c.args.self.now c.args.pending.now c.args.at.value c.args.seat.now c.requires.pending (Load 0) (sym c.requires.loads) in (
       c.requires.pending.0.0,
-      subst (λ n. 0 < n) (sym c.args.self.now.words) next.inside,
+      (let w = c.args.self.now.words in omega arith),
       allowed-look c.args.self.now.table.shared.key c.args.self.now.rules c.args.self.now.places g.M.Mover.about g.M.Mover.place c.args.at.value g.M.Mover.me
           c.args.pending.now.me c.args.self.now.table.shared.table_id.slots c.args.seat.now.id c.args.seat.now.me (Load 0)
           c.args.self.now.key.0 c.args.self.now.key.1 c.args.self.now.few c.args.self.now.wide c.requires.mover next
