@@ -1,7 +1,8 @@
-//! Order by a shared clock: who has joined the queue is passed by nobody.
+//! Order by a shared clock: no later call overtakes one that has joined the queue.
 //!
 //! Threads take turns, by pagers and by calls that block. Each stamps when its call began, when it was told that it is registered, and when it had its turn.
-//! Whoever began after another one was told had its turn after it, whatever the spin policy: those who look haven't joined, and pass nobody who has.
+//! A call that began after another one was told has its turn after that one, whatever the spin policy: a call that spins is in no queue, and overtakes
+//! nobody who is.
 
 use crate::calls::Call::*;
 use crate::calls::{Ask, Call};
