@@ -2,7 +2,7 @@
 
 ghost use Rattle.std.specs.Prelude.{◌≡◌, ◌+◌, ◌≤◌, ◌<◌, ◌↔◌, All, IfErr, IfSome, IsOk, IsSome, false, length, true, vec_capacity};
 
-use saa_sync::{Full, PermitOf, SemaphoreOf};
+use saa_sync::{AcquireError, PermitOf, SemaphoreOf};
 use std::alloc::{AllocError, Global};
 use std::sync::{Mutex, Wait};
 use std::time::{Clock, Duration};
@@ -53,7 +53,6 @@ pub enum Refused {
 struct Shelf<const MAX: usize> {
     free: Vec<Connection>,
     out: usize,
-    is_shut: bool,
     ghost whole: { out + length free.items ≡ MAX },
     ghost room: { MAX ≤ vec_capacity free },
     ghost unused: { All (λ connection. connection.is_out ≡ false) free.items },
@@ -66,11 +65,7 @@ impl<const MAX: usize> Shelf<MAX> {
         for number in 0..MAX {
             free.push_reserved(Connection::new(number));
         }
-        Ok(Shelf {
-            free,
-            out: 0,
-            is_shut: false,
-        })
+        Ok(Shelf { free, out: 0 })
     }
 
     // How many are out.
@@ -134,7 +129,7 @@ impl<'r, R: Wait, const MAX: usize> Pool<'r, R, MAX> {
     pub fn check_out(&self) -> Result<Checkout<'_, 'r, R, MAX>, Refused> {
         match self.permits.acquire_permit() {
             Ok(permit) => self.take(permit),
-            Err(Full) => Err(Refused::TooMany),
+            Err(error) => Err(refusal(error)),
         }
     }
 
@@ -142,6 +137,7 @@ impl<'r, R: Wait, const MAX: usize> Pool<'r, R, MAX> {
     pub fn try_check_out(&self) -> Result<Checkout<'_, 'r, R, MAX>, Refused> {
         match self.permits.try_acquire_permit() {
             Some(permit) => self.take(permit),
+            None if self.permits.is_shut() => Err(Refused::Shut),
             None => Err(Refused::WouldWait),
         }
     }
@@ -162,9 +158,7 @@ impl<'r, R: Wait, const MAX: usize> Pool<'r, R, MAX> {
 
     /// Refuses everybody from now on, waiters among them. Connections that are out come back as their guards go.
     pub fn shut_down(&self) {
-        self.shelf.lock(self.rt).is_shut = true;
-        // One waiter is let in, is refused, and lets in the next. Where no permit is out nobody waits, and none is released.
-        let _ = self.permits.release();
+        let _ = self.permits.shut();
     }
 
     /// How often all connections that are in were used, and how many are out.
@@ -185,26 +179,23 @@ impl<'r, R: Wait, const MAX: usize> Pool<'r, R, MAX> {
         match self.permits.acquire_permit_for(patience) {
             Ok(Some(permit)) => self.take(permit),
             Ok(None) => Err(Refused::TooLate),
-            Err(Full) => Err(Refused::TooMany),
+            Err(error) => Err(refusal(error)),
         }
     }
 
-    // Takes a connection by a permit, which goes with it. Where the pool is shut the permit lets in the next waiter.
+    // Takes a connection by a permit, which goes with it. One is in: each comes back before its permit does.
     fn take<'p>(
         &'p self,
         permit: PermitOf<'p, &'r R, MAX>,
     ) -> Result<Checkout<'p, 'r, R, MAX>, Refused> {
-        let taken = {
-            let mut shelf = self.shelf.lock(self.rt);
-            if shelf.is_shut { None } else { shelf.take() }
-        };
+        let taken = self.shelf.lock(self.rt).take();
         match taken {
             Some(connection) => Ok(Checkout {
                 pool: self,
                 connection,
                 permit,
             }),
-            None => Err(Refused::Shut),
+            None => Err(Refused::WouldWait),
         }
     }
 
@@ -249,5 +240,13 @@ impl<R: Wait, const MAX: usize> Drop for Checkout<'_, '_, R, MAX> {
         // The connection is in before the next task is let in for it.
         let _ = pool.put(connection);
         drop(permit);
+    }
+}
+
+// Why nothing was checked out, by why there is no permit.
+fn refusal(error: AcquireError) -> Refused {
+    match error {
+        AcquireError::Full => Refused::TooMany,
+        AcquireError::Closed => Refused::Shut,
     }
 }

@@ -6,13 +6,13 @@ ghost use Rattle.std.specs.Prelude.{◌≡◌, ◌++◌, ◌∷◌, [], ◌<◌,
 ghost use Rattle.example_queue.specs.declared.queue.Refused.TheVariants.{Closed};
 
 use circular_buffer::HeapCircularBuffer;
-use saa_sync::{Full, Mutex, Permit, Semaphore};
+use saa_sync::{AcquireError, Full, Mutex, Permit, Semaphore};
 use std::alloc::{AllocError, Global};
 use std::sync::Wait;
 use std::time::{Clock, Duration};
 
-/// The most items that a queue holds: one less than a semaphore has permits, so that closing has one to give.
-pub const MOST: u16 = 62;
+/// The most items that a queue holds: as many as a semaphore has permits.
+pub const MOST: u16 = 63;
 
 /// An item that was not taken, handed back, and why.
 #[derive(Drop, PartialEq)]
@@ -102,7 +102,7 @@ impl<R: Wait + Drop + Copy, T: Drop> Queue<R, T> {
     pub fn push(&self, item: T) -> Result<(), Refused<T>> {
         match self.free.acquire_permit() {
             Ok(place) => self.put(place, item),
-            Err(Full) => Err(Refused::TooMany(item)),
+            Err(error) => Err(refusal(error, item)),
         }
     }
 
@@ -110,6 +110,7 @@ impl<R: Wait + Drop + Copy, T: Drop> Queue<R, T> {
     pub fn try_push(&self, item: T) -> Result<(), Refused<T>> {
         match self.free.try_acquire_permit() {
             Some(place) => self.put(place, item),
+            None if self.free.is_shut() => Err(Refused::Closed(item)),
             None => Err(Refused::WouldWait(item)),
         }
     }
@@ -122,7 +123,7 @@ impl<R: Wait + Drop + Copy, T: Drop> Queue<R, T> {
         match self.free.acquire_permit_for(patience) {
             Ok(Some(place)) => self.put(place, item),
             Ok(None) => Err(Refused::TooLate(item)),
-            Err(Full) => Err(Refused::TooMany(item)),
+            Err(error) => Err(refusal(error, item)),
         }
     }
 
@@ -130,14 +131,18 @@ impl<R: Wait + Drop + Copy, T: Drop> Queue<R, T> {
     ///
     /// `None`: the queue is closed, and all items were taken. `Full`: as many tasks wait as the queue was made for.
     pub fn pop(&self) -> Result<Option<T>, Full> {
-        let filled = self.filled.acquire_permit()?;
-        self.take(filled)
+        match self.filled.acquire_permit() {
+            Ok(filled) => self.take(filled),
+            Err(AcquireError::Closed) => self.take_left(),
+            Err(AcquireError::Full) => Err(Full),
+        }
     }
 
     /// Takes the oldest item if there is one and nobody waits for one.
     pub fn try_pop(&self) -> Result<Option<T>, Full> {
         match self.filled.try_acquire_permit() {
             Some(filled) => self.take(filled),
+            None if self.filled.is_shut() => self.take_left(),
             None => Ok(None),
         }
     }
@@ -147,12 +152,15 @@ impl<R: Wait + Drop + Copy, T: Drop> Queue<R, T> {
     where
         R: Clock,
     {
-        match self.filled.acquire_permit_for(patience)? {
-            Some(filled) => match self.take(filled)? {
-                Some(item) => Ok(Popped::Item(item)),
-                None => Ok(Popped::Closed),
-            },
-            None => Ok(Popped::TooLate),
+        let taken = match self.filled.acquire_permit_for(patience) {
+            Ok(Some(filled)) => self.take(filled)?,
+            Ok(None) => return Ok(Popped::TooLate),
+            Err(AcquireError::Closed) => self.take_left()?,
+            Err(AcquireError::Full) => return Err(Full),
+        };
+        match taken {
+            Some(item) => Ok(Popped::Item(item)),
+            None => Ok(Popped::Closed),
         }
     }
 
@@ -160,10 +168,10 @@ impl<R: Wait + Drop + Copy, T: Drop> Queue<R, T> {
     ///
     /// `Full`: as many tasks wait as the queue was made for; nothing is changed.
     pub fn close(&self) -> Result<(), Full> {
+        // Before the semaphores: who had a place by then puts nothing behind what consumers see as the last item.
         self.items.lock()?.is_closed = true;
-        // One waiter is let in at each end, and lets in the next.
-        let _ = self.free.release();
-        let _ = self.filled.release();
+        let _ = self.free.shut();
+        let _ = self.filled.shut();
         Ok(())
     }
 
@@ -181,14 +189,25 @@ impl<R: Wait + Drop + Copy, T: Drop> Queue<R, T> {
 
     // Takes an item that the caller was let in for; there is none only where the queue was closed.
     fn take(&self, filled: Permit<'_, R>) -> Result<Option<T>, Full> {
-        let taken = {
-            let mut items = self.items.lock()?;
-            items.take()
-        };
+        let taken = self.take_left()?;
         if taken.is_some() {
             filled.forget();
             let _ = self.free.release();
         }
         Ok(taken)
+    }
+
+    // Takes what is the oldest item now: at a closed queue nobody is let in for one, and each takes what is left.
+    fn take_left(&self) -> Result<Option<T>, Full> {
+        let mut items = self.items.lock()?;
+        Ok(items.take())
+    }
+}
+
+// Why an item wasn't taken, by why there is no permit.
+fn refusal<T>(error: AcquireError, item: T) -> Refused<T> {
+    match error {
+        AcquireError::Full => Refused::TooMany(item),
+        AcquireError::Closed => Refused::Closed(item),
     }
 }

@@ -1,7 +1,7 @@
 //! A struct that holds two forms: two seats at a desk, and how many callers were served there.
 #![tactic(auto)]
 
-use saa_sync::{Full, Mutex, SemaphoreOf};
+use saa_sync::{AcquireError, Mutex, SemaphoreOf};
 use std::alloc::{AllocError, Global};
 use std::sync::Wait;
 use std::time::{Clock, Duration};
@@ -22,7 +22,7 @@ impl<R: Wait + Clock + Drop + Copy> Desk<R> {
     }
 
     // Serves a caller, who waits for a seat for a minute at most. The seat is free again once its permit is dropped.
-    fn serve(&self) -> Result<bool, Full> {
+    fn serve(&self) -> Result<bool, AcquireError> {
         let Some(_seat) = self.seats.acquire_permit_for(Duration::from_secs(60))? else {
             return Ok(false);
         };

@@ -13,11 +13,15 @@ mod future;
 #[cfg(test)]
 mod gate;
 #[cfg(test)]
+mod jobs;
+#[cfg(test)]
 mod lock;
 #[cfg(test)]
 mod lock_free;
 #[cfg(test)]
 mod pager;
+#[cfg(test)]
+mod seats;
 #[cfg(test)]
 mod semaphore;
 #[cfg(test)]

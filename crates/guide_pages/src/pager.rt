@@ -10,10 +10,9 @@ use std::sync::Wait;
 fn main(rt: HostRuntime) -> io::Result<()> {
     // One permit, which is out, and room for two waiters.
     let printer = SemaphoreOf::<_, 1>::with_permits(&rt, rt.alloc(), 0, 2)?;
-    match queue(&printer) {
-        Ok(is_granted) => println!(rt; "the second has the printer: {is_granted}"),
-        Err(Full) => println!(rt; "nobody else can wait here"),
-    }
+    // Where no slot is free for a second waiter, `?` ends the program, which prints what `Full` says.
+    let is_granted = queue(&printer)?;
+    println!(rt; "the second has the printer: {is_granted}")
 }
 
 // Puts two pagers into the line, takes the first out of it, and gives the printer back.

@@ -7,6 +7,7 @@
 pub mod clock;
 pub mod combined;
 pub mod counted;
+pub mod merged;
 pub mod named;
 pub mod passed;
 pub mod permission;

@@ -12,8 +12,9 @@ pub mod word;
 pub use saa_core_bench::journal;
 pub use saa_core_laws::laws;
 pub use saa_sync::{
-    Barrier, Full, Gate, Guard, Lock, Lowers, Mutex, MutexGuard, Pager, Permit, PermitOf, RwLock,
-    RwLockReadGuard, RwLockWriteGuard, Semaphore, SemaphoreOf, TryLockError, Turn, ValueMut,
-    ValueRef, Writing, barrier, form, future, gate, line, lock, lock_api, lock_async, pager,
-    read_async, semaphore, spin_policy, ticket, timed, waits, words, write_async,
+    AcquireError, Barrier, Full, Gate, Guard, Lock, Lowers, Mutex, MutexGuard, Pager, Permit,
+    PermitOf, RwLock, RwLockReadGuard, RwLockWriteGuard, Semaphore, SemaphoreOf, TryLockError,
+    Turn, ValueMut, ValueRef, Writing, barrier, form, future, gate, line, lock, lock_api,
+    lock_async, pager, read_async, semaphore, spin_policy, ticket, timed, waits, words,
+    write_async,
 };

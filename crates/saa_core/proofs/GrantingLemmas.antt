@@ -1,3 +1,4 @@
 pub mod SettlingSteps
 pub mod Asks
 pub mod Waking
+pub mod Semaphores

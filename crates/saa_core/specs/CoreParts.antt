@@ -2,11 +2,11 @@
 -- contracts speak of the object, and the proofs show that these are its steps.
 use Rattle.std.specs.Prelude.{ℕ, Bool, true, false, ◌&&◌, List, [], ◌∷◌, take, Option, Some, None, nat_lt, ◌==◌, slice_set, if◌then◌else◌}
 use Rattle.saa_core_spec.specs.declared.request.Request.{Request}
-use Rattle.saa_core_spec.specs.Held.{Held, OfSemaphore, OfLock, OfGate, OfBarrier, Poisoned, fits, less}
+use Rattle.saa_core_spec.specs.Held.{Held, OfSemaphore, OfShutSemaphore, OfLock, OfGate, OfBarrier, Poisoned, fits, less}
 use Rattle.saa_core_spec.specs.Object.{Waiter, is_nobody, times, without}
 use Rattle.saa_core_spec.specs.Settling.{fitting_front, plus_all}
 use Rattle.saa_core_spec.specs.Polling.{is_for_nothing}
-use Rattle.saa_core_spec.specs.Values.{granted_value, poisoned_value}
+use Rattle.saa_core_spec.specs.Values.{granted_value, closed_value, poisoned_value}
 use Rattle.saa_core.specs.Slots.{answer_in, slots_answered}
 use Rattle.saa_core.specs.Tickets.{Core}
 
@@ -55,11 +55,13 @@ oldest_fitting held (waiter ∷ waiters) = if fits held waiter.1 then Some waite
 -- what grants that which fits: a semaphore and a lock
 abbrev pub IsGranting : Held → Type 0
 IsGranting (OfSemaphore bound out) = Unit {0}
+IsGranting (OfShutSemaphore bound out) = Unit {0}
 IsGranting (OfLock lock) = Unit {0}
 IsGranting (OfGate gate) = ⊥
 IsGranting (OfBarrier size) = ⊥
 
--- the answer that every registration gets at once, whatever it asks: that of a poisoned lock
+-- the answer that every registration gets at once, whatever it asks: that of a poisoned lock, and that of a shut semaphore
 abbrev pub answer_to_all : Held → Option ℕ
 answer_to_all (OfLock Poisoned) = Some poisoned_value
+answer_to_all (OfShutSemaphore bound out) = Some closed_value
 answer_to_all _ = None

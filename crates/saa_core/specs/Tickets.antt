@@ -8,7 +8,7 @@ use Rattle.saa_core_spec.specs.declared.request.Full.{Full}
 use Rattle.saa_core_spec.specs.declared.polling.Error.{Error}
 use Rattle.saa_core_spec.specs.declared.polling.Error.TheVariants.{NotRegistered}
 use Rattle.saa_core_spec.specs.declared.polling.How.{How}
-use Rattle.saa_core_spec.specs.Errors.{is_not_ready, is_refusal, says_not_registered, says_wrong_mode}
+use Rattle.saa_core_spec.specs.Errors.{why_none, is_not_ready, is_refusal, says_not_registered, says_wrong_mode}
 use Rattle.saa_core_spec.specs.Held.{Held, asks_too_much}
 use Rattle.saa_core_spec.specs.Object.{Object, After, Entry, Idle, Waiting, Answered, Waiter, one_if}
 use Rattle.saa_core_spec.specs.Settling.{fitting_front}
@@ -118,10 +118,10 @@ IsForeign slots Unregistered = ⊥
 IsForeign slots (AtOnce value request is_sync) = ⊥
 IsForeign slots (InSlot slot request is_sync) = held_times slots slot ≡ 0
 
--- the error of a poll's answer, if it is one
+-- the error of a poll's answer, if it says that there is none
 abbrev pub fault_of : {V : Type 0} → Result V Error → Option Error
 fault_of (Ok value) = None
-fault_of (Err error) = Some error
+fault_of (Err error) = why_none error
 
 -- a request that no object of which this holds refuses: it asks for no more than there ever is
 abbrev pub IsNeverTooMuch : (Object → Type 0) → Request → Type 0

@@ -336,6 +336,7 @@ fn error_of(error: polling::Error) -> Error
         polling::Error::NotRegistered => Error::NotRegistered,
         polling::Error::WrongMode => Error::WrongMode,
         polling::Error::NotReady => Error::NotReady,
+        polling::Error::Closed => Error::Sealed,
     }
 }
 
@@ -408,6 +409,7 @@ impl Primitive for GateCore {
             → (result ≡ Err NotRegistered) × (self.new ≡ self.old) × (ticket.new ≡ ticket.old) }
         ensures number { IsGateTicket ticket.old → IfOk result (λ number. is_gate_number number ≡ true) }
         ensures unchanged { OnErr result (self.new ≡ self.old) }
+        ensures same { OnErr result (ticket.new ≡ ticket.old) }
         ensures held { self.new.held ≡ self.old.held }
         ensures pending_wakes { self.new.slots.pending_wakes ≡ self.old.slots.pending_wakes }
         ensures invariant { IsGateInvariant self.new }

@@ -8,7 +8,7 @@
 ghost use Rattle.std.specs.Prelude.{true, false, ◌≡◌, ◌<◌, ◌||◌, [], IsErr, OnErr, IfSome, length, slice_get, Some, None, if◌then◌else◌, Option};
 ghost use Rattle.std.specs.Bool.{OnFalse};
 ghost use Rattle.saa_core_spec.specs.declared.polling.Error.TheVariants.{NotRegistered};
-ghost use Rattle.saa_core_spec.specs.Held.{Held, OfLock, Poisoned, fits, plus, less, asks_too_much};
+ghost use Rattle.saa_core_spec.specs.Held.{Held, refuses_all, fits, plus, less, asks_too_much};
 ghost use Rattle.saa_core_spec.specs.Asking.{tried, registered};
 ghost use Rattle.saa_core_spec.specs.Polling.{polled, given_back, is_for_nothing};
 ghost use Rattle.saa_core.specs.Slots.{WakesAnswered, IsSound, held_slots, room_of, wake_taken, all_slots_answered};
@@ -44,7 +44,7 @@ pub trait Needs: Drop {
         ensures given { less (held self.old) request ≡ if result then Some (held self.new) else None }
         ensures refused { OnFalse result (held self.new ≡ held self.old) };
 
-    /// The answer that every registration gets at once, whatever it asks, if there is one: that of a poisoned lock.
+    /// The answer that every registration gets at once, whatever it asks, if there is one: that of a poisoned lock or a shut semaphore.
     fn answer_to_all(&self) -> Option<u8>
         ensures { result ≡ answer_to_all (held self.now) };
 
@@ -59,8 +59,8 @@ pub struct Granting<N: Needs> {
 }
 
 impl<N: Needs> Model for Granting<N> {
-    ghost use Rattle.std.specs.Prelude.{◌≡◌, []};
-    ghost use Rattle.saa_core_spec.specs.Held.{OfLock, Poisoned};
+    ghost use Rattle.std.specs.Prelude.{◌≡◌, true, []};
+    ghost use Rattle.saa_core_spec.specs.Held.{refuses_all};
     ghost use Rattle.saa_core_spec.specs.Settling.{fitting_front};
     ghost use Rattle.saa_core.specs.Slots.{IsSound};
     ghost use Rattle.saa_core.specs.Tickets.{Core};
@@ -72,7 +72,7 @@ impl<N: Needs> Model for Granting<N> {
     ghost invariant = { λ core. record {
       sound : IsSound core.line;
       settled : fitting_front (N.held core.needs) core.line.line ≡ 0;
-      unpoisoned : N.held core.needs ≡ OfLock Poisoned → core.line.line ≡ [];
+      refused : refuses_all (N.held core.needs) ≡ true → core.line.line ≡ [];
     } };
 }
 
@@ -101,7 +101,7 @@ impl<N: Needs> Granting<N> {
         ensures sound { IsSound self.now.slots }
         ensures quiet { WakesAnswered self.now.slots self.now.slots }
         ensures settled { IsCoreSettled self.now }
-        ensures unpoisoned { self.now.held ≡ OfLock Poisoned → self.now.slots.line ≡ [] }
+        ensures refused { refuses_all self.now.held ≡ true → self.now.slots.line ≡ [] }
     {
         self.line.waiting()
     }
@@ -201,6 +201,7 @@ impl<N: Needs> Granting<N> {
         ensures foreign { IsForeign self.old.slots ticket.old
             → (result ≡ Err NotRegistered) × (self.new ≡ self.old) × (ticket.new ≡ ticket.old) }
         ensures unchanged { OnErr result (self.new ≡ self.old) }
+        ensures same { OnErr result (ticket.new ≡ ticket.old) }
         ensures held { self.new.held ≡ self.old.held }
         ensures pending_wakes { self.new.slots.pending_wakes ≡ self.old.slots.pending_wakes }
         ensures settled { IsCoreSettled self.new }
@@ -241,11 +242,11 @@ impl<N: Needs> Granting<N> {
         self.line.next_answered()
     }
 
-    /// This is held from now on, and the oldest waiters are granted while they fit. It isn't a poisoned lock.
+    /// This is held from now on, and the oldest waiters are granted while they fit. It isn't what refuses every request.
     ///
     /// Costs O(how many are granted).
     pub(crate) fn settle_with(&mut self, needs: N)
-        requires unpoisoned { ¬ (N.held needs ≡ OfLock Poisoned) }
+        requires grants { refuses_all (N.held needs) ≡ false }
         ensures granted { self.new ≡ core_settled (record self.old { held = N.held needs }) }
         ensures wakes { WakesAnswered self.old.slots self.new.slots }
         ensures settled { IsCoreSettled self.new }

@@ -100,6 +100,7 @@ pub trait Primitive: Drop {
         ensures foreign { IsForeign (core self.old).slots ticket.old
             → (result ≡ Err NotRegistered) × (core self.new ≡ core self.old) × (ticket.new ≡ ticket.old) }
         ensures unchanged { OnErr result (core self.new ≡ core self.old) }
+        ensures same { OnErr result (ticket.new ≡ ticket.old) }
         ensures held { (core self.new).held ≡ (core self.old).held }
         ensures pending_wakes { (core self.new).slots.pending_wakes ≡ (core self.old).slots.pending_wakes }
         ensures invariant { core_invariant (core self.new) };

@@ -99,6 +99,7 @@ impl Ticket {
             → (result ≡ Err NotRegistered) × (line.new ≡ line.old) × (self.new ≡ self.old) }
         ensures taken { IfOk result (λ value. IsTakenFrom self.old line.old line.new value) }
         ensures unchanged { OnErr result (line.new ≡ line.old) }
+        ensures same { OnErr result (self.new ≡ self.old) }
         ensures line { line.new.line ≡ line.old.line }
         ensures pending_wakes { line.new.pending_wakes ≡ line.old.pending_wakes }
         ensures sound { IsSound line.new }
@@ -137,6 +138,7 @@ impl Ticket {
             → (result ≡ Err NotRegistered) × (line.new ≡ line.old) × (self.new ≡ self.old) }
         ensures taken { IfOk result (λ value. IsTakenFrom self.old line.old line.new value) }
         ensures unchanged { OnErr result (line.new ≡ line.old) }
+        ensures same { OnErr result (self.new ≡ self.old) }
         ensures line { line.new.line ≡ line.old.line }
         ensures pending_wakes { line.new.pending_wakes ≡ line.old.pending_wakes }
         ensures sound { IsSound line.new }

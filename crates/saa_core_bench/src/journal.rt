@@ -14,8 +14,11 @@ ghost use Rattle.saa_core.specs.Tickets.{object_of};
 use crate::bench::{Bench, Command, Reply};
 use saa_core::primitive::Primitive;
 use std::alloc::{AllocError, Global};
+use std::io;
+use std::io::ErrorKind;
 use std::marker::{Brand, Model};
 use std::sync::ledger::{self, Blank, Book, Ledger};
+use thiserror::Error;
 
 /// Which journal a share is of, and what its history replays from.
 ///
@@ -36,8 +39,21 @@ impl Journal for Brand {
 }
 
 /// Memory for the history was refused; nothing is changed.
-#[derive(Clone, Copy, Debug, Eq, PartialEq)]
+#[derive(Clone, Copy, Debug, Eq, Error, PartialEq)]
+#[error("memory for the journal's history was refused")]
 pub struct JournalMemory;
+
+/// Of the kind `OutOfMemory`.
+impl From<JournalMemory> for io::Error {
+    ghost use Rattle.std.specs.IoError.{error_kind};
+    ghost use Rattle.std.specs.declared.io.ErrorKind.TheVariants.{OutOfMemory};
+
+    ghost from_gives = { λ _ error. error_kind error ≡ OutOfMemory };
+
+    fn from(_refused: JournalMemory) -> io::Error {
+        io::Error::from(ErrorKind::OutOfMemory)
+    }
+}
 
 /// The right to call one journal, with the count of the calls that were made by it.
 ///

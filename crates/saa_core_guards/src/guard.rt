@@ -9,6 +9,8 @@ ghost use Rattle.std.specs.Borrow.{follows, sem};
 
 use crate::turn::{Lowers, Turn, Witnessed, Writing};
 use crate::value::{Lowered, ValueMut, ValueRef};
+use std::fmt;
+use std::fmt::{Debug, Display};
 use std::marker::Model;
 use std::ops::{Deref, DerefMut};
 use std::sync::{RwLockReadGuard as Reader, RwLockWriteGuard as Writer};
@@ -88,6 +90,26 @@ impl<V: ValueRef, U: Turn> Drop for Guard<V, U> {
     fn drop(self) {
         let Guard { value, turn } = self;
         turn.pass_on(value.release());
+    }
+}
+
+impl<V: ValueRef, U: Turn> Debug for Guard<V, U>
+where
+    V::Value: Debug,
+{
+    /// Shows the value, as std's guards do.
+    fn fmt<W: fmt::Write>(&self, f: &mut fmt::Formatter<W>) -> fmt::Result {
+        Debug::fmt(self.value.show(), f)
+    }
+}
+
+impl<V: ValueRef, U: Turn> Display for Guard<V, U>
+where
+    V::Value: Display,
+{
+    /// Shows the value, as std's guards do.
+    fn fmt<W: fmt::Write>(&self, f: &mut fmt::Formatter<W>) -> fmt::Result {
+        Display::fmt(self.value.show(), f)
     }
 }
 

@@ -7,7 +7,7 @@ use Rattle.saa_core_spec.specs.declared.barrier.BarrierCall.{BarrierCall}
 use Rattle.saa_core_spec.specs.declared.barrier.BarrierCall.TheVariants.{Count}
 use Rattle.saa_core_spec.specs.declared.barrier.BarrierAnswer.{BarrierAnswer}
 use Rattle.saa_core_spec.specs.declared.run.CommandOf.{CommandOf}
-use Rattle.saa_core_spec.specs.Held.{Held, OfSemaphore, OfLock, OfGate, OfBarrier}
+use Rattle.saa_core_spec.specs.Held.{Held, OfSemaphore, OfShutSemaphore, OfLock, OfGate, OfBarrier}
 use Rattle.saa_core_spec.specs.Object.{Object, After, Idle, Waiter, newly_made, with_entry, without}
 use Rattle.saa_core_spec.specs.Settling.{all_answered}
 use Rattle.saa_core_spec.specs.Asking.{answer_in}
@@ -24,6 +24,7 @@ use Rattle.saa_core_spec.proofs.Counts.{length-without}
 abbrev pub IsFineBarrier : ℕ → Held → List Waiter → Type 0
 IsFineBarrier most (OfBarrier size) line = (size ≡ most) × (0 < most → length line < most)
 IsFineBarrier most (OfSemaphore bound out) line = ⊥
+IsFineBarrier most (OfShutSemaphore bound out) line = ⊥
 IsFineBarrier most (OfLock lock) line = ⊥
 IsFineBarrier most (OfGate gate) line = ⊥
 
@@ -32,6 +33,7 @@ pub IsFineBarrier-fewer : (most : ℕ) (held : Held) (line fewer : List Waiter) 
     → IsFineBarrier most held fewer
 IsFineBarrier-fewer most (OfBarrier size) line fewer less fine = (fine.0, λ some. omega (arith, fine.1 some))
 IsFineBarrier-fewer most (OfSemaphore bound out) line fewer less fine = fine
+IsFineBarrier-fewer most (OfShutSemaphore bound out) line fewer less fine = fine
 IsFineBarrier-fewer most (OfLock lock) line fewer less fine = fine
 IsFineBarrier-fewer most (OfGate gate) line fewer less fine = fine
 
@@ -55,6 +57,7 @@ IsRightAnswer-arrived most names s (OfBarrier size) line request answer fine e r
       still = λ name before. is_waiting-all_answered names passed_value s name right.kept;
     })
 IsRightAnswer-arrived most names s (OfSemaphore bound out) line request answer fine e right = absurd fine
+IsRightAnswer-arrived most names s (OfShutSemaphore bound out) line request answer fine e right = absurd fine
 IsRightAnswer-arrived most names s (OfLock lock) line request answer fine e right = absurd fine
 IsRightAnswer-arrived most names s (OfGate gate) line request answer fine e right = absurd fine
 
@@ -65,6 +68,7 @@ IsFineBarrier-joined most s (OfBarrier size) waiter request fine e =
     let incomplete = eqb-false (length s.line + 1) size (cond_none (eqb (length s.line + 1) size) _ e) in
     (fine.0, λ some. omega (arith, fine.0, fine.1 some, length-append s.line (waiter ∷ [])))
 IsFineBarrier-joined most s (OfSemaphore bound out) waiter request fine e = absurd fine
+IsFineBarrier-joined most s (OfShutSemaphore bound out) waiter request fine e = absurd fine
 IsFineBarrier-joined most s (OfLock lock) waiter request fine e = absurd fine
 IsFineBarrier-joined most s (OfGate gate) waiter request fine e = absurd fine
 
@@ -73,6 +77,7 @@ pub IsRight-barrier_left : (most names : ℕ) (left : Object) (held : Held) (lin
     → IsRight (IsFineBarrier most) names left → IsRight (IsFineBarrier most) names (left_of left held)
 IsRight-barrier_left most names left (OfBarrier size) line fine right = right
 IsRight-barrier_left most names left (OfSemaphore bound out) line fine right = absurd fine
+IsRight-barrier_left most names left (OfShutSemaphore bound out) line fine right = absurd fine
 IsRight-barrier_left most names left (OfLock lock) line fine right = absurd fine
 IsRight-barrier_left most names left (OfGate gate) line fine right = absurd fine
 
@@ -81,6 +86,7 @@ pub IsRight-barrier_undone : (most names : ℕ) (s : Object) (held : Held) (line
     → IsRight (IsFineBarrier most) names s → IsRight (IsFineBarrier most) names (undone_of s held request)
 IsRight-barrier_undone most names s (OfBarrier size) line request fine right = right
 IsRight-barrier_undone most names s (OfSemaphore bound out) line request fine right = absurd fine
+IsRight-barrier_undone most names s (OfShutSemaphore bound out) line request fine right = absurd fine
 IsRight-barrier_undone most names s (OfLock lock) line request fine right = absurd fine
 IsRight-barrier_undone most names s (OfGate gate) line request fine right = absurd fine
 
@@ -100,6 +106,7 @@ KeepsRight-barrier most names = record {
 pub barrier-bounded : (most : ℕ) (held : Held) (line : List Waiter) → IsFineBarrier most held line → held ≡ OfBarrier most
 barrier-bounded most (OfBarrier size) line fine = ap (λ (n : ℕ). OfBarrier n) fine.0
 barrier-bounded most (OfSemaphore bound out) line fine = absurd fine
+barrier-bounded most (OfShutSemaphore bound out) line fine = absurd fine
 barrier-bounded most (OfLock lock) line fine = absurd fine
 barrier-bounded most (OfGate gate) line fine = absurd fine
 
@@ -107,6 +114,7 @@ barrier-bounded most (OfGate gate) line fine = absurd fine
 pub barrier-incomplete : (most : ℕ) (held : Held) (line : List Waiter) → IsFineBarrier most held line → 0 < most → length line < most
 barrier-incomplete most (OfBarrier size) line fine = fine.1
 barrier-incomplete most (OfSemaphore bound out) line fine = absurd fine
+barrier-incomplete most (OfShutSemaphore bound out) line fine = absurd fine
 barrier-incomplete most (OfLock lock) line fine = absurd fine
 barrier-incomplete most (OfGate gate) line fine = absurd fine
 

@@ -8,20 +8,20 @@ use Rattle.saa_core_spec.specs.declared.gate.State.TheVariants.{Controlled, Seal
 use Rattle.saa_core_spec.specs.declared.request.Request.{Request}
 use Rattle.saa_core_spec.specs.declared.request.Request.TheVariants.{Exclusive as AskExclusive, Shared as AskShared, Permits}
 use Rattle.saa_core_spec.specs.declared.semaphore.SemaphoreCall.{SemaphoreCall}
-use Rattle.saa_core_spec.specs.declared.semaphore.SemaphoreCall.TheVariants.{TryAcquireMany, ReleaseMany, AvailablePermits, IsOpen, IsClosed}
+use Rattle.saa_core_spec.specs.declared.semaphore.SemaphoreCall.TheVariants.{TryAcquireMany, ReleaseMany, AvailablePermits, IsOpen, IsClosed, Shut, IsShut}
 use Rattle.saa_core_spec.specs.declared.lock.LockCall.{LockCall}
 use Rattle.saa_core_spec.specs.declared.lock.LockCall.TheVariants.{TryLock, TryShare, ReleaseLock, ReleaseShare, Downgrade, PoisonLock, ClearPoison, IsFree, IsLocked, IsShared, IsPoisoned}
 use Rattle.saa_core_spec.specs.declared.gate.GateCall.{GateCall}
 use Rattle.saa_core_spec.specs.declared.gate.GateCall.TheVariants.{State as AskState, Reset, Permit, Reject, Open as DoOpen, Seal}
 use Rattle.saa_core_spec.specs.declared.barrier.BarrierCall.{BarrierCall}
 use Rattle.saa_core_spec.specs.declared.barrier.BarrierCall.TheVariants.{Count}
-use Rattle.saa_core_spec.specs.Held.{Held, OfSemaphore, OfLock, OfGate, OfBarrier, Free, Exclusive, Shared, Poisoned, plus, less}
+use Rattle.saa_core_spec.specs.Held.{Held, OfSemaphore, OfShutSemaphore, OfLock, OfGate, OfBarrier, Free, Exclusive, Shared, Poisoned, plus, less}
 use Rattle.saa_core_spec.specs.Object.{Object, After, Entry, Idle, Waiting, Answered, Waiter, entry_at}
 use Rattle.saa_core_spec.specs.Settling.{fitting_front, answered_entry, answered_in, settled, all_answered}
 use Rattle.saa_core_spec.specs.Asking.{is_idle, is_granted_at_once, tried, granted_at_once, answer_in}
 use Rattle.saa_core_spec.specs.Polling.{is_for_nothing, given_back_of, given_back, left_of, undone_of}
-use Rattle.saa_core_spec.specs.Values.{granted_value, poisoned_value, leader_value, passed_value, opened_value, sealed_value, permitted_value, rejected_value, spurious_value}
-use Rattle.saa_core_spec.specs.Semaphore.{semaphore_step}
+use Rattle.saa_core_spec.specs.Values.{granted_value, closed_value, poisoned_value, leader_value, passed_value, opened_value, sealed_value, permitted_value, rejected_value, spurious_value}
+use Rattle.saa_core_spec.specs.Semaphore.{semaphore_step, shut_of}
 use Rattle.saa_core_spec.specs.Lock.{lock_step, is_locked, is_poisoned, downgraded_of, poisoned_of, cleared_of}
 use Rattle.saa_core_spec.specs.Gate.{gate_step, gate_state, let_through, reset_of}
 use Rattle.saa_core_spec.specs.Barrier.{barrier_step}
@@ -122,6 +122,7 @@ KeepsBook-tried s request = elim (cases_Bool (is_granted_at_once s request)) [
 -- a name that waited has left
 pub KeepsBook-left_of : (s : Object) (held : Held) → KeepsBook s.book (left_of s held).book
 KeepsBook-left_of s (OfSemaphore bound out) = KeepsBook-settled s
+KeepsBook-left_of s (OfShutSemaphore bound out) = KeepsBook-settled s
 KeepsBook-left_of s (OfLock lock) = KeepsBook-settled s
 KeepsBook-left_of s (OfGate gate) = KeepsBook-answered_in spurious_value s.line s.book
 KeepsBook-left_of s (OfBarrier size) = KeepsBook-same s.book
@@ -129,6 +130,7 @@ KeepsBook-left_of s (OfBarrier size) = KeepsBook-same s.book
 -- what was granted is given back
 pub KeepsBook-undone_of : (s : Object) (held : Held) (request : Request) → KeepsBook s.book (undone_of s held request).book
 KeepsBook-undone_of s (OfSemaphore bound out) request = KeepsBook-given_back s request
+KeepsBook-undone_of s (OfShutSemaphore bound out) request = KeepsBook-given_back s request
 KeepsBook-undone_of s (OfLock lock) request = KeepsBook-given_back s request
 KeepsBook-undone_of s (OfGate gate) request = KeepsBook-same s.book
 KeepsBook-undone_of s (OfBarrier size) request = KeepsBook-same s.book
@@ -151,6 +153,7 @@ KeepsBook-unchanged s value answer e =
 pub KeepsBook-answered : (s : Object) (held : Held) (request : Request) (answer : After ℕ) → answer_in s held request ≡ Some answer
     → KeepsBook s.book answer.state.book
 KeepsBook-answered s (OfSemaphore bound out) request answer e = KeepsBook-granted_at_once s request answer e
+KeepsBook-answered s (OfShutSemaphore bound out) request answer e = KeepsBook-unchanged s closed_value answer e
 KeepsBook-answered s (OfLock Free) request answer e = KeepsBook-granted_at_once s request answer e
 KeepsBook-answered s (OfLock Exclusive) request answer e = KeepsBook-granted_at_once s request answer e
 KeepsBook-answered s (OfLock (Shared n)) request answer e = KeepsBook-granted_at_once s request answer e
@@ -162,6 +165,14 @@ KeepsBook-answered s (OfBarrier size) request answer e =
     let parts = cond_some (eqb (length s.line + 1) size) (record { state = all_answered passed_value s; reply = leader_value }) answer e in
     rw (← parts.1) (KeepsBook-answered_in passed_value s.line s.book)
 
+-- a shut
+pub KeepsBook-shut_of : (s : Object) (held : Held) → KeepsBook s.book (shut_of s held).state.book
+KeepsBook-shut_of s (OfSemaphore bound out) = KeepsBook-answered_in closed_value s.line s.book
+KeepsBook-shut_of s (OfShutSemaphore bound out) = KeepsBook-same s.book
+KeepsBook-shut_of s (OfLock lock) = KeepsBook-same s.book
+KeepsBook-shut_of s (OfGate gate) = KeepsBook-same s.book
+KeepsBook-shut_of s (OfBarrier size) = KeepsBook-same s.book
+
 -- every call of a semaphore
 pub KeepsBook-semaphore_step : (call : SemaphoreCall) (s : Object) → KeepsBook s.book (semaphore_step call s).state.book
 KeepsBook-semaphore_step (TryAcquireMany count) s = KeepsBook-tried s (Permits count)
@@ -169,6 +180,8 @@ KeepsBook-semaphore_step (ReleaseMany count) s = KeepsBook-given_back s (Permits
 KeepsBook-semaphore_step AvailablePermits s = KeepsBook-same s.book
 KeepsBook-semaphore_step IsOpen s = KeepsBook-same s.book
 KeepsBook-semaphore_step IsClosed s = KeepsBook-same s.book
+KeepsBook-semaphore_step Shut s = KeepsBook-shut_of s s.held
+KeepsBook-semaphore_step IsShut s = KeepsBook-same s.book
 
 -- a downgrade
 pub KeepsBook-downgraded_of : (s : Object) (is_own : Bool) → KeepsBook s.book (downgraded_of s is_own).state.book

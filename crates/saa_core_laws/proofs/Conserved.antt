@@ -1,7 +1,7 @@
 -- The permits of a semaphore are conserved by every command, and so by every run.
 use Rattle.std.proofs.Common.{◌≡◌, ℕ, ◌+◌, ◌-◌, ◌<◌, ◌≤◌, min, Bool, true, false, ◌&&◌, eqb, leb, cond, inl, inr, List, [], ◌∷◌, length, set, Option, Some, None, refl, sym, ap, ◌∙◌, arith, All, length-set}
 use Rattle.std.specs.List.{AllByRecursion, sum_by}
-use Rattle.std.proofs.lemmas.Bool.{cases_Bool, leb-true}
+use Rattle.std.proofs.lemmas.Bool.{cases_Bool, leb-true, and_parts}
 use Rattle.std.proofs.lemmas.Option.{cond_some}
 use Rattle.std.proofs.lemmas.List.Sums.{sum_by-cons}
 use Rattle.std.proofs.lemmas.List.Elements.{recursion_from_All}
@@ -10,22 +10,22 @@ use Rattle.saa_core_spec.specs.declared.request.Request.TheVariants.{Exclusive a
 use Rattle.saa_core_spec.specs.declared.polling.How.{How}
 use Rattle.saa_core_spec.specs.declared.polling.How.TheVariants.{Try, Sync, Async}
 use Rattle.saa_core_spec.specs.declared.semaphore.SemaphoreCall.{SemaphoreCall}
-use Rattle.saa_core_spec.specs.declared.semaphore.SemaphoreCall.TheVariants.{TryAcquireMany, ReleaseMany, AvailablePermits, IsOpen, IsClosed}
+use Rattle.saa_core_spec.specs.declared.semaphore.SemaphoreCall.TheVariants.{TryAcquireMany, ReleaseMany, AvailablePermits, IsOpen, IsClosed, Shut, IsShut}
 use Rattle.saa_core_spec.specs.declared.run.CommandOf.{CommandOf}
 use Rattle.saa_core_spec.specs.declared.run.CommandOf.TheVariants.{Call, Register, TryPoll, PollSync, PollAsync, Drop}
-use Rattle.saa_core_spec.specs.Held.{Held, OfSemaphore, OfLock, OfGate, OfBarrier, plus, less, asks_too_much}
-use Rattle.saa_core_spec.specs.Object.{Object, After, Entry, Idle, Waiting, Answered, entry_at, with_entry, without}
+use Rattle.saa_core_spec.specs.Held.{Held, OfSemaphore, OfShutSemaphore, OfLock, OfGate, OfBarrier, fits, plus, less, asks_too_much}
+use Rattle.saa_core_spec.specs.Object.{Object, After, Entry, Idle, Waiting, Answered, entry_at, with_entry, is_nobody, without}
 use Rattle.saa_core_spec.specs.Settling.{settled}
 use Rattle.saa_core_spec.specs.Asking.{is_idle, is_granted_at_once, tried, answer_in, answer_at_once, registered_of}
 use Rattle.saa_core_spec.specs.Polling.{is_right_mode, polled_in, polled_of, is_for_nothing, given_back_of, given_back, left_of, undone_of, dropped_of}
-use Rattle.saa_core_spec.specs.Values.{semaphore_value, granted_value}
-use Rattle.saa_core_spec.specs.Semaphore.{semaphore_step, new_semaphore, out_of}
+use Rattle.saa_core_spec.specs.Values.{semaphore_value, granted_value, closed_value}
+use Rattle.saa_core_spec.specs.Semaphore.{semaphore_step, new_semaphore, out_of, shut_of}
 use Rattle.saa_core_spec.specs.Run.{IsWithin, done, state_after}
 use Rattle.saa_core_spec.proofs.Counts.{same_number}
 use Rattle.saa_core_laws.specs.Laws.{is_waiting}
 use Rattle.saa_core_laws.specs.Registrations.{is_registered, is_answered}
 use Rattle.saa_core_laws.specs.Steps.{step_of, steps}
-use Rattle.saa_core_laws.specs.Conservation.{SemaphoreStep, permits_of, granted_between, granted_in_books, granted_by, dropped_grant, given_back_by, semaphore_run}
+use Rattle.saa_core_laws.specs.Conservation.{SemaphoreStep, permits_of, granted_between, granted_in_books, grant_of, granted_by, dropped_grant, given_back_by, semaphore_run}
 use Rattle.saa_core_laws.proofs.Order.{IsInStep, entry_at-same}
 use Rattle.saa_core_laws.proofs.Kept.{IsKept, IsKept-newly_made, IsKept-left, IsKept-written}
 use Rattle.saa_core_laws.proofs.Commands.{IsRight, IsRight-done, or_false-left}
@@ -34,7 +34,7 @@ use Rattle.saa_core_laws.proofs.SemaphoreLaws.{IsFineSemaphore, IsFineSemaphore-
 use Rattle.saa_core_laws.proofs.Books.{KeepsBook-settled, KeepsBook-given_back}
 use Rattle.saa_core_laws.proofs.Reading.{is_idle-emptied}
 use Rattle.saa_core_laws.proofs.Rounds.{not_answered}
-use Rattle.saa_core_laws.proofs.Permitted.{granted_between-still, granted_between-unanswered, granted_in_books-same, granted_in_books-written, granted_in_books-emptied, out-plus, out-settled}
+use Rattle.saa_core_laws.proofs.Permitted.{granted_between-still, granted_between-unanswered, granted_in_books-same, granted_in_books-written, granted_in_books-emptied, granted_in_books-closed, out-plus, out-settled}
 
 -- what is left of a semaphore once a request is given back
 pub out-less : (most : ℕ) (held rest : Held) (request : Request) → IsFineSemaphore most held → less held request ≡ Some rest
@@ -49,6 +49,16 @@ out-less most (OfSemaphore bound out) rest WaitExclusive fine e = cc
 out-less most (OfSemaphore bound out) rest WaitShared fine e = cc
 out-less most (OfSemaphore bound out) rest Enter fine e = cc
 out-less most (OfSemaphore bound out) rest Arrive fine e = cc
+out-less most (OfShutSemaphore bound out) rest (Permits n) fine e =
+    let parts = cond_some (leb n out) (OfShutSemaphore bound (out - n)) rest e in
+    let below : n ≤ out = leb-true n out parts.0 in
+    omega (arith, ap out_of parts.1)
+out-less most (OfShutSemaphore bound out) rest AskExclusive fine e = cc
+out-less most (OfShutSemaphore bound out) rest AskShared fine e = cc
+out-less most (OfShutSemaphore bound out) rest WaitExclusive fine e = cc
+out-less most (OfShutSemaphore bound out) rest WaitShared fine e = cc
+out-less most (OfShutSemaphore bound out) rest Enter fine e = cc
+out-less most (OfShutSemaphore bound out) rest Arrive fine e = cc
 out-less most (OfLock lock) rest request fine e = absurd fine
 out-less most (OfGate gate) rest request fine e = absurd fine
 out-less most (OfBarrier size) rest request fine e = absurd fine
@@ -92,6 +102,7 @@ reply-given_back_of s other false None = refl
 -- a semaphore gets back what was granted
 pub undone-is : (most : ℕ) (s : Object) (held : Held) (request : Request) → IsFineSemaphore most held → undone_of s held request ≡ (given_back s request).state
 undone-is most s (OfSemaphore bound out) request fine = refl
+undone-is most s (OfShutSemaphore bound out) request fine = refl
 undone-is most s (OfLock lock) request fine = absurd fine
 undone-is most s (OfGate gate) request fine = absurd fine
 undone-is most s (OfBarrier size) request fine = absurd fine
@@ -99,6 +110,7 @@ undone-is most s (OfBarrier size) request fine = absurd fine
 -- and settles when a name has left
 pub left-is : (most : ℕ) (s : Object) (held : Held) → IsFineSemaphore most held → left_of s held ≡ settled s
 left-is most s (OfSemaphore bound out) fine = refl
+left-is most s (OfShutSemaphore bound out) fine = refl
 left-is most s (OfLock lock) fine = absurd fine
 left-is most s (OfGate gate) fine = absurd fine
 left-is most s (OfBarrier size) fine = absurd fine
@@ -159,34 +171,40 @@ Conserves-polled_of s name how Idle = Conserves-still s
 Conserves-polled_of s name how (Waiting request is_sync) = Conserves-polled_in s name (Waiting request is_sync) (is_right_mode how is_sync)
 Conserves-polled_of s name how (Answered value request is_sync slotted) = Conserves-polled_in s name (Answered value request is_sync slotted) (is_right_mode how is_sync)
 
--- what is out where a request was granted at once
-pub out-added : (most : ℕ) (held : Held) (request : Request) → IsFineSemaphore most held → out_of (plus held request) ≡ out_of held + permits_of request
-out-added most (OfSemaphore bound out) request fine = ap out_of (out-plus bound out request)
-out-added most (OfLock lock) request fine = absurd fine
-out-added most (OfGate gate) request fine = absurd fine
-out-added most (OfBarrier size) request fine = absurd fine
+-- what is out where a request was granted that fits
+pub out-added : (most : ℕ) (held : Held) (request : Request) → IsFineSemaphore most held → fits held request ≡ true
+    → out_of (plus held request) ≡ out_of held + permits_of request
+out-added most (OfSemaphore bound out) request fine fit = ap out_of (out-plus bound out request)
+out-added most (OfShutSemaphore bound out) request fine fit = cc
+out-added most (OfLock lock) request fine fit = absurd fine
+out-added most (OfGate gate) request fine fit = absurd fine
+out-added most (OfBarrier size) request fine fit = absurd fine
 
 -- a try
 pub Conserves-tried : (most : ℕ) (s : Object) (request : Request) → IsFineSemaphore most s.held
     → Conserves s (tried s request).state (cond (tried s request).reply (permits_of request) 0) 0
 Conserves-tried most s request fine = elim (cases_Bool (is_granted_at_once s request)) [
-  | inl e ↦ rw e (omega (arith, out-added most s.held request fine, granted_in_books-same s.book))
+  | inl e ↦ rw e (omega (arith, out-added most s.held request fine (and_parts (is_nobody s.line) (fits s.held request) e).1, granted_in_books-same s.book))
   | inr e ↦ rw e (Conserves-still s)
 ]
 
--- a registration that a semaphore answers at once
+-- a registration that a semaphore answers at once: a grant takes its permits, and nothing else does
 pub record IsGranted (s : Object) (request : Request) (answer : After ℕ) : Type 0 where
-  pub held : answer.state.held ≡ plus s.held request
+  pub out : out_of answer.state.held ≡ out_of s.held + cond (eqb answer.reply granted_value) (permits_of request) 0
   pub book : answer.state.book ≡ s.book
 
 pub IsGranted-answered : (most : ℕ) (s : Object) (held : Held) (request : Request) (answer : After ℕ) → IsFineSemaphore most held
-    → answer_in s held request ≡ Some answer → IsGranted s request answer
-IsGranted-answered most s (OfSemaphore bound out) request answer fine e =
+    → IsFineSemaphore most s.held → answer_in s held request ≡ Some answer → IsGranted s request answer
+IsGranted-answered most s (OfSemaphore bound out) request answer is fine e =
     let parts = cond_some (is_granted_at_once s request) (record { state = record s { held = plus s.held request }; reply = granted_value }) answer e in
-    record { held = sym (ap (λ (a : After ℕ). a.state.held) parts.1); book = sym (ap (λ (a : After ℕ). a.state.book) parts.1) }
-IsGranted-answered most s (OfLock lock) request answer fine e = absurd fine
-IsGranted-answered most s (OfGate gate) request answer fine e = absurd fine
-IsGranted-answered most s (OfBarrier size) request answer fine e = absurd fine
+    let fit : fits s.held request ≡ true = (and_parts (is_nobody s.line) (fits s.held request) parts.0).1 in
+    rw (← parts.1) (record { out = out-added most s.held request fine fit; book = refl })
+IsGranted-answered most s (OfShutSemaphore bound out) request answer is fine e =
+    let same : ◌≡◌ {A = After ℕ} (record { state = s; reply = closed_value }) answer = cc in
+    rw (← same) (record { out = omega arith; book = refl })
+IsGranted-answered most s (OfLock lock) request answer is fine e = absurd is
+IsGranted-answered most s (OfGate gate) request answer is fine e = absurd is
+IsGranted-answered most s (OfBarrier size) request answer is fine e = absurd is
 
 -- an idle name is granted nothing out of the line
 pub granted_between-idle : (entry after : Entry) → is_idle entry ≡ true → granted_between entry after ≡ 0
@@ -198,26 +216,34 @@ granted_between-idle (Answered value request is_sync slotted) after e = refl
 pub Conserves-registered_of : (most : ℕ) (s : Object) (name : ℕ) (request : Request) (is_sync is_refused : Bool) (answer : Option (After ℕ)) (is_full : Bool)
     → name < length s.book → (is_refused ≡ false → is_idle (entry_at s.book name) ≡ true) → answer_at_once s request ≡ answer → IsFineSemaphore most s.held
     → Conserves s (registered_of s name request is_sync is_refused answer is_full).state
-    (cond (is_registered (registered_of s name request is_sync is_refused answer is_full).reply
-    && is_answered (entry_at (registered_of s name request is_sync is_refused answer is_full).state.book name)) (permits_of request) 0)
+    (cond (is_registered (registered_of s name request is_sync is_refused answer is_full).reply)
+    (grant_of (entry_at (registered_of s name request is_sync is_refused answer is_full).state.book name)) 0)
     0
 Conserves-registered_of most s name request is_sync true answer is_full within idle e fine = Conserves-still s
 Conserves-registered_of most s name request is_sync false (Some answer) is_full within idle e fine =
-    let granted = IsGranted-answered most s s.held request answer fine e in
+    let granted = IsGranted-answered most s s.held request answer fine fine e in
     let entry : Entry = Answered answer.reply request is_sync false in
-    let there : is_answered (entry_at (set answer.state.book name entry) name) ≡ true =
-    ap is_answered (entry_at-same answer.state.book name entry (omega (arith, ap (λ (b : List Entry). length b) granted.book))) in
+    let there : grant_of (entry_at (set answer.state.book name entry) name) ≡ grant_of entry =
+    ap grant_of (entry_at-same answer.state.book name entry (omega (arith, ap (λ (b : List Entry). length b) granted.book))) in
     let nothing : granted_in_books s.book (set answer.state.book name entry) ≡ 0 =
     ap (λ b. granted_in_books s.book (set b name entry)) granted.book
     ∙ granted_in_books-written s.book name entry (granted_between-idle (entry_at s.book name) entry (idle refl)) in
-    rw there (omega (arith, ap out_of granted.held, out-added most s.held request fine, nothing))
+    rw there (omega (arith, granted.out, nothing))
 Conserves-registered_of most s name request is_sync false None true within idle e fine = Conserves-still s
 Conserves-registered_of most s name request is_sync false None false within idle e fine =
-    let none : is_answered (entry_at (set s.book name (Waiting request is_sync)) name) ≡ false = ap is_answered (entry_at-same s.book name (Waiting request is_sync) within) in
+    let none : grant_of (entry_at (set s.book name (Waiting request is_sync)) name) ≡ 0 = ap grant_of (entry_at-same s.book name (Waiting request is_sync) within) in
     rw none (omega (
       arith,
       granted_in_books-written s.book name (Waiting request is_sync) (granted_between-unanswered (entry_at s.book name) (Waiting request is_sync) refl),
     ))
+
+-- a shut takes nothing and gives nothing back
+pub Conserves-shut_of : (s : Object) (held : Held) → s.held ≡ held → Conserves s (shut_of s held).state 0 0
+Conserves-shut_of s (OfSemaphore bound out) is = omega (arith, ap out_of is, granted_in_books-closed s.line s.book)
+Conserves-shut_of s (OfShutSemaphore bound out) is = Conserves-still s
+Conserves-shut_of s (OfLock lock) is = Conserves-still s
+Conserves-shut_of s (OfGate gate) is = Conserves-still s
+Conserves-shut_of s (OfBarrier size) is = Conserves-still s
 
 -- what a semaphore keeps, which the steps rest on
 abbrev pub IsRightSemaphore : (most names : ℕ) → Object → Type 0
@@ -233,6 +259,8 @@ Conserves-done most names (Call (ReleaseMany n)) s within right =
 Conserves-done most names (Call AvailablePermits) s within right = Conserves-still s
 Conserves-done most names (Call IsOpen) s within right = Conserves-still s
 Conserves-done most names (Call IsClosed) s within right = Conserves-still s
+Conserves-done most names (Call Shut) s within right = Conserves-shut_of s s.held refl
+Conserves-done most names (Call IsShut) s within right = Conserves-still s
 Conserves-done most names (Register name n is_sync) s within right =
     Conserves-registered_of most s name (Permits n) is_sync _ (answer_at_once s (Permits n)) _ (omega (arith, right.kept.size))
     (λ e. or_false-left (is_idle (entry_at s.book name)) (asks_too_much s.held (Permits n)) e) refl right.kind.fine
@@ -269,5 +297,5 @@ permits-conserved bound permits room names commands within =
     conserved-run bound names commands (new_semaphore bound permits room names) (recursion_from_All (IsWithin names) commands within)
     (record {
       kept = IsKept-newly_made (OfSemaphore bound (bound - min permits bound)) room names;
-      kind = record { fine = (refl, omega arith); front = refl; asks = tt; poisoned = λ poison. refl };
+      kind = record { fine = (refl, omega arith); front = refl; asks = tt; refused = λ refuses. refl };
     })

@@ -7,7 +7,7 @@ use Rattle.saa_core_spec.specs.declared.gate.GateCall.{GateCall}
 use Rattle.saa_core_spec.specs.declared.gate.GateCall.TheVariants.{State as AskState, Reset, Permit, Reject, Open as DoOpen, Seal}
 use Rattle.saa_core_spec.specs.declared.gate.GateAnswer.{GateAnswer}
 use Rattle.saa_core_spec.specs.declared.run.CommandOf.{CommandOf}
-use Rattle.saa_core_spec.specs.Held.{Held, OfSemaphore, OfLock, OfGate, OfBarrier}
+use Rattle.saa_core_spec.specs.Held.{Held, OfSemaphore, OfShutSemaphore, OfLock, OfGate, OfBarrier}
 use Rattle.saa_core_spec.specs.Object.{Object, After, Idle, Waiter, with_entry, without}
 use Rattle.saa_core_spec.specs.Settling.{all_answered}
 use Rattle.saa_core_spec.specs.Asking.{answer_in}
@@ -23,6 +23,7 @@ use Rattle.saa_core_laws.proofs.Commands.{IsRight, IsRightAnswer, KeepsRight, Is
 abbrev pub IsFineGate : Held → List Waiter → Type 0
 IsFineGate (OfGate gate) line = (gate ≡ Controlled) ⊎ (line ≡ [])
 IsFineGate (OfSemaphore bound out) line = ⊥
+IsFineGate (OfShutSemaphore bound out) line = ⊥
 IsFineGate (OfLock lock) line = ⊥
 IsFineGate (OfBarrier size) line = ⊥
 
@@ -30,6 +31,7 @@ IsFineGate (OfBarrier size) line = ⊥
 pub IsFineGate-nobody : (held : Held) (line : List Waiter) → IsFineGate held line → IsFineGate held []
 IsFineGate-nobody (OfGate gate) line fine = inr refl
 IsFineGate-nobody (OfSemaphore bound out) line fine = fine
+IsFineGate-nobody (OfShutSemaphore bound out) line fine = fine
 IsFineGate-nobody (OfLock lock) line fine = fine
 IsFineGate-nobody (OfBarrier size) line fine = fine
 
@@ -85,6 +87,7 @@ IsRightAnswer-entered names s (OfGate Controlled) line request answer fine e rig
 IsRightAnswer-entered names s (OfGate Sealed) line request answer fine e right = IsRightAnswer-unchanged names sealed_value s answer e right
 IsRightAnswer-entered names s (OfGate Open) line request answer fine e right = IsRightAnswer-unchanged names opened_value s answer e right
 IsRightAnswer-entered names s (OfSemaphore bound out) line request answer fine e right = absurd fine
+IsRightAnswer-entered names s (OfShutSemaphore bound out) line request answer fine e right = absurd fine
 IsRightAnswer-entered names s (OfLock lock) line request answer fine e right = absurd fine
 IsRightAnswer-entered names s (OfBarrier size) line request answer fine e right = absurd fine
 
@@ -95,6 +98,7 @@ IsFineGate-joined s (OfGate Controlled) line joined request fine e = inl refl
 IsFineGate-joined s (OfGate Sealed) line joined request fine e = cc
 IsFineGate-joined s (OfGate Open) line joined request fine e = cc
 IsFineGate-joined s (OfSemaphore bound out) line joined request fine e = absurd fine
+IsFineGate-joined s (OfShutSemaphore bound out) line joined request fine e = absurd fine
 IsFineGate-joined s (OfLock lock) line joined request fine e = absurd fine
 IsFineGate-joined s (OfBarrier size) line joined request fine e = absurd fine
 
@@ -106,6 +110,7 @@ IsRight-gate_left names left (OfGate gate) line fine same kept = record {
   kind = rw same (inr refl);
 }
 IsRight-gate_left names left (OfSemaphore bound out) line fine same kept = absurd fine
+IsRight-gate_left names left (OfShutSemaphore bound out) line fine same kept = absurd fine
 IsRight-gate_left names left (OfLock lock) line fine same kept = absurd fine
 IsRight-gate_left names left (OfBarrier size) line fine same kept = absurd fine
 
@@ -114,6 +119,7 @@ pub IsRight-gate_undone : (names : ℕ) (s : Object) (held : Held) (line : List 
     → IsRight IsFineGate names s → IsRight IsFineGate names (undone_of s held request)
 IsRight-gate_undone names s (OfGate gate) line request fine right = right
 IsRight-gate_undone names s (OfSemaphore bound out) line request fine right = absurd fine
+IsRight-gate_undone names s (OfShutSemaphore bound out) line request fine right = absurd fine
 IsRight-gate_undone names s (OfLock lock) line request fine right = absurd fine
 IsRight-gate_undone names s (OfBarrier size) line request fine right = absurd fine
 
@@ -133,6 +139,7 @@ pub gate-bounded : (held : Held) (line : List Waiter) → IsFineGate held line
     → (gate : State) × (held ≡ OfGate gate) × ((gate ≡ Controlled) ⊎ (line ≡ []))
 gate-bounded (OfGate gate) line fine = (gate, refl, fine)
 gate-bounded (OfSemaphore bound out) line fine = absurd fine
+gate-bounded (OfShutSemaphore bound out) line fine = absurd fine
 gate-bounded (OfLock lock) line fine = absurd fine
 gate-bounded (OfBarrier size) line fine = absurd fine
 

@@ -1,33 +1,33 @@
 -- What a semaphore and a lock keep, both of which grant what fits: they stand settled, and each waiter would fit
 -- if nothing were out.
-use Rattle.std.proofs.Common.{◌≡◌, ℕ, zero, suc, Bool, true, false, ◌&&◌, eqb, List, [], ◌∷◌, ◌++◌, take, drop, Option, Some, None, refl, ap, ◌∙◌, inl, inr, arith}
+use Rattle.std.proofs.Common.{◌≡◌, ℕ, zero, suc, Bool, true, false, ◌&&◌, eqb, List, [], ◌∷◌, ◌++◌, take, drop, Option, Some, None, refl, sym, ap, ◌∙◌, inl, inr, arith}
 use Rattle.std.specs.List.{AllByRecursion}
 use Rattle.std.proofs.lemmas.Bool.{cases_Bool, and_parts}
 use Rattle.std.proofs.lemmas.Option.{cond_some}
 use Rattle.saa_core_spec.specs.declared.gate.State.{State}
 use Rattle.saa_core_spec.specs.declared.request.Request.{Request}
-use Rattle.saa_core_spec.specs.Held.{Held, OfSemaphore, OfLock, OfGate, OfBarrier, Free, Exclusive, Shared, Poisoned, fits, plus, less}
+use Rattle.saa_core_spec.specs.Held.{Held, OfSemaphore, OfShutSemaphore, OfLock, OfGate, OfBarrier, Free, Exclusive, Shared, Poisoned, fits, plus, less, refuses_all}
 use Rattle.saa_core_spec.specs.Object.{Object, After, Idle, Waiter, with_entry, is_nobody, without}
 use Rattle.saa_core_spec.specs.Settling.{fitting_front, plus_all, settled}
 use Rattle.saa_core_spec.specs.Asking.{is_granted_at_once, tried, granted_at_once, answer_in}
 use Rattle.saa_core_spec.specs.Polling.{is_for_nothing, given_back_of, given_back, left_of, undone_of}
-use Rattle.saa_core_spec.specs.Values.{granted_value, poisoned_value}
+use Rattle.saa_core_spec.specs.Values.{granted_value, closed_value, poisoned_value}
 use Rattle.saa_core_laws.proofs.Kept.{IsKept, IsKept-held, IsKept-settled}
 use Rattle.saa_core_laws.proofs.Commands.{IsRight, IsRightAnswer, cond_none}
 use Rattle.saa_core_spec.proofs.FittingFronts.{fitting_front-fits, fitting_front-blocked, fitting_front-settled}
-use Rattle.saa_core_spec.proofs.Poison.{less-not_poisoned, plus_all-not_poisoned}
+use Rattle.saa_core_spec.proofs.Refusing.{less-refusing, plus_all-refusing}
 
 -- each waiter would fit with this held
 abbrev pub AllFit : Held → List Waiter → Type 0
 AllFit empty line = AllByRecursion (λ waiter. fits empty waiter.1 ≡ true) line
 
 -- What a value that grants what fits keeps with its line: it is fine in its own way, the line stands settled,
--- each waiter would fit with nothing out, and nobody waits at a poisoned lock
+-- each waiter would fit with nothing out, and nobody waits where every request is refused
 pub record Grants (IsFine : Held → Type 0) (empty held : Held) (line : List Waiter) : Type 0 where
   pub fine : IsFine held
   pub front : fitting_front held line ≡ 0
   pub asks : AllFit empty line
-  pub poisoned : held ≡ OfLock Poisoned → line ≡ []
+  pub refused : refuses_all held ≡ true → line ≡ []
 
 -- What makes such a primitive: its values are fine with what fits granted and with what they have given back,
 -- and none is a gate's or a barrier's
@@ -86,14 +86,14 @@ module _ (IsFine : Held → Type 0) (empty : Held) (names : ℕ) (keeps : KeepsF
   ]
 
   -- after settling the value stands settled, and is right in all else
-  pub Grants-settled : (s : Object) → IsFine s.held → AllFit empty s.line → (s.held ≡ OfLock Poisoned → s.line ≡ [])
+  pub Grants-settled : (s : Object) → IsFine s.held → AllFit empty s.line → (refuses_all s.held ≡ true → s.line ≡ [])
       → Grants IsFine empty (settled s).held (settled s).line
   unfolding settled
-  Grants-settled s fine asks poisoned = record {
+  Grants-settled s fine asks refused = record {
     fine = fine-settled s.held s.line fine;
     front = fitting_front-settled s.held s.line;
     asks = AllFit-drop empty (fitting_front s.held s.line) s.line asks;
-    poisoned = λ e. let nobody : s.line ≡ [] = poisoned (plus_all-not_poisoned s.held s.line e) in rw nobody refl;
+    refused = λ e. let nobody : s.line ≡ [] = refused (sym (plus_all-refusing s.held s.line) ∙ e) in rw nobody refl;
   }
 
   -- giving back
@@ -104,7 +104,7 @@ module _ (IsFine : Held → Type 0) (empty : Held) (names : ℕ) (keeps : KeepsF
   IsRight-given_back_of s request false (Some rest) e right = record {
     kept = IsKept-settled names (record s { held = rest }) (IsKept-held names s rest right.kept);
     kind = Grants-settled (record s { held = rest }) (keeps.takes s.held rest request right.kind.fine e) right.kind.asks
-        (λ poison. absurd (less-not_poisoned s.held request (e ∙ ap (λ (h : Held). Some h) poison)));
+        (λ refuses. right.kind.refused (sym (less-refusing s.held rest request e) ∙ refuses));
   }
 
   -- the same of every request
@@ -124,7 +124,7 @@ module _ (IsFine : Held → Type 0) (empty : Held) (names : ℕ) (keeps : KeepsF
           fine = keeps.adds s.held request right.kind.fine parts.1;
           front = ap (fitting_front (plus s.held request)) nobody;
           asks = right.kind.asks;
-          poisoned = λ _. nobody;
+          refused = λ _. nobody;
         };
       }
 
@@ -148,6 +148,9 @@ module _ (IsFine : Held → Type 0) (empty : Held) (names : ℕ) (keeps : KeepsF
       → answer_in s held request ≡ Some answer
       → IsRight (Grants IsFine empty) names s → IsRightAnswer (Grants IsFine empty) names s answer
   IsRightAnswer-answered s (OfSemaphore bound out) request answer fine e right = IsRightAnswer-granted s request answer e right
+  IsRightAnswer-answered s (OfShutSemaphore bound out) request answer fine e right =
+      let same : ◌≡◌ {A = After ℕ} (record { state = s; reply = closed_value }) answer = cc in
+      rw (← same) (record { right = right; still = λ name before. before })
   IsRightAnswer-answered s (OfLock Free) request answer fine e right = IsRightAnswer-granted s request answer e right
   IsRightAnswer-answered s (OfLock Exclusive) request answer fine e right = IsRightAnswer-granted s request answer e right
   IsRightAnswer-answered s (OfLock (Shared n)) request answer fine e right = IsRightAnswer-granted s request answer e right
@@ -157,24 +160,25 @@ module _ (IsFine : Held → Type 0) (empty : Held) (names : ℕ) (keeps : KeepsF
   IsRightAnswer-answered s (OfGate gate) request answer fine e right = absurd (keeps.no_gate gate fine)
   IsRightAnswer-answered s (OfBarrier size) request answer fine e right = absurd (keeps.no_barrier size fine)
 
-  -- a name that joins the line, which isn't granted at once and doesn't find a poisoned lock
-  pub Grants-joined : (s : Object) (name : ℕ) (request : Request) → granted_at_once s request ≡ None → (s.held ≡ OfLock Poisoned → ⊥)
+  -- a name that joins the line, which isn't granted at once and isn't refused
+  pub Grants-joined : (s : Object) (name : ℕ) (request : Request) → granted_at_once s request ≡ None → refuses_all s.held ≡ false
       → fits empty request ≡ true → Grants IsFine empty s.held s.line → Grants IsFine empty s.held (s.line ++ (name, request) ∷ [])
-  Grants-joined s name request e sound fit grants = record {
+  Grants-joined s name request e grants_some fit grants = record {
     fine = grants.fine;
     front = fitting_front-joined s.held s.line (name, request) grants.front (cond_none (is_granted_at_once s request) _ e);
     asks = AllFit-joined empty s.line (name, request) fit grants.asks;
-    poisoned = λ poison. absurd (sound poison);
+    refused = λ refuses. let both : ◌≡◌ {A = Bool} false true = sym grants_some ∙ refuses in cc;
   }
 
   -- a name that joins the line, as nothing was answered at once
   pub Grants-waits : (s : Object) (held : Held) (name : ℕ) (request : Request) → s.held ≡ held → IsFine held
       → answer_in s held request ≡ None → fits empty request ≡ true
       → Grants IsFine empty s.held s.line → Grants IsFine empty s.held (s.line ++ (name, request) ∷ [])
-  Grants-waits s (OfSemaphore bound out) name request is fine e fit grants = Grants-joined s name request e (λ poison. cc) fit grants
-  Grants-waits s (OfLock Free) name request is fine e fit grants = Grants-joined s name request e (λ poison. cc) fit grants
-  Grants-waits s (OfLock Exclusive) name request is fine e fit grants = Grants-joined s name request e (λ poison. cc) fit grants
-  Grants-waits s (OfLock (Shared n)) name request is fine e fit grants = Grants-joined s name request e (λ poison. cc) fit grants
+  Grants-waits s (OfSemaphore bound out) name request is fine e fit grants = Grants-joined s name request e (ap refuses_all is) fit grants
+  Grants-waits s (OfLock Free) name request is fine e fit grants = Grants-joined s name request e (ap refuses_all is) fit grants
+  Grants-waits s (OfLock Exclusive) name request is fine e fit grants = Grants-joined s name request e (ap refuses_all is) fit grants
+  Grants-waits s (OfLock (Shared n)) name request is fine e fit grants = Grants-joined s name request e (ap refuses_all is) fit grants
+  Grants-waits s (OfShutSemaphore bound out) name request is fine e fit grants = cc
   Grants-waits s (OfLock Poisoned) name request is fine e fit grants = cc
   Grants-waits s (OfGate gate) name request is fine e fit grants = absurd (keeps.no_gate gate fine)
   Grants-waits s (OfBarrier size) name request is fine e fit grants = absurd (keeps.no_barrier size fine)
@@ -187,7 +191,7 @@ module _ (IsFine : Held → Type 0) (empty : Held) (names : ℕ) (keeps : KeepsF
     kept = IsKept-settled names (record (with_entry s name Idle) { line = without name s.line }) kept;
     kind = Grants-settled (record (with_entry s name Idle) { line = without name s.line }) right.kind.fine
         (AllFit-without empty name s.line right.kind.asks)
-        (λ poison. ap (without name) (right.kind.poisoned poison));
+        (λ refuses. ap (without name) (right.kind.refused refuses));
   }
 
   -- a name that waited has left
@@ -195,6 +199,7 @@ module _ (IsFine : Held → Type 0) (empty : Held) (names : ℕ) (keeps : KeepsF
       → IsKept names (record (with_entry s name Idle) { line = without name s.line })
       → IsRight (Grants IsFine empty) names (left_of (record (with_entry s name Idle) { line = without name s.line }) held)
   IsRight-left_of s (OfSemaphore bound out) name fine right kept = IsRight-leaves s name right kept
+  IsRight-left_of s (OfShutSemaphore bound out) name fine right kept = IsRight-leaves s name right kept
   IsRight-left_of s (OfLock lock) name fine right kept = IsRight-leaves s name right kept
   IsRight-left_of s (OfGate gate) name fine right kept = absurd (keeps.no_gate gate fine)
   IsRight-left_of s (OfBarrier size) name fine right kept = absurd (keeps.no_barrier size fine)
@@ -203,6 +208,7 @@ module _ (IsFine : Held → Type 0) (empty : Held) (names : ℕ) (keeps : KeepsF
   pub IsRight-undone_of : (s : Object) (held : Held) (request : Request) → IsRight (Grants IsFine empty) names s
       → IsRight (Grants IsFine empty) names (undone_of s held request)
   IsRight-undone_of s (OfSemaphore bound out) request right = IsRight-given_back s request right
+  IsRight-undone_of s (OfShutSemaphore bound out) request right = IsRight-given_back s request right
   IsRight-undone_of s (OfLock lock) request right = IsRight-given_back s request right
   IsRight-undone_of s (OfGate gate) request right = right
   IsRight-undone_of s (OfBarrier size) request right = right

@@ -1,8 +1,8 @@
 -- Grants that aren't consumed are out, where no more was released by calls than was withheld or taken in hand:
 -- so a drop of one gives back all of it.
-use Rattle.std.proofs.Common.{◌≡◌, ℕ, suc, zero, ◌+◌, ◌-◌, ◌<◌, ◌≤◌, min, Bool, true, false, eqb, leb, cond, inl, inr, List, [], ◌∷◌, length, set, take, replicate, Option, Some, None, refl, ap, ◌∙◌, arith, All}
+use Rattle.std.proofs.Common.{◌≡◌, ℕ, suc, zero, ◌+◌, ◌-◌, ◌<◌, ◌≤◌, min, Bool, true, false, eqb, leb, cond, inl, inr, List, [], ◌∷◌, length, set, take, replicate, Option, Some, None, Ok, refl, ap, ◌∙◌, arith, All}
 use Rattle.std.specs.List.{AllByRecursion, sum_by}
-use Rattle.std.proofs.lemmas.Bool.{cases_Bool, cases_lt, le-leb}
+use Rattle.std.proofs.lemmas.Bool.{cases_Bool, cases_lt, le-leb, and_parts}
 use Rattle.std.proofs.lemmas.Option.{cond_some}
 use Rattle.std.proofs.lemmas.List.Sums.{sum_by-cons}
 use Rattle.std.proofs.lemmas.List.Elements.{recursion_from_All}
@@ -11,16 +11,16 @@ use Rattle.saa_core_spec.specs.declared.request.Request.TheVariants.{Permits}
 use Rattle.saa_core_spec.specs.declared.polling.How.{How}
 use Rattle.saa_core_spec.specs.declared.polling.How.TheVariants.{Try, Sync, Async}
 use Rattle.saa_core_spec.specs.declared.semaphore.SemaphoreCall.{SemaphoreCall}
-use Rattle.saa_core_spec.specs.declared.semaphore.SemaphoreCall.TheVariants.{TryAcquireMany, ReleaseMany, AvailablePermits, IsOpen, IsClosed}
+use Rattle.saa_core_spec.specs.declared.semaphore.SemaphoreCall.TheVariants.{TryAcquireMany, ReleaseMany, AvailablePermits, IsOpen, IsClosed, Shut, IsShut}
 use Rattle.saa_core_spec.specs.declared.run.CommandOf.{CommandOf}
 use Rattle.saa_core_spec.specs.declared.run.CommandOf.TheVariants.{Call, Register, TryPoll, PollSync, PollAsync, Drop}
-use Rattle.saa_core_spec.specs.Held.{Held, OfSemaphore, OfLock, OfGate, OfBarrier, plus, less}
-use Rattle.saa_core_spec.specs.Object.{Object, After, Entry, Idle, Waiting, Answered, Waiter, entry_at, with_entry, without}
+use Rattle.saa_core_spec.specs.Held.{Held, OfSemaphore, OfShutSemaphore, OfLock, OfGate, OfBarrier, fits, plus, less}
+use Rattle.saa_core_spec.specs.Object.{Object, After, Entry, Idle, Waiting, Answered, Waiter, entry_at, with_entry, is_nobody, without}
 use Rattle.saa_core_spec.specs.Settling.{fitting_front, answered_entry, answered_in, settled}
 use Rattle.saa_core_spec.specs.Asking.{is_granted_at_once, tried, answer_in, answer_at_once, registered_of}
 use Rattle.saa_core_spec.specs.Polling.{is_right_mode, polled_in, polled_of, is_for_nothing, given_back_of, given_back, undone_of, dropped_of}
-use Rattle.saa_core_spec.specs.Values.{semaphore_value, granted_value}
-use Rattle.saa_core_spec.specs.Semaphore.{semaphore_step, new_semaphore, out_of}
+use Rattle.saa_core_spec.specs.Values.{semaphore_value, granted_value, closed_value}
+use Rattle.saa_core_spec.specs.Semaphore.{semaphore_step, new_semaphore, out_of, shut_of}
 use Rattle.saa_core_spec.specs.Run.{IsWithin, done, state_after}
 use Rattle.saa_core_laws.specs.Laws.{is_waiting}
 use Rattle.saa_core_laws.specs.Steps.{step_of, steps}
@@ -168,7 +168,8 @@ pub Covers-polled_in : (s : Object) (name : ℕ) (entry : Entry) (is_right : Boo
 Covers-polled_in s name entry false at = Covers-still s
 Covers-polled_in s name Idle true at = Covers-still s
 Covers-polled_in s name (Waiting request is_sync) true at = Covers-still s
-Covers-polled_in s name (Answered value request is_sync slotted) true at = omega (arith, unconsumed-emptied s.book name)
+Covers-polled_in s name (Answered value request is_sync slotted) true at =
+    omega (arith, unconsumed-emptied s.book name, cond-le (has_value (semaphore_value (Ok value))) (grant_of (entry_at s.book name)))
 
 -- every poll
 pub Covers-polled_of : (s : Object) (name : ℕ) (how : How) (entry : Entry) → entry_at s.book name ≡ entry
@@ -183,7 +184,7 @@ Covers-polled_of s name how (Answered value request is_sync slotted) at =
 pub Covers-tried : (most : ℕ) (s : Object) (request : Request) → IsFineSemaphore most s.held
     → Covers s (tried s request).state (cond (tried s request).reply (permits_of request) 0) 0
 Covers-tried most s request fine = elim (cases_Bool (is_granted_at_once s request)) [
-  | inl e ↦ rw e (omega (arith, out-added most s.held request fine))
+  | inl e ↦ rw e (omega (arith, out-added most s.held request fine (and_parts (is_nobody s.line) (fits s.held request) e).1))
   | inr e ↦ rw e (Covers-still s)
 ]
 
@@ -199,10 +200,13 @@ Covers-granted most s (OfSemaphore bound out) name request is_sync answer is fin
     let parts = cond_some (is_granted_at_once s request) (record { state = record s { held = plus s.held request }; reply = granted_value }) answer e in
     rw (← parts.1) (omega (
       arith,
-      out-added most s.held request fine,
+      out-added most s.held request fine (and_parts (is_nobody s.line) (fits s.held request) parts.0).1,
       unconsumed-set s.book name (Answered granted_value request is_sync false) within,
       grant_of-le granted_value request is_sync false,
     ))
+Covers-granted most s (OfShutSemaphore bound out) name request is_sync answer is fine within e =
+    let same : ◌≡◌ {A = After ℕ} (record { state = s; reply = closed_value }) answer = cc in
+    rw (← same) (omega (arith, unconsumed-set s.book name (Answered closed_value request is_sync false) within))
 Covers-granted most s (OfLock lock) name request is_sync answer is fine within e = absurd is
 Covers-granted most s (OfGate gate) name request is_sync answer is fine within e = absurd is
 Covers-granted most s (OfBarrier size) name request is_sync answer is fine within e = absurd is
@@ -218,6 +222,30 @@ Covers-registered_of most s name request is_sync false None true within e fine =
 Covers-registered_of most s name request is_sync false None false within e fine =
     omega (arith, unconsumed-set s.book name (Waiting request is_sync) within)
 
+-- who is told that the semaphore is shut has no grant by it
+pub grant_of-closed : (entry : Entry) → grant_of (answered_entry closed_value entry) ≡ grant_of entry
+grant_of-closed Idle = refl
+grant_of-closed (Waiting request is_sync) = refl
+grant_of-closed (Answered value request is_sync slotted) = refl
+
+-- nor has a line of such
+pub unconsumed-closed : (line : List Waiter) (book : List Entry) → unconsumed (answered_in closed_value line book) ≡ unconsumed book
+unconsumed-closed [] book = refl
+unconsumed-closed (waiter ∷ line) book =
+    let told : Entry = answered_entry closed_value (entry_at book waiter.0) in
+    unconsumed-closed line (set book waiter.0 told) ∙ elim (cases_lt waiter.0 (length book)) [
+      | inl within ↦ omega (arith, unconsumed-set book waiter.0 told within, grant_of-closed (entry_at book waiter.0))
+      | inr past ↦ ap unconsumed (set_past book waiter.0 told past)
+    ]
+
+-- a shut
+pub Covers-shut_of : (s : Object) (held : Held) → s.held ≡ held → Covers s (shut_of s held).state 0 0
+Covers-shut_of s (OfSemaphore bound out) is = omega (arith, ap out_of is, unconsumed-closed s.line s.book)
+Covers-shut_of s (OfShutSemaphore bound out) is = Covers-still s
+Covers-shut_of s (OfLock lock) is = Covers-still s
+Covers-shut_of s (OfGate gate) is = Covers-still s
+Covers-shut_of s (OfBarrier size) is = Covers-still s
+
 -- every command
 pub Covers-done : (most names : ℕ) (command : CommandOf SemaphoreCall ℕ) (s : Object) → IsWithin names command → IsRightSemaphore most names s
     → Covers s (done Permits semaphore_step semaphore_value command s).state
@@ -228,6 +256,8 @@ Covers-done most names (Call (ReleaseMany n)) s within right =
 Covers-done most names (Call AvailablePermits) s within right = Covers-still s
 Covers-done most names (Call IsOpen) s within right = Covers-still s
 Covers-done most names (Call IsClosed) s within right = Covers-still s
+Covers-done most names (Call Shut) s within right = Covers-shut_of s s.held refl
+Covers-done most names (Call IsShut) s within right = Covers-still s
 Covers-done most names (Register name n is_sync) s within right =
     Covers-registered_of most s name (Permits n) is_sync _ (answer_at_once s (Permits n)) _ (omega (arith, right.kept.size)) refl right.kind.fine
 Covers-done most names (TryPoll name) s within right = Covers-polled_of s name Try (entry_at s.book name) refl
@@ -262,6 +292,8 @@ pub reply-given_back : (most : ℕ) (s : Object) (held : Held) (n : ℕ) (is_not
 reply-given_back most s held n true fine within = refl
 reply-given_back most s (OfSemaphore bound out) n false fine within =
     let enough : leb n out ≡ true = le-leb n out within in rw enough refl
+reply-given_back most s (OfShutSemaphore bound out) n false fine within =
+    let enough : leb n out ≡ true = le-leb n out within in rw enough refl
 reply-given_back most s (OfLock lock) n false fine within = absurd fine
 reply-given_back most s (OfGate gate) n false fine within = absurd fine
 reply-given_back most s (OfBarrier size) n false fine within = absurd fine
@@ -285,7 +317,7 @@ pub dropped-whole : (bound permits room names : ℕ) (commands : List (CommandOf
 dropped-whole bound permits room names commands name n is_sync slotted within own at =
     let made : IsRightSemaphore bound names (new_semaphore bound permits room names) = record {
       kept = IsKept-newly_made (OfSemaphore bound (bound - min permits bound)) room names;
-      kind = record { fine = (refl, omega arith); front = refl; asks = tt; poisoned = λ poison. refl };
+      kind = record { fine = (refl, omega arith); front = refl; asks = tt; refused = λ refuses. refl };
     } in
     let end = IsRight-state_after (Grants (IsFineSemaphore bound) (OfSemaphore bound 0)) names Permits semaphore_step semaphore_value
     (KeepsRight-semaphore bound names) commands (new_semaphore bound permits room names) within made in

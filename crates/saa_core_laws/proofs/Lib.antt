@@ -22,3 +22,4 @@ pub mod InHand
 pub mod Rows
 pub mod Witnesses
 pub mod Refusals
+pub mod Shutting

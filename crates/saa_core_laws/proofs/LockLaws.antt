@@ -9,7 +9,7 @@ use Rattle.saa_core_spec.specs.declared.lock.LockCall.{LockCall}
 use Rattle.saa_core_spec.specs.declared.lock.LockCall.TheVariants.{TryLock, TryShare, ReleaseLock, ReleaseShare, Downgrade, PoisonLock, ClearPoison, IsFree, IsLocked, IsShared, IsPoisoned}
 use Rattle.saa_core_spec.specs.declared.lock.LockAnswer.{LockAnswer}
 use Rattle.saa_core_spec.specs.declared.run.CommandOf.{CommandOf}
-use Rattle.saa_core_spec.specs.Held.{Held, OfSemaphore, OfLock, OfGate, OfBarrier, LockState, Free, Exclusive, Shared, Poisoned, IsLockState, max_shared_owners, fits, plus, less, lock_fits, lock_plus, lock_less, held_lock}
+use Rattle.saa_core_spec.specs.Held.{Held, OfSemaphore, OfShutSemaphore, OfLock, OfGate, OfBarrier, LockState, Free, Exclusive, Shared, Poisoned, IsLockState, max_shared_owners, fits, plus, less, refuses_all, lock_fits, lock_plus, lock_less, held_lock}
 use Rattle.saa_core_spec.specs.Object.{Object}
 use Rattle.saa_core_spec.specs.Settling.{fitting_front}
 use Rattle.saa_core_spec.specs.Values.{lock_value, poisoned_value}
@@ -25,6 +25,7 @@ use Rattle.saa_core_laws.proofs.Grants.{Grants, Grants-settled, KeepsFine, nobod
 abbrev pub IsFineLock : Held → Type 0
 IsFineLock (OfLock lock) = IsLockState lock
 IsFineLock (OfSemaphore bound out) = ⊥
+IsFineLock (OfShutSemaphore bound out) = ⊥
 IsFineLock (OfGate gate) = ⊥
 IsFineLock (OfBarrier size) = ⊥
 
@@ -81,6 +82,7 @@ IsLockState-less Poisoned rest request fine e = cc
 pub IsFineLock-plus : (held : Held) (request : Request) → IsFineLock held → fits held request ≡ true → IsFineLock (plus held request)
 IsFineLock-plus (OfLock lock) request fine fit = IsLockState-plus lock request fine fit
 IsFineLock-plus (OfSemaphore bound out) request fine fit = absurd fine
+IsFineLock-plus (OfShutSemaphore bound out) request fine fit = absurd fine
 IsFineLock-plus (OfGate gate) request fine fit = absurd fine
 IsFineLock-plus (OfBarrier size) request fine fit = absurd fine
 
@@ -97,6 +99,7 @@ pub IsFineLock-less : (held rest : Held) (request : Request) → IsFineLock held
 IsFineLock-less (OfLock lock) rest request fine e =
     IsFineLock-held_lock (lock_less lock request) rest (λ left is. IsLockState-less lock left request fine is) e
 IsFineLock-less (OfSemaphore bound out) rest request fine e = absurd fine
+IsFineLock-less (OfShutSemaphore bound out) rest request fine e = absurd fine
 IsFineLock-less (OfGate gate) rest request fine e = absurd fine
 IsFineLock-less (OfBarrier size) rest request fine e = absurd fine
 
@@ -123,6 +126,7 @@ held-poisoned (OfLock Free) e = cc
 held-poisoned (OfLock Exclusive) e = cc
 held-poisoned (OfLock (Shared n)) e = cc
 held-poisoned (OfSemaphore bound out) e = cc
+held-poisoned (OfShutSemaphore bound out) e = cc
 held-poisoned (OfGate gate) e = cc
 held-poisoned (OfBarrier size) e = cc
 
@@ -141,7 +145,7 @@ pub IsRight-poisoned_of : (names : ℕ) (s : Object) (is_own : Bool) → IsRight
 IsRight-poisoned_of names s false right = right
 IsRight-poisoned_of names s true right = record {
   kept = IsKept-all_answered names poisoned_value (record s { held = OfLock Poisoned }) (IsKept-held names s (OfLock Poisoned) right.kept);
-  kind = record { fine = tt; front = refl; asks = tt; poisoned = λ poison. refl };
+  kind = record { fine = tt; front = refl; asks = tt; refused = λ refuses. refl };
 }
 
 -- a cleared lock is free, and nobody waits
@@ -150,10 +154,10 @@ pub IsRight-cleared_of : (names : ℕ) (s : Object) (is_poison : Bool) → (is_p
     → IsRight (Grants IsFineLock (OfLock Free)) names (cleared_of s is_poison).state
 IsRight-cleared_of names s false poison right = right
 IsRight-cleared_of names s true poison right =
-    let nobody : s.line ≡ [] = right.kind.poisoned (poison refl) in
+    let nobody : s.line ≡ [] = right.kind.refused (ap refuses_all (poison refl)) in
     record {
       kept = IsKept-held names s (OfLock Free) right.kept;
-      kind = record { fine = tt; front = ap (fitting_front (OfLock Free)) nobody; asks = right.kind.asks; poisoned = λ again. nobody };
+      kind = record { fine = tt; front = ap (fitting_front (OfLock Free)) nobody; asks = right.kind.asks; refused = λ again. nobody };
     }
 
 -- every call of a lock
@@ -187,6 +191,7 @@ KeepsRight-lock names = record {
 pub lock-bounded : (held : Held) → IsFineLock held → (lock : LockState) × (held ≡ OfLock lock) × IsLockState lock
 lock-bounded (OfLock lock) fine = (lock, refl, fine)
 lock-bounded (OfSemaphore bound out) fine = absurd fine
+lock-bounded (OfShutSemaphore bound out) fine = absurd fine
 lock-bounded (OfGate gate) fine = absurd fine
 lock-bounded (OfBarrier size) fine = absurd fine
 
@@ -197,7 +202,7 @@ IsLockInOrder-right names s right = record {
   bounded = lock-bounded s.held right.kind.fine;
   stands = StandsSettled-from_front s.held s.line right.kind.front;
   free = λ is_free. nobody-fits (OfLock Free) s.line right.kind.asks (sym (ap (λ held. fitting_front held s.line) is_free) ∙ right.kind.front);
-  poisoned = right.kind.poisoned;
+  poisoned = λ poison. right.kind.refused (ap refuses_all poison);
 }
 
 -- every run of a newly made lock leaves it in order
@@ -209,5 +214,5 @@ lock-in_order room names commands within =
     (KeepsRight-lock names) commands (new_lock room names) within
     (record {
       kept = IsKept-newly_made (OfLock Free) room names;
-      kind = record { fine = tt; front = refl; asks = tt; poisoned = λ poison. refl };
+      kind = record { fine = tt; front = refl; asks = tt; refused = λ refuses. refl };
     }))

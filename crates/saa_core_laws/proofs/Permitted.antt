@@ -3,9 +3,10 @@ use Rattle.std.proofs.Common.{◌≡◌, ℕ, suc, zero, ◌+◌, ◌<◌, true,
 use Rattle.std.proofs.lemmas.Bool.{cases_lt}
 use Rattle.saa_core_spec.specs.declared.request.Request.{Request}
 use Rattle.saa_core_spec.specs.declared.request.Request.TheVariants.{Exclusive as AskExclusive, Shared as AskShared, WaitExclusive, WaitShared, Permits, Enter, Arrive}
-use Rattle.saa_core_spec.specs.Held.{Held, OfSemaphore, OfLock, OfGate, OfBarrier, plus}
+use Rattle.saa_core_spec.specs.Held.{Held, OfSemaphore, OfShutSemaphore, OfLock, OfGate, OfBarrier, plus}
 use Rattle.saa_core_spec.specs.Object.{Object, Entry, Idle, Waiting, Answered, Waiter, entry_at}
 use Rattle.saa_core_spec.specs.Settling.{fitting_front, plus_all, answered_entry, answered_in, settled}
+use Rattle.saa_core_spec.specs.Values.{closed_value}
 use Rattle.saa_core_spec.specs.Semaphore.{out_of}
 use Rattle.saa_core_laws.specs.Laws.{is_waiting}
 use Rattle.saa_core_laws.specs.Registrations.{is_answered}
@@ -97,12 +98,15 @@ out-plus_all bound out [] = omega arith
 out-plus_all bound out (waiter ∷ line) =
     ap (λ held. out_of (plus_all held line)) (out-plus bound out waiter.1) ∙ omega (arith, out-plus_all bound (out + permits_of waiter.1) line)
 
--- the same of whatever a semaphore has out
-pub out-plus_all_fine : (most : ℕ) (held : Held) (line : List Waiter) → IsFineSemaphore most held → out_of (plus_all held line) ≡ out_of held + asked line
-out-plus_all_fine most (OfSemaphore bound out) line fine = out-plus_all bound out line
-out-plus_all_fine most (OfLock lock) line fine = absurd fine
-out-plus_all_fine most (OfGate gate) line fine = absurd fine
-out-plus_all_fine most (OfBarrier size) line fine = absurd fine
+-- the same of the front that fits, whatever a semaphore has out; at a shut one nobody fits
+pub out-plus_front : (most : ℕ) (held : Held) (line : List Waiter) → IsFineSemaphore most held
+    → out_of (plus_all held (take (fitting_front held line) line)) ≡ out_of held + asked (take (fitting_front held line) line)
+out-plus_front most (OfSemaphore bound out) line fine = out-plus_all bound out (take (fitting_front (OfSemaphore bound out) line) line)
+out-plus_front most (OfShutSemaphore bound out) [] fine = omega arith
+out-plus_front most (OfShutSemaphore bound out) (waiter ∷ line) fine = omega arith
+out-plus_front most (OfLock lock) line fine = absurd fine
+out-plus_front most (OfGate gate) line fine = absurd fine
+out-plus_front most (OfBarrier size) line fine = absurd fine
 
 -- what the k oldest are granted is what they asked
 pub granted_in_books-front : (k : ℕ) (line : List Waiter) (book : List Entry) → IsInStep line book
@@ -140,6 +144,29 @@ unfolding settled
 out-settled most s fine step =
     omega (
       arith,
-      out-plus_all_fine most s.held (take (fitting_front s.held s.line) s.line) fine,
+      out-plus_front most s.held s.line fine,
       granted_in_books-front (fitting_front s.held s.line) s.line s.book step,
     )
+
+-- who is told that the semaphore is shut is granted nothing
+pub granted_between-closed : (entry : Entry) → granted_between entry (answered_entry closed_value entry) ≡ 0
+granted_between-closed Idle = refl
+granted_between-closed (Waiting request is_sync) = refl
+granted_between-closed (Answered value request is_sync slotted) = refl
+
+-- nothing is granted between books in which no name is granted anything
+pub granted_in_books-none : (before after : List Entry) → ((name : ℕ) → granted_between (entry_at before name) (entry_at after name) ≡ 0)
+    → granted_in_books before after ≡ 0
+granted_in_books-none [] after each = refl
+granted_in_books-none (entry ∷ before) [] each = refl
+granted_in_books-none (entry ∷ before) (other ∷ after) each =
+    let first : granted_between entry other ≡ 0 = each 0 in
+    omega (arith, first, granted_in_books-none before after (λ name. each (suc name)))
+
+-- so a shut grants nothing
+pub granted_in_books-closed : (line : List Waiter) (book : List Entry) → granted_in_books book (answered_in closed_value line book) ≡ 0
+granted_in_books-closed line book = granted_in_books-none book (answered_in closed_value line book) (λ name.
+    elim (entry_at-answered_in closed_value line book name) [
+      | inl same ↦ rw same (granted_between-same (entry_at book name))
+      | inr told ↦ rw told (granted_between-closed (entry_at book name))
+    ])

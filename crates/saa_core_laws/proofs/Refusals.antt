@@ -3,7 +3,7 @@ use Rattle.std.proofs.Common.{◌≡◌, ℕ, suc, zero, ◌≤◌, Bool, true, 
 use Rattle.saa_core_spec.specs.declared.request.Request.{Request}
 use Rattle.saa_core_spec.specs.declared.request.Request.TheVariants.{Permits}
 use Rattle.saa_core_spec.specs.declared.gate.State.{State}
-use Rattle.saa_core_spec.specs.Held.{LockState, OfSemaphore, OfLock, OfGate, OfBarrier, asks_too_much}
+use Rattle.saa_core_spec.specs.Held.{LockState, OfSemaphore, OfShutSemaphore, OfLock, OfGate, OfBarrier, asks_too_much}
 use Rattle.saa_core_spec.specs.Object.{Object, After, Idle, entry_at}
 use Rattle.saa_core_spec.specs.Asking.{is_idle, registered, registered_of}
 

@@ -19,7 +19,7 @@ use Rattle.saa_core_spec.specs.declared.run.ReplyOf.{ReplyOf}
 use Rattle.saa_core_spec.specs.declared.run.ReplyOf.TheVariants.{Polled}
 use Rattle.saa_core_spec.specs.declared.run.CommandOf.{CommandOf}
 use Rattle.saa_core_spec.specs.declared.run.CommandOf.TheVariants.{Call, Register, TryPoll, PollSync, PollAsync, Drop}
-use Rattle.saa_core_spec.specs.Held.{Held, OfSemaphore, OfLock, OfGate, OfBarrier, asks_too_much}
+use Rattle.saa_core_spec.specs.Held.{Held, OfSemaphore, OfShutSemaphore, OfLock, OfGate, OfBarrier, asks_too_much}
 use Rattle.saa_core_spec.specs.Object.{Object, After, Entry, Idle, Waiting, Answered, Waiter, entry_at, with_entry, newly_made, one_if, without}
 use Rattle.saa_core_spec.specs.Settling.{answered_entry, answered_in, all_answered}
 use Rattle.saa_core_spec.specs.Asking.{is_idle, answer_in, answer_at_once, registered_of}
@@ -69,6 +69,7 @@ Balances-polled size s name how = omega (arith, ap (λ (l : List Waiter). length
 pub line-left_of : (most : ℕ) (s : Object) (held : Held) (line : List Waiter) → IsFineBarrier most held line → (left_of s held).line ≡ s.line
 line-left_of most s (OfBarrier size) line fine = refl
 line-left_of most s (OfSemaphore bound out) line fine = absurd fine
+line-left_of most s (OfShutSemaphore bound out) line fine = absurd fine
 line-left_of most s (OfLock lock) line fine = absurd fine
 line-left_of most s (OfGate gate) line fine = absurd fine
 
@@ -77,6 +78,7 @@ pub line-undone_of : (most : ℕ) (s : Object) (held : Held) (line : List Waiter
     → (undone_of s held request).line ≡ s.line
 line-undone_of most s (OfBarrier size) line request fine = refl
 line-undone_of most s (OfSemaphore bound out) line request fine = absurd fine
+line-undone_of most s (OfShutSemaphore bound out) line request fine = absurd fine
 line-undone_of most s (OfLock lock) line request fine = absurd fine
 line-undone_of most s (OfGate gate) line request fine = absurd fine
 
@@ -115,6 +117,7 @@ IsLast-answered most s (OfBarrier size) line request answer fine e =
       reply = sym (ap (λ (a : After ℕ). a.reply) parts.1);
     }
 IsLast-answered most s (OfSemaphore bound out) line request answer fine e = absurd fine
+IsLast-answered most s (OfShutSemaphore bound out) line request answer fine e = absurd fine
 IsLast-answered most s (OfLock lock) line request answer fine e = absurd fine
 IsLast-answered most s (OfGate gate) line request answer fine e = absurd fine
 
@@ -361,6 +364,7 @@ poll-answers s name other how waits there =
 pub book-left_of : (most : ℕ) (s : Object) (held : Held) (line : List Waiter) → IsFineBarrier most held line → (left_of s held).book ≡ s.book
 book-left_of most s (OfBarrier size) line fine = refl
 book-left_of most s (OfSemaphore bound out) line fine = absurd fine
+book-left_of most s (OfShutSemaphore bound out) line fine = absurd fine
 book-left_of most s (OfLock lock) line fine = absurd fine
 book-left_of most s (OfGate gate) line fine = absurd fine
 
@@ -369,6 +373,7 @@ pub book-undone_of : (most : ℕ) (s : Object) (held : Held) (line : List Waiter
     → (undone_of s held request).book ≡ s.book
 book-undone_of most s (OfBarrier size) line request fine = refl
 book-undone_of most s (OfSemaphore bound out) line request fine = absurd fine
+book-undone_of most s (OfShutSemaphore bound out) line request fine = absurd fine
 book-undone_of most s (OfLock lock) line request fine = absurd fine
 book-undone_of most s (OfGate gate) line request fine = absurd fine
 

@@ -4,13 +4,13 @@
 use Rattle.std.specs.Prelude.{◌≡◌, ℕ, Bool, true, false, List, [], ◌∷◌, ◌++◌, replicate, Some, None, Result, Ok, Err, refl}
 use Rattle.saa_core_spec.specs.declared.request.Request.TheVariants.{Permits}
 use Rattle.saa_core_spec.specs.declared.polling.Error.{Error}
-use Rattle.saa_core_spec.specs.declared.polling.Error.TheVariants.{NotReady}
+use Rattle.saa_core_spec.specs.declared.polling.Error.TheVariants.{NotReady, Closed}
 use Rattle.saa_core_spec.specs.declared.run.CommandOf.{CommandOf}
 use Rattle.saa_core_spec.specs.declared.run.CommandOf.TheVariants.{Call, Register, TryPoll, PollSync, PollAsync, Drop}
 use Rattle.saa_core_spec.specs.declared.run.ReplyOf.{ReplyOf}
 use Rattle.saa_core_spec.specs.declared.run.ReplyOf.TheVariants.{Answered, Registered, Polled, Dropped}
 use Rattle.saa_core_spec.specs.declared.semaphore.SemaphoreCall.{SemaphoreCall}
-use Rattle.saa_core_spec.specs.declared.semaphore.SemaphoreCall.TheVariants.{TryAcquireMany, ReleaseMany, AvailablePermits}
+use Rattle.saa_core_spec.specs.declared.semaphore.SemaphoreCall.TheVariants.{TryAcquireMany, ReleaseMany, AvailablePermits, IsOpen, IsClosed, Shut, IsShut}
 use Rattle.saa_core_spec.specs.declared.semaphore.SemaphoreAnswer.{SemaphoreAnswer}
 use Rattle.saa_core_spec.specs.declared.semaphore.SemaphoreAnswer.TheVariants.{Bool as SemaphoreBool, Number}
 use Rattle.saa_core_spec.specs.declared.lock.Mode.{Mode}
@@ -119,6 +119,10 @@ number permits = Answered (Number permits)
 -- the registration was granted
 abbrev granted : {A : Type 0} → ReplyOf A (Result (Unit {0}) Error)
 granted = Polled (Ok tt)
+
+-- the semaphore was shut
+abbrev closed : {A : Type 0} → ReplyOf A (Result (Unit {0}) Error)
+closed = Polled (Err Closed)
 
 -- an answer by a lock's call that isn't a try
 abbrev lock_says : Bool → ReplyOf LockAnswer (Result Bool Error)
@@ -306,6 +310,75 @@ pub one_permit_goes_in_turn : BoundedTells 1 1 2 (
     ∷ [])
 unfolding settled
 one_permit_goes_in_turn = refl
+
+-- One permit is available, and two wait: the semaphore is shut, and both are told so, each once. From then on a try is false, whatever is
+-- available, and a registration is told at once. Shutting again is false, and so is an ask for more than there ever is.
+pub a_shut_semaphore_tells_who_waits_and_who_comes : SemaphoreTells 63 usual_room (
+    (Call (TryAcquireMany 62), says true)
+    ∷ (reg 1 2, stands)
+    ∷ (reg_async 2 1, stands)
+    ∷ (Call IsShut, says false)
+    ∷ (Call Shut, says true)
+    ∷ (Call IsShut, says true)
+    ∷ (PollSync 1, closed)
+    ∷ (Call AvailablePermits, number 1)
+    ∷ (Call (TryAcquireMany 1), says false)
+    ∷ (Call (TryAcquireMany 0), says false)
+    ∷ (reg 1 1, stands)
+    ∷ (PollSync 1, closed)
+    ∷ (PollAsync 2, closed)
+    ∷ (Call Shut, says false)
+    ∷ (reg 1 64, refused)
+    ∷ [])
+unfolding settled
+a_shut_semaphore_tells_who_waits_and_who_comes = refl
+
+-- What is out comes back to a shut semaphore as ever: whether any permits are available, or none, is told as before, and more than
+-- is out can't be given back.
+pub permits_come_back_to_a_shut_semaphore : BoundedTells 2 2 usual_room (
+    (Call (TryAcquireMany 2), says true)
+    ∷ (Call Shut, says true)
+    ∷ (Call IsClosed, says true)
+    ∷ (Call (ReleaseMany 1), says true)
+    ∷ (Call IsOpen, says true)
+    ∷ (Call (TryAcquireMany 1), says false)
+    ∷ (Call (ReleaseMany 1), says true)
+    ∷ (Call (ReleaseMany 1), says false)
+    ∷ (Call AvailablePermits, number 2)
+    ∷ [])
+unfolding settled
+permits_come_back_to_a_shut_semaphore = refl
+
+-- A grant that isn't polled yet when the semaphore is shut is a grant, to be polled or dropped. An answer that it is shut gives
+-- nothing back where it is dropped.
+pub a_grant_before_the_shut_is_a_grant : SemaphoreTells 63 usual_room (
+    (Call (TryAcquireMany 63), says true)
+    ∷ (reg 1 1, stands)
+    ∷ (reg 2 1, stands)
+    ∷ (reg 3 1, stands)
+    ∷ (Call (ReleaseMany 2), says true)
+    ∷ (Call Shut, says true)
+    ∷ (PollSync 1, granted)
+    ∷ (Drop 2, Dropped)
+    ∷ (Call AvailablePermits, number 1)
+    ∷ (Drop 3, Dropped)
+    ∷ (Call AvailablePermits, number 1)
+    ∷ [])
+unfolding settled
+a_grant_before_the_shut_is_a_grant = refl
+
+-- The answer of a shut semaphore needs no slot, but who waited keeps its own until it is told.
+pub a_shut_semaphore_is_never_full : SemaphoreTells 63 1 (
+    (Call (TryAcquireMany 63), says true)
+    ∷ (reg 1 1, stands)
+    ∷ (reg 2 1, full)
+    ∷ (Call Shut, says true)
+    ∷ (reg 2 1, stands)
+    ∷ (PollSync 2, closed)
+    ∷ (PollSync 1, closed)
+    ∷ [])
+unfolding settled
+a_shut_semaphore_is_never_full = refl
 
 -- Lock
 

@@ -1,5 +1,5 @@
 -- A semaphore or a lock that stands settled stays so under every command, whatever its line and book are.
-use Rattle.std.proofs.Common.{◌≡◌, ℕ, Bool, true, false, eqb, List, [], ◌∷◌, ◌++◌, Option, Some, None, refl, ap, ◌∙◌, inl, inr}
+use Rattle.std.proofs.Common.{◌≡◌, ℕ, Bool, true, false, eqb, List, [], ◌∷◌, ◌++◌, Option, Some, None, refl, sym, ap, ◌∙◌, inl, inr}
 use Rattle.std.proofs.lemmas.Bool.{cases_Bool, and_parts}
 use Rattle.std.proofs.lemmas.Option.{cond_some}
 use Rattle.std.specs.Prelude.{Result}
@@ -9,23 +9,23 @@ use Rattle.saa_core_spec.specs.declared.polling.How.TheVariants.{Try, Sync, Asyn
 use Rattle.saa_core_spec.specs.declared.polling.Error.{Error}
 use Rattle.saa_core_spec.specs.declared.run.CommandOf.{CommandOf}
 use Rattle.saa_core_spec.specs.declared.run.CommandOf.TheVariants.{Call, Register, TryPoll, PollSync, PollAsync, Drop}
-use Rattle.saa_core_spec.specs.Held.{Held, OfSemaphore, OfLock, OfGate, OfBarrier, Free, Exclusive, Shared, Poisoned, fits, plus, less}
+use Rattle.saa_core_spec.specs.Held.{Held, OfSemaphore, OfShutSemaphore, OfLock, OfGate, OfBarrier, Free, Exclusive, Shared, Poisoned, fits, plus, less, refuses_all}
 use Rattle.saa_core_spec.specs.Object.{Object, After, Entry, Idle, Waiting, Answered, Waiter, with_entry, entry_at, without}
 use Rattle.saa_core_spec.specs.Settling.{fitting_front, settled}
 use Rattle.saa_core_spec.specs.Asking.{is_granted_at_once, tried, granted_at_once, answer_in, answer_at_once, registered_of}
 use Rattle.saa_core_spec.specs.Polling.{is_for_nothing, given_back_of, given_back, left_of, undone_of, dropped_of, polled_in, polled_of, is_right_mode}
-use Rattle.saa_core_spec.specs.Values.{granted_value, poisoned_value}
+use Rattle.saa_core_spec.specs.Values.{granted_value, closed_value, poisoned_value}
 use Rattle.saa_core_spec.specs.Run.{done, state_after}
 use Rattle.saa_core_spec.proofs.FittingFronts.{fitting_front-settled}
-use Rattle.saa_core_spec.proofs.Poison.{less-not_poisoned, plus_all-not_poisoned}
+use Rattle.saa_core_spec.proofs.Refusing.{less-refusing, plus_all-refusing}
 use Rattle.saa_core_laws.proofs.Commands.{cond_none}
 use Rattle.saa_core_laws.proofs.Grants.{KeepsFine, fitting_front-joined, is_nobody-empty, fine-settled}
 
--- a value that is fine in its own way, whose line stands settled, and at which nobody waits if it is a poisoned lock
+-- a value that is fine in its own way, whose line stands settled, and at which nobody waits if every request is refused
 pub record Stands (IsFine : Held → Type 0) (held : Held) (line : List Waiter) : Type 0 where
   pub fine : IsFine held
   pub front : fitting_front held line ≡ 0
-  pub poisoned : held ≡ OfLock Poisoned → line ≡ []
+  pub refused : refuses_all held ≡ true → line ≡ []
 
 -- a poll in a right mode or a wrong one writes the book alone
 pub Stands-polled_in : (IsFine : Held → Type 0) (s : Object) (name : ℕ) (entry : Entry) (is_right : Bool)
@@ -46,13 +46,13 @@ Stands-polled_of IsFine s name how (Answered value request is_sync slotted) stan
 
 module _ (IsFine : Held → Type 0) (keeps : KeepsFine IsFine) where
   -- what is settled stands settled
-  pub Stands-settled : (s : Object) → IsFine s.held → (s.held ≡ OfLock Poisoned → s.line ≡ [])
+  pub Stands-settled : (s : Object) → IsFine s.held → (refuses_all s.held ≡ true → s.line ≡ [])
       → Stands IsFine (settled s).held (settled s).line
   unfolding settled
-  Stands-settled s fine poisoned = record {
+  Stands-settled s fine refused = record {
     fine = fine-settled IsFine (OfLock Free) 0 keeps s.held s.line fine;
     front = fitting_front-settled s.held s.line;
-    poisoned = λ e. let nobody : s.line ≡ [] = poisoned (plus_all-not_poisoned s.held s.line e) in rw nobody refl;
+    refused = λ e. let nobody : s.line ≡ [] = refused (sym (plus_all-refusing s.held s.line) ∙ e) in rw nobody refl;
   }
 
   -- giving back, where it is nothing, where it is held, and where it isn't
@@ -62,7 +62,7 @@ module _ (IsFine : Held → Type 0) (keeps : KeepsFine IsFine) where
   Stands-given_back_of s request false None e stands = stands
   Stands-given_back_of s request false (Some rest) e stands =
       Stands-settled (record s { held = rest }) (keeps.takes s.held rest request stands.fine e)
-      (λ poison. absurd (less-not_poisoned s.held request (e ∙ ap (λ (h : Held). Some h) poison)))
+      (λ refuses. stands.refused (sym (less-refusing s.held rest request e) ∙ refuses))
 
   -- giving back any request
   pub Stands-given_back : (s : Object) (request : Request)
@@ -78,7 +78,7 @@ module _ (IsFine : Held → Type 0) (keeps : KeepsFine IsFine) where
       record {
         fine = keeps.adds s.held request stands.fine parts.1;
         front = ap (fitting_front (plus s.held request)) nobody;
-        poisoned = λ _. nobody;
+        refused = λ _. nobody;
       }
 
   -- a try
@@ -100,6 +100,9 @@ module _ (IsFine : Held → Type 0) (keeps : KeepsFine IsFine) where
   pub Stands-answered : (s : Object) (held : Held) (request : Request) (answer : After ℕ) → IsFine held → answer_in s held request ≡ Some answer
       → Stands IsFine s.held s.line → Stands IsFine answer.state.held answer.state.line
   Stands-answered s (OfSemaphore bound out) request answer fine e stands = Stands-granted s request answer e stands
+  Stands-answered s (OfShutSemaphore bound out) request answer fine e stands =
+      let same : ◌≡◌ {A = After ℕ} (record { state = s; reply = closed_value }) answer = cc in
+      rw (← same) stands
   Stands-answered s (OfLock Free) request answer fine e stands = Stands-granted s request answer e stands
   Stands-answered s (OfLock Exclusive) request answer fine e stands = Stands-granted s request answer e stands
   Stands-answered s (OfLock (Shared n)) request answer fine e stands = Stands-granted s request answer e stands
@@ -109,22 +112,23 @@ module _ (IsFine : Held → Type 0) (keeps : KeepsFine IsFine) where
   Stands-answered s (OfGate gate) request answer fine e stands = absurd (keeps.no_gate gate fine)
   Stands-answered s (OfBarrier size) request answer fine e stands = absurd (keeps.no_barrier size fine)
 
-  -- one more who isn't granted at once, at what isn't poisoned
-  pub Stands-joined : (s : Object) (waiter : Waiter) → granted_at_once s waiter.1 ≡ None → (s.held ≡ OfLock Poisoned → ⊥)
+  -- one more who isn't granted at once and isn't refused
+  pub Stands-joined : (s : Object) (waiter : Waiter) → granted_at_once s waiter.1 ≡ None → refuses_all s.held ≡ false
       → Stands IsFine s.held s.line → Stands IsFine s.held (s.line ++ waiter ∷ [])
-  Stands-joined s waiter e sound stands = record {
+  Stands-joined s waiter e grants_some stands = record {
     fine = stands.fine;
     front = fitting_front-joined s.held s.line waiter stands.front (cond_none (is_granted_at_once s waiter.1) _ e);
-    poisoned = λ poison. absurd (sound poison);
+    refused = λ refuses. let both : ◌≡◌ {A = Bool} false true = sym grants_some ∙ refuses in cc;
   }
 
   -- one more, as nothing was answered at once
   pub Stands-waits : (s : Object) (held : Held) (waiter : Waiter) → s.held ≡ held → IsFine held → answer_in s held waiter.1 ≡ None
       → Stands IsFine s.held s.line → Stands IsFine s.held (s.line ++ waiter ∷ [])
-  Stands-waits s (OfSemaphore bound out) waiter is fine e stands = Stands-joined s waiter e (λ poison. cc) stands
-  Stands-waits s (OfLock Free) waiter is fine e stands = Stands-joined s waiter e (λ poison. cc) stands
-  Stands-waits s (OfLock Exclusive) waiter is fine e stands = Stands-joined s waiter e (λ poison. cc) stands
-  Stands-waits s (OfLock (Shared n)) waiter is fine e stands = Stands-joined s waiter e (λ poison. cc) stands
+  Stands-waits s (OfSemaphore bound out) waiter is fine e stands = Stands-joined s waiter e (ap refuses_all is) stands
+  Stands-waits s (OfLock Free) waiter is fine e stands = Stands-joined s waiter e (ap refuses_all is) stands
+  Stands-waits s (OfLock Exclusive) waiter is fine e stands = Stands-joined s waiter e (ap refuses_all is) stands
+  Stands-waits s (OfLock (Shared n)) waiter is fine e stands = Stands-joined s waiter e (ap refuses_all is) stands
+  Stands-waits s (OfShutSemaphore bound out) waiter is fine e stands = cc
   Stands-waits s (OfLock Poisoned) waiter is fine e stands = cc
   Stands-waits s (OfGate gate) waiter is fine e stands = absurd (keeps.no_gate gate fine)
   Stands-waits s (OfBarrier size) waiter is fine e stands = absurd (keeps.no_barrier size fine)
@@ -144,9 +148,11 @@ module _ (IsFine : Held → Type 0) (keeps : KeepsFine IsFine) where
       → Stands IsFine (left_of (record (with_entry s name Idle) { line = without name s.line }) held).held
       (left_of (record (with_entry s name Idle) { line = without name s.line }) held).line
   Stands-left_of s (OfSemaphore bound out) name fine stands =
-      Stands-settled (record (with_entry s name Idle) { line = without name s.line }) stands.fine (λ poison. ap (without name) (stands.poisoned poison))
+      Stands-settled (record (with_entry s name Idle) { line = without name s.line }) stands.fine (λ refuses. ap (without name) (stands.refused refuses))
+  Stands-left_of s (OfShutSemaphore bound out) name fine stands =
+      Stands-settled (record (with_entry s name Idle) { line = without name s.line }) stands.fine (λ refuses. ap (without name) (stands.refused refuses))
   Stands-left_of s (OfLock lock) name fine stands =
-      Stands-settled (record (with_entry s name Idle) { line = without name s.line }) stands.fine (λ poison. ap (without name) (stands.poisoned poison))
+      Stands-settled (record (with_entry s name Idle) { line = without name s.line }) stands.fine (λ refuses. ap (without name) (stands.refused refuses))
   Stands-left_of s (OfGate gate) name fine stands = absurd (keeps.no_gate gate fine)
   Stands-left_of s (OfBarrier size) name fine stands = absurd (keeps.no_barrier size fine)
 
@@ -154,6 +160,7 @@ module _ (IsFine : Held → Type 0) (keeps : KeepsFine IsFine) where
   pub Stands-undone_of : (s : Object) (held : Held) (request : Request) → Stands IsFine s.held s.line
       → Stands IsFine (undone_of s held request).held (undone_of s held request).line
   Stands-undone_of s (OfSemaphore bound out) request stands = Stands-given_back s request stands
+  Stands-undone_of s (OfShutSemaphore bound out) request stands = Stands-given_back s request stands
   Stands-undone_of s (OfLock lock) request stands = Stands-given_back s request stands
   Stands-undone_of s (OfGate gate) request stands = stands
   Stands-undone_of s (OfBarrier size) request stands = stands

@@ -1,31 +1,34 @@
 -- A settled semaphore and a settled lock stay settled, under every command and every list of commands.
-use Rattle.std.proofs.Common.{◌≡◌, ℕ, ◌-◌, true, false, leb, List, [], Some, refl, ap, Bool}
+use Rattle.std.proofs.Common.{◌≡◌, ℕ, ◌-◌, true, false, ◌⊎◌, inl, inr, leb, List, [], Some, refl, ap, Bool}
 use Rattle.std.proofs.lemmas.Option.{cond_some}
 use Rattle.saa_core_spec.specs.declared.request.Request.{Request}
 use Rattle.saa_core_spec.specs.declared.request.Request.TheVariants.{Exclusive as AskExclusive, Shared as AskShared, WaitExclusive, WaitShared, Permits, Enter, Arrive}
 use Rattle.saa_core_spec.specs.declared.semaphore.SemaphoreCall.{SemaphoreCall}
-use Rattle.saa_core_spec.specs.declared.semaphore.SemaphoreCall.TheVariants.{TryAcquireMany, ReleaseMany, AvailablePermits, IsOpen, IsClosed}
+use Rattle.saa_core_spec.specs.declared.semaphore.SemaphoreCall.TheVariants.{TryAcquireMany, ReleaseMany, AvailablePermits, IsOpen, IsClosed, Shut, IsShut}
 use Rattle.saa_core_spec.specs.declared.lock.Mode.{Mode}
 use Rattle.saa_core_spec.specs.declared.lock.LockCall.{LockCall}
 use Rattle.saa_core_spec.specs.declared.lock.LockCall.TheVariants.{TryLock, TryShare, ReleaseLock, ReleaseShare, Downgrade, PoisonLock, ClearPoison, IsFree, IsLocked, IsShared, IsPoisoned}
 use Rattle.saa_core_spec.specs.declared.run.CommandOf.{CommandOf}
-use Rattle.saa_core_spec.specs.Held.{Held, OfSemaphore, OfLock, OfGate, OfBarrier, LockState, Free, Shared, Poisoned, fits, plus, less, lock_less, held_lock}
+use Rattle.saa_core_spec.specs.Held.{Held, OfSemaphore, OfShutSemaphore, OfLock, OfGate, OfBarrier, LockState, Free, Exclusive, Shared, Poisoned, fits, plus, less, refuses_all, lock_less, held_lock}
 use Rattle.saa_core_spec.specs.Object.{Object}
 use Rattle.saa_core_spec.specs.Settling.{fitting_front}
 use Rattle.saa_core_spec.specs.Values.{semaphore_value, lock_value}
-use Rattle.saa_core_spec.specs.Semaphore.{semaphore_step}
+use Rattle.saa_core_spec.specs.Semaphore.{semaphore_step, is_shut, shut_of}
 use Rattle.saa_core_spec.specs.Lock.{lock_step, mode_request, is_locked, is_poisoned, downgraded_of, poisoned_of, cleared_of}
 use Rattle.saa_core_spec.specs.Run.{done, state_after}
 use Rattle.saa_core_laws.specs.RunLaws.{IsSettledSemaphore, IsSettledLock}
+use Rattle.saa_core_laws.specs.Laws.{IsSemaphoreWith}
+use Rattle.saa_core_laws.proofs.SemaphoreLaws.{shut-refuses}
 use Rattle.saa_core_laws.proofs.Fronts.{StandsSettled-from_front, fitting_front-stands}
 use Rattle.saa_core_laws.proofs.Grants.{KeepsFine}
 use Rattle.saa_core_laws.proofs.LockLaws.{held-poisoned}
 use Rattle.saa_core_laws.proofs.Settled.{Stands, Stands-settled, Stands-tried, Stands-given_back, Stands-done, Stands-run}
 use Rattle.std.specs.Prelude.{Option, None}
 
--- a semaphore of this bound, whatever is out
+-- a semaphore of this bound, whatever is out, shut or not
 abbrev pub IsOfBound : ℕ → Held → Type 0
 IsOfBound most (OfSemaphore bound out) = bound ≡ most
+IsOfBound most (OfShutSemaphore bound out) = bound ≡ most
 IsOfBound most (OfLock lock) = ⊥
 IsOfBound most (OfGate gate) = ⊥
 IsOfBound most (OfBarrier size) = ⊥
@@ -39,6 +42,7 @@ IsOfBound-plus most (OfSemaphore bound out) WaitExclusive fine fit = fine
 IsOfBound-plus most (OfSemaphore bound out) WaitShared fine fit = fine
 IsOfBound-plus most (OfSemaphore bound out) Enter fine fit = fine
 IsOfBound-plus most (OfSemaphore bound out) Arrive fine fit = fine
+IsOfBound-plus most (OfShutSemaphore bound out) request fine fit = cc
 IsOfBound-plus most (OfLock lock) request fine fit = absurd fine
 IsOfBound-plus most (OfGate gate) request fine fit = absurd fine
 IsOfBound-plus most (OfBarrier size) request fine fit = absurd fine
@@ -54,6 +58,15 @@ IsOfBound-less most (OfSemaphore bound out) rest WaitExclusive fine e = cc
 IsOfBound-less most (OfSemaphore bound out) rest WaitShared fine e = cc
 IsOfBound-less most (OfSemaphore bound out) rest Enter fine e = cc
 IsOfBound-less most (OfSemaphore bound out) rest Arrive fine e = cc
+IsOfBound-less most (OfShutSemaphore bound out) rest (Permits n) fine e =
+    let parts = cond_some (leb n out) (OfShutSemaphore bound (out - n)) rest e in
+    rw (← parts.1) fine
+IsOfBound-less most (OfShutSemaphore bound out) rest AskExclusive fine e = cc
+IsOfBound-less most (OfShutSemaphore bound out) rest AskShared fine e = cc
+IsOfBound-less most (OfShutSemaphore bound out) rest WaitExclusive fine e = cc
+IsOfBound-less most (OfShutSemaphore bound out) rest WaitShared fine e = cc
+IsOfBound-less most (OfShutSemaphore bound out) rest Enter fine e = cc
+IsOfBound-less most (OfShutSemaphore bound out) rest Arrive fine e = cc
 IsOfBound-less most (OfLock lock) rest request fine e = absurd fine
 IsOfBound-less most (OfGate gate) rest request fine e = absurd fine
 IsOfBound-less most (OfBarrier size) rest request fine e = absurd fine
@@ -71,6 +84,7 @@ KeepsFine-bound most = record {
 abbrev pub IsAnyLock : Held → Type 0
 IsAnyLock (OfLock lock) = Unit {0}
 IsAnyLock (OfSemaphore bound out) = ⊥
+IsAnyLock (OfShutSemaphore bound out) = ⊥
 IsAnyLock (OfGate gate) = ⊥
 IsAnyLock (OfBarrier size) = ⊥
 
@@ -78,6 +92,7 @@ IsAnyLock (OfBarrier size) = ⊥
 pub IsAnyLock-plus : (held : Held) (request : Request) → IsAnyLock held → fits held request ≡ true → IsAnyLock (plus held request)
 IsAnyLock-plus (OfLock lock) request fine fit = tt
 IsAnyLock-plus (OfSemaphore bound out) request fine fit = absurd fine
+IsAnyLock-plus (OfShutSemaphore bound out) request fine fit = absurd fine
 IsAnyLock-plus (OfGate gate) request fine fit = absurd fine
 IsAnyLock-plus (OfBarrier size) request fine fit = absurd fine
 
@@ -90,6 +105,7 @@ IsAnyLock-held_lock None held e = cc
 pub IsAnyLock-less : (held rest : Held) (request : Request) → IsAnyLock held → less held request ≡ Some rest → IsAnyLock rest
 IsAnyLock-less (OfLock lock) rest request fine e = IsAnyLock-held_lock (lock_less lock request) rest e
 IsAnyLock-less (OfSemaphore bound out) rest request fine e = absurd fine
+IsAnyLock-less (OfShutSemaphore bound out) rest request fine e = absurd fine
 IsAnyLock-less (OfGate gate) rest request fine e = absurd fine
 IsAnyLock-less (OfBarrier size) rest request fine e = absurd fine
 
@@ -102,6 +118,15 @@ KeepsFine-any_lock = record {
   no_barrier = λ size fine. fine;
 }
 
+-- a semaphore that is shut leaves nobody waiting
+pub Stands-shut_of : (most : ℕ) (s : Object) (held : Held) → IsOfBound most held → Stands (IsOfBound most) s.held s.line
+    → Stands (IsOfBound most) (shut_of s held).state.held (shut_of s held).state.line
+Stands-shut_of most s (OfSemaphore bound out) fine stands = record { fine = fine; front = refl; refused = λ refuses. refl }
+Stands-shut_of most s (OfShutSemaphore bound out) fine stands = stands
+Stands-shut_of most s (OfLock lock) fine stands = stands
+Stands-shut_of most s (OfGate gate) fine stands = stands
+Stands-shut_of most s (OfBarrier size) fine stands = stands
+
 -- every call of a semaphore
 pub Stands-semaphore_step : (most : ℕ) (call : SemaphoreCall) (s : Object) → Stands (IsOfBound most) s.held s.line
     → Stands (IsOfBound most) (semaphore_step call s).state.held (semaphore_step call s).state.line
@@ -110,6 +135,8 @@ Stands-semaphore_step most (ReleaseMany count) s stands = Stands-given_back (IsO
 Stands-semaphore_step most AvailablePermits s stands = stands
 Stands-semaphore_step most IsOpen s stands = stands
 Stands-semaphore_step most IsClosed s stands = stands
+Stands-semaphore_step most Shut s stands = Stands-shut_of most s s.held stands.fine stands
+Stands-semaphore_step most IsShut s stands = stands
 
 -- a downgrade settles the lock of one sharer
 pub Stands-downgraded_of : (s : Object) (is_own : Bool) → Stands IsAnyLock s.held s.line
@@ -122,15 +149,15 @@ Stands-downgraded_of s true stands =
 pub Stands-poisoned_of : (s : Object) (is_own : Bool) → Stands IsAnyLock s.held s.line
     → Stands IsAnyLock (poisoned_of s is_own).state.held (poisoned_of s is_own).state.line
 Stands-poisoned_of s false stands = stands
-Stands-poisoned_of s true stands = record { fine = tt; front = refl; poisoned = λ poison. refl }
+Stands-poisoned_of s true stands = record { fine = tt; front = refl; refused = λ refuses. refl }
 
 -- a cleared lock is free, and nobody waits
 pub Stands-cleared_of : (s : Object) (is_poison : Bool) → (is_poison ≡ true → s.held ≡ OfLock Poisoned) → Stands IsAnyLock s.held s.line
     → Stands IsAnyLock (cleared_of s is_poison).state.held (cleared_of s is_poison).state.line
 Stands-cleared_of s false poison stands = stands
 Stands-cleared_of s true poison stands =
-    let nobody : s.line ≡ [] = stands.poisoned (poison refl) in
-    record { fine = tt; front = ap (fitting_front (OfLock Free)) nobody; poisoned = λ again. nobody }
+    let nobody : s.line ≡ [] = stands.refused (ap refuses_all (poison refl)) in
+    record { fine = tt; front = ap (fitting_front (OfLock Free)) nobody; refused = λ again. nobody }
 
 -- every call of a lock
 pub Stands-lock_step : (call : LockCall) (s : Object) → Stands IsAnyLock s.held s.line
@@ -148,55 +175,77 @@ Stands-lock_step IsShared s stands = stands
 Stands-lock_step IsPoisoned s stands = stands
 
 -- a semaphore of a bound is one
-pub kind-bound : (most : ℕ) (held : Held) → IsOfBound most held → (out : ℕ) × (held ≡ OfSemaphore most out)
-kind-bound most (OfSemaphore bound out) fine = (out, ap (λ b. OfSemaphore b out) fine)
+pub kind-bound : (most : ℕ) (held : Held) → IsOfBound most held → (out : ℕ) × IsSemaphoreWith most out held
+kind-bound most (OfSemaphore bound out) fine = (out, inl (ap (λ b. OfSemaphore b out) fine))
+kind-bound most (OfShutSemaphore bound out) fine = (out, inr (ap (λ b. OfShutSemaphore b out) fine))
 kind-bound most (OfLock lock) fine = absurd fine
 kind-bound most (OfGate gate) fine = absurd fine
 kind-bound most (OfBarrier size) fine = absurd fine
 
--- and it isn't a lock
-pub bound-unpoisoned : (most : ℕ) (held : Held) → IsOfBound most held → held ≡ OfLock Poisoned → ⊥
-bound-unpoisoned most (OfSemaphore bound out) fine e = cc
-bound-unpoisoned most (OfLock lock) fine e = fine
-bound-unpoisoned most (OfGate gate) fine e = fine
-bound-unpoisoned most (OfBarrier size) fine e = fine
+-- and the other way round
+pub IsOfBound-kind : (most out : ℕ) (held : Held) → IsSemaphoreWith most out held → IsOfBound most held
+IsOfBound-kind most out held (inl is) = rw is refl
+IsOfBound-kind most out held (inr is) = rw is refl
+
+-- it refuses every request only where it is shut
+pub bound-shut : (most : ℕ) (held : Held) → IsOfBound most held → refuses_all held ≡ true → is_shut held ≡ true
+bound-shut most (OfSemaphore bound out) fine e = cc
+bound-shut most (OfShutSemaphore bound out) fine e = refl
+bound-shut most (OfLock lock) fine e = absurd fine
+bound-shut most (OfGate gate) fine e = absurd fine
+bound-shut most (OfBarrier size) fine e = absurd fine
 
 -- a lock is one
 pub kind-any_lock : (held : Held) → IsAnyLock held → (lock : LockState) × (held ≡ OfLock lock)
 kind-any_lock (OfLock lock) fine = (lock, refl)
 kind-any_lock (OfSemaphore bound out) fine = absurd fine
+kind-any_lock (OfShutSemaphore bound out) fine = absurd fine
 kind-any_lock (OfGate gate) fine = absurd fine
 kind-any_lock (OfBarrier size) fine = absurd fine
+
+-- a lock refuses every request only where it is poisoned
+pub any_lock-poisoned : (held : Held) → IsAnyLock held → refuses_all held ≡ true → held ≡ OfLock Poisoned
+any_lock-poisoned (OfLock Poisoned) fine e = refl
+any_lock-poisoned (OfLock Free) fine e = cc
+any_lock-poisoned (OfLock Exclusive) fine e = cc
+any_lock-poisoned (OfLock (Shared n)) fine e = cc
+any_lock-poisoned (OfSemaphore bound out) fine e = absurd fine
+any_lock-poisoned (OfShutSemaphore bound out) fine e = absurd fine
+any_lock-poisoned (OfGate gate) fine e = absurd fine
+any_lock-poisoned (OfBarrier size) fine e = absurd fine
 
 -- a settled semaphore, as the law says it and as the proof does
 pub Stands-semaphore : (most : ℕ) (s : Object) → IsSettledSemaphore most s → Stands (IsOfBound most) s.held s.line
 Stands-semaphore most s is =
-    let fine : IsOfBound most s.held = rw is.kind.1 refl in
+    let fine : IsOfBound most s.held = IsOfBound-kind most is.kind.0 s.held is.kind.1 in
     record {
       fine = fine;
       front = fitting_front-stands s.held s.line is.stands;
-      poisoned = λ poison. absurd (bound-unpoisoned most s.held fine poison);
+      refused = λ refuses. is.shut (bound-shut most s.held fine refuses);
     }
 
 pub IsSettledSemaphore-stands : (most : ℕ) (s : Object) → Stands (IsOfBound most) s.held s.line → IsSettledSemaphore most s
 IsSettledSemaphore-stands most s stands = record {
   kind = kind-bound most s.held stands.fine;
   stands = StandsSettled-from_front s.held s.line stands.front;
+  shut = λ shut. stands.refused (shut-refuses s.held shut);
 }
 
 -- a settled lock, as the law says it and as the proof does
 pub Stands-lock : (s : Object) → IsSettledLock s → Stands IsAnyLock s.held s.line
-Stands-lock s is = record {
-  fine = rw is.kind.1 tt;
-  front = fitting_front-stands s.held s.line is.stands;
-  poisoned = is.poisoned;
-}
+Stands-lock s is =
+    let fine : IsAnyLock s.held = rw is.kind.1 tt in
+    record {
+      fine = fine;
+      front = fitting_front-stands s.held s.line is.stands;
+      refused = λ refuses. is.poisoned (any_lock-poisoned s.held fine refuses);
+    }
 
 pub IsSettledLock-stands : (s : Object) → Stands IsAnyLock s.held s.line → IsSettledLock s
 IsSettledLock-stands s stands = record {
   kind = kind-any_lock s.held stands.fine;
   stands = StandsSettled-from_front s.held s.line stands.front;
-  poisoned = stands.poisoned;
+  poisoned = λ poison. stands.refused (ap refuses_all poison);
 }
 
 -- one command leaves a settled semaphore settled

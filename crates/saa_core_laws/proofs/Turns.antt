@@ -8,18 +8,18 @@ use Rattle.saa_core_spec.specs.declared.request.Request.TheVariants.{Exclusive a
 use Rattle.saa_core_spec.specs.declared.polling.How.TheVariants.{Try, Sync, Async}
 use Rattle.saa_core_spec.specs.declared.polling.Error.{Error}
 use Rattle.saa_core_spec.specs.declared.semaphore.SemaphoreCall.{SemaphoreCall}
-use Rattle.saa_core_spec.specs.declared.semaphore.SemaphoreCall.TheVariants.{TryAcquireMany, ReleaseMany, AvailablePermits, IsOpen, IsClosed}
+use Rattle.saa_core_spec.specs.declared.semaphore.SemaphoreCall.TheVariants.{TryAcquireMany, ReleaseMany, AvailablePermits, IsOpen, IsClosed, Shut, IsShut}
 use Rattle.saa_core_spec.specs.declared.lock.LockCall.{LockCall}
 use Rattle.saa_core_spec.specs.declared.lock.LockCall.TheVariants.{TryLock, TryShare, ReleaseLock, ReleaseShare, Downgrade, PoisonLock, ClearPoison, IsFree, IsLocked, IsShared, IsPoisoned}
 use Rattle.saa_core_spec.specs.declared.run.CommandOf.{CommandOf}
 use Rattle.saa_core_spec.specs.declared.run.CommandOf.TheVariants.{Call, Register, TryPoll, PollSync, PollAsync, Drop}
-use Rattle.saa_core_spec.specs.Held.{Held, OfSemaphore, OfLock, OfGate, OfBarrier, Free, Exclusive, Shared, Poisoned, plus, less}
+use Rattle.saa_core_spec.specs.Held.{Held, OfSemaphore, OfShutSemaphore, OfLock, OfGate, OfBarrier, Free, Exclusive, Shared, Poisoned, plus, less}
 use Rattle.saa_core_spec.specs.Object.{Object, After, Entry, Idle, Waiting, Answered, Waiter, entry_at, with_entry, one_if, times, without}
 use Rattle.saa_core_spec.specs.Settling.{fitting_front, settled}
 use Rattle.saa_core_spec.specs.Asking.{is_granted_at_once, tried, granted_at_once, answer_in, answer_at_once, registered_of, joined}
 use Rattle.saa_core_spec.specs.Polling.{polled_of, is_for_nothing, given_back_of, given_back, left_of, undone_of, dropped_of}
-use Rattle.saa_core_spec.specs.Values.{granted_value, poisoned_value}
-use Rattle.saa_core_spec.specs.Semaphore.{semaphore_step}
+use Rattle.saa_core_spec.specs.Values.{granted_value, closed_value, poisoned_value}
+use Rattle.saa_core_spec.specs.Semaphore.{semaphore_step, shut_of}
 use Rattle.saa_core_spec.specs.Lock.{lock_step, is_locked, is_poisoned, downgraded_of, poisoned_of, cleared_of}
 use Rattle.saa_core_spec.specs.Run.{done}
 use Rattle.saa_core_spec.proofs.Counts.{times-take_drop, times-without_same, times-without_other, one_if-same}
@@ -193,6 +193,9 @@ module _ (IsFine : Held → Type 0) (keeps : KeepsFine IsFine) where
   pub line-answered : (s : Object) (held : Held) (request : Request) (answer : After ℕ) → IsFine held → answer_in s held request ≡ Some answer
       → answer.state.line ≡ s.line
   line-answered s (OfSemaphore bound out) request answer fine e = line-granted s request answer e
+  line-answered s (OfShutSemaphore bound out) request answer fine e =
+      let same : ◌≡◌ {A = After ℕ} (record { state = s; reply = closed_value }) answer = cc in
+      sym (ap (λ (a : After ℕ). a.state.line) same)
   line-answered s (OfLock Free) request answer fine e = line-granted s request answer e
   line-answered s (OfLock Exclusive) request answer fine e = line-granted s request answer e
   line-answered s (OfLock (Shared n)) request answer fine e = line-granted s request answer e
@@ -216,6 +219,7 @@ module _ (IsFine : Held → Type 0) (keeps : KeepsFine IsFine) where
   pub KeepsTurns-left_of : (s : Object) (held : Held) (name : ℕ) → IsFine held → StandOnce s.line
       → KeepsTurns s (left_of (record (with_entry s name Idle) { line = without name s.line }) held)
   KeepsTurns-left_of s (OfSemaphore bound out) name fine once = KeepsTurns-left s name once
+  KeepsTurns-left_of s (OfShutSemaphore bound out) name fine once = KeepsTurns-left s name once
   KeepsTurns-left_of s (OfLock lock) name fine once = KeepsTurns-left s name once
   KeepsTurns-left_of s (OfGate gate) name fine once = absurd (keeps.no_gate gate fine)
   KeepsTurns-left_of s (OfBarrier size) name fine once = absurd (keeps.no_barrier size fine)
@@ -224,6 +228,7 @@ module _ (IsFine : Held → Type 0) (keeps : KeepsFine IsFine) where
   pub KeepsTurns-undone_of : (before s : Object) (held : Held) (request : Request) → StandOnce before.line → s.line ≡ before.line
       → KeepsTurns before (undone_of s held request)
   KeepsTurns-undone_of before s (OfSemaphore bound out) request once same = KeepsTurns-given_back before s request once same
+  KeepsTurns-undone_of before s (OfShutSemaphore bound out) request once same = KeepsTurns-given_back before s request once same
   KeepsTurns-undone_of before s (OfLock lock) request once same = KeepsTurns-given_back before s request once same
   KeepsTurns-undone_of before s (OfGate gate) request once same = KeepsTurns-same before s same
   KeepsTurns-undone_of before s (OfBarrier size) request once same = KeepsTurns-same before s same
@@ -270,6 +275,14 @@ AnswersInOrder-turns before after step turns i j first second below e f answered
       | inr none ↦ cc
     ]
 
+-- a shut
+pub KeepsTurns-shut_of : (s : Object) (held : Held) → KeepsTurns s (shut_of s held).state
+KeepsTurns-shut_of s (OfSemaphore bound out) = KeepsTurns-nobody s (shut_of s (OfSemaphore bound out)).state refl
+KeepsTurns-shut_of s (OfShutSemaphore bound out) = KeepsTurns-same s s refl
+KeepsTurns-shut_of s (OfLock lock) = KeepsTurns-same s s refl
+KeepsTurns-shut_of s (OfGate gate) = KeepsTurns-same s s refl
+KeepsTurns-shut_of s (OfBarrier size) = KeepsTurns-same s s refl
+
 -- every call of a semaphore
 pub KeepsTurns-semaphore_step : (call : SemaphoreCall) (s : Object) → StandOnce s.line → KeepsTurns s (semaphore_step call s).state
 KeepsTurns-semaphore_step (TryAcquireMany count) s once = KeepsTurns-same s (tried s (Permits count)).state (line-tried s (Permits count))
@@ -277,6 +290,8 @@ KeepsTurns-semaphore_step (ReleaseMany count) s once = KeepsTurns-given_back s s
 KeepsTurns-semaphore_step AvailablePermits s once = KeepsTurns-same s s refl
 KeepsTurns-semaphore_step IsOpen s once = KeepsTurns-same s s refl
 KeepsTurns-semaphore_step IsClosed s once = KeepsTurns-same s s refl
+KeepsTurns-semaphore_step Shut s once = KeepsTurns-shut_of s s.held
+KeepsTurns-semaphore_step IsShut s once = KeepsTurns-same s s refl
 
 -- a downgrade
 pub KeepsTurns-downgraded_of : (s : Object) (is_own : Bool) → StandOnce s.line → KeepsTurns s (downgraded_of s is_own).state

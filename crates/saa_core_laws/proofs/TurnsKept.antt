@@ -41,7 +41,7 @@ semaphore-in_turn bound permits room names commands next within next_within =
     (KeepsRight-semaphore bound names) commands (new_semaphore bound permits room names) within
     (record {
       kept = IsKept-newly_made (OfSemaphore bound (bound - min permits bound)) room names;
-      kind = record { fine = (refl, omega arith); front = refl; asks = tt; poisoned = λ poison. refl };
+      kind = record { fine = (refl, omega arith); front = refl; asks = tt; refused = λ refuses. refl };
     }))
 
 -- at every lock that is right
@@ -64,5 +64,5 @@ lock-in_turn room names commands next within next_within =
     (IsRight-state_after (Grants IsFineLock (OfLock Free)) names mode_request lock_step lock_value (KeepsRight-lock names) commands (new_lock room names) within
     (record {
       kept = IsKept-newly_made (OfLock Free) room names;
-      kind = record { fine = tt; front = refl; asks = tt; poisoned = λ poison. refl };
+      kind = record { fine = tt; front = refl; asks = tt; refused = λ refuses. refl };
     }))

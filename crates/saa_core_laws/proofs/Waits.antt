@@ -1,5 +1,5 @@
 -- Nobody waits for nothing: what an order of the line and the book, with an empty line, says of every name.
-use Rattle.std.proofs.Common.{◌≡◌, ℕ, List, [], sym, ap, ◌∙◌, inl, inr, All}
+use Rattle.std.proofs.Common.{◌≡◌, ℕ, true, List, [], sym, ap, ◌∙◌, inl, inr, All}
 use Rattle.saa_core_spec.specs.declared.request.Request.TheVariants.{Permits}
 use Rattle.saa_core_spec.specs.declared.gate.State.TheVariants.{Controlled}
 use Rattle.saa_core_spec.specs.declared.semaphore.SemaphoreCall.{SemaphoreCall}
@@ -10,7 +10,7 @@ use Rattle.saa_core_spec.specs.declared.run.CommandOf.{CommandOf}
 use Rattle.saa_core_spec.specs.Held.{OfSemaphore, OfLock, OfGate, Free, Poisoned}
 use Rattle.saa_core_spec.specs.Object.{Object, times}
 use Rattle.saa_core_spec.specs.Values.{semaphore_value, lock_value, gate_value}
-use Rattle.saa_core_spec.specs.Semaphore.{semaphore_step, new_semaphore}
+use Rattle.saa_core_spec.specs.Semaphore.{semaphore_step, new_semaphore, is_shut}
 use Rattle.saa_core_spec.specs.Lock.{lock_step, mode_request, new_lock}
 use Rattle.saa_core_spec.specs.Gate.{gate_step, enter_request, new_gate}
 use Rattle.saa_core_spec.specs.Run.{IsWithin, state_after}
@@ -41,6 +41,13 @@ pub semaphore-nobody_waits : (bound permits room names : ℕ) (commands : List (
 semaphore-nobody_waits bound permits room names commands within none =
     let order = semaphore-in_order bound permits room names commands within in
     NobodyWaits-empty _ order.order (order.idle none)
+
+pub shut_semaphore-nobody_waits : (bound permits room names : ℕ) (commands : List (CommandOf SemaphoreCall ℕ)) → All (IsWithin names) commands
+    → is_shut (state_after Permits semaphore_step semaphore_value commands (new_semaphore bound permits room names)).held ≡ true
+    → NobodyWaits (state_after Permits semaphore_step semaphore_value commands (new_semaphore bound permits room names))
+shut_semaphore-nobody_waits bound permits room names commands within shut =
+    let order = semaphore-in_order bound permits room names commands within in
+    NobodyWaits-empty _ order.order (order.shut shut)
 
 pub free_lock-nobody_waits : (room names : ℕ) (commands : List (CommandOf LockCall Mode)) → All (IsWithin names) commands
     → (state_after mode_request lock_step lock_value commands (new_lock room names)).held ≡ OfLock Free

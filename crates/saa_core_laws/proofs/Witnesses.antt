@@ -1,6 +1,6 @@
 -- Worked runs for the laws of `laws`: on each the premises of a law are met, and what it concludes says something.
 -- All hold by computation, but for the use of a law on its run.
-use Rattle.std.proofs.Common.{◌≡◌, ℕ, true, false, List, [], ◌∷◌, ◌++◌, refl, arith}
+use Rattle.std.proofs.Common.{◌≡◌, ℕ, inl, true, false, List, [], ◌∷◌, ◌++◌, refl, arith}
 use Rattle.std.specs.Prelude.{Ok, Some}
 use Rattle.std.specs.List.{count_by, sum_by}
 use Rattle.std.proofs.lemmas.List.Elements.{All-from_recursion}
@@ -51,7 +51,7 @@ used_semaphore = record {
 
 -- it is settled
 pub used_semaphore-settled : IsSettledSemaphore 5 used_semaphore
-used_semaphore-settled = record { kind = (5, refl); stands = StandsSettled-from_front _ _ refl }
+used_semaphore-settled = record { kind = (5, inl refl); stands = StandsSettled-from_front _ _ refl; shut = λ shut. cc }
 
 -- two permits are given back, and then one
 abbrev two_and_one_given_back : List (CommandOf SemaphoreCall ℕ)
@@ -70,7 +70,7 @@ a_used_semaphore_stays_settled = semaphore-settled_run 5 used_semaphore two_and_
 
 -- a line of which the book knows nothing: it is settled, and stays so
 pub a_line_without_a_book_is_settled : IsSettledSemaphore 5 (record used_semaphore { book = [] })
-a_line_without_a_book_is_settled = record { kind = (5, refl); stands = StandsSettled-from_front _ _ refl }
+a_line_without_a_book_is_settled = record { kind = (5, inl refl); stands = StandsSettled-from_front _ _ refl; shut = λ shut. cc }
 
 -- a lock in use, at which two wait
 abbrev used_lock : Object

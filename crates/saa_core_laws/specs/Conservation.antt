@@ -16,7 +16,7 @@ use Rattle.saa_core_spec.specs.Object.{Object, Entry, Idle, Waiting, Answered, e
 use Rattle.saa_core_spec.specs.Polling.{given_back}
 use Rattle.saa_core_spec.specs.Values.{semaphore_value, granted_value}
 use Rattle.saa_core_spec.specs.Semaphore.{semaphore_step, new_semaphore}
-use Rattle.saa_core_laws.specs.Registrations.{is_registered, is_answered}
+use Rattle.saa_core_laws.specs.Registrations.{is_registered}
 use Rattle.saa_core_laws.specs.Steps.{Step, steps}
 
 -- a step of a semaphore
@@ -28,11 +28,17 @@ abbrev pub permits_of : Request → ℕ
 permits_of (Permits n) = n
 permits_of _ = 0
 
+-- the permits that an entry has that is a grant and isn't consumed
+abbrev pub grant_of : Entry → ℕ
+grant_of Idle = 0
+grant_of (Waiting request is_sync) = 0
+grant_of (Answered value request is_sync slotted) = if value == granted_value then permits_of request else 0
+
 -- what a command with this reply takes at once: the permits of a try that is answered true, and of a registration that is
--- answered `Ok(true)` and whose entry is an answer in the book that it leaves
+-- answered `Ok(true)` and whose entry is a grant in the book that it leaves
 abbrev pub taken_at_once : CommandOf SemaphoreCall ℕ → ReplyOf SemaphoreAnswer (Result (Unit {0}) Error) → List Entry → ℕ
 taken_at_once (Call (TryAcquireMany n)) (Says (SaysBool is_so)) book = if is_so then n else 0
-taken_at_once (Register name n is_sync) (Registered answer) book = if is_registered answer && is_answered (entry_at book name) then n else 0
+taken_at_once (Register name n is_sync) (Registered answer) book = if is_registered answer then grant_of (entry_at book name) else 0
 taken_at_once _ _ book = 0
 
 -- what a name is granted that waited before and is answered with a grant after
@@ -69,12 +75,6 @@ released s _ _ = 0
 -- what a step gives back
 abbrev pub given_back_by : SemaphoreStep → ℕ
 given_back_by step = released step.before step.command step.after.reply
-
--- the permits that an entry has that is a grant and isn't consumed
-abbrev pub grant_of : Entry → ℕ
-grant_of Idle = 0
-grant_of (Waiting request is_sync) = 0
-grant_of (Answered value request is_sync slotted) = if value == granted_value then permits_of request else 0
 
 -- whether a poll has its value
 abbrev pub has_value : Result (Unit {0}) Error → Bool

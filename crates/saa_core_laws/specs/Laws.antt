@@ -4,9 +4,10 @@ use Rattle.std.specs.Prelude.{◌≡◌, ◌⊎◌, ℕ, ◌<◌, ◌≤◌, Boo
 use Rattle.saa_core_spec.specs.declared.request.Request.{Request}
 use Rattle.saa_core_spec.specs.declared.gate.State.{State}
 use Rattle.saa_core_spec.specs.declared.gate.State.TheVariants.{Controlled}
-use Rattle.saa_core_spec.specs.Held.{Held, OfSemaphore, OfLock, OfGate, OfBarrier, LockState, Free, Poisoned, fits, IsLockState}
+use Rattle.saa_core_spec.specs.Held.{Held, OfSemaphore, OfShutSemaphore, OfLock, OfGate, OfBarrier, LockState, Free, Poisoned, fits, IsLockState}
 use Rattle.saa_core_spec.specs.Object.{Object, Entry, Idle, Waiting, Answered, Waiter, entry_at, used, one_if, times}
 use Rattle.saa_core_spec.specs.Settling.{plus_all}
+use Rattle.saa_core_spec.specs.Semaphore.{is_shut}
 
 -- Each of the first k of the line fits what is held plus the requests before it. A relation, which computes no k
 pub record IsFittingFront (held : Held) (line : List Waiter) (k : ℕ) : Type 0 where
@@ -35,12 +36,17 @@ pub record IsInOrder (s : Object) : Type 0 where
   pub same_request : (name : ℕ) (request : Request) → Contains s.line (name, request) → (is_sync : Bool) × (entry_at s.book name ≡ Waiting request is_sync)
   pub within_room : used s ≤ s.room
 
--- a semaphore in order: it keeps its bound, stands settled, and nobody waits while nothing is out
+-- a semaphore of this bound with so many permits out, shut or not
+abbrev pub IsSemaphoreWith : (bound out : ℕ) → Held → Type 0
+IsSemaphoreWith bound out held = (held ≡ OfSemaphore bound out) ⊎ (held ≡ OfShutSemaphore bound out)
+
+-- a semaphore in order: it keeps its bound, stands settled, and nobody waits while nothing is out, or once it is shut
 pub record IsSemaphoreInOrder (bound : ℕ) (s : Object) : Type 0 where
   pub order : IsInOrder s
-  pub bounded : (out : ℕ) × (s.held ≡ OfSemaphore bound out) × (out ≤ bound)
+  pub bounded : (out : ℕ) × IsSemaphoreWith bound out s.held × (out ≤ bound)
   pub stands : StandsSettled s.held s.line
   pub idle : s.held ≡ OfSemaphore bound 0 → s.line ≡ []
+  pub shut : is_shut s.held ≡ true → s.line ≡ []
 
 -- a lock in order: it stands settled, and nobody waits while it is free or poisoned
 pub record IsLockInOrder (s : Object) : Type 0 where

@@ -1,15 +1,17 @@
 -- What a settled object keeps, in which order it answers, and what nobody waits for.
 -- Functions of the module `laws` have these laws as their contracts; nothing else cites them.
-use Rattle.std.specs.Prelude.{◌≡◌, ℕ, ◌<◌, false, IsTrue, [], Some, slice_get}
-use Rattle.saa_core_spec.specs.Held.{OfSemaphore, OfLock, LockState, Poisoned}
+use Rattle.std.specs.Prelude.{◌≡◌, ℕ, ◌<◌, true, false, IsTrue, [], Some, slice_get}
+use Rattle.saa_core_spec.specs.Held.{OfLock, LockState, Poisoned}
 use Rattle.saa_core_spec.specs.Object.{Object, Waiter, entry_at}
-use Rattle.saa_core_laws.specs.Laws.{StandsSettled, is_waiting}
+use Rattle.saa_core_spec.specs.Semaphore.{is_shut}
+use Rattle.saa_core_laws.specs.Laws.{StandsSettled, IsSemaphoreWith, is_waiting}
 use Rattle.saa_core_laws.specs.Registrations.{is_answered}
 
--- a semaphore of this bound, with anything out, any line and any book, where nobody in front fits
+-- a semaphore of this bound, with anything out, any line and any book, where nobody in front fits, and nobody waits if it is shut
 pub record IsSettledSemaphore (bound : ℕ) (s : Object) : Type 0 where
-  pub kind : (out : ℕ) × (s.held ≡ OfSemaphore bound out)
+  pub kind : (out : ℕ) × IsSemaphoreWith bound out s.held
   pub stands : StandsSettled s.held s.line
+  pub shut : is_shut s.held ≡ true → s.line ≡ []
 
 -- a lock in any state, with any line and any book, where nobody in front fits, and nobody waits if it is poisoned:
 -- a cleared poison would leave the waiters at a free lock

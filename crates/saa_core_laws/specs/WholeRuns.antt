@@ -1,5 +1,5 @@
 -- The laws of whole runs, each from a newly made primitive: what users may conclude from any list of commands.
-use Rattle.std.specs.Prelude.{◌≡◌, ℕ, ◌+◌, ◌-◌, ◌/◌, ◌<◌, ◌≤◌, Bool, List, All, IsTrue, Result, min}
+use Rattle.std.specs.Prelude.{◌≡◌, ℕ, ◌+◌, ◌-◌, ◌/◌, ◌<◌, ◌≤◌, true, Bool, List, All, IsTrue, Result, min}
 use Rattle.std.specs.List.{count_by, sum_by}
 use Rattle.saa_core_spec.specs.declared.request.Request.TheVariants.{Permits}
 use Rattle.saa_core_spec.specs.declared.semaphore.SemaphoreCall.{SemaphoreCall}
@@ -20,7 +20,7 @@ use Rattle.saa_core_spec.specs.declared.run.CommandOf.TheVariants.{Drop}
 use Rattle.saa_core_spec.specs.Held.{OfSemaphore, OfLock, OfGate, Free, Poisoned}
 use Rattle.saa_core_spec.specs.Object.{Answered, entry_at}
 use Rattle.saa_core_spec.specs.Values.{semaphore_value, lock_value, gate_value, barrier_value, granted_value}
-use Rattle.saa_core_spec.specs.Semaphore.{semaphore_step, new_semaphore, out_of}
+use Rattle.saa_core_spec.specs.Semaphore.{semaphore_step, new_semaphore, out_of, is_shut}
 use Rattle.saa_core_spec.specs.Lock.{lock_step, mode_request, new_lock}
 use Rattle.saa_core_spec.specs.Gate.{gate_step, enter_request, new_gate}
 use Rattle.saa_core_spec.specs.Barrier.{barrier_step, arrive_request}
@@ -44,13 +44,17 @@ pub record GrantsInOrder : Type 0 where
       → let s = state_after mode_request lock_step lock_value commands (new_lock room names) in
       AnswersInOrder s (done mode_request lock_step lock_value next s).state
 
--- nobody waits for nothing: not at a semaphore with nothing out, not at a lock that is free or poisoned, and not at a gate
--- that isn't controlled
+-- nobody waits for nothing: not at a semaphore with nothing out or that is shut, not at a lock that is free or poisoned,
+-- and not at a gate that isn't controlled
 pub record NobodyWaitsForNothing : Type 0 where
   pub semaphore : (bound permits room names : ℕ) (commands : List (CommandOf SemaphoreCall ℕ))
       → All (IsWithin names) commands
       → let s = state_after Permits semaphore_step semaphore_value commands (new_semaphore bound permits room names) in
       s.held ≡ OfSemaphore bound 0 → NobodyWaits s
+  pub shut_semaphore : (bound permits room names : ℕ) (commands : List (CommandOf SemaphoreCall ℕ))
+      → All (IsWithin names) commands
+      → let s = state_after Permits semaphore_step semaphore_value commands (new_semaphore bound permits room names) in
+      is_shut s.held ≡ true → NobodyWaits s
   pub free_lock : (room names : ℕ) (commands : List (CommandOf LockCall Mode))
       → All (IsWithin names) commands
       → let s = state_after mode_request lock_step lock_value commands (new_lock room names) in

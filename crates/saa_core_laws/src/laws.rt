@@ -3,11 +3,12 @@
 //! They show that the definitions of `specs/` mean what they should. No program needs to call these functions;
 //! what they ensure is proved all the same. [`all`] names each, and `runs::laws` has those of whole runs together.
 
-ghost use Rattle.std.specs.Prelude.{◌≡◌, ℕ, ◌+◌, ◌-◌, ◌/◌, ◌<◌, ◌≤◌, ◌↔◌, Bool, not, ◌||◌, false, List, Result, Ok, All, IsTrue, min, sum};
+ghost use Rattle.std.specs.Prelude.{◌≡◌, ℕ, ◌+◌, ◌-◌, ◌/◌, ◌<◌, ◌≤◌, ◌↔◌, Bool, not, ◌||◌, false, List, Result, Ok, All, IsTrue, true, min, sum};
 ghost use Rattle.std.specs.List.{count_by, sum_by};
 ghost use Rattle.saa_core_spec.specs.declared.request.Request.{Request};
 ghost use Rattle.saa_core_spec.specs.declared.request.Request.TheVariants.{Permits};
 ghost use Rattle.saa_core_spec.specs.declared.semaphore.SemaphoreCall.{SemaphoreCall};
+ghost use Rattle.saa_core_spec.specs.declared.semaphore.SemaphoreCall.TheVariants.{Shut};
 ghost use Rattle.saa_core_spec.specs.declared.semaphore.SemaphoreAnswer.{SemaphoreAnswer};
 ghost use Rattle.saa_core_spec.specs.declared.lock.Mode.{Mode};
 ghost use Rattle.saa_core_spec.specs.declared.lock.LockCall.{LockCall};
@@ -19,15 +20,16 @@ ghost use Rattle.saa_core_spec.specs.declared.barrier.BarrierAnswer.{BarrierAnsw
 ghost use Rattle.saa_core_spec.specs.declared.run.CommandOf.{CommandOf};
 ghost use Rattle.saa_core_spec.specs.declared.run.CommandOf.TheVariants.{Drop};
 ghost use Rattle.saa_core_spec.specs.Held.{Held, LockState, OfSemaphore, OfLock, OfGate, OfBarrier, Free, Poisoned, asks_too_much};
-ghost use Rattle.saa_core_spec.specs.Asking.{is_idle, registered};
+ghost use Rattle.saa_core_spec.specs.Asking.{is_idle, tried, registered};
+ghost use Rattle.saa_core_spec.specs.Polling.{given_back};
 ghost use Rattle.saa_core_spec.specs.declared.gate.State.{State};
 ghost use Rattle.saa_core_spec.specs.declared.gate.State.TheVariants.{Controlled};
 ghost use Rattle.saa_core_spec.specs.declared.gate.Error.{Error as GateError};
 ghost use Rattle.saa_core_spec.specs.declared.polling.Error.{Error};
-ghost use Rattle.saa_core_spec.specs.Object.{Object, Waiter, Idle, Answered, entry_at, newly_made};
+ghost use Rattle.saa_core_spec.specs.Object.{Object, Waiter, Idle, Waiting, Answered, entry_at, with_entry, newly_made};
 ghost use Rattle.saa_core_spec.specs.Settling.{fitting_front, settled};
-ghost use Rattle.saa_core_spec.specs.Values.{semaphore_value, lock_value, gate_value, barrier_value, granted_value};
-ghost use Rattle.saa_core_spec.specs.Semaphore.{semaphore_step, new_semaphore, out_of};
+ghost use Rattle.saa_core_spec.specs.Values.{semaphore_value, lock_value, gate_value, barrier_value, granted_value, closed_value};
+ghost use Rattle.saa_core_spec.specs.Semaphore.{semaphore_step, new_semaphore, bound_of, out_of, is_shut};
 ghost use Rattle.saa_core_spec.specs.Lock.{lock_step, mode_request, new_lock};
 ghost use Rattle.saa_core_spec.specs.Gate.{gate_step, enter_request, new_gate};
 ghost use Rattle.saa_core_spec.specs.Barrier.{barrier_step, arrive_request};
@@ -88,7 +90,8 @@ pub fn barrier_runs()
         → IsBarrierInOrder size (state_after arrive_request barrier_step barrier_value commands (newly_made (OfBarrier size) room names)) }
 {}
 
-/// A settled semaphore stays settled, whatever is out, whatever its line and its book are, and however it came there.
+/// A settled semaphore stays settled, whatever is out, whatever its line and its book are, and however it came there; and
+/// nobody waits where it is shut.
 ///
 /// Every command leaves it settled, and so does every list of commands, names that there aren't among them.
 pub fn semaphore_stays_settled()
@@ -112,8 +115,8 @@ pub fn lock_stays_settled()
         → IsSettledLock (state_after mode_request lock_step lock_value commands s) }
 {}
 
-/// Nobody waits for nothing: not at a semaphore with nothing out, not at a lock that is free or poisoned, and not at a
-/// gate that isn't controlled.
+/// Nobody waits for nothing: not at a semaphore with nothing out or that is shut, not at a lock that is free or poisoned,
+/// and not at a gate that isn't controlled.
 ///
 /// This is so after every run of a newly made one. (Who waits at a barrier waits for others to arrive.)
 pub fn nobody_waits_for_nothing()
@@ -121,6 +124,10 @@ pub fn nobody_waits_for_nothing()
         → All (IsWithin names) commands
         → let s = state_after Permits semaphore_step semaphore_value commands (new_semaphore bound permits room names) in
         s.held ≡ OfSemaphore bound 0 → NobodyWaits s }
+    ensures shut_semaphore { (bound permits room names : ℕ) (commands : List (CommandOf SemaphoreCall ℕ))
+        → All (IsWithin names) commands
+        → let s = state_after Permits semaphore_step semaphore_value commands (new_semaphore bound permits room names) in
+        is_shut s.held ≡ true → NobodyWaits s }
     ensures free_lock { (room names : ℕ) (commands : List (CommandOf LockCall Mode))
         → All (IsWithin names) commands
         → let s = state_after mode_request lock_step lock_value commands (new_lock room names) in
@@ -137,7 +144,8 @@ pub fn nobody_waits_for_nothing()
 
 /// A semaphore and a lock answer the waiters in the order of the line.
 ///
-/// After every run, and at every next command: where a waiter is answered (granted, or told that the lock is poisoned),
+/// After every run, and at every next command: where a waiter is answered (granted, or told that the lock is poisoned or the
+/// semaphore shut),
 /// nobody who stood before it in the line still waits.
 pub fn answers_in_order()
     ensures semaphore { (bound permits room names : ℕ) (commands : List (CommandOf SemaphoreCall ℕ)) (next : CommandOf SemaphoreCall ℕ)
@@ -183,6 +191,35 @@ pub fn permits_conserved()
         sum_by released_by run ≤ (bound - min permits bound) + sum_by taken_in_hand_by run
         → entry_at end.book name ≡ Answered granted_value (Permits n) is_sync slotted
         → given_back_by (step_of Permits semaphore_step semaphore_value (Drop name) end) ≡ n }
+{}
+
+/// A semaphore is shut for good: with it every waiter is answered Closed, once, and nothing is granted from then on.
+///
+/// `answered`, `others`: it answers all who wait, after every run, and changes no other entry. `for_good`: no list of commands opens
+/// it. `refused`, `told`: from then on every try is false and changes nothing, and every registration of an idle name that doesn't
+/// ask for more than there ever is has its answer at once, takes no slot and changes nothing else. `given_back`: what is out
+/// comes back as ever. That nobody waits there is [`nobody_waits_for_nothing`]'s.
+pub fn shutting()
+    ensures answered { (bound permits room names : ℕ) (commands : List (CommandOf SemaphoreCall ℕ)) (name : ℕ) (request : Request) (is_sync : Bool)
+        → All (IsWithin names) commands
+        → let s = state_after Permits semaphore_step semaphore_value commands (new_semaphore bound permits room names) in
+        entry_at s.book name ≡ Waiting request is_sync
+        → entry_at (semaphore_step Shut s).state.book name ≡ Answered closed_value request is_sync true }
+    ensures others { (s : Object) (name : ℕ)
+        → is_waiting (entry_at s.book name) ≡ false
+        → entry_at (semaphore_step Shut s).state.book name ≡ entry_at s.book name }
+    ensures for_good { (s : Object) (commands : List (CommandOf SemaphoreCall ℕ))
+        → is_shut s.held ≡ true
+        → is_shut (state_after Permits semaphore_step semaphore_value commands s).held ≡ true }
+    ensures refused { (s : Object) (request : Request)
+        → is_shut s.held ≡ true → tried s request ≡ record { state = s; reply = false } }
+    ensures told { (s : Object) (name n : ℕ) (is_sync : Bool)
+        → is_shut s.held ≡ true → entry_at s.book name ≡ Idle → n ≤ bound_of s.held
+        → registered s name (Permits n) is_sync
+        ≡ record { state = with_entry s name (Answered closed_value (Permits n) is_sync false); reply = Ok true } }
+    ensures given_back { (s : Object) (n : ℕ)
+        → is_shut s.held ≡ true → n ≤ out_of s.held
+        → ((given_back s (Permits n)).reply ≡ true) × (out_of (given_back s (Permits n)).state.held + n ≡ out_of s.held) }
 {}
 
 /// A barrier of size `N` has named as many leaders as full rounds of `N` arrivals, not counting arrivals that were dropped
@@ -242,6 +279,7 @@ pub fn all()
     answers_in_order();
     answers_once();
     permits_conserved();
+    shutting();
     leaders();
     false_registrations();
 }

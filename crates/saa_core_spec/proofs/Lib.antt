@@ -1,3 +1,3 @@
 pub mod Counts
 pub mod FittingFronts
-pub mod Poison
+pub mod Refusing

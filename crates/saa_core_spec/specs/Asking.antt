@@ -4,10 +4,10 @@ use Rattle.saa_core_spec.specs.declared.gate.State.{State}
 use Rattle.saa_core_spec.specs.declared.gate.State.TheVariants.{Controlled, Sealed, Open}
 use Rattle.saa_core_spec.specs.declared.request.Request.{Request}
 use Rattle.saa_core_spec.specs.declared.request.Full.{Full}
-use Rattle.saa_core_spec.specs.Held.{Held, OfSemaphore, OfLock, OfGate, OfBarrier, LockState, Free, Exclusive, Shared, Poisoned, fits, plus, asks_too_much}
+use Rattle.saa_core_spec.specs.Held.{Held, OfSemaphore, OfShutSemaphore, OfLock, OfGate, OfBarrier, LockState, Free, Exclusive, Shared, Poisoned, fits, plus, asks_too_much}
 use Rattle.saa_core_spec.specs.Object.{Object, After, Entry, Idle, Waiting, Answered, entry_at, with_entry, used, is_nobody}
 use Rattle.saa_core_spec.specs.Settling.{all_answered}
-use Rattle.saa_core_spec.specs.Values.{granted_value, poisoned_value, leader_value, passed_value, opened_value, sealed_value}
+use Rattle.saa_core_spec.specs.Values.{granted_value, closed_value, poisoned_value, leader_value, passed_value, opened_value, sealed_value}
 
 -- whether a request is granted at once: nobody waits, and it fits. (What a semaphore never has doesn't fit.)
 abbrev pub is_granted_at_once : Object → Request → Bool
@@ -27,6 +27,10 @@ granted_at_once s request =
     if is_granted_at_once s request
     then Some (record { state = record s { held = plus s.held request }; reply = granted_value })
     else None
+
+-- a shut semaphore answers Closed
+abbrev pub closed_answer : Object → Option (After ℕ)
+closed_answer s = Some (record { state = s; reply = closed_value })
 
 -- a poisoned lock answers Poisoned
 abbrev pub lock_answers : Object → LockState → Request → Option (After ℕ)
@@ -51,6 +55,7 @@ barrier_answers s size =
 -- the state and the answer of a registration that needn't wait
 abbrev pub answer_in : Object → Held → Request → Option (After ℕ)
 answer_in s (OfSemaphore bound out) request = granted_at_once s request
+answer_in s (OfShutSemaphore bound out) request = closed_answer s
 answer_in s (OfLock lock) request = lock_answers s lock request
 answer_in s (OfGate gate) request = gate_answers s gate
 answer_in s (OfBarrier size) request = barrier_answers s size

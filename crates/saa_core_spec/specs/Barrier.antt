@@ -6,13 +6,14 @@ use Rattle.saa_core_spec.specs.declared.barrier.BarrierCall.{BarrierCall}
 use Rattle.saa_core_spec.specs.declared.barrier.BarrierCall.TheVariants.{Count}
 use Rattle.saa_core_spec.specs.declared.barrier.BarrierAnswer.{BarrierAnswer}
 use Rattle.saa_core_spec.specs.declared.barrier.BarrierAnswer.TheVariants.{Count as SaysCount}
-use Rattle.saa_core_spec.specs.Held.{Held, OfSemaphore, OfLock, OfGate, OfBarrier, max_tasks}
+use Rattle.saa_core_spec.specs.Held.{Held, OfSemaphore, OfShutSemaphore, OfLock, OfGate, OfBarrier, max_tasks}
 use Rattle.saa_core_spec.specs.Object.{Object, After, newly_made}
 
 -- the size of a barrier, which never changes; nothing else has one
 abbrev pub size_of : Held → ℕ
 size_of (OfBarrier size) = size
 size_of (OfSemaphore bound out) = 0
+size_of (OfShutSemaphore bound out) = 0
 size_of (OfLock lock) = 0
 size_of (OfGate gate) = 0
 

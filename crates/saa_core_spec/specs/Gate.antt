@@ -8,7 +8,7 @@ use Rattle.saa_core_spec.specs.declared.gate.GateCall.{GateCall}
 use Rattle.saa_core_spec.specs.declared.gate.GateCall.TheVariants.{State as AskState, Reset, Permit, Reject, Open as DoOpen, Seal}
 use Rattle.saa_core_spec.specs.declared.gate.GateAnswer.{GateAnswer}
 use Rattle.saa_core_spec.specs.declared.gate.GateAnswer.TheVariants.{State as SaysState, Reset as SaysReset, Answered, Moved}
-use Rattle.saa_core_spec.specs.Held.{Held, OfSemaphore, OfLock, OfGate, OfBarrier}
+use Rattle.saa_core_spec.specs.Held.{Held, OfSemaphore, OfShutSemaphore, OfLock, OfGate, OfBarrier}
 use Rattle.saa_core_spec.specs.Object.{Object, After, newly_made}
 use Rattle.saa_core_spec.specs.Settling.{all_answered}
 use Rattle.saa_core_spec.specs.Values.{permitted_value, rejected_value, opened_value, sealed_value}
@@ -17,6 +17,7 @@ use Rattle.saa_core_spec.specs.Values.{permitted_value, rejected_value, opened_v
 abbrev pub gate_state : Held → State
 gate_state (OfGate gate) = gate
 gate_state (OfSemaphore bound out) = Controlled
+gate_state (OfShutSemaphore bound out) = Controlled
 gate_state (OfLock lock) = Controlled
 gate_state (OfBarrier size) = Controlled
 

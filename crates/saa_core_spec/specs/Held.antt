@@ -10,10 +10,11 @@ pub data LockState : Type 0 where
   Free Exclusive Poisoned : LockState
   Shared : ℕ → LockState
 
--- what each of the four primitives holds: a semaphore its bound and the permits that are out,
+-- what each of the four primitives holds: a semaphore its bound and the permits that are out, and whether it is shut,
 -- a lock and a gate their state, a barrier its size
 pub data Held : Type 0 where
   OfSemaphore : (bound out : ℕ) → Held
+  OfShutSemaphore : (bound out : ℕ) → Held
   OfLock : LockState → Held
   OfGate : State → Held
   OfBarrier : (size : ℕ) → Held
@@ -47,7 +48,7 @@ lock_fits (Shared n) AskShared = nat_lt n max_shared_owners
 lock_fits (Shared n) WaitShared = nat_lt n max_shared_owners
 lock_fits _ _ = false
 
--- which request fits what is held; only a semaphore and a lock grant what fits
+-- which request fits what is held; only a semaphore and a lock grant what fits, and a shut semaphore grants nothing
 abbrev pub fits : Held → Request → Bool
 fits (OfSemaphore bound out) (Permits n) = nat_le (out + n) bound
 fits (OfLock lock) request = lock_fits lock request
@@ -80,13 +81,21 @@ held_lock None = None
 -- held less request, where it exists
 abbrev pub less : Held → Request → Option Held
 less (OfSemaphore bound out) (Permits n) = if nat_le n out then Some (OfSemaphore bound (out - n)) else None
+less (OfShutSemaphore bound out) (Permits n) = if nat_le n out then Some (OfShutSemaphore bound (out - n)) else None
 less (OfLock lock) request = held_lock (lock_less lock request)
 less _ _ = None
 
 -- whether a request asks for more permits than the semaphore ever has
 abbrev pub asks_too_much : Held → Request → Bool
 asks_too_much (OfSemaphore bound out) (Permits n) = nat_lt bound n
+asks_too_much (OfShutSemaphore bound out) (Permits n) = nat_lt bound n
 asks_too_much _ _ = false
+
+-- whether every request is refused at once, whatever it is: by a poisoned lock, and by a shut semaphore. Nobody waits there
+abbrev pub refuses_all : Held → Bool
+refuses_all (OfLock Poisoned) = true
+refuses_all (OfShutSemaphore bound out) = true
+refuses_all _ = false
 
 -- the number of a request in a word: the permits, or the mode of a lock
 abbrev pub request_number : Request → ℕ

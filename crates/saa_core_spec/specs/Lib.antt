@@ -5,6 +5,7 @@ pub mod Settling
 pub mod Asking
 pub mod Polling
 pub mod Errors
+pub mod IoErrors
 pub mod Semaphore
 pub mod Lock
 pub mod Gate

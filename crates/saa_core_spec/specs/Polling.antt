@@ -6,7 +6,7 @@ use Rattle.saa_core_spec.specs.declared.polling.How.{How}
 use Rattle.saa_core_spec.specs.declared.polling.How.TheVariants.{Try, Sync, Async}
 use Rattle.saa_core_spec.specs.declared.polling.Error.{Error}
 use Rattle.saa_core_spec.specs.declared.polling.Error.TheVariants.{NotRegistered, WrongMode, NotReady}
-use Rattle.saa_core_spec.specs.Held.{Held, OfSemaphore, OfLock, OfGate, OfBarrier, less}
+use Rattle.saa_core_spec.specs.Held.{Held, OfSemaphore, OfShutSemaphore, OfLock, OfGate, OfBarrier, less}
 use Rattle.saa_core_spec.specs.Object.{Object, After, Entry, Idle, Waiting, Answered, entry_at, with_entry, without}
 use Rattle.saa_core_spec.specs.Settling.{settled, all_answered}
 use Rattle.saa_core_spec.specs.Values.{granted_value, spurious_value}
@@ -60,6 +60,7 @@ given_back s request = given_back_of s (is_for_nothing request) (less s.held req
 -- and a gate answers all others that somebody gave up
 abbrev pub left_of : Object → Held → Object
 left_of s (OfSemaphore bound out) = settled s
+left_of s (OfShutSemaphore bound out) = settled s
 left_of s (OfLock lock) = settled s
 left_of s (OfGate gate) = all_answered spurious_value s
 left_of s (OfBarrier size) = s
@@ -67,6 +68,7 @@ left_of s (OfBarrier size) = s
 -- a semaphore and a lock get back what was granted; a gate and a barrier have nothing to get back
 abbrev pub undone_of : Object → Held → Request → Object
 undone_of s (OfSemaphore bound out) request = (given_back s request).state
+undone_of s (OfShutSemaphore bound out) request = (given_back s request).state
 undone_of s (OfLock lock) request = (given_back s request).state
 undone_of s (OfGate gate) request = s
 undone_of s (OfBarrier size) request = s

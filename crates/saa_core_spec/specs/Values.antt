@@ -6,11 +6,15 @@ use Rattle.saa_core_spec.specs.declared.gate.State.TheVariants.{Controlled, Seal
 use Rattle.saa_core_spec.specs.declared.gate.Error.{Error as GateError}
 use Rattle.saa_core_spec.specs.declared.gate.Error.TheVariants.{Rejected, Sealed, SpuriousFailure, NotRegistered as GateNotRegistered, WrongMode as GateWrongMode, NotReady as GateNotReady}
 use Rattle.saa_core_spec.specs.declared.polling.Error.{Error}
-use Rattle.saa_core_spec.specs.declared.polling.Error.TheVariants.{NotRegistered, WrongMode, NotReady}
+use Rattle.saa_core_spec.specs.declared.polling.Error.TheVariants.{NotRegistered, WrongMode, NotReady, Closed}
 
 -- a semaphore or a lock granted it
 abbrev pub granted_value : ℕ
 granted_value = 0
+
+-- the semaphore was shut. It is the number of poison: a form in words answers all waiters of either in one way
+abbrev pub closed_value : ℕ
+closed_value = 2
 
 -- the lock is or was poisoned
 abbrev pub poisoned_value : ℕ
@@ -73,9 +77,9 @@ number_error n =
     else (if n == 20 then GateWrongMode
     else GateNotReady))))
 
--- what a value means to a semaphore: every one is a grant
+-- what a value means to a semaphore: that it was shut, and every other is a grant
 abbrev pub semaphore_value : Result ℕ Error → Result (Unit {0}) Error
-semaphore_value (Ok value) = Ok tt
+semaphore_value (Ok value) = if value == closed_value then Err Closed else Ok tt
 semaphore_value (Err error) = Err error
 
 -- what a value means to a lock: granted or not
@@ -88,11 +92,12 @@ abbrev pub barrier_value : Result ℕ Error → Result Bool Error
 barrier_value (Ok value) = Ok (value == leader_value)
 barrier_value (Err error) = Err error
 
--- the error of a poll as a gate's error of the same name
+-- the error of a poll as a gate's error of the same name. No poll of a gate has Closed; it would read as Sealed
 abbrev pub gate_error : Error → GateError
 gate_error NotRegistered = GateNotRegistered
 gate_error WrongMode = GateWrongMode
 gate_error NotReady = GateNotReady
+gate_error Closed = Sealed
 
 -- what a value means to a gate: its two low bits are the state, and the rest is the error, if it isn't 0
 abbrev pub gate_value : Result ℕ Error → Result State GateError

@@ -17,7 +17,8 @@ pub enum State {
 }
 
 /// Why a task didn't pass a gate.
-#[derive(Clone, Copy, Debug, Eq, Ord, PartialEq, PartialOrd)]
+#[derive(Clone, Copy, Debug, Eq, Ord, PartialEq, PartialOrd, thiserror::Error)]
+#[error("{}", self.message())]
 pub enum Error {
     /// The gate rejected all waiters. Its number is 4.
     Rejected,
@@ -31,6 +32,19 @@ pub enum Error {
     WrongMode,
     /// The registration isn't answered yet. Its number is 24.
     NotReady,
+}
+
+impl Error {
+    pub(crate) fn message(&self) -> &'static str {
+        match self {
+            Error::Rejected => "the gate rejected all waiters",
+            Error::Sealed => "the gate is or was sealed",
+            Error::SpuriousFailure => "another waiter cancelled: ask again",
+            Error::NotRegistered => "nothing is registered here",
+            Error::WrongMode => "registered as sync and polled as async, or the other way round",
+            Error::NotReady => "not answered yet",
+        }
+    }
 }
 
 /// A call of a gate that needs no ticket.

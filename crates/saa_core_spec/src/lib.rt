@@ -7,6 +7,7 @@
 pub mod barrier;
 pub mod equality;
 pub mod gate;
+mod io_error;
 pub mod lock;
 pub mod polling;
 pub mod request;

@@ -1,5 +1,7 @@
 //! The modes and calls of a lock, and what they answer.
 
+use thiserror::Error;
+
 /// What a registration asks of a lock.
 #[derive(Clone, Copy, Debug, Eq, PartialEq)]
 pub enum Mode {
@@ -14,12 +16,22 @@ pub enum Mode {
 }
 
 /// Why a try on a lock was refused. Neither changes anything.
-#[derive(Clone, Copy, Debug, Eq, PartialEq)]
+#[derive(Clone, Copy, Debug, Eq, Error, PartialEq)]
+#[error("{}", self.message())]
 pub enum TryLockError {
     /// The lock is poisoned.
     Poisoned,
     /// Somebody waits, or the lock is held so that the try doesn't fit.
     WouldBlock,
+}
+
+impl TryLockError {
+    pub(crate) fn message(&self) -> &'static str {
+        match self {
+            TryLockError::Poisoned => "the lock is poisoned",
+            TryLockError::WouldBlock => "the lock is held, or there is a waiter",
+        }
+    }
 }
 
 /// A call of a lock that needs no ticket.

@@ -29,8 +29,9 @@ impl How {
     }
 }
 
-/// Why a poll has no answer. None of these changes anything.
-#[derive(Clone, Copy, Debug, Eq, PartialEq)]
+/// Why a poll gives nothing. All but `Closed` change nothing; `Closed` is an answer, and is consumed.
+#[derive(Clone, Copy, Debug, Eq, PartialEq, thiserror::Error)]
+#[error("{}", self.message())]
 pub enum Error {
     /// The ticket isn't registered in this primitive.
     NotRegistered,
@@ -38,4 +39,17 @@ pub enum Error {
     WrongMode,
     /// The registration isn't answered yet.
     NotReady,
+    /// The semaphore was shut: nothing was granted. Only a semaphore answers this.
+    Closed,
+}
+
+impl Error {
+    pub(crate) fn message(&self) -> &'static str {
+        match self {
+            Error::NotRegistered => "nothing is registered here",
+            Error::WrongMode => "registered as sync and polled as async, or the other way round",
+            Error::NotReady => "not answered yet",
+            Error::Closed => "the semaphore was shut",
+        }
+    }
 }

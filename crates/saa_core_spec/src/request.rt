@@ -2,6 +2,8 @@
 //!
 //! Which request fits, what it takes and what it gives back stands in `specs/Held.antt`.
 
+use thiserror::Error;
+
 /// What a task asks of a primitive.
 #[derive(Clone, Copy, Debug, Eq, PartialEq)]
 pub enum Request {
@@ -24,5 +26,12 @@ pub enum Request {
 /// A registration was refused: it had to wait, and every slot of the room is held.
 ///
 /// Nothing is changed by a refused registration.
-#[derive(Clone, Copy, Debug, Eq, PartialEq)]
+#[derive(Clone, Copy, Debug, Eq, Error, PartialEq)]
+#[error("{}", self.message())]
 pub struct Full;
+
+impl Full {
+    pub(crate) fn message(&self) -> &'static str {
+        "it would have to wait, and every slot for waiters is held"
+    }
+}

@@ -13,12 +13,16 @@ pub enum SemaphoreCall {
     IsOpen,
     /// Asks whether no permit is available.
     IsClosed,
+    /// Shuts the semaphore: every waiter is answered that it is, and no permit is taken from then on.
+    Shut,
+    /// Asks whether the semaphore is shut.
+    IsShut,
 }
 
 /// What a call of a semaphore answers.
 #[derive(Clone, Copy, Debug, Eq, PartialEq)]
 pub enum SemaphoreAnswer {
-    /// Of a try, a release, `IsOpen` and `IsClosed`.
+    /// Of all calls but `AvailablePermits`.
     Bool(bool),
     /// Of `AvailablePermits`.
     Number(usize),

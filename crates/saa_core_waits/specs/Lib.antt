@@ -1,3 +1,4 @@
 pub mod Waits
 pub mod FutureStates
 pub mod SpinPolicies
+pub mod AcquireErrors

@@ -1,12 +1,17 @@
 -- What calls that wait do to a registration, by what a form's own calls do to it.
-use Rattle.std.specs.Prelude.{◌≡◌, ◌&&◌, ℕ, Bool, true, false, Option, Some, is_some, Result, Ok, Err, IfSome, IfOk}
+use Rattle.std.specs.Prelude.{◌≡◌, ◌&&◌, ℕ, Bool, true, false, Option, None, Some, is_some, Result, Ok, Err, IfSome, IfOk}
 use Rattle.saa_core_spec.specs.declared.polling.Error.{Error}
 use Rattle.saa_core_spec.specs.declared.polling.Error.TheVariants.{NotRegistered}
 use Rattle.saa_core_spec.specs.declared.polling.How.{How}
 use Rattle.saa_core_spec.specs.declared.request.Full.{Full}
-use Rattle.saa_core_spec.specs.Errors.{error_of, is_not_ready, is_refusal, says_not_registered, says_wrong_mode}
+use Rattle.saa_core_spec.specs.Errors.{error_of, why_none, is_not_ready, is_refusal, says_not_registered, says_wrong_mode}
 use Rattle.saa_core_waits.specs.declared.waitable.CallStart.{CallStart}
 use Rattle.saa_core_waits.specs.declared.waitable.CallStart.TheVariants.{Refused, Answered, Joined}
+
+-- the error that a reading is, by the error in place of its number, if there is one; that a semaphore was shut is no error of a poll
+abbrev pub told_fault : Option Error → Option Error
+told_fault None = None
+told_fault (Some error) = why_none error
 
 -- how a call begins whose first poll says this
 abbrev pub start_of : Result ℕ Error → CallStart

@@ -3,11 +3,11 @@
 //! What a poll and a drop do to the form is the form's (`Pends`). Here the callback and the drop are added, once for every form: a form says
 //! how an answer reads, by an `AnswerReader`.
 
-ghost use Rattle.std.specs.Prelude.{◌≡◌, ◌&&◌, ℕ, not, true, false, Option, Some, IfErr, IfOk, IfSome};
+ghost use Rattle.std.specs.Prelude.{◌≡◌, ◌&&◌, ℕ, not, true, false, Option, Some, IfSome, Result};
 ghost use Rattle.std.specs.Borrow.{follows, sem};
 ghost use Rattle.futures.specs.Poll.{IfReady, OnPending};
 ghost use Rattle.futures.specs.Task.{Hears, IsArmed, Keeps};
-ghost use Rattle.saa_core_waits.specs.FutureStates.{IsReadOf};
+ghost use Rattle.saa_core_waits.specs.FutureStates.{IsOutput};
 
 use crate::waitable::Pends;
 use futures::Future;
@@ -21,17 +21,26 @@ pub trait AnswerReader {
     /// What an answer reads as.
     type Output;
 
-    // What an answer reads as, or the end of a future whose registration was false.
-    ghost read: { Option ℕ → Self.Output };
+    /// Why a future has no such output: the form has no slot for it, or its answer says so.
+    type Error;
+
+    // What an answer reads as, or the end of a future whose registration was false; and the error where there is no slot.
+    ghost read: { Option ℕ → Result Self.Output Self.Error };
+
+    ghost full: { Self.Error };
 
     /// What the number of an answer reads as; `None` is the end of a future whose registration was false.
-    fn read(answer: Option<u8>) -> Self::Output
+    fn read(answer: Option<u8>) -> Result<Self::Output, Self::Error>
         ensures { result ≡ read answer };
+
+    /// The error where it would have to wait, and there is no slot for one more waiter.
+    fn full() -> Self::Error
+        ensures { result ≡ full };
 }
 
 /// A future of a form: it registers as async at its first poll, and is polled until it is answered.
 ///
-/// Its output is the answer, or `Full` where it would have to wait and there is no slot for one more waiter. While the answer isn't there
+/// Its output is what its answer reads as, or `Full` where it would have to wait and there is no slot for one more waiter. While the answer isn't there
 /// it stays pending, and its task is woken once it is; of several tasks that polled it the last is woken. A poll after
 /// the end asks to be polled again, and changes nothing. Dropping it drops what it is registered for, as a pager's drop
 /// does: a waiter leaves the queue, and what was granted and not told yet is given back. Contracts see the form, what is pending there, and the source that its task
@@ -94,9 +103,8 @@ impl<'s, S: Pends, Q: AnswerReader> Acquiring<'s, S, Q> {
     }
 
     // One poll for a task, and whether it joined the queue by that.
-    fn advance(&mut self, cx: &mut Context<'_>) -> (Poll<Result<Q::Output, Full>>, bool)
-        ensures value { IfReady result.0 (λ output. IfOk output (IsReadOf Q.read (S.answers self.old.form self.old.asking))) }
-        ensures full { IfReady result.0 (λ output. IfErr output (λ full. S.refuses self.old.form)) }
+    fn advance(&mut self, cx: &mut Context<'_>) -> (Poll<Result<Q::Output, Q::Error>>, bool)
+        ensures output { IfReady result.0 (IsOutput Q.read Q.full (S.answers self.old.form self.old.asking) (S.refuses self.old.form)) }
         ensures same { OnPending result.0 ((answer : Option ℕ) → S.answers self.new.form self.new.asking answer → S.answers self.old.form self.old.asking answer) }
         ensures armed { OnPending result.0 (IsArmed cx.new) }
         ensures heard { OnPending result.0 (Hears cx.new self.old.source) }
@@ -112,8 +120,8 @@ impl<'s, S: Pends, Q: AnswerReader> Acquiring<'s, S, Q> {
             return (cx.yield_now(), false);
         }
         match self.form.advance(&mut self.pending, cx) {
-            (Poll::Ready(Ok(answer)), has_joined) => (Poll::Ready(Ok(Q::read(answer))), has_joined),
-            (Poll::Ready(Err(full)), has_joined) => (Poll::Ready(Err(full)), has_joined),
+            (Poll::Ready(Ok(answer)), has_joined) => (Poll::Ready(Q::read(answer)), has_joined),
+            (Poll::Ready(Err(Full)), has_joined) => (Poll::Ready(Err(Q::full())), has_joined),
             (Poll::Pending, has_joined) => (Poll::Pending, has_joined),
         }
     }
@@ -131,13 +139,13 @@ impl<S: Pends, Q> Drop for Acquiring<'_, S, Q> {
 }
 
 impl<S: Pends, Q: AnswerReader> Future for Acquiring<'_, S, Q> {
-    type Output = Result<Q::Output, Full>;
+    type Output = Result<Q::Output, Q::Error>;
 
     ghost needs = { λ future source. source ≡ future.source };
 
-    ghost gives = { λ future output. IfOk output (IsReadOf Q.read (S.answers future.form future.asking)) × IfErr output (λ full. S.refuses future.form) };
+    ghost gives = { λ future. IsOutput Q.read Q.full (S.answers future.form future.asking) (S.refuses future.form) };
 
-    fn poll(&mut self, cx: &mut Context<'_>) -> Poll<Result<Q::Output, Full>> {
+    fn poll(&mut self, cx: &mut Context<'_>) -> Poll<Result<Q::Output, Q::Error>> {
         let (polled, _has_joined) = self.advance(cx);
         polled
     }
@@ -212,15 +220,15 @@ impl<S: Pends, Q, F: FnOnce() + Drop> Drop for AcquiringWith<'_, S, Q, F> {
 }
 
 impl<S: Pends, Q: AnswerReader, F: FnOnce() + Drop> Future for AcquiringWith<'_, S, Q, F> {
-    type Output = Result<Q::Output, Full>;
+    type Output = Result<Q::Output, Q::Error>;
 
     ghost can_poll = { λ future. IfSome future.begin_wait (λ begin_wait. F.pre begin_wait) };
 
     ghost needs = { λ future source. source ≡ future.acquiring.source };
 
-    ghost gives = { λ future output. IfOk output (IsReadOf Q.read (S.answers future.acquiring.form future.acquiring.asking)) × IfErr output (λ full. S.refuses future.acquiring.form) };
+    ghost gives = { λ future. IsOutput Q.read Q.full (S.answers future.acquiring.form future.acquiring.asking) (S.refuses future.acquiring.form) };
 
-    fn poll(&mut self, cx: &mut Context<'_>) -> Poll<Result<Q::Output, Full>> {
+    fn poll(&mut self, cx: &mut Context<'_>) -> Poll<Result<Q::Output, Q::Error>> {
         let (polled, has_joined) = self.acquiring.advance(cx);
         if has_joined {
             if let Some(begin_wait) = self.begin_wait.take() {

@@ -10,7 +10,7 @@ ghost use Rattle.saa_core_spec.specs.declared.polling.Error.{Error};
 ghost use Rattle.saa_core_spec.specs.declared.polling.How.{How};
 ghost use Rattle.saa_core_spec.specs.declared.polling.How.TheVariants.{Async, Sync};
 ghost use Rattle.saa_core_spec.specs.Errors.{error_of, is_not_ready};
-ghost use Rattle.saa_core_waits.specs.Waits.{HasPolled, IsTold};
+ghost use Rattle.saa_core_waits.specs.Waits.{HasPolled, IsTold, told_fault};
 
 use crate::deadline::Deadline;
 use futures::task::{Context, Poll};
@@ -72,7 +72,7 @@ pub trait SyncResult<T: Drop>: Sized {
     fn to_result(value: u8, pager_error: Option<Error>) -> Self::Result
         requires { pager_error ≡ None → is_value value }
         ensures answer { result ≡ answer value pager_error }
-        ensures fault { (pager_error ≡ None → is_answer value) → fault result ≡ pager_error };
+        ensures fault { (pager_error ≡ None → is_answer value) → fault result ≡ told_fault pager_error };
 
     /// What a poll answers, by the number that the primitive answered, or by why there is none.
     fn read(polled: Result<u8, Error>) -> Self::Result

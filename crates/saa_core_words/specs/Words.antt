@@ -3,7 +3,7 @@
 use Rattle.std.specs.Prelude.{ℕ, suc, zero, ◌+◌, ◌-◌, ◌*◌, ◌/◌, ◌%◌, ◌^◌, ◌==◌, if◌then◌else◌, Option, Some, None}
 use Rattle.saa_core_spec.specs.declared.request.Request.{Request}
 use Rattle.saa_core_spec.specs.declared.request.Request.TheVariants.{Exclusive, Shared, WaitExclusive, WaitShared, Permits}
-use Rattle.saa_core_spec.specs.Held.{Held, OfSemaphore, OfLock, OfGate, OfBarrier, LockState, Free, Exclusive as Alone, Shared as Sharing, Poisoned}
+use Rattle.saa_core_spec.specs.Held.{Held, OfSemaphore, OfShutSemaphore, OfLock, OfGate, OfBarrier, LockState, Free, Exclusive as Alone, Shared as Sharing, Poisoned}
 use Rattle.saa_core_spec.specs.Object.{one_if}
 use Rattle.saa_core_words.specs.declared.word.Word.{Word}
 use Rattle.saa_core_words.specs.declared.line_word.LineWord.{LineWord}
@@ -35,6 +35,7 @@ lock_count (Sharing owners) = owners
 -- the count of what is held: the permits that are out, or the owners of a lock
 abbrev pub held_count : Held → ℕ
 held_count (OfSemaphore bound out) = out
+held_count (OfShutSemaphore bound out) = out
 held_count (OfLock lock) = lock_count lock
 held_count (OfGate gate) = 0
 held_count (OfBarrier size) = 0

@@ -3,7 +3,7 @@ use Rattle.std.proofs.Common.{◌≡◌, ◌<◌, ℕ, List, [], ◌∷◌, Some
 use Rattle.std.specs.Prelude.{codes, decimal}
 use Rattle.saa_core_spec.specs.declared.run.CommandOf.TheVariants.{Call}
 use Rattle.saa_core_spec.specs.declared.semaphore.SemaphoreCall.{SemaphoreCall}
-use Rattle.saa_core_spec.specs.declared.semaphore.SemaphoreCall.TheVariants.{TryAcquireMany, ReleaseMany, AvailablePermits, IsOpen, IsClosed}
+use Rattle.saa_core_spec.specs.declared.semaphore.SemaphoreCall.TheVariants.{TryAcquireMany, ReleaseMany, AvailablePermits, IsOpen, IsClosed, Shut, IsShut}
 use Rattle.saa_core_spec.specs.declared.lock.Mode.{Mode}
 use Rattle.saa_core_spec.specs.declared.lock.Mode.TheVariants.{Exclusive, Shared, WaitExclusive, WaitShared}
 use Rattle.saa_core_spec.specs.declared.lock.LockCall.{LockCall}
@@ -50,6 +50,8 @@ semaphore_call_said (ReleaseMany n) small = rw (number_said n small.0) refl
 semaphore_call_said AvailablePermits small = refl
 semaphore_call_said IsOpen small = refl
 semaphore_call_said IsClosed small = refl
+semaphore_call_said Shut small = refl
+semaphore_call_said IsShut small = refl
 
 semaphore_call_words : (call : SemaphoreCall) → AreNumbers (semaphore_call_numbers call) → Words (semaphore_call_fields call)
 semaphore_call_words (TryAcquireMany n) small = word_and_number (codes "try") n (IsWord-literal (codes "try") refl refl) small.0
@@ -57,10 +59,12 @@ semaphore_call_words (ReleaseMany n) small = word_and_number (codes "release") n
 semaphore_call_words AvailablePermits small = word_alone (codes "available") (IsWord-literal (codes "available") refl refl)
 semaphore_call_words IsOpen small = word_alone (codes "is_open") (IsWord-literal (codes "is_open") refl refl)
 semaphore_call_words IsClosed small = word_alone (codes "is_closed") (IsWord-literal (codes "is_closed") refl refl)
+semaphore_call_words Shut small = word_alone (codes "shut") (IsWord-literal (codes "shut") refl refl)
+semaphore_call_words IsShut small = word_alone (codes "is_shut") (IsWord-literal (codes "is_shut") refl refl)
 
 pub semaphore_fits : Fits semaphore_readings semaphore_spellings
 semaphore_fits = record {
-  lone_found = ((refl, tt), ((refl, tt), ((refl, tt), tt)));
+  lone_found = ((refl, tt), ((refl, tt), ((refl, tt), ((refl, tt), ((refl, tt), tt)))));
   counted_found = (λ n small. (refl, (small, tt)), (λ n small. (refl, (small, tt)), tt));
   ask_found = semaphore_ask_found;
   call_said = semaphore_call_said;

@@ -2,7 +2,7 @@
 use Rattle.std.specs.Prelude.{ℕ, Bool, true, false, not, List, [], ◌∷◌, Option, Some, None, Result, Ok, Err, codes}
 use Rattle.saa_core_spec.specs.declared.request.Request.{Request}
 use Rattle.saa_core_spec.specs.declared.polling.Error.{Error}
-use Rattle.saa_core_spec.specs.declared.polling.Error.TheVariants.{NotRegistered, WrongMode, NotReady}
+use Rattle.saa_core_spec.specs.declared.polling.Error.TheVariants.{NotRegistered, WrongMode, NotReady, Closed}
 use Rattle.saa_core_spec.specs.declared.run.ReplyOf.{ReplyOf}
 use Rattle.saa_core_spec.specs.declared.run.ReplyOf.TheVariants.{Answered, Registered, Polled, Dropped}
 use Rattle.saa_core_spec.specs.Object.{Object, After, entry_at}
@@ -16,11 +16,12 @@ abbrev pub truth_word : Bool → List ℕ
 truth_word true = codes "true"
 truth_word false = codes "false"
 
--- why a poll has no answer
+-- why a poll has no answer, or that the semaphore was shut
 abbrev pub error_word : Error → List ℕ
 error_word NotRegistered = codes "not_registered"
 error_word WrongMode = codes "wrong_mode"
 error_word NotReady = codes "not_ready"
+error_word Closed = codes "closed"
 
 -- the words of a poll that answers true or false
 abbrev pub truth_poll : Result Bool Error → List ℕ

@@ -4,7 +4,7 @@ use Rattle.saa_core_spec.specs.declared.request.Request.TheVariants.{Permits}
 use Rattle.saa_core_spec.specs.declared.polling.Error.{Error}
 use Rattle.saa_core_spec.specs.declared.run.ReplyOf.{ReplyOf}
 use Rattle.saa_core_spec.specs.declared.semaphore.SemaphoreCall.{SemaphoreCall}
-use Rattle.saa_core_spec.specs.declared.semaphore.SemaphoreCall.TheVariants.{TryAcquireMany, ReleaseMany, AvailablePermits, IsOpen, IsClosed}
+use Rattle.saa_core_spec.specs.declared.semaphore.SemaphoreCall.TheVariants.{TryAcquireMany, ReleaseMany, AvailablePermits, IsOpen, IsClosed, Shut, IsShut}
 use Rattle.saa_core_spec.specs.declared.semaphore.SemaphoreAnswer.{SemaphoreAnswer}
 use Rattle.saa_core_spec.specs.declared.semaphore.SemaphoreAnswer.TheVariants.{Bool as SaysBool, Number}
 use Rattle.saa_core_spec.specs.Object.{Object, After}
@@ -25,7 +25,7 @@ semaphore_ask (field ∷ next ∷ fields) = None
 -- how its lines are read
 abbrev pub semaphore_readings : Readings SemaphoreCall ℕ
 semaphore_readings = record {
-  lone = (codes "available", AvailablePermits) ∷ (codes "is_open", IsOpen) ∷ (codes "is_closed", IsClosed) ∷ [];
+  lone = (codes "available", AvailablePermits) ∷ (codes "is_open", IsOpen) ∷ (codes "is_closed", IsClosed) ∷ (codes "shut", Shut) ∷ (codes "is_shut", IsShut) ∷ [];
   counted = (codes "try", TryAcquireMany) ∷ (codes "release", ReleaseMany) ∷ [];
   ask = semaphore_ask;
 }
@@ -37,6 +37,8 @@ semaphore_call_fields (ReleaseMany n) = codes "release" ∷ decimal n ∷ []
 semaphore_call_fields AvailablePermits = codes "available" ∷ []
 semaphore_call_fields IsOpen = codes "is_open" ∷ []
 semaphore_call_fields IsClosed = codes "is_closed" ∷ []
+semaphore_call_fields Shut = codes "shut" ∷ []
+semaphore_call_fields IsShut = codes "is_shut" ∷ []
 
 -- the numbers of a call
 abbrev pub semaphore_call_numbers : SemaphoreCall → List ℕ
@@ -45,6 +47,8 @@ semaphore_call_numbers (ReleaseMany n) = n ∷ []
 semaphore_call_numbers AvailablePermits = []
 semaphore_call_numbers IsOpen = []
 semaphore_call_numbers IsClosed = []
+semaphore_call_numbers Shut = []
+semaphore_call_numbers IsShut = []
 
 -- how its lines are spelled
 abbrev pub semaphore_spellings : Spellings SemaphoreCall ℕ

@@ -4,7 +4,7 @@
 use crate::tests::Row;
 
 /// Each script, what is written of it, and the status.
-pub(crate) static BOUND_ROWS: [Row; 10] = [
+pub(crate) static BOUND_ROWS: [Row; 12] = [
     // 1000 permits: one more is never granted or given back, and a waiter for 300 is granted once they are available.
     Row {
         input: "bounded 1000 1000 4\ntry 1001\ntry 1000\nreg 1 300 sync\nrelease 299\navailable\nrelease 1\navailable\npoll_sync 1\nrelease 1001\nrelease 1000\navailable\n",
@@ -22,6 +22,18 @@ pub(crate) static BOUND_ROWS: [Row; 10] = [
         input: "bounded 1 1 2\ntry 1\nreg 1 1 sync\nreg 2 1 sync\nrelease 1\npoll_sync 1\npoll_sync 2\nrelease 1\npoll_sync 2\n",
         output: "true\ntrue\ntrue\ntrue\nok\nnot_ready\ntrue\nok\n",
         status: 0,
+    },
+    // A shut: two wait and are told, one comes later, and what is out comes back.
+    Row {
+        input: "bounded 1000 1000 4\ntry 999\nreg 1 2 sync\nreg 2 1 async\nis_shut\nshut\nis_shut\npoll_sync 1\npoll_async 2\navailable\ntry 1\nreg 3 1 sync\ntry_poll 3\nreg 3 1001 sync\nshut\nrelease 999\nrelease 1\nis_open\n",
+        output: "true\ntrue\ntrue\nfalse\ntrue\ntrue\nclosed\nclosed\n1\nfalse\ntrue\nclosed\nfalse\nfalse\ntrue\nfalse\ntrue\n",
+        status: 0,
+    },
+    // No other primitive is shut by a line.
+    Row {
+        input: "lock 1\nis_free\nshut\n",
+        output: "true\nbad line 3\n",
+        status: 2,
     },
     // A bound of 0, of 2, of 63, and of 65536.
     Row {

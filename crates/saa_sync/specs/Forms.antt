@@ -1,5 +1,5 @@
 -- What contracts see of the forms that threads share, and of their futures.
-use Rattle.std.specs.Prelude.{ℕ, Option, Some, None, Result, Ok, Err}
+use Rattle.std.specs.Prelude.{ℕ, Option, Some, None, Result, Ok, Err, vec_len}
 use Rattle.saa_core_spec.specs.declared.polling.Error.{Error}
 use Rattle.saa_core_waits.specs.declared.spin_policy.SpinPolicy.{SpinPolicy}
 use Rattle.saa_sync.specs.declared.form.Form.{Form}
@@ -22,6 +22,10 @@ spin_policy_of form = form.unregistered
 -- how often a waiter at a form spins and yields before it parks
 abbrev pub waiter_policy_of : {R P Call Ask Answer Value : Type 0} → Form R P Call Ask Answer Value → SpinPolicy
 waiter_policy_of form = form.waiting
+
+-- how many waiters a form has slots for
+abbrev pub room_of : {R P Call Ask Answer Value : Type 0} → Form R P Call Ask Answer Value → ℕ
+room_of form = vec_len form.parkers
 
 -- the same future, with this pending; its callback stays
 abbrev pub with_pending_before : {S F : Type 0} → FutureWithState S PendingState F → PendingState → FutureWithState S PendingState F

@@ -7,6 +7,8 @@ use Rattle.saa_core_spec.specs.declared.gate.Error.TheVariants.{Rejected, Sealed
 use Rattle.saa_core_spec.specs.declared.polling.Error.{Error}
 use Rattle.saa_core_spec.specs.declared.polling.Error.TheVariants.{NotRegistered, WrongMode, NotReady}
 use Rattle.saa_core_spec.specs.Values.{gate_value}
+use Rattle.saa_sync.specs.declared.timed.gate.TimedEntry.{TimedEntry}
+use Rattle.saa_sync.specs.declared.timed.gate.TimedEntry.TheVariants.{Passed, Refused, Late}
 
 -- the error of a poll that a gate's answer is, if it is one; who was rejected, refused or woken has an answer
 abbrev pub gate_fault : Result State GateError → Option Error
@@ -17,6 +19,12 @@ gate_fault (Err SpuriousFailure) = None
 gate_fault (Err GateNotRegistered) = Some NotRegistered
 gate_fault (Err GateWrongMode) = Some WrongMode
 gate_fault (Err GateNotReady) = Some NotReady
+
+-- the error of a poll that an entry in time answers, if it is one
+abbrev pub entry_fault : TimedEntry → Option Error
+entry_fault (Passed state) = None
+entry_fault (Refused error) = gate_fault (Err error)
+entry_fault Late = None
 
 -- What a poll of a gate is told: what the number means that the core answered, or the gate's error of the same name. No gate
 -- answers a number that reads as an error of a poll; such a one says that somebody gave up

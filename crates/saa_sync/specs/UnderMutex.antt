@@ -5,7 +5,7 @@ use Rattle.saa_core_spec.specs.declared.polling.Error.{Error}
 use Rattle.saa_core_spec.specs.declared.request.Full.{Full}
 use Rattle.saa_core_spec.specs.declared.polling.How.{How}
 use Rattle.saa_core_spec.specs.declared.polling.How.TheVariants.{Sync}
-use Rattle.saa_core_spec.specs.declared.polling.Error.TheVariants.{NotReady, NotRegistered, WrongMode}
+use Rattle.saa_core_spec.specs.declared.polling.Error.TheVariants.{Closed, NotReady, NotRegistered, WrongMode}
 use Rattle.saa_core_spec.specs.Asking.{registered}
 use Rattle.saa_core_spec.specs.Object.{Object, After}
 use Rattle.saa_core_spec.specs.Polling.{dropped, polled, read_as}
@@ -56,6 +56,7 @@ concluded_of name s (Ok value) = record { state = s; reply = Ok value }
 concluded_of name s (Err NotReady) = record { state = dropped s name; reply = Err NotReady }
 concluded_of name s (Err NotRegistered) = record { state = s; reply = Err NotRegistered }
 concluded_of name s (Err WrongMode) = record { state = s; reply = Err WrongMode }
+concluded_of name s (Err Closed) = record { state = s; reply = Err Closed }
 
 abbrev pub concluded_from : ℕ → After (Result ℕ Error) → After (Result ℕ Error)
 concluded_from name after = concluded_of name after.state after.reply

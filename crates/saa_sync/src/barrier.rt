@@ -9,7 +9,7 @@ ghost use Rattle.saa_core_spec.specs.declared.request.Request.TheVariants.{Arriv
 ghost use Rattle.saa_core.specs.declared.ticket.Registration.TheVariants.{Unregistered};
 ghost use Rattle.saa_core.specs.Tickets.{is_busy, is_yes};
 ghost use Rattle.saa_core.specs.Beginning.{mode_of};
-ghost use Rattle.saa_sync.specs.Forms.{spin_policy_of, waiter_policy_of};
+ghost use Rattle.saa_sync.specs.Forms.{room_of, spin_policy_of, waiter_policy_of};
 
 use crate::form::{Form, PagerCore};
 use crate::future::barrier::{ArriveFuture, ArriveFutureWith};
@@ -61,6 +61,7 @@ impl<R: Wait + Drop> Form<R, BarrierCore> {
         ensures no_room { room ≡ 0 → IsOk result }
         ensures spin_policy { IfOk result (λ barrier. spin_policy_of barrier ≡ NONE) }
         ensures waiter { IfOk result (λ barrier. waiter_policy_of barrier ≡ WAITER) }
+        ensures room { IfOk result (λ barrier. room_of barrier ≡ room) }
     {
         let core = BarrierCore::with_count(alloc, count, room)?;
         Self::of_core(rt, alloc, core, room, NONE, WAITER)

@@ -1,17 +1,19 @@
 //! The one form of every primitive that threads share: one mutex around a core, and a parker for each slot of its room.
 //!
 //! What a form of any core has is written here once: how it is made, its waits (`waiting`, `tasks`, and the calls on them, `blocking`), looks
-//! before a call registers (`looking`), turns at the mutex and wakes (`locking`), its pagers (`paging`), and what tests may see (`counting`). What a
+//! before a call registers (`looking`), turns at the mutex and wakes (`locking`), its pagers (`paging`), what it shows of itself (`showing`), and what
+//! tests may see (`counting`). What a
 //! primitive has beside that, its own calls and how its answers read, is in the module of its name.
 
 ghost use Rattle.std.specs.Prelude.{◌≡◌, IfOk, IsOk};
-ghost use Rattle.saa_sync.specs.Forms.{spin_policy_of, waiter_policy_of};
+ghost use Rattle.saa_sync.specs.Forms.{room_of, spin_policy_of, waiter_policy_of};
 
 mod blocking;
 mod counting;
 mod locking;
 mod looking;
 mod paging;
+mod showing;
 mod tasks;
 mod waiting;
 
@@ -67,6 +69,7 @@ impl<R: Wait + Drop, P: Primitive> Form<R, P> {
         ensures no_room { room ≡ 0 → IsOk result }
         ensures spin_policy { IfOk result (λ form. spin_policy_of form ≡ unregistered) }
         ensures waiter { IfOk result (λ form. waiter_policy_of form ≡ waiting) }
+        ensures room { IfOk result (λ form. room_of form ≡ room) }
     {
         let mut parkers = Vec::with_capacity(alloc, usize::from(room))?;
         for _slot in 0..room {

@@ -10,7 +10,7 @@ ghost use Rattle.saa_core_spec.specs.declared.request.Request.TheVariants.{Enter
 ghost use Rattle.saa_core.specs.declared.ticket.Registration.TheVariants.{Unregistered};
 ghost use Rattle.saa_core.specs.Tickets.{is_busy, is_yes};
 ghost use Rattle.saa_core.specs.Beginning.{mode_of};
-ghost use Rattle.saa_sync.specs.Forms.{spin_policy_of, waiter_policy_of};
+ghost use Rattle.saa_sync.specs.Forms.{room_of, spin_policy_of, waiter_policy_of};
 ghost use Rattle.saa_sync.specs.GateAnswers.{gate_fault, gate_reading};
 
 use crate::form::{Form, PagerCore};
@@ -18,6 +18,7 @@ use crate::future::gate::{Enter, EnterWith};
 use crate::pager::Pager;
 use crate::parker::WAITER;
 use crate::spin_policy::NONE;
+pub use crate::timed::TimedEntry;
 pub use saa_core::gate::{Error, GateAnswer, GateCall, GateCore, State};
 use saa_core::primitive::Primitive;
 use saa_core::ticket::Full;
@@ -44,6 +45,7 @@ impl<R: Wait + Drop> Form<R, GateCore> {
         ensures no_room { room ≡ 0 → IsOk result }
         ensures spin_policy { IfOk result (λ gate. spin_policy_of gate ≡ NONE) }
         ensures waiter { IfOk result (λ gate. waiter_policy_of gate ≡ WAITER) }
+        ensures room { IfOk result (λ gate. room_of gate ≡ room) }
     {
         let core = GateCore::new(alloc, room)?;
         Self::of_core(rt, alloc, core, room, NONE, WAITER)

@@ -36,9 +36,9 @@ pub use lock_api::{
     ValueRef, Writing, lock_async, read_async, write_async,
 };
 pub use pager::Pager;
-pub use permit::{Permit, PermitOf};
+pub use permit::{OwnedPermit, OwnedPermitOf, Permit, PermitOf};
 pub use saa_core::ticket::Full;
 pub use saa_core::{line, ticket, words};
 pub use saa_core_waits as waits;
-pub use saa_core_waits::Waitable;
+pub use saa_core_waits::{AcquireError, Waitable};
 pub use semaphore::{Semaphore, SemaphoreOf};

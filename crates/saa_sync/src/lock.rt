@@ -8,7 +8,7 @@ ghost use Rattle.saa_core_spec.specs.declared.request.Request.TheVariants.{Exclu
 ghost use Rattle.saa_core.specs.declared.ticket.Registration.TheVariants.{Unregistered};
 ghost use Rattle.saa_core.specs.Tickets.{is_busy, is_yes};
 ghost use Rattle.saa_core.specs.Beginning.{mode_of};
-ghost use Rattle.saa_sync.specs.Forms.{spin_policy_of, waiter_policy_of};
+ghost use Rattle.saa_sync.specs.Forms.{room_of, spin_policy_of, waiter_policy_of};
 
 use crate::form::{Form, PagerCore};
 use crate::future::lock::{LockFuture, LockFutureWith, ShareFuture, ShareFutureWith};
@@ -57,6 +57,7 @@ impl<R: Wait + Drop> Form<R, LockCore> {
         ensures no_room { room ≡ 0 → IsOk result }
         ensures spin_policy { IfOk result (λ lock. spin_policy_of lock ≡ DEFAULT) }
         ensures waiter { IfOk result (λ lock. waiter_policy_of lock ≡ WAITER) }
+        ensures room { IfOk result (λ lock. room_of lock ≡ room) }
     {
         Self::with_spin_policy(rt, alloc, room, DEFAULT)
     }
@@ -72,6 +73,7 @@ impl<R: Wait + Drop> Form<R, LockCore> {
         ensures no_room { room ≡ 0 → IsOk result }
         ensures spin_policy { IfOk result (λ lock. spin_policy_of lock ≡ spin_policy) }
         ensures waiter { IfOk result (λ lock. waiter_policy_of lock ≡ WAITER) }
+        ensures room { IfOk result (λ lock. room_of lock ≡ room) }
     {
         let core = LockCore::new(alloc, room)?;
         Self::of_core(rt, alloc, core, room, spin_policy, WAITER)

@@ -75,10 +75,10 @@ impl<R: Wait + Drop> RawLock for Form<R, LockCore> {
 
 impl<R: Wait + Drop> MadeWith<R> for Form<R, LockCore> {
     ghost use Rattle.std.specs.Prelude.{◌≡◌};
-    ghost use Rattle.saa_sync.specs.Forms.{spin_policy_of, waiter_policy_of};
+    ghost use Rattle.saa_sync.specs.Forms.{room_of, spin_policy_of, waiter_policy_of};
     ghost use Rattle.saa_sync.specs.declared.parker.TheConstants.{WAITER};
 
-    ghost is_made = { λ lock room spin_policy. (spin_policy_of lock ≡ spin_policy) × (waiter_policy_of lock ≡ WAITER) };
+    ghost is_made = { λ lock room spin_policy. (spin_policy_of lock ≡ spin_policy) × (waiter_policy_of lock ≡ WAITER) × (room_of lock ≡ room) };
 
     ghost takes_no_memory = { λ room. room ≡ 0 };
 

@@ -8,17 +8,22 @@ ghost use Rattle.saa_core_spec.specs.declared.request.Request.TheVariants.{Permi
 ghost use Rattle.saa_core.specs.declared.ticket.Registration.TheVariants.{Unregistered};
 ghost use Rattle.saa_core.specs.Tickets.{is_busy, is_yes};
 ghost use Rattle.saa_core.specs.Beginning.{mode_of};
-ghost use Rattle.saa_sync.specs.Forms.{spin_policy_of, waiter_policy_of};
+ghost use Rattle.saa_sync.specs.Forms.{room_of, spin_policy_of, waiter_policy_of};
+ghost use Rattle.saa_sync.specs.SemaphoreAnswers.{granted};
 
 use crate::form::{Form, PagerCore};
 use crate::future::semaphore::{AcquireManyOf, AcquireManyWithOf, AcquireOf, AcquireWithOf};
 use crate::pager::Pager;
 use crate::parker::WAITER;
-pub use crate::permit::{Permit, PermitFrom, PermitOf, TakesBack};
+pub use crate::permit::{
+    AcquirePermits, AcquirePermitsOf, Holder, InTime, OwnedPermit, OwnedPermitOf, Permit,
+    PermitFrom, PermitOf, PermitsFuture, RawSemaphore,
+};
 use crate::spin_policy::{NONE, SpinPolicy};
 use saa_core::primitive::Primitive;
 pub use saa_core::semaphore::{SemaphoreAnswer, SemaphoreCall, SemaphoreCore, SemaphoreCoreOf};
 use saa_core::ticket::{Error, Full};
+pub use saa_core_waits::AcquireError;
 use std::alloc::{AllocError, Global};
 use std::sync::Wait;
 use std::sync::atomic::Ordering;
@@ -62,6 +67,7 @@ impl<R: Wait + Drop, const MAX: usize> Form<R, SemaphoreCoreOf<MAX>> {
         ensures no_room { room ≡ 0 → IsOk result }
         ensures spin_policy { IfOk result (λ semaphore. spin_policy_of semaphore ≡ NONE) }
         ensures waiter { IfOk result (λ semaphore. waiter_policy_of semaphore ≡ WAITER) }
+        ensures room { IfOk result (λ semaphore. room_of semaphore ≡ room) }
     {
         Self::with_permits(rt, alloc, MAX, room)
     }
@@ -77,6 +83,7 @@ impl<R: Wait + Drop, const MAX: usize> Form<R, SemaphoreCoreOf<MAX>> {
         ensures no_room { room ≡ 0 → IsOk result }
         ensures spin_policy { IfOk result (λ semaphore. spin_policy_of semaphore ≡ NONE) }
         ensures waiter { IfOk result (λ semaphore. waiter_policy_of semaphore ≡ WAITER) }
+        ensures room { IfOk result (λ semaphore. room_of semaphore ≡ room) }
     {
         Self::with_spin_policy(rt, alloc, permits, room, NONE)
     }
@@ -95,6 +102,7 @@ impl<R: Wait + Drop, const MAX: usize> Form<R, SemaphoreCoreOf<MAX>> {
         ensures no_room { room ≡ 0 → IsOk result }
         ensures spin_policy { IfOk result (λ semaphore. spin_policy_of semaphore ≡ spin_policy) }
         ensures waiter { IfOk result (λ semaphore. waiter_policy_of semaphore ≡ WAITER) }
+        ensures room { IfOk result (λ semaphore. room_of semaphore ≡ room) }
     {
         let core = SemaphoreCoreOf::with_permits(alloc, permits, room)?;
         Self::of_core(rt, alloc, core, room, spin_policy, WAITER)
@@ -117,6 +125,20 @@ impl<R: Wait + Drop, const MAX: usize> Form<R, SemaphoreCoreOf<MAX>> {
         self.lock().core.available_permits()
     }
 
+    /// Whether it was shut: no permit is taken from it any more, however many are available.
+    pub fn is_shut(&self) -> bool {
+        self.lock().core.is_shut()
+    }
+
+    /// Shuts the semaphore for good: every waiter is answered `Closed`, and so is every call that would take a permit from then on.
+    ///
+    /// `false` comes where it was shut before, and changes nothing. Tries are refused. Permits that are out, and grants that weren't
+    /// told yet, stay as they are, and come back by [`Self::release_many`] as ever. Wakes exactly those that it answers, as
+    /// `release_many` does. It isn't the other side of [`Self::is_closed`], which says that no permit is available.
+    pub fn shut(&self) -> bool {
+        self.step(|core| core.shut())
+    }
+
     /// Takes one permit if there is no waiter and one is available; see [`Self::try_acquire_many`].
     pub fn try_acquire(&self) -> bool {
         self.try_acquire_many(1)
@@ -124,7 +146,7 @@ impl<R: Wait + Drop, const MAX: usize> Form<R, SemaphoreCoreOf<MAX>> {
 
     /// Takes `count` permits if there is no waiter and they are available; never waits for them. Wakes no waiter.
     ///
-    /// A count above [`Self::MAX_PERMITS`] is never granted. 0 permits are refused too while there is a waiter.
+    /// A count above [`Self::MAX_PERMITS`] is never granted. 0 permits are refused too while there is a waiter, and where it was shut.
     /// A `false` changes nothing.
     pub fn try_acquire_many(&self, count: usize) -> bool
         ensures too_many { MAX < count → result ≡ false }
@@ -157,28 +179,27 @@ impl<R: Wait + Drop, const MAX: usize> Form<R, SemaphoreCoreOf<MAX>> {
 
     /// Takes one permit. It spins first, as its spin policy says, and then waits in the queue where it must.
     ///
-    /// `Ok`: the core answered that it is granted. `Full`: its spins are over, it would have to wait, and as many slots are held as
-    /// there is room; nothing is changed. Nothing stays registered either way. No core refuses to register one permit, or
-    /// forgets a ticket that waits; one that did would be asked again.
-    pub fn acquire_sync(&self) -> Result<(), Full> {
-        let _granted = self.acquire(1)?;
-        Ok(())
+    /// `Ok`: the core answered that it is granted. `Closed`: the semaphore is shut, or was while this waited. `Full`: its spins are
+    /// over, it would have to wait, and as many slots are held as there is room. Neither error changes anything, and nothing stays
+    /// registered in any case. No core refuses to register one permit, or forgets a ticket that waits; one that did would be asked again.
+    pub fn acquire_sync(&self) -> Result<(), AcquireError> {
+        read_grant(self.acquire(1)?)
     }
 
     /// Takes `count` permits, all at once. It spins first, as its spin policy says, and then waits in the queue where it must.
     ///
     /// `Ok(true)`: the core answered that they are granted. `Ok(false)` comes at once, exactly where the count is above
-    /// [`Self::MAX_PERMITS`]. `Full`: its spins are over, it would have to wait, and as many slots are held as there is room. The
-    /// last two change nothing. Nothing stays registered in any case.
+    /// [`Self::MAX_PERMITS`]. `Closed`: the semaphore is shut, or was while this waited. `Full`: its spins are over, it would have to
+    /// wait, and as many slots are held as there is room. The last three change nothing. Nothing stays registered in any case.
     #[inline(always)]
-    pub fn acquire_many_sync(&self, count: usize) -> Result<bool, Full>
+    pub fn acquire_many_sync(&self, count: usize) -> Result<bool, AcquireError>
         ensures answer { IfOk result (λ is_granted. IsTrue is_granted ↔ (count ≤ MAX)) }
         ensures too_many { MAX < count → result ≡ Ok false }
     {
         if is_too_many::<MAX>(count) {
             return Ok(false);
         }
-        let _granted = self.acquire(count)?;
+        read_grant(self.acquire(count)?)?;
         Ok(true)
     }
 
@@ -186,11 +207,10 @@ impl<R: Wait + Drop, const MAX: usize> Form<R, SemaphoreCoreOf<MAX>> {
     ///
     /// The callback runs once, after the join and before the wait, with the mutex free; it may use this semaphore. It
     /// doesn't run where the call is answered before it joins, nor where the room is full.
-    pub fn acquire_sync_with<F: FnOnce() + Drop>(&self, begin_wait: F) -> Result<(), Full>
+    pub fn acquire_sync_with<F: FnOnce() + Drop>(&self, begin_wait: F) -> Result<(), AcquireError>
         requires { F.pre begin_wait }
     {
-        let _granted = self.acquire_with(1, begin_wait)?;
-        Ok(())
+        read_grant(self.acquire_with(1, begin_wait)?)
     }
 
     /// Takes `count` permits as [`Self::acquire_many_sync`] does, and calls `begin_wait` where it joins the queue.
@@ -201,7 +221,7 @@ impl<R: Wait + Drop, const MAX: usize> Form<R, SemaphoreCoreOf<MAX>> {
         &self,
         count: usize,
         begin_wait: F,
-    ) -> Result<bool, Full>
+    ) -> Result<bool, AcquireError>
         requires { F.pre begin_wait }
         ensures answer { IfOk result (λ is_granted. IsTrue is_granted ↔ (count ≤ MAX)) }
         ensures too_many { MAX < count → result ≡ Ok false }
@@ -209,7 +229,7 @@ impl<R: Wait + Drop, const MAX: usize> Form<R, SemaphoreCoreOf<MAX>> {
         if is_too_many::<MAX>(count) {
             return Ok(false);
         }
-        let _granted = self.acquire_with(count, begin_wait)?;
+        read_grant(self.acquire_with(count, begin_wait)?)?;
         Ok(true)
     }
 
@@ -274,7 +294,7 @@ impl<R: Wait + Drop, const MAX: usize> Form<R, SemaphoreCoreOf<MAX>> {
 
     /// Registers a pager for `count` permits, to be polled as sync or as async.
     ///
-    /// `Ok(true)`: it was granted at once, or waits, last in the queue. `Ok(false)`: the pager is registered already,
+    /// `Ok(true)`: it was answered at once, granted or `Closed`, or waits, last in the queue. `Ok(false)`: the pager is registered already,
     /// here or elsewhere, or the count is above [`Self::MAX_PERMITS`]. `Full`: it would have to wait, and as many
     /// slots are held as there is room. All but `Ok(true)` change nothing.
     ///
@@ -304,6 +324,8 @@ impl<const MAX: usize> PagerCore for SemaphoreCoreOf<MAX> {
     ghost use Rattle.saa_core.specs.Tickets.{fault_of};
     ghost use Rattle.std.proofs.Common.{refl};
     ghost use Rattle.saa_core_spec.specs.Values.{semaphore_value};
+    ghost use Rattle.saa_sync.specs.SemaphoreAnswers.{is_no_fault};
+    ghost use Rattle.std.specs.Prelude.{◌==◌};
 
     ghost is_value = { λ value. Unit {0} };
 
@@ -313,12 +335,12 @@ impl<const MAX: usize> PagerCore for SemaphoreCoreOf<MAX> {
 
     ghost reading = { semaphore_value };
 
-    /// Every value is a grant, `Ok(())`; an error is itself.
+    /// 2 says that the semaphore was shut, `Closed`; every other value is a grant, `Ok(())`. An error is itself.
     fn read(polled: Result<u8, Error>) -> Result<(), Error> {
         SemaphoreCoreOf::<MAX>::value_of(polled)
     }
 
-    ghost answers = { λ value is. refl };
+    ghost answers = { λ value is. is_no_fault (value == 2) };
 }
 
 // Whether a count is above the bound, so that it can never be granted.
@@ -326,4 +348,14 @@ pub(crate) fn is_too_many<const MAX: usize>(count: usize) -> bool
     ensures { IsTrue result ↔ (MAX < count) }
 {
     count > MAX
+}
+
+// What the number of an answer says: that the semaphore was shut, and every other is a grant.
+pub(crate) fn read_grant(value: u8) -> Result<(), AcquireError>
+    ensures { result ≡ granted tt value }
+{
+    match SemaphoreCore::value_of(Ok(value)) {
+        Ok(()) => Ok(()),
+        Err(_shut) => Err(AcquireError::Closed),
+    }
 }

@@ -14,4 +14,5 @@ mod gate;
 mod lock;
 mod semaphore;
 
+pub use gate::TimedEntry;
 pub use saa_core_waits::{Deadline, Timed};

@@ -7,7 +7,7 @@ use Rattle.futures.specs.Poll.{OnPending}
 use Rattle.futures.specs.declared.task.Poll.{Poll}
 use Rattle.futures.specs.declared.task.Poll.TheVariants.{Ready, Pending}
 use Rattle.saa_core_spec.specs.declared.polling.Error.{Error}
-use Rattle.saa_core_spec.specs.declared.polling.Error.TheVariants.{NotReady, NotRegistered, WrongMode}
+use Rattle.saa_core_spec.specs.declared.polling.Error.TheVariants.{Closed, NotReady, NotRegistered, WrongMode}
 use Rattle.saa_core_spec.specs.declared.polling.How.{How}
 use Rattle.saa_core_spec.specs.Errors.{error_of, is_not_ready, says_not_registered, says_wrong_mode}
 use Rattle.saa_word_pool.specs.declared.pool.Borrowed.{Borrowed}
@@ -56,6 +56,8 @@ module _ {Ask Word Place : Type 0} (calls : Word → WordCalls Ask Place) (table
       record { came = tt; rested = rested; awaited = λ late. absurd (false≢true late) }
   polled at word same ask (Err WrongMode) old new awaits poll stays rested waits =
       record { came = tt; rested = rested; awaited = λ late. absurd (false≢true late) }
+  polled at word same ask (Err Closed) old new awaits poll stays rested waits =
+      record { came = tt; rested = rested; awaited = λ late. absurd (false≢true late) }
 
   -- so does one that a task polled and that stays pending
   pub pending : (at word : Word) → at ≡ word → (ask : Ask) (old new : Place) (told : Poll (Result ℕ Error)) → Awaits calls table home rests word ask old
@@ -98,6 +100,21 @@ module _ {Ask Word Place : Type 0} (calls : Word → WordCalls Ask Place) (table
               registered = ap is_busy (kept refl);
               idle = λ free. absurd (true≢false free);
               same = λ fault. kept refl;
+              wrong = λ other. absurd (false≢true (sym in_mode ∙ other));
+              right = λ own. refl;
+              known = λ at_once. absurd (false≢true at_once);
+              there = λ at_once. absurd (false≢true at_once);
+            };
+        own = tt;
+        came = tt;
+      }
+  at-place how is_sync word pool ask new (Err Closed) in_mode known right kept given came =
+      record {
+        polled =
+            record {
+              registered = ap is_busy (given refl);
+              idle = λ free. absurd (true≢false free);
+              same = λ fault. absurd (false≢true fault);
               wrong = λ other. absurd (false≢true (sym in_mode ∙ other));
               right = λ own. refl;
               known = λ at_once. absurd (false≢true at_once);

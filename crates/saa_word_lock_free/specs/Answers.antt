@@ -1,6 +1,8 @@
 -- What the answers of both primitives mean to their futures and pagers; a future without an answer was refused its registration.
-use Rattle.std.specs.Prelude.{ℕ, Bool, false, true, Option, Some, None, Result, Ok, Err, ◌==◌}
+use Rattle.std.specs.Prelude.{◌≡◌, ℕ, Bool, false, true, Option, Some, None, Result, Ok, Err, ◌==◌, if◌then◌else◌, refl}
 use Rattle.saa_core_spec.specs.declared.polling.Error.{Error}
+use Rattle.saa_core_spec.specs.declared.polling.Error.TheVariants.{Closed}
+use Rattle.saa_core_spec.specs.Errors.{why_none}
 
 -- one permit is granted
 abbrev pub one_permit : Option ℕ → Unit {0}
@@ -21,7 +23,12 @@ abbrev pub answer_of : {V : Type 0} → (Result ℕ Error → V) → ℕ → Opt
 answer_of reading value None = reading (Ok value)
 answer_of reading value (Some error) = reading (Err error)
 
--- which error a reading is, if it is one
+-- which error a reading is, if it says that there is no answer
 abbrev pub fault_of : {V : Type 0} → Result V Error → Option Error
 fault_of (Ok value) = None
-fault_of (Err error) = Some error
+fault_of (Err error) = why_none error
+
+-- each value that a semaphore reads is an answer, also that it was shut
+abbrev pub is_no_fault : (is_closed : Bool) → fault_of {V = Unit {0}} (if is_closed then Err Closed else Ok tt) ≡ None
+is_no_fault true = refl
+is_no_fault false = refl

@@ -1,8 +1,9 @@
 -- What the calls of a semaphore are.
-use Rattle.std.specs.Prelude.{◌≡◌, ℕ, ◌-◌, min, Bool, true, Option, Some, None, Result, Ok, Err}
+use Rattle.std.specs.Prelude.{◌≡◌, ℕ, ◌-◌, ◌≤◌, ◌⊎◌, min, Bool, true, Option, Some, None, Result, Ok, Err}
 use Rattle.saa_core_spec.specs.declared.polling.Error.{Error}
 use Rattle.saa_word_steps.specs.declared.call.Answer.{Answer}
 use Rattle.saa_word_steps.specs.declared.call.WordCall.{WordCall}
+use Rattle.saa_word_steps.specs.declared.call.WordCall.TheVariants.{Release, Try}
 use Rattle.saa_word_steps.specs.declared.rules.Rules.TheVariants.{Permits}
 use Rattle.saa_word_threads.specs.declared.receipt.Receipt.{Receipt}
 use Rattle.saa_word_threads.specs.declared.semaphore.SemaphoreOf.{SemaphoreOf}
@@ -12,6 +13,7 @@ use Rattle.saa_word_threads.specs.Public.{is_yes}
 use Rattle.saa_word_threads.specs.Semaphores.{IsVisitedOnce, table_of}
 use Rattle.saa_word_lock_free.specs.Calls.{IsAcquired as IsAcquiredBy, IsAnswered as IsAnsweredBy, IsReceivedBy}
 use Rattle.saa_word_lock_free.specs.OfSemaphore.{calls_of}
+use Rattle.saa_word_lock_free.specs.Pendings.{IsToldLater}
 
 module _ {max : ℕ} where
   -- a visitor that came for it made a call, which is done or not; and this is what it has seen
@@ -39,6 +41,15 @@ module _ {max : ℕ} where
   -- it was granted
   abbrev pub IsGranted : SemaphoreOf max → ℕ → Type 0
   IsGranted semaphore count = (value : ℕ) × IsAnswered semaphore count (Ok value)
+
+  -- so many permits were granted: to a try, to a call that waited for them, timed or not, or to a future
+  abbrev pub WasGranted : SemaphoreOf max → ℕ → Type 0
+  WasGranted semaphore count =
+      IsDone semaphore (Try count) true ⊎ (IsGranted semaphore count ⊎ ((value : ℕ) × IsToldLater (λ asked. asked ≤ max) (calls_of semaphore) count (Some value)))
+
+  -- so many permits were given back: a release was made, which was done, or found fewer out
+  abbrev pub TookBack : SemaphoreOf max → ℕ → Type 0
+  TookBack semaphore count = (is_done : Bool) × IsDone semaphore (Release count) is_done
 
 -- a semaphore of so many permits at most, of which so many are available, with so many places
 abbrev pub opened : ℕ → ℕ → ℕ → About

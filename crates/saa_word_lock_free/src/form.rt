@@ -79,6 +79,11 @@ impl<R: Wait + Drop, W: WordForm> Form<R, W> {
         })
     }
 
+    /// For how many waiters there are places: the room that it was made with. Costs no step at the word.
+    pub fn room(&self) -> usize {
+        usize::from(self.places.places())
+    }
+
     // The permission to block.
     #[inline(always)]
     pub(crate) fn rt(&self) -> &R {

@@ -6,6 +6,8 @@ use crate::lock::Lock;
 pub use crate::lock_api::{MutexFuture, ReadFuture, WriteFuture};
 use crate::semaphore::SemaphoreOf;
 use crate::waiting::GRANTED;
+use saa_core_spec::request::Full;
+use saa_core_waits::AcquireError;
 pub use saa_core_waits::{Acquiring, AcquiringWith, AnswerReader, PollPager};
 
 /// How the answers for one permit read.
@@ -68,41 +70,72 @@ pub type ShareFuture<'s, R> = LockFuture<'s, R>;
 pub type ShareFutureWith<'s, R, F> = LockFutureWith<'s, R, F>;
 
 impl AnswerReader for OnePermit {
+    ghost use Rattle.std.specs.Prelude.{Ok};
+    ghost use Rattle.saa_core_waits.specs.declared.acquire_error.AcquireError.TheVariants as Why;
     ghost use Rattle.saa_word_lock_free.specs.Answers.{one_permit};
 
     type Output = ();
 
-    ghost read = { one_permit };
+    type Error = AcquireError;
+
+    ghost read = { λ answer. Ok (one_permit answer) };
+
+    ghost full = { Why.Full };
 
     /// Nothing: no registration for one permit is false.
-    fn read(_answer: Option<u8>) {}
+    fn read(_answer: Option<u8>) -> Result<(), AcquireError> {
+        Ok(())
+    }
+
+    fn full() -> AcquireError {
+        AcquireError::Full
+    }
 }
 
 impl AnswerReader for ManyPermits {
+    ghost use Rattle.std.specs.Prelude.{Ok};
+    ghost use Rattle.saa_core_waits.specs.declared.acquire_error.AcquireError.TheVariants as Why;
     ghost use Rattle.saa_word_lock_free.specs.Answers.{many_permits};
 
     type Output = bool;
 
-    ghost read = { many_permits };
+    type Error = AcquireError;
+
+    ghost read = { λ answer. Ok (many_permits answer) };
+
+    ghost full = { Why.Full };
 
     /// Whether they are granted: each answer is a grant.
-    fn read(answer: Option<u8>) -> bool {
-        answer.is_some()
+    fn read(answer: Option<u8>) -> Result<bool, AcquireError> {
+        Ok(answer.is_some())
+    }
+
+    fn full() -> AcquireError {
+        AcquireError::Full
     }
 }
 
 impl AnswerReader for Turn {
+    ghost use Rattle.std.specs.Prelude.{Ok};
     ghost use Rattle.saa_word_lock_free.specs.Answers.{turn};
 
     type Output = bool;
 
-    ghost read = { turn };
+    type Error = Full;
+
+    ghost read = { λ answer. Ok (turn answer) };
+
+    ghost full = { record {} };
 
     /// Whether it is granted: the other answer is that the lock is or was poisoned.
-    fn read(answer: Option<u8>) -> bool {
+    fn read(answer: Option<u8>) -> Result<bool, Full> {
         match answer {
-            Some(value) => value == GRANTED,
-            None => false,
+            Some(value) => Ok(value == GRANTED),
+            None => Ok(false),
         }
+    }
+
+    fn full() -> Full {
+        Full
     }
 }

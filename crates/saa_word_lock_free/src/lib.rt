@@ -30,10 +30,10 @@ pub use lock_api::{
     ValueRef, Witnessed, Writing, lock_async, read_async, write_async,
 };
 pub use pager::Pager;
-pub use permit::{Permit, PermitOf};
+pub use permit::{OwnedPermit, OwnedPermitOf, Permit, PermitOf};
 pub use saa_core_spec::request::Full;
 pub use saa_core_waits as waits;
-pub use saa_core_waits::{Deadline, SpinPolicy, Waitable, spin_policy};
+pub use saa_core_waits::{AcquireError, Deadline, SpinPolicy, Waitable, spin_policy};
 pub use saa_word_threads::lock::{Error, Mode, TryLockError};
 pub use saa_word_threads::receipt::Receipt;
 pub use saa_word_threads::words::Words;

@@ -28,6 +28,7 @@ use saa_word_threads::lock::{Lock as Word, Place, Words};
 pub use saa_word_threads::lock::{Error, Mode, TryLockError};
 use saa_word_threads::receipt::Receipt;
 use std::alloc::{AllocError, Global};
+use std::fmt;
 use std::sync::Wait;
 use std::sync::atomic::Ordering;
 
@@ -420,6 +421,20 @@ impl<R: Wait + Drop> Form<R, Word> {
             spin_policy: _,
         } = self;
         word.close_on(receipt)
+    }
+}
+
+impl<R: Wait + Drop> fmt::Debug for Form<R, Word> {
+    /// Shows whether it is locked, shared and poisoned, by a load each, which may be of different moments; and the room.
+    fn fmt<W: fmt::Write>(&self, f: &mut fmt::Formatter<W>) -> fmt::Result {
+        let is_locked = self.is_locked(Ordering::SeqCst);
+        let is_shared = self.is_shared(Ordering::SeqCst);
+        let is_poisoned = self.is_poisoned(Ordering::SeqCst);
+        let room = self.room();
+        write!(
+            f,
+            "Lock {{ locked: {is_locked}, shared: {is_shared}, poisoned: {is_poisoned}, room: {room} }}"
+        )
     }
 }
 

@@ -6,6 +6,7 @@
 ghost use Rattle.std.specs.Prelude.{◌≡◌, ◌++◌, ◌↔◌, ◌≤◌, ◌<◌, ◌||◌, ◌⊎◌, ◌-◌, true, false, IfErr, IfOk, IsTrue, Ok, Some};
 ghost use Rattle.saa_core_spec.specs.declared.request.Request.TheVariants.{Permits};
 ghost use Rattle.saa_word_lock_free.specs.Forms.{IsRefusedBy, TakesAt, WasFull};
+ghost use Rattle.saa_core_waits.specs.declared.acquire_error.AcquireError.TheVariants as Why;
 ghost use Rattle.saa_word_steps.specs.declared.call.Answer.{Answer};
 ghost use Rattle.saa_word_steps.specs.declared.call.Answer.TheVariants.{Number};
 ghost use Rattle.saa_word_steps.specs.declared.call.WordCall.TheVariants.{Available, Release, Try};
@@ -27,10 +28,12 @@ use crate::registration::Registration;
 use crate::tasks::Pending;
 use crate::word_form::WordForm;
 use saa_core_spec::request::Full;
+pub use saa_core_waits::AcquireError;
 use saa_core_waits::spin_policy::{NONE, SpinPolicy};
 use saa_word_threads::receipt::Receipt;
 use saa_word_threads::semaphore::{Error, Place, SemaphoreOf as Word, Words};
 use std::alloc::{AllocError, Global};
+use std::fmt;
 use std::sync::Wait;
 use std::sync::atomic::Ordering;
 
@@ -205,15 +208,15 @@ impl<R: Wait + Drop, const MAX: usize> Form<R, Word<MAX>> {
     ///
     /// `Full`: it would have to wait, and no place is in; nothing is changed. Nothing stays registered either way.
     #[inline(always)]
-    pub fn acquire_sync(&self) -> Result<(), Full>
+    pub fn acquire_sync(&self) -> Result<(), AcquireError>
         ensures granted { IfOk result (λ done. IsGranted self.now.word 1) }
-        ensures full { IfErr result (λ full. WasFull Place self.now) }
+        ensures full { IfErr result (λ error. (error ≡ Why.Full) × WasFull Place self.now) }
     {
         // A semaphore has one permit at least, which its type says.
         let _bounded = self.word();
         match self.acquire(1) {
             Ok(_value) => Ok(()),
-            Err(full) => Err(full),
+            Err(Full) => Err(AcquireError::Full),
         }
     }
 
@@ -222,9 +225,9 @@ impl<R: Wait + Drop, const MAX: usize> Form<R, Word<MAX>> {
     /// `Ok(true)`: they are granted. `Ok(false)` comes at once, exactly where the count is above [`Self::MAX_PERMITS`]. `Full`: it would have to wait, and no
     /// place is in. The last two change nothing. Nothing stays registered in any case.
     #[inline(always)]
-    pub fn acquire_many_sync(&self, count: usize) -> Result<bool, Full>
+    pub fn acquire_many_sync(&self, count: usize) -> Result<bool, AcquireError>
         ensures granted { IfOk result (λ is_granted. is_granted ≡ true → IsGranted self.now.word count) }
-        ensures full { IfErr result (λ full. WasFull Place self.now) }
+        ensures full { IfErr result (λ error. (error ≡ Why.Full) × WasFull Place self.now) }
         ensures answer { IfOk result (λ is_granted. IsTrue is_granted ↔ (count ≤ MAX)) }
         ensures too_many { MAX < count → result ≡ Ok false }
     {
@@ -233,7 +236,7 @@ impl<R: Wait + Drop, const MAX: usize> Form<R, Word<MAX>> {
         }
         match self.acquire(count) {
             Ok(_value) => Ok(true),
-            Err(full) => Err(full),
+            Err(Full) => Err(AcquireError::Full),
         }
     }
 
@@ -255,16 +258,16 @@ impl<R: Wait + Drop, const MAX: usize> Form<R, Word<MAX>> {
     ///
     /// The callback runs once, after the join and before the wait; it may use this semaphore. It doesn't run where the call is answered before it joins, nor
     /// where no place is in.
-    pub fn acquire_sync_with<F: FnOnce() + Drop>(&self, begin_wait: F) -> Result<(), Full>
+    pub fn acquire_sync_with<F: FnOnce() + Drop>(&self, begin_wait: F) -> Result<(), AcquireError>
         requires { F.pre begin_wait }
         ensures granted { IfOk result (λ done. IsGranted self.now.word 1) }
-        ensures full { IfErr result (λ full. WasFull Place self.now) }
+        ensures full { IfErr result (λ error. (error ≡ Why.Full) × WasFull Place self.now) }
     {
         // A semaphore has one permit at least, which its type says.
         let _bounded = self.word();
         match self.acquire_with(1, begin_wait) {
             Ok(_value) => Ok(()),
-            Err(full) => Err(full),
+            Err(Full) => Err(AcquireError::Full),
         }
     }
 
@@ -273,10 +276,10 @@ impl<R: Wait + Drop, const MAX: usize> Form<R, Word<MAX>> {
         &self,
         count: usize,
         begin_wait: F,
-    ) -> Result<bool, Full>
+    ) -> Result<bool, AcquireError>
         requires { F.pre begin_wait }
         ensures granted { IfOk result (λ is_granted. is_granted ≡ true → IsGranted self.now.word count) }
-        ensures full { IfErr result (λ full. WasFull Place self.now) }
+        ensures full { IfErr result (λ error. (error ≡ Why.Full) × WasFull Place self.now) }
         ensures answer { IfOk result (λ is_granted. IsTrue is_granted ↔ (count ≤ MAX)) }
         ensures too_many { MAX < count → result ≡ Ok false }
     {
@@ -285,7 +288,7 @@ impl<R: Wait + Drop, const MAX: usize> Form<R, Word<MAX>> {
         }
         match self.acquire_with(count, begin_wait) {
             Ok(_value) => Ok(true),
-            Err(full) => Err(full),
+            Err(Full) => Err(AcquireError::Full),
         }
     }
 
@@ -405,10 +408,23 @@ impl<R: Wait + Drop, const MAX: usize> Form<R, Word<MAX>> {
     }
 }
 
+impl<R: Wait + Drop, const MAX: usize> fmt::Debug for Form<R, Word<MAX>> {
+    /// Shows how many permits are available, by one load, and the room.
+    fn fmt<W: fmt::Write>(&self, f: &mut fmt::Formatter<W>) -> fmt::Result {
+        let available = self.available();
+        let room = self.room();
+        write!(
+            f,
+            "Semaphore {{ available_permits: {available}, room: {room} }}"
+        )
+    }
+}
+
 impl<const MAX: usize> PagerForm for Word<MAX> {
     ghost use Rattle.std.proofs.Common.{refl};
     ghost use Rattle.saa_core_spec.specs.Values.{semaphore_value};
-    ghost use Rattle.saa_word_lock_free.specs.Answers.{answer_of, fault_of};
+    ghost use Rattle.saa_word_lock_free.specs.Answers.{answer_of, fault_of, is_no_fault};
+    ghost use Rattle.std.specs.Prelude.{◌==◌};
 
     type Value = Result<(), Error>;
 
@@ -424,16 +440,19 @@ impl<const MAX: usize> PagerForm for Word<MAX> {
 
     ghost errors = { λ value error. refl };
 
-    ghost answers = { λ value is. refl };
+    ghost answers = { λ value is. is_no_fault (value == 2) };
 
-    /// Every value is a grant.
-    fn value(_value: u8) -> Result<(), Error> {
+    /// 2 says that the semaphore was shut, which no call of this form does yet; every other value is a grant.
+    fn value(value: u8) -> Result<(), Error> {
+        if value == 2 {
+            return Err(Error::Closed);
+        }
         Ok(())
     }
 
     fn read(polled: Result<u8, Error>) -> Result<(), Error> {
         match polled {
-            Ok(_granted) => Ok(()),
+            Ok(value) => Self::value(value),
             Err(error) => Err(error),
         }
     }

@@ -1,17 +1,19 @@
 //! Calls that end in time: they wait in the queue at most so long, or until an instant, and join it without a look before.
 
-ghost use Rattle.std.specs.Prelude.{◌≡◌, ◌≤◌, ◌<◌, ◌↔◌, ℕ, false, IfErr, IfOk, IfSome, IsTrue, Ok, Result, Some};
+ghost use Rattle.std.specs.Prelude.{◌≡◌, ◌≤◌, ◌<◌, ◌↔◌, ℕ, false, IfErr, IfOk, IfSome, IsTrue, OnSome, Ok, Result, Some};
+ghost use Rattle.saa_core_guards.specs.Permits.{IfGranted};
 ghost use Rattle.saa_core_spec.specs.declared.lock.Mode.TheVariants.{Exclusive, Shared};
 ghost use Rattle.saa_core_spec.specs.declared.polling.Error.{Error};
 ghost use Rattle.saa_word_lock_free.specs.Forms.{IsRefusedBy, WasFull};
+ghost use Rattle.saa_core_waits.specs.declared.acquire_error.AcquireError.TheVariants as Why;
 ghost use Rattle.saa_word_lock_free.specs.LockCalls.{IsAcquired as IsAcquiredIn, IsAnswered as IsAnsweredIn, in_time};
-ghost use Rattle.saa_word_lock_free.specs.SemaphoreCalls.{IsAcquired, IsAnswered, many_in_time, one_in_time};
+ghost use Rattle.saa_word_lock_free.specs.SemaphoreCalls.{IsAcquired, IsAnswered, WasGranted, many_in_time, one_in_time};
 
 use crate::form::{Form, NoPlace};
-use crate::permit::PermitOf;
+use crate::permit::{InTime, PermitFrom, PermitOf};
 use crate::waiting::GRANTED;
 use saa_core_spec::request::Full;
-use saa_core_waits::Deadline;
+use saa_core_waits::{AcquireError, Deadline};
 use saa_word_threads::lock::{Error, Lock as LockWord, Mode, Place as LockPlace};
 use saa_word_threads::receipt::Receipt;
 use saa_word_threads::semaphore::{Place as SemaphorePlace, SemaphoreOf as SemaphoreWord};
@@ -23,17 +25,17 @@ impl<R: Wait + Clock + Drop, const MAX: usize> Form<R, SemaphoreWord<MAX>> {
     ///
     /// `Ok(Some(()))`: it is granted. `Ok(None)`: time is up, and nothing is registered or taken; those behind are granted while they fit. `Full` comes at
     /// once, where it would have to wait and no place is in.
-    pub fn acquire_sync_for(&self, duration: Duration) -> Result<Option<()>, Full>
+    pub fn acquire_sync_for(&self, duration: Duration) -> Result<Option<()>, AcquireError>
         ensures called { IfOk result (λ told. (answer : Result ℕ Error) × (told ≡ one_in_time answer) × IsAnswered self.now.word 1 answer) }
-        ensures full { IfErr result (λ full. WasFull SemaphorePlace self.now) }
+        ensures full { IfErr result (λ error. (error ≡ Why.Full) × WasFull SemaphorePlace self.now) }
     {
         self.one_by(Deadline::after(self.rt(), duration))
     }
 
     /// Takes one permit as [`Self::acquire_sync_for`] does, and waits for it until this instant.
-    pub fn acquire_sync_until(&self, deadline: Instant) -> Result<Option<()>, Full>
+    pub fn acquire_sync_until(&self, deadline: Instant) -> Result<Option<()>, AcquireError>
         ensures called { IfOk result (λ told. (answer : Result ℕ Error) × (told ≡ one_in_time answer) × IsAnswered self.now.word 1 answer) }
-        ensures full { IfErr result (λ full. WasFull SemaphorePlace self.now) }
+        ensures full { IfErr result (λ error. (error ≡ Why.Full) × WasFull SemaphorePlace self.now) }
     {
         self.one_by(Deadline::At(deadline))
     }
@@ -47,8 +49,8 @@ impl<R: Wait + Clock + Drop, const MAX: usize> Form<R, SemaphoreWord<MAX>> {
         &self,
         count: usize,
         duration: Duration,
-    ) -> Result<Option<bool>, Full>
-        ensures full { IfErr result (λ full. WasFull SemaphorePlace self.now) }
+    ) -> Result<Option<bool>, AcquireError>
+        ensures full { IfErr result (λ error. (error ≡ Why.Full) × WasFull SemaphorePlace self.now) }
         ensures called { count ≤ MAX → IfOk result (λ told. (answer : Result ℕ Error) × (told ≡ many_in_time answer) × IsAnswered self.now.word count answer) }
         ensures answer { IfOk result (λ told. IfSome told (λ is_granted. IsTrue is_granted ↔ (count ≤ MAX))) }
         ensures too_many { MAX < count → result ≡ Ok (Some false) }
@@ -61,8 +63,8 @@ impl<R: Wait + Clock + Drop, const MAX: usize> Form<R, SemaphoreWord<MAX>> {
         &self,
         count: usize,
         deadline: Instant,
-    ) -> Result<Option<bool>, Full>
-        ensures full { IfErr result (λ full. WasFull SemaphorePlace self.now) }
+    ) -> Result<Option<bool>, AcquireError>
+        ensures full { IfErr result (λ error. (error ≡ Why.Full) × WasFull SemaphorePlace self.now) }
         ensures called { count ≤ MAX → IfOk result (λ told. (answer : Result ℕ Error) × (told ≡ many_in_time answer) × IsAnswered self.now.word count answer) }
         ensures answer { IfOk result (λ told. IfSome told (λ is_granted. IsTrue is_granted ↔ (count ≤ MAX))) }
         ensures too_many { MAX < count → result ≡ Ok (Some false) }
@@ -74,26 +76,50 @@ impl<R: Wait + Clock + Drop, const MAX: usize> Form<R, SemaphoreWord<MAX>> {
     pub fn acquire_permit_for(
         &self,
         duration: Duration,
-    ) -> Result<Option<PermitOf<'_, R, MAX>>, Full>
-        ensures { IfOk result (λ told. IfSome told (λ permit. permit.now ≡ self.now)) }
+    ) -> Result<Option<PermitOf<'_, R, MAX>>, AcquireError>
+        ensures semaphore { IfOk result (λ told. IfSome told (λ permit. permit.holder.now ≡ self.now)) }
+        ensures count { IfOk result (λ told. IfSome told (λ permit. permit.count ≡ 1)) }
+        ensures granted { IfOk result (λ told. OnSome told (WasGranted self.now.word 1)) }
     {
-        match self.acquire_sync_for(duration)? {
-            Some(()) => Ok(Some(self.permit())),
-            None => Ok(None),
-        }
+        PermitFrom::acquire_one_until(self, Deadline::after(self.rt(), duration))
     }
 
     /// Takes one permit as [`Self::acquire_permit_for`] does, and waits for it until this instant.
     pub fn acquire_permit_until(
         &self,
         deadline: Instant,
-    ) -> Result<Option<PermitOf<'_, R, MAX>>, Full>
-        ensures { IfOk result (λ told. IfSome told (λ permit. permit.now ≡ self.now)) }
+    ) -> Result<Option<PermitOf<'_, R, MAX>>, AcquireError>
+        ensures semaphore { IfOk result (λ told. IfSome told (λ permit. permit.holder.now ≡ self.now)) }
+        ensures count { IfOk result (λ told. IfSome told (λ permit. permit.count ≡ 1)) }
+        ensures granted { IfOk result (λ told. OnSome told (WasGranted self.now.word 1)) }
     {
-        match self.acquire_sync_until(deadline)? {
-            Some(()) => Ok(Some(self.permit())),
-            None => Ok(None),
-        }
+        PermitFrom::acquire_one_until(self, Deadline::At(deadline))
+    }
+
+    /// Takes `count` permits as [`Self::acquire_many_sync_for`] does, and gives them back when what is returned goes.
+    pub fn acquire_permits_for(
+        &self,
+        count: usize,
+        duration: Duration,
+    ) -> Result<InTime<PermitOf<'_, R, MAX>>, AcquireError>
+        ensures semaphore { IfOk result (IfGranted (λ permits. permits.holder.now ≡ self.now)) }
+        ensures count { IfOk result (IfGranted (λ permits. permits.count ≡ count)) }
+        ensures granted { IfOk result (IfGranted (λ permits. WasGranted self.now.word count)) }
+    {
+        PermitFrom::acquire_until(self, count, Deadline::after(self.rt(), duration))
+    }
+
+    /// Takes `count` permits as [`Self::acquire_permits_for`] does, and waits for them until this instant.
+    pub fn acquire_permits_until(
+        &self,
+        count: usize,
+        deadline: Instant,
+    ) -> Result<InTime<PermitOf<'_, R, MAX>>, AcquireError>
+        ensures semaphore { IfOk result (IfGranted (λ permits. permits.holder.now ≡ self.now)) }
+        ensures count { IfOk result (IfGranted (λ permits. permits.count ≡ count)) }
+        ensures granted { IfOk result (IfGranted (λ permits. WasGranted self.now.word count)) }
+    {
+        PermitFrom::acquire_until(self, count, Deadline::At(deadline))
     }
 
     /// As [`Self::acquire_many_sync_until`], with a receipt of what the call's visitor or its place has seen. `NotReady`: time is up.
@@ -110,21 +136,21 @@ impl<R: Wait + Clock + Drop, const MAX: usize> Form<R, SemaphoreWord<MAX>> {
     }
 
     // One permit, by this time.
-    fn one_by(&self, deadline: Deadline) -> Result<Option<()>, Full>
+    fn one_by(&self, deadline: Deadline) -> Result<Option<()>, AcquireError>
         ensures called { IfOk result (λ told. (answer : Result ℕ Error) × (told ≡ one_in_time answer) × IsAnswered self.now.word 1 answer) }
-        ensures full { IfErr result (λ full. WasFull SemaphorePlace self.now) }
+        ensures full { IfErr result (λ error. (error ≡ Why.Full) × WasFull SemaphorePlace self.now) }
     {
         // A semaphore has one permit at least, which its type says.
         let _bounded = self.word();
         match self.acquire_by(1, deadline) {
             Ok(answer) => Ok(one_in_time(answer)),
-            Err(full) => Err(full),
+            Err(Full) => Err(AcquireError::Full),
         }
     }
 
     // So many permits, by this time.
-    fn many_by(&self, count: usize, deadline: Deadline) -> Result<Option<bool>, Full>
-        ensures full { IfErr result (λ full. WasFull SemaphorePlace self.now) }
+    fn many_by(&self, count: usize, deadline: Deadline) -> Result<Option<bool>, AcquireError>
+        ensures full { IfErr result (λ error. (error ≡ Why.Full) × WasFull SemaphorePlace self.now) }
         ensures called { count ≤ MAX → IfOk result (λ told. (answer : Result ℕ Error) × (told ≡ many_in_time answer) × IsAnswered self.now.word count answer) }
         ensures answer { IfOk result (λ told. IfSome told (λ is_granted. IsTrue is_granted ↔ (count ≤ MAX))) }
         ensures too_many { MAX < count → result ≡ Ok (Some false) }
@@ -134,7 +160,7 @@ impl<R: Wait + Clock + Drop, const MAX: usize> Form<R, SemaphoreWord<MAX>> {
         }
         match self.acquire_by(count, deadline) {
             Ok(answer) => Ok(many_in_time(answer)),
-            Err(full) => Err(full),
+            Err(Full) => Err(AcquireError::Full),
         }
     }
 }

@@ -13,13 +13,13 @@ use std::time::Clock;
 
 /// A word form, whose places rest in a pool until a call has to wait.
 pub trait WordForm: Sized + Drop {
-    ghost use Rattle.std.specs.Prelude.{◌≡◌, ◌↔◌, ℕ, Bool, Err, IfOk, IsTrue, Result, false, true};
+    ghost use Rattle.std.specs.Prelude.{◌≡◌, ◌≢◌, ◌↔◌, ℕ, Bool, Err, IfOk, IsTrue, Result, false, true};
     ghost use Rattle.atomic_table.specs.Seated.{TableId};
     ghost use Rattle.futures.specs.Poll.{IfReady, OnPending};
     ghost use Rattle.futures.specs.Task.{Hears, IsArmed, Keeps};
     ghost use Rattle.saa_core_spec.specs.declared.lock.TryLockError.{TryLockError};
     ghost use Rattle.saa_core_spec.specs.declared.polling.Error.{Error};
-    ghost use Rattle.saa_core_spec.specs.declared.polling.Error.TheVariants.{NotReady};
+    ghost use Rattle.saa_core_spec.specs.declared.polling.Error.TheVariants.{Closed, NotReady};
     ghost use Rattle.saa_core_spec.specs.declared.request.Request.{Request};
     ghost use Rattle.saa_core_spec.specs.Errors.{error_of, is_not_ready, says_not_registered, says_wrong_mode};
     ghost use Rattle.saa_word_threads.specs.declared.receipt.Receipt.{Receipt};
@@ -89,6 +89,7 @@ pub trait WordForm: Sized + Drop {
         requires { home place.old ≡ table self.now }
         ensures polled { (calls self.now).polls place.old result place.new }
         ensures waited { is_not_ready (error_of result) ≡ false }
+        ensures not_closed { result ≢ Err Closed }
         ensures rests { rests place.new }
         ensures known { (rests place.old → ⊥) → says_not_registered (error_of result) ≡ false }
         ensures right { says_wrong_mode (error_of result) ≡ false }
@@ -125,6 +126,7 @@ pub trait WordForm: Sized + Drop {
         ensures ready { IfReady result (λ answer. (calls self.now).polls place.old answer place.new) }
         ensures rests { IfReady result (λ answer. rests place.new) }
         ensures waited { IfReady result (λ answer. is_not_ready (error_of answer) ≡ false) }
+        ensures not_closed { IfReady result (λ answer. answer ≢ Err Closed) }
         ensures known { (rests place.old → ⊥) → IfReady result (λ answer. says_not_registered (error_of answer) ≡ false) }
         ensures right { IfReady result (λ answer. says_wrong_mode (error_of answer) ≡ false) }
         ensures pending { OnPending result ((calls self.now).polls place.old (Err NotReady) place.new) }

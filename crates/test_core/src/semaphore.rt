@@ -26,6 +26,10 @@ pub enum Call {
     IsOpen,
     /// Of `is_closed`.
     IsClosed,
+    /// Of `shut`.
+    Shut,
+    /// Of `is_shut`.
+    IsShut,
     /// Of `word`.
     Word,
     /// Of `next_answered`.
@@ -65,6 +69,8 @@ const TAKEN: Answer = Answer::Taken(Ok(()));
 
 const NOT_READY: Answer = Answer::Taken(Err(Error::NotReady));
 
+const CLOSED: Answer = Answer::Taken(Err(Error::Closed));
+
 const POLL: Asked = Asked::Poll(How::Sync);
 
 impl<const MAX: usize> Told for SemaphoreCoreOf<MAX> {
@@ -79,6 +85,8 @@ impl<const MAX: usize> Told for SemaphoreCoreOf<MAX> {
             Call::Available => Answer::Count(self.available_permits()),
             Call::IsOpen => Answer::Is(self.is_open()),
             Call::IsClosed => Answer::Is(self.is_closed()),
+            Call::Shut => Answer::Is(self.shut()),
+            Call::IsShut => Answer::Is(self.is_shut()),
             Call::Word => Answer::Word(self.word()),
             Call::Next => Answer::Next(self.next_answered()),
             Call::Of(who, asked) => match tickets.get_mut(who) {
@@ -153,6 +161,75 @@ static A_WAITER_LEAVES: [Row; 9] = [
 #[test]
 fn a_waiter_that_leaves_lets_the_next_in(rt: HostRuntime) {
     tell_at(&rt, 4, &A_WAITER_LEAVES);
+}
+
+// Two waiters, the older in slot 1 of two, are both answered, the older first; so is a later registration, without a slot. Permits that are out come back.
+static A_SHUT: [Row; 20] = [
+    (Call::TryAcquireMany(62), YES),
+    (Call::Of(0, Asked::Register(2, true)), JOINED),
+    (Call::Of(1, Asked::Register(1, false)), JOINED),
+    (Call::IsShut, NO),
+    (Call::Shut, YES),
+    (Call::IsShut, YES),
+    (Call::Next, Answer::Next(Some(1))),
+    (Call::Next, Answer::Next(Some(0))),
+    (Call::Next, Answer::Next(None)),
+    (Call::Of(0, POLL), CLOSED),
+    (Call::Of(0, Asked::IsRegistered), NO),
+    (Call::Of(1, Asked::Poll(How::Async)), CLOSED),
+    (Call::Available, Answer::Count(1)),
+    (Call::TryAcquire, NO),
+    (Call::Of(0, Asked::Register(1, true)), JOINED),
+    (Call::Of(0, POLL), CLOSED),
+    (Call::Of(0, Asked::Register(64, true)), REFUSED),
+    (Call::ReleaseMany(62), YES),
+    (Call::Release, NO),
+    (Call::Shut, NO),
+];
+
+#[test]
+fn a_shut_tells_all_who_wait_and_come(rt: HostRuntime) {
+    tell_at(&rt, 2, &A_SHUT);
+}
+
+// Its word: 62 permits are out and slot 0 is the newest waiter; then bit 17 is set and the queue is empty.
+static A_SHUT_IN_A_WORD: [Row; 9] = [
+    (Call::TryAcquireMany(62), YES),
+    (Call::Of(0, Asked::Register(2, true)), JOINED),
+    (Call::Word, Answer::Word(262_206)),
+    (Call::Shut, YES),
+    (Call::Word, Answer::Word(131_134)),
+    (
+        Call::Of(0, Asked::PollNumber(How::Sync)),
+        Answer::PolledNumber(Ok(2)),
+    ),
+    (Call::Of(1, Asked::Register(1, true)), JOINED),
+    (Call::Of(1, Asked::Cancel), Answer::Nothing),
+    (Call::Available, Answer::Count(1)),
+];
+
+#[test]
+fn a_shut_is_a_bit_of_the_word(rt: HostRuntime) {
+    tell_at(&rt, 1, &A_SHUT_IN_A_WORD);
+}
+
+// Two waiters are granted before the shut: one is polled, and one is dropped and gives its permit back.
+static GRANTS_BEFORE_A_SHUT: [Row; 10] = [
+    (Call::TryAcquireMany(63), YES),
+    (Call::Of(0, Asked::Register(1, true)), JOINED),
+    (Call::Of(1, Asked::Register(1, true)), JOINED),
+    (Call::ReleaseMany(2), YES),
+    (Call::Shut, YES),
+    (Call::Of(0, POLL), TAKEN),
+    (Call::Available, Answer::Count(0)),
+    (Call::Of(1, Asked::Cancel), Answer::Nothing),
+    (Call::Available, Answer::Count(1)),
+    (Call::IsOpen, YES),
+];
+
+#[test]
+fn a_grant_before_a_shut_is_a_grant(rt: HostRuntime) {
+    tell_at(&rt, 2, &GRANTS_BEFORE_A_SHUT);
 }
 
 static AN_ANSWERED_SLOT: [Row; 9] = [

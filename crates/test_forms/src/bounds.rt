@@ -5,7 +5,6 @@ ghost use Rattle.std.specs.Prelude.{◌<◌};
 use crate::permits::left;
 use futures::task::Poll;
 use futures::test::MockTask;
-use saa_core::ticket::Full;
 use saa_sync::future::AcquireManyOf;
 use saa_sync::pager::{Error, Pager};
 use saa_sync::semaphore::{Semaphore, SemaphoreOf};
@@ -57,11 +56,11 @@ fn said(is_yes: bool) -> Answer {
 }
 
 // What a pager is told that asks, or a call that may wait.
-fn registered(answer: Result<bool, Full>, is_so: Answer) -> Answer {
+fn registered<E: Drop>(answer: Result<bool, E>, is_so: Answer) -> Answer {
     match answer {
         Ok(true) => is_so,
         Ok(false) => Answer::No,
-        Err(Full) => Answer::Wrong,
+        Err(_refused) => Answer::Wrong,
     }
 }
 

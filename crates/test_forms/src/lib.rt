@@ -15,3 +15,5 @@ mod locks;
 mod permits;
 #[cfg(test)]
 mod semaphores;
+#[cfg(test)]
+mod shut;

@@ -11,7 +11,7 @@ use crate::semaphores::{NO_PATIENCE, with_patience};
 use saa_core::ticket::Full;
 use saa_sync::pager::{Error, Pager};
 use saa_sync::permit::Permit;
-use saa_sync::semaphore::{Semaphore, SemaphoreOf};
+use saa_sync::semaphore::{AcquireError, Semaphore, SemaphoreOf};
 use saa_sync::testing::Counted;
 use std::alloc::{AllocError, AllocGlobal, Global};
 use std::sync::Wait;
@@ -232,7 +232,7 @@ static STORIES: [Story; 3] = [
 fn left_beside<R: Wait + Drop>(semaphore: &Semaphore<R>, has_ended: &AtomicBool) -> Option<usize> {
     let seen = match semaphore.acquire_permit() {
         Ok(_permit) => Some(left(semaphore)),
-        Err(Full) => None,
+        Err(_refused) => None,
     };
     has_ended.store(true, Ordering::SeqCst);
     seen
@@ -269,7 +269,7 @@ fn let_go<R: Wait + Drop>(
 fn go_beside<H: Wait + Threads + Sync, R: Wait + Drop + Sync>(
     rt: &H,
     semaphore: &Semaphore<R>,
-) -> Result<(Option<usize>, bool), Full> {
+) -> Result<(Option<usize>, bool), AcquireError> {
     let has_ended = AtomicBool::new(false);
     let first = semaphore.acquire_permit()?;
     Ok(thread::join(
@@ -283,7 +283,7 @@ fn go_beside<H: Wait + Threads + Sync, R: Wait + Drop + Sync>(
 fn woken_by_permit<R: Wait + Threads + Sync>(
     rt: &R,
     alloc: Global,
-) -> Result<(Result<(Option<usize>, bool), Full>, usize), AllocError> {
+) -> Result<(Result<(Option<usize>, bool), AcquireError>, usize), AllocError> {
     let semaphore = with_patience(rt, alloc, 1, 1, NO_PATIENCE)?;
     let told = go_beside(rt, &semaphore);
     Ok((told, left(&semaphore)))

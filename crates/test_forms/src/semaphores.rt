@@ -4,7 +4,7 @@ use saa_core::semaphore::{SemaphoreAnswer, SemaphoreCall, SemaphoreCore};
 use saa_core::ticket::{Full, Ticket};
 use saa_sync::Waitable;
 use saa_sync::pager::{Error, Pager};
-use saa_sync::semaphore::Semaphore;
+use saa_sync::semaphore::{AcquireError, Semaphore};
 use saa_sync::spin_policy::{NONE, SpinPolicy};
 use saa_sync::testing::{Counted, WAITER, form_of};
 use std::alloc::{AllocError, AllocGlobal, Global};
@@ -80,6 +80,8 @@ impl<R: Wait + Drop + Copy> Form for Tried<R> {
             ),
             SemaphoreCall::IsOpen => SemaphoreAnswer::Bool(self.semaphore.is_open(mo)),
             SemaphoreCall::IsClosed => SemaphoreAnswer::Bool(self.semaphore.is_closed(mo)),
+            SemaphoreCall::Shut => SemaphoreAnswer::Bool(self.semaphore.shut()),
+            SemaphoreCall::IsShut => SemaphoreAnswer::Bool(self.semaphore.is_shut()),
         };
         told == wanted
     }
@@ -103,18 +105,17 @@ impl<R: Wait + Drop + Copy> Form for Tried<R> {
             runs.fetch_add(1, Ordering::SeqCst);
         };
         let is_granted = match way {
-            Way::Plain => self.semaphore.acquire_many_sync(count)?,
-            Way::With => self.semaphore.acquire_many_sync_with(count, count_run)?,
-            Way::Short => {
-                self.semaphore.acquire_sync()?;
-                true
-            }
-            Way::ShortWith => {
-                self.semaphore.acquire_sync_with(count_run)?;
-                true
-            }
+            Way::Plain => self.semaphore.acquire_many_sync(count),
+            Way::With => self.semaphore.acquire_many_sync_with(count, count_run),
+            Way::Short => self.semaphore.acquire_sync().map(|()| true),
+            Way::ShortWith => self.semaphore.acquire_sync_with(count_run).map(|()| true),
         };
-        Ok(if is_granted { Some(Ok(())) } else { None })
+        match is_granted {
+            Ok(true) => Ok(Some(Ok(()))),
+            Ok(false) => Ok(None),
+            Err(AcquireError::Closed) => Ok(Some(Err(Error::Closed))),
+            Err(AcquireError::Full) => Err(Full),
+        }
     }
 
     fn is_same_value(one: Result<(), Error>, other: Result<(), Error>) -> bool {
@@ -277,6 +278,50 @@ const FEW: Trial<'static, SemaphoreCore> = TrialOf {
     ..MANY
 };
 
+// Lists in which it is shut, from none, one and all.
+const SHUT: Trial<'static, SemaphoreCore> = TrialOf {
+    calls: &[
+        SemaphoreCall::TryAcquireMany(1),
+        SemaphoreCall::ReleaseMany(1),
+        SemaphoreCall::AvailablePermits,
+        SemaphoreCall::IsOpen,
+        SemaphoreCall::IsClosed,
+        SemaphoreCall::Shut,
+        SemaphoreCall::IsShut,
+    ],
+    reads: &[
+        SemaphoreCall::AvailablePermits,
+        SemaphoreCall::IsOpen,
+        SemaphoreCall::IsShut,
+    ],
+    asks: &[0, 1],
+    waits: &[
+        (1, Way::Short),
+        (1, Way::ShortWith),
+        (1, Way::Plain),
+        (64, Way::With),
+    ],
+    sizes: &[0, 1, 63],
+    length: 3,
+    wanted: (31, 3 * 3 * 31 * 31 * 31),
+    ..EVERY_MOVE
+};
+
+// And longer ones of fewer moves.
+const SHUT_AMONG_FEW: Trial<'static, SemaphoreCore> = TrialOf {
+    calls: &[
+        SemaphoreCall::TryAcquireMany(1),
+        SemaphoreCall::ReleaseMany(1),
+        SemaphoreCall::Shut,
+    ],
+    asks: &[1],
+    waits: &[(1, Way::Plain)],
+    sizes: &[0, 1],
+    length: 4,
+    wanted: (20, 2 * 3 * 20 * 20 * 20 * 20),
+    ..SHUT
+};
+
 // From every size, and lists of three from all permits and from one.
 static SHORT_LISTS: [Trial<'static, SemaphoreCore>; 5] = [
     EVERY_MOVE,
@@ -306,6 +351,8 @@ static SHORT_LISTS: [Trial<'static, SemaphoreCore>; 5] = [
 
 static LISTS_OF_FOUR: [Trial<'static, SemaphoreCore>; 2] = [MANY, FEW];
 
+static SHUT_LISTS: [Trial<'static, SemaphoreCore>; 2] = [SHUT, SHUT_AMONG_FEW];
+
 // The first of some trials that tells otherwise.
 fn first_other<R: Wait + AllocGlobal>(
     rt: &R,
@@ -322,6 +369,11 @@ fn short_lists_agree(rt: HostRuntime) {
 #[test]
 fn lists_of_four_agree(rt: HostRuntime) {
     same!(rt; first_other(&rt, &LISTS_OF_FOUR).ok(), Some(None));
+}
+
+#[test]
+fn lists_with_a_shut_agree(rt: HostRuntime) {
+    same!(rt; first_other(&rt, &SHUT_LISTS).ok(), Some(None));
 }
 
 // A size is how many permits are available.

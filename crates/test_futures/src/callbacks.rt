@@ -7,6 +7,7 @@ use futures::test::MockTask;
 use saa_sync::barrier::Barrier;
 use saa_sync::future::{AcquiringWith, AnswerReader};
 use saa_sync::gate::{Error, Gate, State};
+use saa_sync::ticket::Full;
 use saa_sync::waits::Pends;
 use std::alloc::AllocGlobal;
 use std::io;
@@ -24,7 +25,7 @@ fn count(runs: &AtomicU64, seen: usize) {
 type Twice<T> = ([u64; 3], [Polled<T>; 2], [bool; 2]);
 
 // Polls a future with a callback twice, and drops it.
-fn polled_twice<S: Pends, Q: AnswerReader, F: FnOnce() + Drop>(
+fn polled_twice<S: Pends, Q: AnswerReader<Error = Full>, F: FnOnce() + Drop>(
     task: &MockTask,
     mut future: AcquiringWith<'_, S, Q, F>,
     runs: &AtomicU64,

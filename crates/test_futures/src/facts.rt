@@ -95,7 +95,7 @@ fn waits_at_a_core<R: Wait + Drop>(semaphore: &Semaphore<R>, core: &mut Semaphor
         return false;
     }
     let third = many.poll_on(core);
-    [first, second, third] == [Progress::Joined, Progress::Waits, Progress::Done(true)]
+    [first, second, third] == [Progress::Joined, Progress::Waits, Progress::Done(Ok(true))]
         && is_released
         && core.available_permits() == 0
 }

@@ -98,13 +98,13 @@ impl Tasks {
 
 // The futures of a story.
 #[derive(Drop)]
-pub(crate) struct Futures<'s, S: Pends + Drop, Q: AnswerReader> {
+pub(crate) struct Futures<'s, S: Pends + Drop, Q: AnswerReader<Error = Full>> {
     first: Option<Acquiring<'s, S, Q>>,
     second: Option<Acquiring<'s, S, Q>>,
     third: Option<Acquiring<'s, S, Q>>,
 }
 
-impl<'s, S: Pends + Drop, Q: AnswerReader> Futures<'s, S, Q> {
+impl<'s, S: Pends + Drop, Q: AnswerReader<Error = Full>> Futures<'s, S, Q> {
     pub(crate) fn new() -> Self {
         Futures {
             first: None,

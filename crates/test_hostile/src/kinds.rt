@@ -65,7 +65,7 @@ impl<const MAX: usize> Modelled for SemaphoreCoreOf<MAX> {
 
     fn call_model(model: &mut Model, call: SemaphoreCall) -> SemaphoreAnswer {
         let out = match model.held {
-            Held::Out { out, .. } => out,
+            Held::Out { out, .. } | Held::Shut { out, .. } => out,
             _ => 0,
         };
         match call {
@@ -78,15 +78,33 @@ impl<const MAX: usize> Modelled for SemaphoreCoreOf<MAX> {
             SemaphoreCall::AvailablePermits => SemaphoreAnswer::Number(MAX.saturating_sub(out)),
             SemaphoreCall::IsOpen => SemaphoreAnswer::Bool(out < MAX),
             SemaphoreCall::IsClosed => SemaphoreAnswer::Bool(out >= MAX),
+            SemaphoreCall::Shut => SemaphoreAnswer::Bool(shut(model, out, MAX)),
+            SemaphoreCall::IsShut => SemaphoreAnswer::Bool(is_shut(model)),
         }
     }
 
     fn meaning(answer: Result<u8, Error>) -> Result<(), Error> {
         match answer {
+            Ok(2) => Err(Error::Closed),
             Ok(_) => Ok(()),
             Err(error) => Err(error),
         }
     }
+}
+
+// Whether the semaphore was shut.
+fn is_shut(model: &Model) -> bool {
+    matches!(model.held, Held::Shut { .. })
+}
+
+// Shuts a semaphore with so many permits out, and answers every waiter; false where it was shut.
+fn shut(model: &mut Model, out: usize, bound: usize) -> bool {
+    if is_shut(model) {
+        return false;
+    }
+    model.held = Held::Shut { out, bound };
+    model.answer_all(2);
+    true
 }
 
 // What a try at a lock answers.
@@ -214,6 +232,7 @@ impl Modelled for GateCore {
             Err(Error::NotRegistered) => Err(gate::Error::NotRegistered),
             Err(Error::WrongMode) => Err(gate::Error::WrongMode),
             Err(Error::NotReady) => Err(gate::Error::NotReady),
+            Err(Error::Closed) => Err(gate::Error::Sealed),
         }
     }
 }

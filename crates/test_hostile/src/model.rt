@@ -12,6 +12,8 @@ const OWNERS: usize = 62;
 pub enum Held {
     /// A semaphore: so many permits are out, of so many.
     Out { out: usize, bound: usize },
+    /// A semaphore that was shut: so many permits are still out, of so many.
+    Shut { out: usize, bound: usize },
     /// A lock that has no owner.
     Free,
     /// A lock of one owner alone.
@@ -134,6 +136,10 @@ impl Model {
                 let out = out.checked_sub(count)?;
                 Some(Held::Out { out, bound })
             }
+            (Held::Shut { out, bound }, Need::Permits(count)) => {
+                let out = out.checked_sub(count)?;
+                Some(Held::Shut { out, bound })
+            }
             (Held::Owned, Need::Lock(Mode::Exclusive)) => Some(Held::Free),
             (Held::Shared(1), Need::Lock(Mode::Shared)) => Some(Held::Free),
             (Held::Shared(owners), Need::Lock(Mode::Shared)) => {
@@ -232,7 +238,7 @@ impl Model {
     // The value of a registration that needn't wait.
     fn at_once(&mut self, need: Need) -> Option<u8> {
         match self.held {
-            Held::Poisoned => Some(2),
+            Held::Poisoned | Held::Shut { .. } => Some(2),
             Held::Gate(State::Controlled) => None,
             Held::Gate(State::Sealed) => Some(9),
             Held::Gate(State::Open) => Some(2),
@@ -249,15 +255,25 @@ impl Model {
         }
     }
 
+    // Whether a request is for more permits than there are.
+    fn is_above_the_bound(&self, need: Need) -> bool {
+        let Need::Permits(count) = need else {
+            return false;
+        };
+        match self.held {
+            Held::Out { bound, .. } => count > bound,
+            Held::Shut { bound, .. } => count > bound,
+            _ => false,
+        }
+    }
+
     /// Registers a name.
     pub fn register(&mut self, name: u16, need: Need, is_sync: bool) -> Result<bool, Full> {
         if let Entry::Waiting { .. } | Entry::Answered { .. } = self.entry(name) {
             return Ok(false);
         }
-        if let (Held::Out { bound, .. }, Need::Permits(count)) = (self.held, need) {
-            if count > bound {
-                return Ok(false);
-            }
+        if self.is_above_the_bound(need) {
+            return Ok(false);
         }
         if let Some(value) = self.at_once(need) {
             self.set(

@@ -206,6 +206,8 @@ where
     Many: AnswerReader,
     One::Output: Tells,
     Many::Output: Tells,
+    One::Error: Tells,
+    Many::Error: Tells,
 {
     for round in 0..ROUNDS {
         let way = round.wrapping_add(number.wrapping_mul(11));
@@ -250,6 +252,8 @@ where
     Many: AnswerReader,
     One::Output: Tells,
     Many::Output: Tells,
+    One::Error: Tells,
+    Many::Error: Tells,
 {
     // Each second one waits long enough.
     let long = if way.is_multiple_of(2) {
@@ -304,6 +308,7 @@ where
     S: Pends,
     Q: AnswerReader,
     Q::Output: Tells,
+    Q::Error: Tells,
 {
     match block_on(rt, future) {
         Ok(told) => told.told(),

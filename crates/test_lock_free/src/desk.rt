@@ -59,6 +59,8 @@ where
     Many: AnswerReader,
     One::Output: Tells,
     Many::Output: Tells,
+    One::Error: Tells,
+    Many::Error: Tells,
 {
     fn new(rt: &'s H, form: &'s S) -> io::Result<Self> {
         Ok(Desk {
@@ -118,6 +120,8 @@ where
     Many: AnswerReader,
     One::Output: Tells,
     Many::Output: Tells,
+    One::Error: Tells,
+    Many::Error: Tells,
 {
     let (task, count, then) = match call {
         AcquireWith => (None, None, ReleaseMany(1)),
@@ -352,6 +356,8 @@ where
     Many: AnswerReader,
     One::Output: Tells,
     Many::Output: Tells,
+    One::Error: Tells,
+    Many::Error: Tells,
 {
     let mut desk = Desk::new(rt, form)?;
     for (place, row) in story.rows.iter().enumerate() {

@@ -26,6 +26,8 @@ mod lock_rows;
 #[cfg(test)]
 mod looking;
 #[cfg(test)]
+mod permit_values;
+#[cfg(test)]
 mod room;
 #[cfg(test)]
 mod rows;

@@ -3,6 +3,7 @@
 use futures::task::Poll;
 use saa_core_spec::polling::Error;
 use saa_core_spec::request::Full;
+use saa_core_waits::AcquireError;
 use saa_word_threads::lock::TryLockError;
 
 /// Which form a story is told at.
@@ -31,6 +32,8 @@ pub(crate) enum Told {
     NotReady,
     NotRegistered,
     WrongMode,
+    // The semaphore was shut.
+    Closed,
     // A try isn't granted, and why.
     WouldBlock,
     Poisoned,
@@ -68,12 +71,22 @@ impl Tells for Full {
     }
 }
 
+impl Tells for AcquireError {
+    fn told(self) -> Told {
+        match self {
+            AcquireError::Full => Told::Full,
+            AcquireError::Closed => Told::Closed,
+        }
+    }
+}
+
 impl Tells for Error {
     fn told(self) -> Told {
         match self {
             Error::NotRegistered => Told::NotRegistered,
             Error::WrongMode => Told::WrongMode,
             Error::NotReady => Told::NotReady,
+            Error::Closed => Told::Closed,
         }
     }
 }

@@ -176,6 +176,7 @@ pub(crate) fn polled_twice<S: Pends, Q: AnswerReader, F: FnOnce() + Drop>(
 ) -> Told
 where
     Q::Output: Tells,
+    Q::Error: Tells,
     requires { (begin_wait : F) → F.pre begin_wait }
 {
     let first = task.poll(&mut future).told();
@@ -205,6 +206,7 @@ pub(crate) struct Futures<'s, S: Pends + Drop, Q: AnswerReader> {
 impl<'s, S: Pends + Drop, Q: AnswerReader> Futures<'s, S, Q>
 where
     Q::Output: Tells,
+    Q::Error: Tells,
 {
     pub(crate) fn new() -> Self {
         Futures {

@@ -10,7 +10,7 @@ pub mod parts;
 pub mod word;
 
 pub use saa::{
-    Barrier, Full, Gate, Guard, Lock, Lowers, Mutex, MutexGuard, Pager, Permit, PermitOf, RwLock,
-    RwLockReadGuard, RwLockWriteGuard, Semaphore, SemaphoreOf, TryLockError, Turn, ValueMut,
-    ValueRef, Writing, lock_async, read_async, write_async,
+    AcquireError, Barrier, Full, Gate, Guard, Lock, Lowers, Mutex, MutexGuard, Pager, Permit,
+    PermitOf, RwLock, RwLockReadGuard, RwLockWriteGuard, Semaphore, SemaphoreOf, TryLockError,
+    Turn, ValueMut, ValueRef, Writing, lock_async, read_async, write_async,
 };

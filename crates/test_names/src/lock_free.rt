@@ -11,7 +11,10 @@ pub mod form {
     pub use saa::lock_free::form::{AtRest, BorrowedPlace, Form, NoPlace};
     pub use saa::lock_free::lock::{Error, Lock, Mode, TryLockError};
     pub use saa::lock_free::pager::{Pager, PagerForm};
-    pub use saa::lock_free::permit::{Permit, PermitFrom, PermitOf, TakesBack};
+    pub use saa::lock_free::permit::{
+        AcquirePermits, AcquirePermitsOf, Holder, InTime, OwnedPermit, OwnedPermitOf, Permit,
+        PermitFrom, PermitOf, PermitsFuture, RawSemaphore, RawSemaphoreAsync, RawSemaphoreUntil,
+    };
     pub use saa::lock_free::registration::{Kept, Registration};
     pub use saa::lock_free::semaphore::{Semaphore, SemaphoreOf};
     pub use saa::lock_free::tasks::Pending;

@@ -3,8 +3,9 @@
 /// A semaphore's core, form and permits.
 pub mod semaphore {
     pub use saa::semaphore::{
-        Permit, PermitCore, PermitFrom, PermitOf, Semaphore, SemaphoreAnswer, SemaphoreCall,
-        SemaphoreCore, SemaphoreCoreOf, SemaphoreOf, TakesBack,
+        AcquirePermits, AcquirePermitsOf, Holder, InTime, OwnedPermit, OwnedPermitOf, Permit,
+        PermitCore, PermitFrom, PermitOf, PermitsFuture, RawSemaphore, Semaphore, SemaphoreAnswer,
+        SemaphoreCall, SemaphoreCore, SemaphoreCoreOf, SemaphoreOf,
     };
 }
 
@@ -15,7 +16,7 @@ pub mod lock {
 
 /// A gate's core and form.
 pub mod gate {
-    pub use saa::gate::{Error, Gate, GateAnswer, GateCall, GateCore, State};
+    pub use saa::gate::{Error, Gate, GateAnswer, GateCall, GateCore, State, TimedEntry};
 }
 
 /// A barrier's core and form.

@@ -4,8 +4,7 @@
 //! both forms of each.
 
 use crate::crowds::{Crowd, gathered};
-use saa_core::ticket::Full;
-use saa_sync::gate::{Error, Gate, State};
+use saa_sync::gate::{Error, Gate, State, TimedEntry};
 use saa_sync::pager::Pager;
 use std::alloc::{AllocError, AllocGlobal, Global};
 use std::sync::Wait;
@@ -55,14 +54,21 @@ impl<R: Wait + Clock + Drop> Passings<R> {
 
     // Enters by a call that may wait for ever, or by one that may be late.
     fn enters(&self, round: u64) -> bool {
-        let told: Result<Option<Result<State, Error>>, Full> = if round % 4 == 3 {
-            self.gate.enter_sync_for(Duration::from_micros(round))
-        } else {
-            self.gate.enter_sync().map(Some)
-        };
-        match told {
-            Ok(Some(answer)) => self.is_told(answer),
-            Ok(None) => true,
+        if round % 4 == 3 {
+            return self.enters_in_time(Duration::from_micros(round));
+        }
+        match self.gate.enter_sync() {
+            Ok(answer) => self.is_told(answer),
+            Err(_full) => false,
+        }
+    }
+
+    // Enters by a call that may be late.
+    fn enters_in_time(&self, time: Duration) -> bool {
+        match self.gate.enter_sync_for(time) {
+            Ok(TimedEntry::Passed(state)) => self.is_told(Ok(state)),
+            Ok(TimedEntry::Refused(error)) => self.is_told(Err(error)),
+            Ok(TimedEntry::Late) => true,
             Err(_full) => false,
         }
     }

@@ -8,10 +8,10 @@ use saa_core::primitive::Primitive;
 use saa_core::semaphore::SemaphoreCoreOf;
 use saa_core::ticket::Full;
 use saa_sync::barrier::Barrier;
-use saa_sync::gate::{Error as GateError, Gate, State};
+use saa_sync::gate::{Error as GateError, Gate, State, TimedEntry};
 use saa_sync::lock::Lock;
 use saa_sync::permit::PermitOf;
-use saa_sync::semaphore::SemaphoreOf;
+use saa_sync::semaphore::{AcquireError, SemaphoreOf};
 use saa_sync::spin_policy::{DEFAULT, NONE, SpinPolicy};
 use saa_sync::testing::{Counted, WAITER, form_of};
 use std::alloc::{AllocError, Global};
@@ -170,21 +170,25 @@ impl<R: Wait + Clock + Drop> Forms<R> {
         }
     }
 
-    pub(crate) fn acquire(&self, span: Span) -> Result<Option<()>, Full> {
+    pub(crate) fn acquire(&self, span: Span) -> Result<Option<()>, AcquireError> {
         match span {
             Span::For(duration) => self.semaphore.acquire_sync_for(duration),
             Span::Until(end) => self.semaphore.acquire_sync_until(end),
         }
     }
 
-    pub(crate) fn acquire_many(&self, count: usize, span: Span) -> Result<Option<bool>, Full> {
+    pub(crate) fn acquire_many(
+        &self,
+        count: usize,
+        span: Span,
+    ) -> Result<Option<bool>, AcquireError> {
         match span {
             Span::For(duration) => self.semaphore.acquire_many_sync_for(count, duration),
             Span::Until(end) => self.semaphore.acquire_many_sync_until(count, end),
         }
     }
 
-    pub(crate) fn permit(&self, span: Span) -> Result<Option<OnePermit<'_, R>>, Full> {
+    pub(crate) fn permit(&self, span: Span) -> Result<Option<OnePermit<'_, R>>, AcquireError> {
         match span {
             Span::For(duration) => self.semaphore.acquire_permit_for(duration),
             Span::Until(end) => self.semaphore.acquire_permit_until(end),
@@ -206,10 +210,15 @@ impl<R: Wait + Clock + Drop> Forms<R> {
     }
 
     pub(crate) fn enter(&self, span: Span) -> Result<Option<Result<State, GateError>>, Full> {
-        match span {
-            Span::For(duration) => self.gate.enter_sync_for(duration),
-            Span::Until(end) => self.gate.enter_sync_until(end),
-        }
+        let told = match span {
+            Span::For(duration) => self.gate.enter_sync_for(duration)?,
+            Span::Until(end) => self.gate.enter_sync_until(end)?,
+        };
+        Ok(match told {
+            TimedEntry::Passed(state) => Some(Ok(state)),
+            TimedEntry::Refused(error) => Some(Err(error)),
+            TimedEntry::Late => None,
+        })
     }
 
     pub(crate) fn arrive(&self, span: Span) -> Result<Option<bool>, Full> {

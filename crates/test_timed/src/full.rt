@@ -14,6 +14,7 @@ use crate::stories::Row::{Does, In, InEach};
 use crate::stories::{Ask, Row, Story};
 use saa_core::ticket::Full;
 use saa_sync::gate::State;
+use saa_sync::semaphore::AcquireError;
 
 // How forms of no room are made.
 const NO_ROOM: Made = Made { room: 0, ..MADE };
@@ -75,22 +76,22 @@ pub(crate) static STORIES: [Story; 8] = [
 ];
 
 const ONE_PERMIT: [Row; 5] = [
-    InEach(Acquire(Err(Full))),
+    InEach(Acquire(Err(AcquireError::Full))),
     Does(Available(0)),
     Does(Release),
     In(Zero, Acquire(Ok(Some(())))),
-    In(Ever, Acquire(Err(Full))),
+    In(Ever, Acquire(Err(AcquireError::Full))),
 ];
 
 const THREE_PERMITS: [Row; 4] = [
-    InEach(AcquireMany(3, Err(Full))),
+    InEach(AcquireMany(3, Err(AcquireError::Full))),
     Does(Available(2)),
     In(Past, AcquireMany(2, Ok(Some(true)))),
-    InEach(AcquireMany(1, Err(Full))),
+    InEach(AcquireMany(1, Err(AcquireError::Full))),
 ];
 
 const OWN_PERMIT: [Row; 6] = [
-    InEach(Permit(Err(Full))),
+    InEach(Permit(Err(AcquireError::Full))),
     Does(Available(0)),
     Does(Release),
     In(Zero, Permit(Ok(true))),
@@ -128,10 +129,10 @@ const ARRIVAL: [Row; 2] = [InEach(Arrive(Err(Full))), Does(Count(2))];
 // One that asks for no permit waits there as any other, and so has no room either.
 const BESIDE_A_WAITER: [Row; 9] = [
     Does(Register(true)),
-    InEach(Acquire(Err(Full))),
-    InEach(AcquireMany(2, Err(Full))),
-    InEach(AcquireMany(0, Err(Full))),
-    InEach(Permit(Err(Full))),
+    InEach(Acquire(Err(AcquireError::Full))),
+    InEach(AcquireMany(2, Err(AcquireError::Full))),
+    InEach(AcquireMany(0, Err(AcquireError::Full))),
+    InEach(Permit(Err(AcquireError::Full))),
     Does(Waiting),
     Does(Release),
     In(Zero, Poll(Some(Ok(())))),

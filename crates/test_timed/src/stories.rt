@@ -9,6 +9,7 @@ use saa_core::ticket::Full;
 use saa_sync::gate::{Error as GateError, Gate, State};
 use saa_sync::lock::Lock;
 use saa_sync::pager::{Error, Pager};
+use saa_sync::semaphore::AcquireError;
 use saa_sync::testing::call_untold;
 use std::alloc::{AllocGlobal, Global};
 use std::io;
@@ -43,10 +44,10 @@ pub(crate) enum Kind {
 // A call that ends in time, and what it tells.
 #[derive(Clone, Copy)]
 pub(crate) enum Ask {
-    Acquire(Result<Option<()>, Full>),
-    AcquireMany(usize, Result<Option<bool>, Full>),
+    Acquire(Result<Option<()>, AcquireError>),
+    AcquireMany(usize, Result<Option<bool>, AcquireError>),
     // A permit that was taken stays with the thread.
-    Permit(Result<bool, Full>),
+    Permit(Result<bool, AcquireError>),
     Lock(Result<Option<bool>, Full>),
     Share(Result<Option<bool>, Full>),
     Enter(Result<Option<Result<State, GateError>>, Full>),
@@ -170,7 +171,10 @@ struct Desk<'s, R: Wait + Clock + Drop> {
 
 impl<'s, R: Wait + Clock + Drop> Desk<'s, R> {
     // Keeps a permit, if there is one; whether there is.
-    fn keep(&mut self, told: Result<Option<OnePermit<'s, R>>, Full>) -> Result<bool, Full> {
+    fn keep(
+        &mut self,
+        told: Result<Option<OnePermit<'s, R>>, AcquireError>,
+    ) -> Result<bool, AcquireError> {
         match told? {
             Some(permit) => {
                 self.permit = Some(permit);

@@ -4,12 +4,13 @@ use Rattle.std.proofs.lemmas.Bool.Decides.{nat_tests}
 use Rattle.saa_core_spec.specs.declared.request.Request.{Request}
 use Rattle.saa_core.specs.declared.ticket.Registration.{Registration}
 use Rattle.saa_core.specs.declared.ticket.Registration.TheVariants.{Unregistered, AtOnce, InSlot}
-use Rattle.saa_core_spec.specs.Held.{Held, OfSemaphore, OfLock, OfGate, OfBarrier, LockState, Free, Exclusive, Shared, Poisoned, fits, plus, less, asks_too_much}
+use Rattle.saa_core_spec.specs.Held.{Held, OfSemaphore, OfShutSemaphore, OfLock, OfGate, OfBarrier, LockState, Free, Exclusive, Shared, Poisoned, fits, plus, less, asks_too_much}
 use Rattle.saa_core_spec.specs.Object.{Object, After, Idle, Waiting, Answered, Waiter, with_entry, used, is_nobody, times, one_if}
 use Rattle.saa_core_spec.specs.Settling.{fitting_front, plus_all, answered_in, granted, settled}
 use Rattle.saa_core_spec.specs.Asking.{registered, granted_at_once, answer_at_once, answer_in as answer_of_kind, is_granted_at_once}
 use Rattle.saa_core_spec.specs.Lock.{is_locked, downgraded_of, poisoned_of}
-use Rattle.saa_core_spec.specs.Values.{poisoned_value}
+use Rattle.saa_core_spec.specs.Values.{closed_value, poisoned_value}
+use Rattle.saa_core_spec.specs.Semaphore.{shut_of}
 use Rattle.saa_core.proofs.TicketLemmas.Answering.{all_calls}
 use Rattle.saa_core_spec.specs.Polling.{given_back, given_back_of, is_for_nothing, left_of, undone_of}
 use Rattle.saa_core.specs.Slots.{Slots, answer_in, held_slots, held_times, room_of, IsSound, all_slots_answered}
@@ -78,6 +79,7 @@ lock_answered (Shared n) s r = refl
 -- a semaphore and a lock do
 pub grants : (h : Held) → IsGranting h → Grants h
 grants (OfSemaphore bound out) is = record { answers = λ s r. refl; left = λ s. refl; undone = λ s r. refl }
+grants (OfShutSemaphore bound out) is = record { answers = λ s r. refl; left = λ s. refl; undone = λ s r. refl }
 grants (OfLock lock) is = record { answers = lock_answered lock; left = λ s. refl; undone = λ s r. refl }
 grants (OfGate gate) is = absurd is
 grants (OfBarrier size) is = absurd is
@@ -218,6 +220,17 @@ poison_calls h slots sound locked = record {
   calls = λ ts b.
       let all = (all_calls h (OfLock Poisoned) poisoned_value slots (λ n. true) sound).calls ts b in
       (ap (poisoned_of (object_of (record { held = h; slots = slots }) ts)) locked ∙ all.0, all.1);
+}
+
+-- Shutting
+
+-- a semaphore that is shut
+pub shut_calls : (h : Held) (slots : Slots) (bound out : ℕ) → IsSound slots → h ≡ OfSemaphore bound out
+    → Calls (record { held = h; slots = slots }) (record { held = OfShutSemaphore bound out; slots = all_slots_answered closed_value slots }) (λ s. shut_of s s.held) true
+shut_calls h slots bound out sound is = record {
+  calls = λ ts b.
+      let all = (all_calls h (OfShutSemaphore bound out) closed_value slots (λ n. true) sound).calls ts b in
+      (ap (shut_of (object_of (record { held = h; slots = slots }) ts)) is ∙ all.0, all.1);
 }
 
 -- Dropping

@@ -1,15 +1,15 @@
 -- Settling of a core, one grant at a time, and what is settled afterwards.
 use Rattle.std.proofs.Common.{◌≡◌, ℕ, zero, suc, ◌<◌, true, false, ◌&&◌, cond, List, [], ◌∷◌, ◌++◌, length, drop, Option, Some, None, slice_set, refl, sym, ap, ◌∙◌, arith, inl, inr}
 use Rattle.saa_core_spec.specs.declared.request.Request.{Request}
-use Rattle.saa_core_spec.specs.Held.{Held, OfLock, Poisoned, fits, plus, less}
+use Rattle.saa_core_spec.specs.Held.{Held, OfSemaphore, OfShutSemaphore, OfLock, OfGate, OfBarrier, Free, Exclusive, Shared, Poisoned, fits, plus, less, refuses_all}
 use Rattle.saa_core_spec.specs.Object.{Waiter, is_nobody}
 use Rattle.saa_core_spec.specs.Settling.{fitting_front}
 use Rattle.saa_core.specs.Slots.{Slots, pending_with, slots_answered}
 use Rattle.saa_core.specs.Tickets.{IsCoreSettled, Core}
-use Rattle.saa_core.specs.CoreParts.{core_granted, core_settled, oldest_fitting}
+use Rattle.saa_core.specs.CoreParts.{core_granted, core_settled, oldest_fitting, answer_to_all}
 use Rattle.saa_core_spec.proofs.Counts.{bool_cases}
 use Rattle.saa_core_spec.proofs.FittingFronts.{fitting_front-fits, fitting_front-blocked, fitting_front-settled}
-use Rattle.saa_core_spec.proofs.Poison.{plus_all-not_poisoned, less-not_poisoned}
+use Rattle.saa_core_spec.proofs.Refusing.{plus_all-refusing, less-refusing}
 
 -- a core whose oldest waiter doesn't fit is settled
 pub settled-none : (c : Core) → IsCoreSettled c → core_settled c ≡ c
@@ -96,7 +96,7 @@ pub nobody-empty : (line : List Waiter) → is_nobody line ≡ true → line ≡
 nobody-empty [] e = refl
 nobody-empty (w ∷ line) e = cc
 
--- Nobody waits at a poisoned lock
+-- Nobody waits where every request is refused
 
 -- nobody is left of nobody
 drop-nobody : (k : ℕ) → drop {A = Waiter} k [] ≡ []
@@ -104,14 +104,25 @@ drop-nobody zero = refl
 drop-nobody (suc k) = refl
 
 -- settling keeps it so
-pub unpoisoned-settled : (c : Core) → (c.held ≡ OfLock Poisoned → c.slots.line ≡ []) → (core_settled c).held ≡ OfLock Poisoned → (core_settled c).slots.line ≡ []
+pub refused-settled : (c : Core) → (refuses_all c.held ≡ true → c.slots.line ≡ []) → refuses_all (core_settled c).held ≡ true → (core_settled c).slots.line ≡ []
 unfolding core_settled
-unpoisoned-settled c before poisoned =
-    let nobody : c.slots.line ≡ [] = before (plus_all-not_poisoned c.held c.slots.line poisoned) in
+refused-settled c before refuses =
+    let nobody : c.slots.line ≡ [] = before (sym (plus_all-refusing c.held c.slots.line) ∙ refuses) in
     ap (drop (fitting_front c.held c.slots.line)) nobody ∙ drop-nobody (fitting_front c.held c.slots.line)
 
 -- and so does settling what was given back
-pub unpoisoned-given : (h rest : Held) (slots : Slots) (r : Request) → less h r ≡ Some rest
-    → (core_settled (record { held = rest; slots = slots })).held ≡ OfLock Poisoned → (core_settled (record { held = rest; slots = slots })).slots.line ≡ []
-unpoisoned-given h rest slots r given poisoned =
-    unpoisoned-settled (record { held = rest; slots = slots }) (λ e. absurd (less-not_poisoned h r (given ∙ ap (λ (x : Held). Some x) e))) poisoned
+pub refused-given : (h rest : Held) (slots : Slots) (r : Request) → less h r ≡ Some rest → (refuses_all h ≡ true → slots.line ≡ [])
+    → refuses_all (core_settled (record { held = rest; slots = slots })).held ≡ true → (core_settled (record { held = rest; slots = slots })).slots.line ≡ []
+refused-given h rest slots r given before refuses =
+    refused-settled (record { held = rest; slots = slots }) (λ e. before (sym (less-refusing h rest r given) ∙ e)) refuses
+
+-- what has no answer for every request doesn't refuse every one
+pub refuses-unanswered : (h : Held) → answer_to_all h ≡ None → refuses_all h ≡ false
+refuses-unanswered (OfLock Poisoned) none = cc
+refuses-unanswered (OfLock Free) none = refl
+refuses-unanswered (OfLock Exclusive) none = refl
+refuses-unanswered (OfLock (Shared n)) none = refl
+refuses-unanswered (OfShutSemaphore bound out) none = cc
+refuses-unanswered (OfSemaphore bound out) none = refl
+refuses-unanswered (OfGate gate) none = refl
+refuses-unanswered (OfBarrier size) none = refl

@@ -82,7 +82,7 @@ pub fn truth_text(truth: bool) -> &'static str
     }
 }
 
-/// Why a poll has no answer, in a word.
+/// Why a poll has no answer, or that the semaphore was shut, in a word.
 pub fn error_text(error: Error) -> &'static str
     ensures word { result.now ≡ error_word error }
     ensures short { length result.now ≤ 14 }
@@ -91,6 +91,7 @@ pub fn error_text(error: Error) -> &'static str
         Error::NotRegistered => "not_registered",
         Error::WrongMode => "wrong_mode",
         Error::NotReady => "not_ready",
+        Error::Closed => "closed",
     }
 }
 

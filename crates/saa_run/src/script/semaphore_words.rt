@@ -46,10 +46,12 @@ impl<const MAX: usize> Spoken for SemaphoreCoreOf<MAX> {
 }
 
 /// The words of the calls that are one word.
-static CALLS: [(&str, SemaphoreCall); 3] = [
+static CALLS: [(&str, SemaphoreCall); 5] = [
     ("available", SemaphoreCall::AvailablePermits),
     ("is_open", SemaphoreCall::IsOpen),
     ("is_closed", SemaphoreCall::IsClosed),
+    ("shut", SemaphoreCall::Shut),
+    ("is_shut", SemaphoreCall::IsShut),
 ];
 
 /// A call that is one word.

@@ -4,6 +4,7 @@ ghost use Rattle.std.specs.Prelude.{◌≡◌};
 
 use crate::barrier::{Barrier, is_leader};
 pub use crate::future::{Acquiring, AcquiringWith, AnswerReader, PollOn, Progress};
+use saa_core::ticket::Full;
 
 /// How the answers of a barrier read: whether a task is the leader of its round.
 #[derive(Drop)]
@@ -16,17 +17,26 @@ pub type ArriveFuture<'s, R> = Acquiring<'s, Barrier<R>, Arrival>;
 pub type ArriveFutureWith<'s, R, F> = AcquiringWith<'s, Barrier<R>, Arrival, F>;
 
 impl AnswerReader for Arrival {
+    ghost use Rattle.std.specs.Prelude.{Ok};
     ghost use Rattle.saa_sync.specs.BarrierAnswers.{arrival};
 
     type Output = bool;
 
-    ghost read = { arrival };
+    type Error = Full;
+
+    ghost read = { λ answer. Ok (arrival answer) };
+
+    ghost full = { record {} };
 
     /// Whether it is the leader of its round.
-    fn read(answer: Option<u8>) -> bool {
+    fn read(answer: Option<u8>) -> Result<bool, Full> {
         match answer {
-            Some(value) => is_leader(value),
-            None => false,
+            Some(value) => Ok(is_leader(value)),
+            None => Ok(false),
         }
+    }
+
+    fn full() -> Full {
+        Full
     }
 }

@@ -4,6 +4,7 @@ ghost use Rattle.std.specs.Prelude.{◌≡◌};
 
 pub use crate::future::{Acquiring, AcquiringWith, AnswerReader, PollOn, Progress};
 use crate::lock::{Lock, is_granted};
+use saa_core::ticket::Full;
 
 /// How the answers of a lock read, for one owner alone or for a share of it.
 #[derive(Drop)]
@@ -22,17 +23,26 @@ pub type ShareFuture<'s, R> = Acquiring<'s, Lock<R>, Turn>;
 pub type ShareFutureWith<'s, R, F> = AcquiringWith<'s, Lock<R>, Turn, F>;
 
 impl AnswerReader for Turn {
+    ghost use Rattle.std.specs.Prelude.{Ok};
     ghost use Rattle.saa_sync.specs.LockAnswers.{turn};
 
     type Output = bool;
 
-    ghost read = { turn };
+    type Error = Full;
+
+    ghost read = { λ answer. Ok (turn answer) };
+
+    ghost full = { record {} };
 
     /// Whether it is granted: each other answer says that the lock is poisoned.
-    fn read(answer: Option<u8>) -> bool {
+    fn read(answer: Option<u8>) -> Result<bool, Full> {
         match answer {
-            Some(value) => is_granted(value),
-            None => false,
+            Some(value) => Ok(is_granted(value)),
+            None => Ok(false),
         }
+    }
+
+    fn full() -> Full {
+        Full
     }
 }

@@ -71,7 +71,7 @@ impl<'s, R: Wait + Drop, P: Primitive, Q: AnswerReader> PollOn for Acquiring<'s,
 
     type Core = P;
 
-    type Output = Q::Output;
+    type Output = Result<Q::Output, Q::Error>;
 
     ghost pending = { λ future. future.asking };
 
@@ -79,7 +79,7 @@ impl<'s, R: Wait + Drop, P: Primitive, Q: AnswerReader> PollOn for Acquiring<'s,
 
     ghost read = { Q.read };
 
-    fn poll_on(&mut self, core: &mut P) -> Progress<Q::Output> {
+    fn poll_on(&mut self, core: &mut P) -> Progress<Result<Q::Output, Q::Error>> {
         let mut pending = self.take_pending();
         let progress = pending.poll_on(core);
         self.put_pending(pending);
@@ -99,7 +99,7 @@ impl<'s, R: Wait + Drop, P: Primitive, Q: AnswerReader, F: FnOnce() + Drop> Poll
 
     type Core = P;
 
-    type Output = Q::Output;
+    type Output = Result<Q::Output, Q::Error>;
 
     ghost pending = { λ future. future.acquiring.asking };
 
@@ -107,7 +107,7 @@ impl<'s, R: Wait + Drop, P: Primitive, Q: AnswerReader, F: FnOnce() + Drop> Poll
 
     ghost read = { Q.read };
 
-    fn poll_on(&mut self, core: &mut P) -> Progress<Q::Output> {
+    fn poll_on(&mut self, core: &mut P) -> Progress<Result<Q::Output, Q::Error>> {
         let mut taken = self.take_pending();
         let progress = taken.poll_on(core);
         self.put_pending(taken);

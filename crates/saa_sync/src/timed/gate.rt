@@ -1,7 +1,7 @@
 //! Gates that are waited at in time.
 
-ghost use Rattle.std.specs.Prelude.{◌≡◌, None, IfOk, IfSome};
-ghost use Rattle.saa_sync.specs.GateAnswers.{gate_fault};
+ghost use Rattle.std.specs.Prelude.{◌≡◌, None, IfOk};
+ghost use Rattle.saa_sync.specs.GateAnswers.{entry_fault, gate_fault};
 
 use crate::form::Form;
 use crate::gate::{Error, GateCore, State, read_value};
@@ -10,28 +10,51 @@ use saa_core::ticket::Full;
 use std::sync::Wait;
 use std::time::{Clock, Duration, Instant};
 
+/// What an entry that ends in time answers.
+#[derive(Clone, Copy, Debug, Eq, PartialEq)]
+pub enum TimedEntry {
+    /// It passed, at a gate in this state: `Controlled` if it was permitted, and else `Open`.
+    Passed(State),
+    /// It didn't pass: `Rejected`, `Sealed` or `SpuriousFailure`.
+    Refused(Error),
+    /// Time is up, and nothing is registered.
+    Late,
+}
+
 impl<R: Wait + Clock + Drop> Form<R, GateCore> {
     /// Passes the gate as [`Self::enter_sync`] does, and waits at most so long.
     ///
-    /// `Ok(Some(answer))` with the answer of that call. `Ok(None)`: time is up, and nothing is registered; all other waiters are
-    /// told a spurious failure by that. `Full` as there.
-    pub fn enter_sync_for(&self, duration: Duration) -> Result<Option<Result<State, Error>>, Full>
-        ensures { IfOk result (λ told. IfSome told (λ answer. gate_fault answer ≡ None)) }
+    /// If time is up, all other waiters are told a spurious failure by that. `Full` as there.
+    pub fn enter_sync_for(&self, duration: Duration) -> Result<TimedEntry, Full>
+        ensures { IfOk result (λ told. entry_fault told ≡ None) }
     {
         self.enter_by(Deadline::after(self.rt(), duration))
     }
 
     /// Passes the gate as [`Self::enter_sync_for`] does, and waits until this instant.
-    pub fn enter_sync_until(&self, deadline: Instant) -> Result<Option<Result<State, Error>>, Full>
-        ensures { IfOk result (λ told. IfSome told (λ answer. gate_fault answer ≡ None)) }
+    pub fn enter_sync_until(&self, deadline: Instant) -> Result<TimedEntry, Full>
+        ensures { IfOk result (λ told. entry_fault told ≡ None) }
     {
         self.enter_by(Deadline::At(deadline))
     }
 
     // Passes, by this time.
-    fn enter_by(&self, deadline: Deadline) -> Result<Option<Result<State, Error>>, Full>
-        ensures { IfOk result (λ told. IfSome told (λ answer. gate_fault answer ≡ None)) }
+    fn enter_by(&self, deadline: Deadline) -> Result<TimedEntry, Full>
+        ensures { IfOk result (λ told. entry_fault told ≡ None) }
     {
-        Ok(self.acquire_until((), deadline)?.map(read_value))
+        match self.acquire_until((), deadline)? {
+            Some(value) => Ok(entry(read_value(value))),
+            None => Ok(TimedEntry::Late),
+        }
+    }
+}
+
+// What an entry is told that was answered in time.
+fn entry(answer: Result<State, Error>) -> TimedEntry
+    ensures { entry_fault result ≡ gate_fault answer }
+{
+    match answer {
+        Ok(state) => TimedEntry::Passed(state),
+        Err(error) => TimedEntry::Refused(error),
     }
 }

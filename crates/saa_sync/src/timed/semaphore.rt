@@ -1,13 +1,14 @@
 //! Permits that are waited for in time.
 
 ghost use Rattle.std.specs.Prelude.{◌≡◌, ◌≤◌, ◌<◌, ◌↔◌, false, IfOk, IfSome, IsTrue, Ok, Some};
+ghost use Rattle.saa_core_guards.specs.Permits.{IfGranted};
 
 use crate::form::Form;
-use crate::permit::PermitOf;
-use crate::semaphore::is_too_many;
+use crate::permit::{InTime, PermitFrom, PermitOf};
+use crate::semaphore::{is_too_many, read_grant};
 use crate::timed::Deadline;
 use saa_core::semaphore::SemaphoreCoreOf;
-use saa_core::ticket::Full;
+use saa_core_waits::AcquireError;
 use std::sync::Wait;
 use std::time::{Clock, Duration, Instant};
 
@@ -15,13 +16,14 @@ impl<R: Wait + Clock + Drop, const MAX: usize> Form<R, SemaphoreCoreOf<MAX>> {
     /// Takes one permit, and waits for it in the queue at most so long; it joins at once, without a look before it.
     ///
     /// `Ok(Some(()))`: it is granted. `Ok(None)`: time is up, and nothing is registered or taken; those behind are granted while
-    /// they fit. `Full` comes at once, where it would have to wait and as many slots are held as there is room.
-    pub fn acquire_sync_for(&self, duration: Duration) -> Result<Option<()>, Full> {
+    /// they fit. `Closed`: the semaphore is shut, or was while this waited. `Full` comes at once, where it would have to wait and as many
+    /// slots are held as there is room.
+    pub fn acquire_sync_for(&self, duration: Duration) -> Result<Option<()>, AcquireError> {
         self.acquire_by(Deadline::after(self.rt(), duration))
     }
 
     /// Takes one permit as [`Self::acquire_sync_for`] does, and waits for it until this instant.
-    pub fn acquire_sync_until(&self, deadline: Instant) -> Result<Option<()>, Full> {
+    pub fn acquire_sync_until(&self, deadline: Instant) -> Result<Option<()>, AcquireError> {
         self.acquire_by(Deadline::At(deadline))
     }
 
@@ -29,12 +31,13 @@ impl<R: Wait + Clock + Drop, const MAX: usize> Form<R, SemaphoreCoreOf<MAX>> {
     ///
     /// `Ok(Some(true))`: they are granted. `Ok(Some(false))` comes at once, exactly where the count is above
     /// [`Self::MAX_PERMITS`]. `Ok(None)`: time is up, and nothing is registered or taken; those behind are granted while they fit.
-    /// `Full` comes at once, where it would have to wait and as many slots are held as there is room.
+    /// `Closed`: the semaphore is shut, or was while this waited. `Full` comes at once, where it would have to wait and as many slots are
+    /// held as there is room.
     pub fn acquire_many_sync_for(
         &self,
         count: usize,
         duration: Duration,
-    ) -> Result<Option<bool>, Full>
+    ) -> Result<Option<bool>, AcquireError>
         ensures answer { IfOk result (λ told. IfSome told (λ is_granted. IsTrue is_granted ↔ (count ≤ MAX))) }
         ensures too_many { MAX < count → result ≡ Ok (Some false) }
     {
@@ -46,7 +49,7 @@ impl<R: Wait + Clock + Drop, const MAX: usize> Form<R, SemaphoreCoreOf<MAX>> {
         &self,
         count: usize,
         deadline: Instant,
-    ) -> Result<Option<bool>, Full>
+    ) -> Result<Option<bool>, AcquireError>
         ensures answer { IfOk result (λ told. IfSome told (λ is_granted. IsTrue is_granted ↔ (count ≤ MAX))) }
         ensures too_many { MAX < count → result ≡ Ok (Some false) }
     {
@@ -57,35 +60,65 @@ impl<R: Wait + Clock + Drop, const MAX: usize> Form<R, SemaphoreCoreOf<MAX>> {
     pub fn acquire_permit_for(
         &self,
         duration: Duration,
-    ) -> Result<Option<PermitOf<'_, R, MAX>>, Full>
-        ensures { IfOk result (λ told. IfSome told (λ permit. permit.now ≡ self.now)) }
+    ) -> Result<Option<PermitOf<'_, R, MAX>>, AcquireError>
+        ensures semaphore { IfOk result (λ told. IfSome told (λ permit. permit.holder.now ≡ self.now)) }
+        ensures count { IfOk result (λ told. IfSome told (λ permit. permit.count ≡ 1)) }
     {
-        match self.acquire_sync_for(duration)? {
-            Some(()) => Ok(Some(self.permit())),
-            None => Ok(None),
-        }
+        PermitFrom::acquire_one_until(self, Deadline::after(self.rt(), duration))
     }
 
     /// Takes one permit as [`Self::acquire_permit_for`] does, and waits for it until this instant.
     pub fn acquire_permit_until(
         &self,
         deadline: Instant,
-    ) -> Result<Option<PermitOf<'_, R, MAX>>, Full>
-        ensures { IfOk result (λ told. IfSome told (λ permit. permit.now ≡ self.now)) }
+    ) -> Result<Option<PermitOf<'_, R, MAX>>, AcquireError>
+        ensures semaphore { IfOk result (λ told. IfSome told (λ permit. permit.holder.now ≡ self.now)) }
+        ensures count { IfOk result (λ told. IfSome told (λ permit. permit.count ≡ 1)) }
     {
-        match self.acquire_sync_until(deadline)? {
-            Some(()) => Ok(Some(self.permit())),
+        PermitFrom::acquire_one_until(self, Deadline::At(deadline))
+    }
+
+    /// Takes `count` permits as [`Self::acquire_many_sync_for`] does, and gives them back when what is returned goes.
+    pub fn acquire_permits_for(
+        &self,
+        count: usize,
+        duration: Duration,
+    ) -> Result<InTime<PermitOf<'_, R, MAX>>, AcquireError>
+        ensures semaphore { IfOk result (IfGranted (λ permits. permits.holder.now ≡ self.now)) }
+        ensures count { IfOk result (IfGranted (λ permits. permits.count ≡ count)) }
+    {
+        PermitFrom::acquire_until(self, count, Deadline::after(self.rt(), duration))
+    }
+
+    /// Takes `count` permits as [`Self::acquire_permits_for`] does, and waits for them until this instant.
+    pub fn acquire_permits_until(
+        &self,
+        count: usize,
+        deadline: Instant,
+    ) -> Result<InTime<PermitOf<'_, R, MAX>>, AcquireError>
+        ensures semaphore { IfOk result (IfGranted (λ permits. permits.holder.now ≡ self.now)) }
+        ensures count { IfOk result (IfGranted (λ permits. permits.count ≡ count)) }
+    {
+        PermitFrom::acquire_until(self, count, Deadline::At(deadline))
+    }
+
+    // One permit, by this time.
+    pub(crate) fn acquire_by(&self, deadline: Deadline) -> Result<Option<()>, AcquireError> {
+        match self.acquire_until(1, deadline)? {
+            Some(value) => {
+                read_grant(value)?;
+                Ok(Some(()))
+            }
             None => Ok(None),
         }
     }
 
-    // One permit, by this time.
-    fn acquire_by(&self, deadline: Deadline) -> Result<Option<()>, Full> {
-        Ok(self.acquire_until(1, deadline)?.map(|_granted| ()))
-    }
-
     // So many permits, by this time.
-    fn acquire_many_by(&self, count: usize, deadline: Deadline) -> Result<Option<bool>, Full>
+    pub(crate) fn acquire_many_by(
+        &self,
+        count: usize,
+        deadline: Deadline,
+    ) -> Result<Option<bool>, AcquireError>
         ensures answer { IfOk result (λ told. IfSome told (λ is_granted. IsTrue is_granted ↔ (count ≤ MAX))) }
         ensures too_many { MAX < count → result ≡ Ok (Some false) }
     {
@@ -93,7 +126,10 @@ impl<R: Wait + Clock + Drop, const MAX: usize> Form<R, SemaphoreCoreOf<MAX>> {
             return Ok(Some(false));
         }
         match self.acquire_until(count, deadline)? {
-            Some(_granted) => Ok(Some(true)),
+            Some(value) => {
+                read_grant(value)?;
+                Ok(Some(true))
+            }
             None => Ok(None),
         }
     }

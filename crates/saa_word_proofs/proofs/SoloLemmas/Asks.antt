@@ -8,7 +8,7 @@ use Rattle.saa_core_spec.specs.Lock.{is_poisoned, try_answer}
 use Rattle.saa_core_spec.specs.Object.{Object, After, Entry, Idle, Waiting, Answered, Waiter, entry_at, with_entry, one_if, holds_slot, slots_in, used, is_nobody}
 use Rattle.saa_core_spec.specs.Asking.{is_idle, is_granted_at_once, tried, granted_at_once, answer_at_once, answer_in as answer_when, joined, registered_of}
 use Rattle.saa_core_spec.proofs.Counts.{one_if-le}
-use Rattle.saa_core_spec.proofs.Poison.{fits-poisoned}
+use Rattle.saa_core_spec.proofs.Refusing.{fits-poisoned}
 use Rattle.saa_word_steps.specs.declared.rules.Rules.{Rules}
 use Rattle.saa_word_steps.specs.declared.rules.Rules.TheVariants.{Permits, Modes}
 use Rattle.saa_word_steps.specs.declared.place.Ask.{Ask}

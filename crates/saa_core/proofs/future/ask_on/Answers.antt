@@ -1,4 +1,4 @@
-use Rattle.std.proofs.Common.{rules, ◌≡◌, is_some, true, Ok, refl, sym, ap, ◌∙◌}
+use Rattle.std.proofs.Common.{rules, ◌≡◌, is_some, true, Ok, sym, ap, ◌∙◌}
 use Rattle.saa_core.specs.Tickets.{is_busy, slot_of}
 use Rattle.saa_core.specs.Beginning.{mode_of}
 use Rattle.saa_core.proofs.TicketLemmas.Modes.{begin-wakes, registers-owes, registered-mode, reply-alone}
@@ -38,14 +38,14 @@ returns-in-Err-poll_number-clause-wakes g c =
 
 pub returns-in-Err-poll_number-clause-mode : goal.returns-in-Err-poll_number-clause-mode
 returns-in-Err-poll_number-clause-mode g c = λ joined.
-    ap mode_of (c.in-Err-poll_number.ensures.ticket.same refl)
+    ap mode_of (c.in-Err-poll_number.ensures.same)
     ∙ registered-mode _ _ _ _ _ _ c.in-Ok-true.field-0-test (rw c.requires at c.in-Ok-true.ensures.acts)
 
 pub returns-in-Err-poll_number-clause-slot : goal.returns-in-Err-poll_number-clause-slot
 returns-in-Err-poll_number-clause-slot g c = λ joined.
     let mode = registered-mode _ _ _ _ _ _ c.in-Ok-true.field-0-test (rw c.requires at c.in-Ok-true.ensures.acts) in
     let busy : is_busy c.register.new.ticket ≡ true = search rules in
-    ap (λ t. is_some (slot_of t)) (c.in-Err-poll_number.ensures.ticket.same refl)
+    ap (λ t. is_some (slot_of t)) (c.in-Err-poll_number.ensures.same)
     ∙ waits-slotted _ _ _ _ _ busy mode c.in-Err-poll_number.ensures.acts
 
 pub returns-in-Err-clause-acts : goal.returns-in-Err-clause-acts

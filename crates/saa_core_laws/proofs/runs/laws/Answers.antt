@@ -1,6 +1,6 @@
 -- The laws of whole runs.
 use Rattle.saa_core_laws.proofs.TurnsKept.{semaphore-in_turn, lock-in_turn}
-use Rattle.saa_core_laws.proofs.Waits.{semaphore-nobody_waits, free_lock-nobody_waits, poisoned_lock-nobody_waits, gate-nobody_waits}
+use Rattle.saa_core_laws.proofs.Waits.{semaphore-nobody_waits, shut_semaphore-nobody_waits, free_lock-nobody_waits, poisoned_lock-nobody_waits, gate-nobody_waits}
 use Rattle.saa_core_laws.proofs.Conserved.{permits-conserved}
 use Rattle.saa_core_laws.proofs.InHand.{dropped-whole}
 use Rattle.saa_core_laws.proofs.Stories.{AnswersOnce-semaphore, AnswersOnce-lock, AnswersOnce-gate, AnswersOnce-barrier}
@@ -13,6 +13,7 @@ returns-clause-order c = record { semaphore = semaphore-in_turn; lock = lock-in_
 pub returns-clause-nothing : goal.returns-clause-nothing
 returns-clause-nothing c = record {
   semaphore = semaphore-nobody_waits;
+  shut_semaphore = shut_semaphore-nobody_waits;
   free_lock = free_lock-nobody_waits;
   poisoned_lock = poisoned_lock-nobody_waits;
   gate = gate-nobody_waits;

@@ -1,7 +1,7 @@
-use Rattle.std.proofs.Common.{◌≡◌, [], sym, subst, ap}
-use Rattle.saa_core_spec.specs.Held.{OfLock, Poisoned}
+use Rattle.std.proofs.Common.{◌≡◌, Bool, true, false, [], sym, subst, ap, ◌∙◌}
+use Rattle.saa_core_spec.specs.Held.{refuses_all}
 use Rattle.saa_core.specs.Tickets.{IsCoreSettled, Core}
-use Rattle.saa_core.proofs.GrantingLemmas.SettlingSteps.{settled-settled, unpoisoned-settled}
+use Rattle.saa_core.proofs.GrantingLemmas.SettlingSteps.{settled-settled, refused-settled}
 use Rattle.saa_core.proofs.GrantingLemmas.Waking.{wakes-settled}
 use Rattle.saa_core.proofs.granting.Granting.settle_with.Goals as goal
 
@@ -9,8 +9,8 @@ pub invariant_of-self : goal.invariant_of-self
 invariant_of-self g c = record {
   sound = c.settle.ensures.sound;
   settled = subst (λ k. IsCoreSettled k) (sym c.settle.ensures.settled) (settled-settled _);
-  unpoisoned = subst (λ k. k.held ≡ OfLock Poisoned → k.slots.line ≡ []) (sym c.settle.ensures.settled)
-      (unpoisoned-settled _ (λ poisoned. absurd (c.requires.unpoisoned poisoned)));
+  refused = subst (λ k. refuses_all k.held ≡ true → k.slots.line ≡ []) (sym c.settle.ensures.settled)
+      (refused-settled _ (λ refuses. (let both : ◌≡◌ {A = Bool} false true = sym c.requires.grants ∙ refuses in cc)));
 }
 
 pub returns-clause-granted : goal.returns-clause-granted

@@ -1,9 +1,9 @@
-use Rattle.std.proofs.Common.{◌≡◌, [], false, Some, sym, subst, ap}
-use Rattle.saa_core_spec.specs.Held.{OfLock, Poisoned, less}
+use Rattle.std.proofs.Common.{◌≡◌, [], true, false, Some, sym, subst, ap}
+use Rattle.saa_core_spec.specs.Held.{refuses_all, less}
 use Rattle.saa_core_spec.specs.Polling.{is_for_nothing}
 use Rattle.saa_core.specs.Tickets.{IsCoreSettled, Core}
 use Rattle.saa_core.proofs.GrantingLemmas.Asks.{release_given}
-use Rattle.saa_core.proofs.GrantingLemmas.SettlingSteps.{settled-settled, unpoisoned-given}
+use Rattle.saa_core.proofs.GrantingLemmas.SettlingSteps.{settled-settled, refused-given}
 use Rattle.saa_core.proofs.TicketLemmas.Waking.{wakes-same}
 use Rattle.saa_core.proofs.GrantingLemmas.Waking.{wakes-settled}
 use Rattle.saa_core.proofs.granting.Granting.take_back.Goals as goal
@@ -14,7 +14,7 @@ invariant_of-self-2 g c =
     record {
       sound = c.settle.ensures.sound;
       settled = subst (λ k. IsCoreSettled k) (sym c.settle.ensures.settled) (settled-settled _);
-      unpoisoned = subst (λ k. k.held ≡ OfLock Poisoned → k.slots.line ≡ []) (sym c.settle.ensures.settled) (unpoisoned-given _ _ _ c.args.request given);
+      refused = subst (λ k. refuses_all k.held ≡ true → k.slots.line ≡ []) (sym c.settle.ensures.settled) (refused-given _ _ _ c.args.request given c.self.invariant.refused);
     }
 
 pub returns-clause-calls : goal.returns-clause-calls

@@ -1,9 +1,9 @@
-use Rattle.std.proofs.Common.{◌≡◌, [], sym, subst, ◌∙◌, ap, ◌<◌, refl}
-use Rattle.saa_core_spec.specs.Held.{OfLock, Poisoned}
+use Rattle.std.proofs.Common.{◌≡◌, true, [], sym, subst, ◌∙◌, ap, ◌<◌, refl}
+use Rattle.saa_core_spec.specs.Held.{refuses_all}
 use Rattle.saa_core_spec.specs.Object.{without, times}
 use Rattle.saa_core.specs.Slots.{Slots}
 use Rattle.saa_core.specs.Tickets.{IsCoreSettled, Core}
-use Rattle.saa_core.proofs.GrantingLemmas.SettlingSteps.{settled-settled, unpoisoned-settled}
+use Rattle.saa_core.proofs.GrantingLemmas.SettlingSteps.{settled-settled, refused-settled}
 use Rattle.saa_core.proofs.TicketLemmas.Waking.{wakes-same}
 use Rattle.saa_core.proofs.GrantingLemmas.Waking.{wakes-settled_left}
 use Rattle.saa_core.proofs.granting.Granting.vacate.Goals as goal
@@ -15,8 +15,8 @@ invariant_of-self-then-leave g c =
     record {
       sound = c.settle.ensures.sound;
       settled = subst (λ k. IsCoreSettled k) (sym c.settle.ensures.settled) (settled-settled _);
-      unpoisoned = subst (λ k. k.held ≡ OfLock Poisoned → k.slots.line ≡ []) (sym c.settle.ensures.settled)
-          (unpoisoned-settled _ (λ poisoned. left ∙ ap (without c.args.slot) (took ∙ c.self.invariant.unpoisoned poisoned)));
+      refused = subst (λ k. refuses_all k.held ≡ true → k.slots.line ≡ []) (sym c.settle.ensures.settled)
+          (refused-settled _ (λ refuses. left ∙ ap (without c.args.slot) (took ∙ c.self.invariant.refused refuses)));
     }
 
 pub returns-then-leave-clause-settled : goal.returns-then-leave-clause-settled

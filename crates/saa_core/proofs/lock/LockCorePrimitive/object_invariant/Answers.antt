@@ -1,5 +1,5 @@
 use Rattle.std.proofs.Common.{◌≡◌, ap, ◌∙◌, sym}
-use Rattle.saa_core_spec.specs.Held.{OfLock, LockState}
+use Rattle.saa_core_spec.specs.Held.{OfLock, LockState, refuses_all}
 use Rattle.saa_core.specs.Tickets.{named}
 use Rattle.saa_core.proofs.GrantingLemmas.Asks.{IsCoreSettled-object}
 use Rattle.saa_core.specs.Owners.{lock_state}
@@ -11,6 +11,6 @@ returns c =
     c.needs.ensures.held ∙ ap (λ (s : LockState). OfLock s) (sym c.owner-owner.ensures.owner) in
     λ tickets. record {
       settled = IsCoreSettled-object c.args.self.now tickets c.waiting-waiting.ensures.settled;
-      unpoisoned = λ poisoned. ap (named tickets) (c.waiting-waiting.ensures.unpoisoned poisoned);
+      unpoisoned = λ poisoned. ap (named tickets) (c.waiting-waiting.ensures.refused (ap refuses_all poisoned));
       bounded = (lock_state c.owner-owner.result, held, c.owner-owner.ensures.fine);
     }

@@ -1,4 +1,4 @@
-use Rattle.std.proofs.Common.{rules, ◌≡◌, Ok, true, false, ap, refl, sym, ◌∙◌}
+use Rattle.std.proofs.Common.{rules, ◌≡◌, Ok, true, false, ap, sym, ◌∙◌}
 use Rattle.saa_core.specs.Beginning.{mode_of}
 use Rattle.saa_core.proofs.TicketLemmas.Modes.{begin-wakes, registered-mode, reply-alone}
 use Rattle.saa_sync.proofs.MutexSteps.{begun-polled, full-stays}
@@ -47,5 +47,5 @@ returns-in-Err-clause-wakes g c =
 pub returns-in-Err-clause-mode : goal.returns-in-Err-clause-mode
 returns-in-Err-clause-mode g c = λ joined.
     let is_true : c.in_ok-register.field-0 ≡ true = search rules in
-    ap mode_of (c.in-Err.ensures.ticket.same refl)
+    ap mode_of c.in-Err.ensures.same
     ∙ registered-mode _ _ _ _ _ (Ok c.in_ok-register.field-0) is_true (rw c.requires at c.in_ok-register.ensures.acts)
