@@ -1,0 +1,38 @@
+//! What a script can say to a primitive, and the words for what that answers.
+
+pub mod barrier;
+pub mod gate;
+pub mod lock;
+pub mod semaphore;
+
+use crate::forms::{Asks, Form};
+use crate::reading::Said;
+use saa_core::primitive::Primitive;
+use std::alloc::{AllocError, Global};
+
+/// A primitive whose core scripts can speak to.
+pub trait Spoken: Primitive {
+    /// What one is called, as `a semaphore`.
+    fn owner() -> &'static str;
+
+    /// The forms of its lines.
+    fn forms() -> &'static [Form];
+
+    /// The call that a line asks for; `None` where it asks for none of this primitive's.
+    fn call_of(asks: Asks, count: usize) -> Option<Self::Call>;
+
+    /// What a registration asks.
+    fn ask_of(said: Said) -> Self::Ask;
+
+    /// What a registration asks, in words.
+    fn ask_text(alloc: Global, ask: Self::Ask) -> Result<String, AllocError>;
+
+    /// What a call answers, as `saa-run` writes it.
+    fn answer_text(alloc: Global, answer: Self::Answer) -> Result<String, AllocError>;
+
+    /// What a poll answers, as `saa-run` writes it.
+    fn poll_text(alloc: Global, value: Self::Value) -> Result<String, AllocError>;
+
+    /// What is held, in words.
+    fn held_text(&mut self, alloc: Global) -> Result<String, AllocError>;
+}

@@ -1,0 +1,52 @@
+//! What is said to a barrier.
+
+use crate::forms::{Asks, Form, OF_A_BARRIER};
+use crate::reading::Said;
+use crate::spoken::Spoken;
+use crate::spoken::semaphore::error_text;
+use saa_core::barrier::{BarrierAnswer, BarrierCall, BarrierCore};
+use saa_core::primitive::Primitive;
+use saa_core::ticket::Error;
+use std::alloc::{AllocError, Global};
+
+impl Spoken for BarrierCore {
+    fn owner() -> &'static str {
+        "a barrier"
+    }
+
+    fn forms() -> &'static [Form] {
+        &OF_A_BARRIER
+    }
+
+    fn call_of(asks: Asks, _count: usize) -> Option<BarrierCall> {
+        match asks {
+            Asks::Arrivals => Some(BarrierCall::Count),
+            _ => None,
+        }
+    }
+
+    fn ask_of(_said: Said) {}
+
+    fn ask_text(alloc: Global, _ask: ()) -> Result<String, AllocError> {
+        Ok(String::new(alloc))
+    }
+
+    fn answer_text(alloc: Global, answer: BarrierAnswer) -> Result<String, AllocError> {
+        let BarrierAnswer::Count(count) = answer;
+        format!(in alloc; "{count}")
+    }
+
+    fn poll_text(alloc: Global, value: Result<bool, Error>) -> Result<String, AllocError> {
+        match value {
+            Ok(is_leader) => format!(in alloc; "{is_leader}"),
+            Err(error) => String::from_str(alloc, error_text(error)),
+        }
+    }
+
+    fn held_text(&mut self, alloc: Global) -> Result<String, AllocError> {
+        match self.count() {
+            1 => String::from_str(alloc, "1 arrival to come"),
+            count => format!(in alloc; "{count} arrivals to come"),
+        }
+    }
+}
