@@ -1,7 +1,7 @@
 //! Workers that share 500 connections: `example_pool N`, N from 1 to 16 workers.
 #![tactic(auto)]
 
-mod pool;
+mod connection;
 #[cfg(test)]
 mod tests;
 mod work;

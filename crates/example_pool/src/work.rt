@@ -2,7 +2,8 @@
 
 ghost use Rattle.std.specs.Prelude.{◌<◌};
 
-use crate::pool::{Connection, Pool, Refused};
+use crate::connection::Connection;
+use saa_sync_pool::{Pool, Refused};
 use std::alloc::{AllocError, Global};
 use std::sync::Wait;
 use std::sync::atomic::{AtomicU64, Ordering};
@@ -42,20 +43,39 @@ pub fn share<R: Threads + Wait + Clock + Sync, const MAX: usize>(
     requires bound { 0 < MAX }
     requires narrow { MAX < 65536 }
 {
-    let pool = Pool::<R, MAX>::new(rt, alloc, workers)?;
-    let seen = pass_on(rt, alloc, &pool, workers)?;
-    pool.shut_down();
-    match pool.uses() {
-        (uses, 0) => Ok(Seen { uses, ..seen }),
-        _ => Err(AllocError),
+    let pool = Pool::<_, Connection, MAX>::new(rt, alloc, workers)?;
+    for number in 0..MAX {
+        if pool.add(Connection::new(number)).is_err() {
+            return Err(AllocError);
+        }
     }
+    let seen = pass_on(rt, alloc, &pool, workers)?;
+    pool.close();
+    let uses = uses(alloc, &pool)?;
+    if pool.out() == 0 {
+        Ok(Seen { uses, ..seen })
+    } else {
+        Err(AllocError)
+    }
+}
+
+// How often all connections that are back in a closed pool were used; it takes them out.
+fn uses<R: Wait, const MAX: usize>(
+    alloc: Global,
+    pool: &Pool<'_, R, Connection, MAX>,
+) -> Result<u64, AllocError> {
+    let mut uses = 0u64;
+    for connection in pool.drain(alloc)? {
+        uses = uses.saturating_add(connection.uses());
+    }
+    Ok(uses)
 }
 
 // Takes all connections, and lets workers pass on one of them: all that was seen but how often they were used.
 fn pass_on<R: Threads + Wait + Clock + Sync, const MAX: usize>(
     rt: &R,
     alloc: Global,
-    pool: &Pool<'_, R, MAX>,
+    pool: &Pool<'_, R, Connection, MAX>,
     workers: u16,
 ) -> Result<Seen, AllocError> {
     let (mut kept, refused) = take_all(alloc, pool)?;
@@ -79,7 +99,7 @@ fn pass_on<R: Threads + Wait + Clock + Sync, const MAX: usize>(
 // Takes all connections, with one try more than there are: those that it got, and how many tries were refused.
 fn take_all<R: Wait, const MAX: usize>(
     alloc: Global,
-    pool: &Pool<'_, R, MAX>,
+    pool: &Pool<'_, R, Connection, MAX>,
 ) -> Result<(Vec<Connection>, u64), AllocError> {
     let mut kept = Vec::new(alloc);
     let mut refused = 0u64;
@@ -100,14 +120,17 @@ fn use_all(kept: &mut [Connection]) {
 }
 
 // Gives these connections back.
-fn give_all_back<R: Wait, const MAX: usize>(pool: &Pool<'_, R, MAX>, kept: Vec<Connection>) {
+fn give_all_back<R: Wait, const MAX: usize>(
+    pool: &Pool<'_, R, Connection, MAX>,
+    kept: Vec<Connection>,
+) {
     for connection in kept {
-        pool.give_back(connection);
+        let _ = pool.give_back(connection);
     }
 }
 
 // Waits for one connection more; whether it was told that time was up.
-fn is_late<R: Wait + Clock, const MAX: usize>(pool: &Pool<'_, R, MAX>) -> bool {
+fn is_late<R: Wait + Clock, const MAX: usize>(pool: &Pool<'_, R, Connection, MAX>) -> bool {
     let one_more = pool.check_out_for(Duration::from_millis(PATIENCE));
     matches!(one_more, Err(Refused::TooLate))
 }
@@ -116,7 +139,7 @@ fn is_late<R: Wait + Clock, const MAX: usize>(pool: &Pool<'_, R, MAX>) -> bool {
 // out. How many turns the workers had with all out; none where one couldn't be started.
 fn turns_with_one<R: Threads + Wait + Sync, const MAX: usize>(
     rt: &R,
-    pool: &Pool<'_, R, MAX>,
+    pool: &Pool<'_, R, Connection, MAX>,
     last: Option<Connection>,
     workers: u16,
 ) -> Option<u64> {
@@ -128,7 +151,7 @@ fn turns_with_one<R: Threads + Wait + Sync, const MAX: usize>(
             is_whole = is_whole && scope.spawn(move || work(pool, turns)).is_ok();
         }
         if let Some(connection) = last {
-            pool.give_back(connection);
+            let _ = pool.give_back(connection);
         }
         is_whole
     });
@@ -140,11 +163,11 @@ fn turns_with_one<R: Threads + Wait + Sync, const MAX: usize>(
 }
 
 // Checks a connection out again and again, uses it once each time, and counts the turns at which all were out.
-fn work<R: Wait, const MAX: usize>(pool: &Pool<'_, R, MAX>, turns: &AtomicU64) {
+fn work<R: Wait, const MAX: usize>(pool: &Pool<'_, R, Connection, MAX>, turns: &AtomicU64) {
     for _turn in 0..TURNS {
         match pool.check_out() {
             Ok(mut checkout) => {
-                checkout.connection().use_once();
+                checkout.use_once();
                 let _ = turns.fetch_add(u64::from(pool.out() == MAX), Ordering::SeqCst);
             }
             Err(_refused) => return,

@@ -1,7 +1,7 @@
 //! Threads that push and pop, and what they count.
 
-use crate::queue::{Popped, Queue, Refused};
 use saa_sync::Mutex;
+use saa_sync_queue::{PopError, PushError, Queue};
 use std::alloc::{AllocError, Global};
 use std::sync::Wait;
 use std::thread::{self, Threads};
@@ -10,7 +10,7 @@ use std::time::{Clock, Duration};
 /// How many items each producer pushes, and for how many the queue has places.
 const ITEMS: u16 = 100;
 
-const BOUND: u16 = 4;
+const BOUND: usize = 4;
 
 /// An item: who made it, and the how manieth of that maker it is.
 #[derive(Clone, Copy)]
@@ -44,7 +44,7 @@ fn count(tally: &mut Tally, seen: &mut [u16; 16], item: Item) {
 #[derive(Drop)]
 struct Market<'r, R: Wait> {
     rt: &'r R,
-    queue: Queue<&'r R, Item>,
+    queue: Queue<&'r R, Item, BOUND>,
     tally: Mutex<&'r R, Tally>,
 }
 
@@ -53,7 +53,7 @@ impl<'r, R: Wait> Market<'r, R> {
     fn new(rt: &'r R, alloc: Global) -> Result<Self, AllocError> {
         Ok(Market {
             rt,
-            queue: Queue::new(rt, alloc, BOUND, 32)?,
+            queue: Queue::new(rt, alloc, 32)?,
             tally: Mutex::new(rt, alloc, Tally::default(), 32)?,
         })
     }
@@ -71,7 +71,7 @@ impl<'r, R: Wait> Market<'r, R> {
     fn consume(&self) {
         let mut seen = [0u16; 16];
         for _item in self.rt.forever() {
-            let Ok(Some(item)) = self.queue.pop() else {
+            let Ok(item) = self.queue.pop() else {
                 return;
             };
             if let Ok(mut tally) = self.tally.lock() {
@@ -101,7 +101,7 @@ fn all_trade<R: Threads + Wait + Sync>(rt: &R, market: &Market<'_, R>, pairs: u1
             is_whole = scope.spawn(move || market.consume()).is_ok() && is_whole;
         }
         is_whole = is_whole && all_produce(rt, market, pairs);
-        market.queue.close().is_ok() && is_whole
+        market.queue.close() && is_whole
     })
 }
 
@@ -128,10 +128,10 @@ pub fn ends_in_time<R: Wait + Clock>(
     alloc: Global,
     patience: Duration,
 ) -> Result<bool, AllocError> {
-    let queue = Queue::new(rt, alloc, 1, 1)?;
-    let is_pushed = queue.push_for(1u8, patience) == Ok(());
-    let is_late = queue.push_for(2u8, patience) == Err(Refused::TooLate(2));
-    let is_popped = queue.pop_for(patience) == Ok(Popped::Item(1));
-    let is_empty = queue.pop_for(patience) == Ok(Popped::TooLate);
+    let queue = Queue::<_, u8, 1>::new(rt, alloc, 1)?;
+    let is_pushed = queue.push_for(1, patience) == Ok(());
+    let is_late = queue.push_for(2u8, patience) == Err(PushError::TooLate(2));
+    let is_popped = queue.pop_for(patience) == Ok(1);
+    let is_empty = queue.pop_for(patience) == Err(PopError::TooLate);
     Ok(is_pushed && is_late && is_popped && is_empty)
 }

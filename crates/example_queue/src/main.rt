@@ -4,7 +4,6 @@
 #![tactic(auto)]
 
 mod exchange;
-mod queue;
 #[cfg(test)]
 mod tests;
 

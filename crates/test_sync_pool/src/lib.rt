@@ -1,0 +1,13 @@
+//! Tests of the pool of values: of what no contract says, since it is under a mutex, or passes between threads.
+//!
+//! `calls` makes each call alone, `tasks` polls its futures by hand, and `threads` has waiters that surely sleep, and threads that share values.
+#![tactic(auto)]
+
+#[cfg(test)]
+mod calls;
+#[cfg(test)]
+mod tasks;
+#[cfg(test)]
+mod threads;
+#[cfg(test)]
+mod ways;
