@@ -4,7 +4,7 @@
 //! after the end asks to be polled again, and changes nothing. Dropping it drops what it is registered for: it leaves the
 //! queue, or gives back a turn that it was granted and not told of yet.
 
-ghost use Rattle.std.specs.Prelude.{◌≡◌, false, IfOk};
+ghost use Rattle.std.specs.Prelude.{◌≡◌, false, IfOk, IfErr};
 ghost use Rattle.saa_core_spec.specs.declared.request.Request.TheVariants.{Exclusive as AskExclusive, Shared as AskShared};
 ghost use Rattle.saa_core_spec.specs.Lock.{mode_request};
 
@@ -108,7 +108,7 @@ impl<'a, L: RawLockAsync, T, K: GuardKind<'a, L, T>> Future for GuardFuture<'a, 
 
     ghost needs = { λ future source. source ≡ L.source future.lock };
 
-    ghost gives = { λ future answer. IfOk answer (λ guard. K.lock_of guard ≡ future.lock) };
+    ghost gives = { λ future answer. IfOk answer (λ guard. K.lock_of guard ≡ future.lock) × IfErr answer (λ full. L.is_full future.lock) };
 
     fn poll(&mut self, cx: &mut Context<'_>) -> Poll<Result<K::Guard, Full>> {
         match ready!(self.lock.poll_turn(&mut self.pending, K::mode(), cx)) {

@@ -3,7 +3,7 @@
 //! The value is in a lock of std, which gives it only to a guard. Only the holder of the turn asks for it, and gives it back before
 //! the turn is passed on, so that lock should never be contended. No clause says so.
 
-ghost use Rattle.std.specs.Prelude.{◌≡◌, IfOk, IfSome, IsOk};
+ghost use Rattle.std.specs.Prelude.{◌≡◌, IfOk, IfSome, IsOk, IfErr};
 
 use crate::guard::Guard;
 use crate::raw_lock::{MadeWith, RawLock, RawLockUntil};
@@ -109,7 +109,8 @@ impl<L: RawLock + Drop, T, K> Guarded<L, T, K> {
 
     // Waits for the value as a guard of this kind has it.
     pub(crate) fn take<'a, G: GuardKind<'a, L, T>>(&'a self) -> Result<G::Guard, Full>
-        ensures { IfOk result (λ guard. G.lock_of guard ≡ self.now) }
+        ensures taken { IfOk result (λ guard. G.lock_of guard ≡ self.now) }
+        ensures full { IfErr result (λ full. L.is_full self.now) }
     {
         let witness = self.lock.take(G::mode())?;
         Ok(G::guard(&self.lock, &self.value, witness))
@@ -122,7 +123,8 @@ impl<L: RawLockUntil + Drop, T, K> Guarded<L, T, K> {
         &'a self,
         deadline: Deadline,
     ) -> Result<Option<G::Guard>, Full>
-        ensures { IfOk result (λ told. IfSome told (λ guard. G.lock_of guard ≡ self.now)) }
+        ensures taken { IfOk result (λ told. IfSome told (λ guard. G.lock_of guard ≡ self.now)) }
+        ensures full { IfErr result (λ full. L.is_full self.now) }
     {
         match self.lock.take_until(G::mode(), deadline)? {
             Some(witness) => Ok(Some(G::guard(&self.lock, &self.value, witness))),

@@ -1,6 +1,6 @@
 //! A mutex over any raw lock, and its guard.
 
-ghost use Rattle.std.specs.Prelude.{◌≡◌, IfOk, IfSome};
+ghost use Rattle.std.specs.Prelude.{◌≡◌, IfOk, IfSome, IfErr};
 
 use crate::guard::Guard;
 use crate::guarded::Guarded;
@@ -28,7 +28,8 @@ impl<L: RawLock + Drop, T> Guarded<L, T, OfMutex> {
     /// `Full`: its spins are over, it would have to wait, and there is no room for one more waiter; nothing is changed. A thread that has
     /// the guard already waits for itself, so for ever, where there is room.
     pub fn lock(&self) -> Result<MutexGuard<'_, L, T>, Full>
-        ensures { IfOk result (λ guard. guard.turn.lock.now ≡ self.now) }
+        ensures guard { IfOk result (λ guard. guard.turn.lock.now ≡ self.now) }
+        ensures full { IfErr result (λ full. L.is_full self.now) }
     {
         self.take::<OfMutex>()
     }
@@ -49,14 +50,16 @@ impl<L: RawLockUntil + Drop, T> Guarded<L, T, OfMutex> {
     /// `Ok(None)`: time is up, and nothing is registered or taken; those behind are granted while they fit. `Full` comes at once, where it
     /// would have to wait and there is no room for one more waiter.
     pub fn lock_for(&self, duration: Duration) -> Result<Option<MutexGuard<'_, L, T>>, Full>
-        ensures { IfOk result (λ told. IfSome told (λ guard. guard.turn.lock.now ≡ self.now)) }
+        ensures guard { IfOk result (λ told. IfSome told (λ guard. guard.turn.lock.now ≡ self.now)) }
+        ensures full { IfErr result (λ full. L.is_full self.now) }
     {
         self.take_until::<OfMutex>(self.lock.after(duration))
     }
 
     /// Takes the mutex as [`Self::lock_for`] does, and waits for it until this instant.
     pub fn lock_until(&self, deadline: Instant) -> Result<Option<MutexGuard<'_, L, T>>, Full>
-        ensures { IfOk result (λ told. IfSome told (λ guard. guard.turn.lock.now ≡ self.now)) }
+        ensures guard { IfOk result (λ told. IfSome told (λ guard. guard.turn.lock.now ≡ self.now)) }
+        ensures full { IfErr result (λ full. L.is_full self.now) }
     {
         self.take_until::<OfMutex>(Deadline::At(deadline))
     }

@@ -17,7 +17,7 @@ use std::time::{Duration, Instant};
 ///
 /// Its own calls aren't handed out by a mutex round it, so nobody poisons it; a call that finds it poisoned clears that, and asks again.
 pub trait RawLock: Sized {
-    ghost use Rattle.std.specs.Prelude.{◌≡◌, IfOk, IfSome};
+    ghost use Rattle.std.specs.Prelude.{◌≡◌, ⊤, IfErr, IfOk, IfSome};
     ghost use Rattle.saa_core_spec.specs.declared.lock.Mode.{Mode};
     ghost use Rattle.saa_core_spec.specs.declared.lock.Mode.TheVariants.{Exclusive, Shared};
 
@@ -27,13 +27,17 @@ pub trait RawLock: Sized {
     // What a witness says: that this lock was granted in this mode.
     ghost granted: { Self → Mode → Self.Witness → Type 0 };
 
+    // What it says of itself where it refuses a wait, `Full`; anything will do unless a lock says more.
+    ghost is_full: { Self → Type 0 } = { λ _. ⊤ };
+
     /// Takes the lock in a mode, if that needs no wait; never waits for an owner.
     fn try_take(&self, mode: Mode) -> Option<Self::Witness>
         ensures { IfSome result (λ witness. ∥ granted self.now mode witness ∥₁) };
 
     /// Takes the lock in a mode, and waits for it where it must. `Full`: it would have to wait, and there is no room for one more waiter.
     fn take(&self, mode: Mode) -> Result<Self::Witness, Full>
-        ensures { IfOk result (λ witness. ∥ granted self.now mode witness ∥₁) };
+        ensures taken { IfOk result (λ witness. ∥ granted self.now mode witness ∥₁) }
+        ensures full { IfErr result (λ full. is_full self.now) };
 
     /// Gives the lock back that was granted in a mode, and grants the oldest waiters while they fit.
     fn give_back(&self, mode: Mode, witness: &Self::Witness)
@@ -71,19 +75,20 @@ pub trait MadeWith<R>: RawLock {
 
 /// A lock at which calls wait until a deadline.
 pub trait RawLockUntil: RawLock {
-    ghost use Rattle.std.specs.Prelude.{IfOk, IfSome};
+    ghost use Rattle.std.specs.Prelude.{IfErr, IfOk, IfSome};
 
     /// The deadline after this time from now, by the lock's clock.
     fn after(&self, duration: Duration) -> Deadline;
 
     /// Takes the lock in a mode, and waits for it until the deadline; it joins at once, without a look before it. `None`: time is up.
     fn take_until(&self, mode: Mode, deadline: Deadline) -> Result<Option<Self::Witness>, Full>
-        ensures { IfOk result (λ told. IfSome told (λ witness. ∥ Self.granted self.now mode witness ∥₁)) };
+        ensures taken { IfOk result (λ told. IfSome told (λ witness. ∥ Self.granted self.now mode witness ∥₁)) }
+        ensures full { IfErr result (λ full. Self.is_full self.now) };
 }
 
 /// A lock at which tasks wait for turns by futures.
 pub trait RawLockAsync: RawLock + Pends {
-    ghost use Rattle.std.specs.Prelude.{◌≡◌, IfOk, false};
+    ghost use Rattle.std.specs.Prelude.{◌≡◌, IfErr, IfOk, false};
     ghost use Rattle.futures.specs.Poll.{IfReady, OnPending};
     ghost use Rattle.futures.specs.Task.{Hears, IsArmed, Keeps};
     ghost use Rattle.saa_core_spec.specs.Lock.{mode_request};
@@ -108,6 +113,7 @@ pub trait RawLockAsync: RawLock + Pends {
         requires admitted { Self.admits_pending self.now pending.old }
         requires asked { Self.asked pending.old ≡ mode_request mode }
         ensures granted { IfReady result (λ answer. IfOk answer (λ witness. ∥ Self.granted self.now mode witness ∥₁)) }
+        ensures full { IfReady result (λ answer. IfErr answer (λ full. Self.is_full self.now)) }
         ensures armed { OnPending result (IsArmed cx.new) }
         ensures heard { OnPending result (Hears cx.new (Self.source self.now)) }
         ensures kept { Keeps cx.old cx.new }

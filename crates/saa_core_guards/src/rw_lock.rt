@@ -1,6 +1,6 @@
 //! A reader-writer lock over any raw lock, and its two guards.
 
-ghost use Rattle.std.specs.Prelude.{◌≡◌, IfOk, IfSome};
+ghost use Rattle.std.specs.Prelude.{◌≡◌, IfOk, IfSome, IfErr};
 
 use crate::guard::Guard;
 use crate::guarded::Guarded;
@@ -37,7 +37,8 @@ impl<L: RawLock + Drop, T> Guarded<L, T, OfRwLock> {
     /// `Full`: its spins are over, it would have to wait, and there is no room for one more waiter; nothing is changed. A thread that has a
     /// guard and asks again may wait for itself, so for ever: behind a writer readers wait too.
     pub fn read(&self) -> Result<RwLockReadGuard<'_, L, T>, Full>
-        ensures { IfOk result (λ guard. guard.turn.lock.now ≡ self.now) }
+        ensures guard { IfOk result (λ guard. guard.turn.lock.now ≡ self.now) }
+        ensures full { IfErr result (λ full. L.is_full self.now) }
     {
         self.take::<OfReader>()
     }
@@ -56,7 +57,8 @@ impl<L: RawLock + Drop, T> Guarded<L, T, OfRwLock> {
     /// `Full`: its spins are over, it would have to wait, and there is no room for one more waiter; nothing is changed. A thread that has a
     /// guard already waits for itself, so for ever, where there is room.
     pub fn write(&self) -> Result<RwLockWriteGuard<'_, L, T>, Full>
-        ensures { IfOk result (λ guard. guard.turn.turn.lock.now ≡ self.now) }
+        ensures guard { IfOk result (λ guard. guard.turn.turn.lock.now ≡ self.now) }
+        ensures full { IfErr result (λ full. L.is_full self.now) }
     {
         self.take::<OfWriter>()
     }
@@ -77,28 +79,32 @@ impl<L: RawLockUntil + Drop, T> Guarded<L, T, OfRwLock> {
     /// `Ok(None)`: time is up, and nothing is registered or taken; those behind are granted while they fit. `Full` comes at once, where it
     /// would have to wait and there is no room for one more waiter.
     pub fn read_for(&self, duration: Duration) -> Result<Option<RwLockReadGuard<'_, L, T>>, Full>
-        ensures { IfOk result (λ told. IfSome told (λ guard. guard.turn.lock.now ≡ self.now)) }
+        ensures guard { IfOk result (λ told. IfSome told (λ guard. guard.turn.lock.now ≡ self.now)) }
+        ensures full { IfErr result (λ full. L.is_full self.now) }
     {
         self.take_until::<OfReader>(self.lock.after(duration))
     }
 
     /// Takes the lock to read as [`Self::read_for`] does, and waits for it until this instant.
     pub fn read_until(&self, deadline: Instant) -> Result<Option<RwLockReadGuard<'_, L, T>>, Full>
-        ensures { IfOk result (λ told. IfSome told (λ guard. guard.turn.lock.now ≡ self.now)) }
+        ensures guard { IfOk result (λ told. IfSome told (λ guard. guard.turn.lock.now ≡ self.now)) }
+        ensures full { IfErr result (λ full. L.is_full self.now) }
     {
         self.take_until::<OfReader>(Deadline::At(deadline))
     }
 
     /// Takes the lock to write, and waits and answers as [`Self::read_for`] does.
     pub fn write_for(&self, duration: Duration) -> Result<Option<RwLockWriteGuard<'_, L, T>>, Full>
-        ensures { IfOk result (λ told. IfSome told (λ guard. guard.turn.turn.lock.now ≡ self.now)) }
+        ensures guard { IfOk result (λ told. IfSome told (λ guard. guard.turn.turn.lock.now ≡ self.now)) }
+        ensures full { IfErr result (λ full. L.is_full self.now) }
     {
         self.take_until::<OfWriter>(self.lock.after(duration))
     }
 
     /// Takes the lock to write as [`Self::write_for`] does, and waits for it until this instant.
     pub fn write_until(&self, deadline: Instant) -> Result<Option<RwLockWriteGuard<'_, L, T>>, Full>
-        ensures { IfOk result (λ told. IfSome told (λ guard. guard.turn.turn.lock.now ≡ self.now)) }
+        ensures guard { IfOk result (λ told. IfSome told (λ guard. guard.turn.turn.lock.now ≡ self.now)) }
+        ensures full { IfErr result (λ full. L.is_full self.now) }
     {
         self.take_until::<OfWriter>(Deadline::At(deadline))
     }

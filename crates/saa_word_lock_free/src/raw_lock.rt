@@ -17,11 +17,15 @@ use std::sync::{RwLock, RwLockReadGuard, RwLockWriteGuard, Wait};
 use std::time::{Clock, Duration};
 
 impl<R: Wait + Drop> RawLock for Form<R, Word> {
+    ghost use Rattle.saa_word_threads.specs.declared.lock.Place.{Place};
+    ghost use Rattle.saa_word_lock_free.specs.Forms.{WasFull};
     ghost use Rattle.saa_word_lock_free.specs.Turns.{IsTurn};
 
     type Witness = Receipt;
 
     ghost granted = { λ lock. IsTurn lock.word };
+
+    ghost is_full = { WasFull Place };
 
     #[inline(always)]
     fn try_take(&self, mode: Mode) -> Option<Receipt> {
