@@ -26,11 +26,15 @@ class Model:
         self.pager(number).answer = answer
         self.answered.append(number)
 
-    def give_all(self, answer):
-        count = len(self.queue)
-        for number in list(self.queue):
+    def give_front(self, most, answer):
+        """Answers at most so many waiters, the oldest first, and returns how many they were."""
+        front = self.queue[:most]
+        for number in front:
             self.give(number, answer)
-        return count
+        return len(front)
+
+    def give_all(self, answer):
+        return self.give_front(len(self.queue), answer)
 
     def register(self, number, asks, how):
         one = self.pager(number)
@@ -56,12 +60,12 @@ class Model:
         self.pagers[number] = Pager()
         return answer
 
-    def drop(self, number):
+    def drop(self, number, is_quiet=False):
         one = self.pager(number)
         self.pagers[number] = Pager()
         if number in self.queue:
             self.queue.remove(number)
-            self.left()
+            self.left(is_quiet)
         elif not one.is_idle and one.answer in self.GRANTED:
             self.undo(one.asks)
         return "dropped"
@@ -71,7 +75,7 @@ class Model:
     def is_too_much(self, asks):
         return False
 
-    def left(self):
+    def left(self, is_quiet):
         pass
 
     def undo(self, asks):
@@ -95,6 +99,8 @@ class Model:
             return "false" if self.pager(int(rest[0])).is_idle else "true"
         if word == "drop":
             return self.drop(int(rest[0]))
+        if word == "leave":
+            return self.drop(int(rest[0]), is_quiet=True)
         return self.call(word, *rest)
 
 
@@ -129,7 +135,7 @@ class Semaphore(Model):
         self.take(asks)
         return "ok"
 
-    def left(self):
+    def left(self, is_quiet):
         self.settle()
 
     def undo(self, asks):
@@ -177,7 +183,7 @@ class Lock(Model):
         self.take(asks)
         return "true"
 
-    def left(self):
+    def left(self, is_quiet):
         self.settle()
 
     def undo(self, asks):
@@ -225,10 +231,11 @@ class Gate(Model):
     def at_once(self, asks):
         return {"controlled": None, "sealed": "sealed", "open": "ok open"}[self.state]
 
-    def left(self):
-        self.give_all("spurious")
+    def left(self, is_quiet):
+        if not is_quiet:
+            self.give_all("spurious")
 
-    def call(self, word):
+    def call(self, word, *rest):
         before = self.state
         if word == "state":
             return before
@@ -239,6 +246,8 @@ class Gate(Model):
             if before != "controlled":
                 return f"err {before}"
             return f"ok {self.give_all('ok controlled' if word == 'permit' else 'rejected')}"
+        if word == "permit_many":
+            return f"err {before}" if before != "controlled" else f"ok {self.give_front(int(rest[0]), 'ok controlled')}"
         self.state = {"open": "open", "seal": "sealed"}[word]
         return f"{before} {self.give_all({'open': 'ok open', 'seal': 'sealed'}[word])}"
 

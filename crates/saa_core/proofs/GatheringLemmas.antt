@@ -2,3 +2,4 @@ pub mod Rounds
 pub mod Entering
 pub mod GateNumbers
 pub mod Gathering
+pub mod Departing

@@ -7,3 +7,4 @@ pub mod Answering
 pub mod Waking
 pub mod Follows
 pub mod Modes
+pub mod Leaving

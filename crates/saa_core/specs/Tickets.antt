@@ -12,7 +12,7 @@ use Rattle.saa_core_spec.specs.Errors.{why_none, is_not_ready, is_refusal, says_
 use Rattle.saa_core_spec.specs.Held.{Held, asks_too_much}
 use Rattle.saa_core_spec.specs.Object.{Object, After, Entry, Idle, Waiting, Answered, Waiter, one_if}
 use Rattle.saa_core_spec.specs.Settling.{fitting_front}
-use Rattle.saa_core_spec.specs.Polling.{dropped, is_right_mode}
+use Rattle.saa_core_spec.specs.Polling.{dropped, withdrawn, is_right_mode}
 use Rattle.saa_core.specs.Slots.{Slots, answer_in, held_slots, held_times, room_of}
 
 -- what contracts see of a core: what it holds, and its line
@@ -169,3 +169,7 @@ HasAnswer (InSlot slot request is_sync) (Ok value) = Unit {0}
 -- dropping a name as a step of the object
 abbrev pub dropping : Object → ℕ → After (Unit {0})
 dropping s name = record { state = dropped s name; reply = tt }
+
+-- withdrawing a name as a step of the object
+abbrev pub leaving : Object → ℕ → After (Unit {0})
+leaving s name = record { state = withdrawn s name; reply = tt }

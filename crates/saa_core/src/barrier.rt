@@ -268,6 +268,12 @@ impl Primitive for BarrierCore {
         }
     }
 
+    /// Drops what a ticket is registered for, as [`Self::cancel`] does.
+    fn leave(&mut self, ticket: &mut Ticket) {
+        let _opened = &self.line;
+        self.cancel(ticket);
+    }
+
     fn next_answered(&mut self) -> Option<u16> {
         self.line.next_answered()
     }

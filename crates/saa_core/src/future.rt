@@ -7,7 +7,7 @@ ghost use Rattle.std.specs.Prelude.{◌≡◌, ◌&&◌, not, true, false, Some,
 ghost use Rattle.saa_core.specs.declared.ticket.Registration.TheVariants.{Unregistered};
 ghost use Rattle.saa_core_spec.specs.Asking.{registered};
 ghost use Rattle.saa_core.specs.Slots.{WakesAnswered};
-ghost use Rattle.saa_core.specs.Tickets.{StepsWithTicket, dropping, is_busy, slot_of};
+ghost use Rattle.saa_core.specs.Tickets.{StepsWithTicket, dropping, leaving, is_busy, slot_of};
 ghost use Rattle.saa_core.specs.Beginning.{BeginWakes, alone, mode_of};
 ghost use Rattle.saa_core.specs.Futures.{IfDone, IsRead, asked, has_joined, is_end, is_waiting, registration_of, waited};
 
@@ -163,6 +163,20 @@ impl<P: Primitive> PendingRegistration<P> {
             core.cancel(&mut self.ticket);
         }
         self.has_ended = true;
+    }
+
+    /// Ends it as [`Self::cancel_on`] does, and disturbs nobody by it: at a gate all other waiters wait on.
+    pub fn leave_on(&mut self, core: &mut P)
+        ensures acts { StepsWithTicket (P.core core.old) (P.core core.new) self.old.ticket self.new.ticket leaving result }
+        ensures state { self.new ≡ record { request = self.old.request; ticket = Unregistered; has_ended = true } }
+        ensures idle { is_busy self.old.ticket ≡ false → core.new ≡ core.old }
+        ensures wakes { is_busy self.old.ticket ≡ true → WakesAnswered (P.core core.old).slots (P.core core.new).slots }
+    {
+        if self.ticket.is_registered() {
+            core.leave(&mut self.ticket);
+        }
+        let has_ended = &mut self.has_ended;
+        *has_ended = true;
     }
 }
 

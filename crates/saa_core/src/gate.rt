@@ -4,7 +4,7 @@
 //! Tasks that enter a controlled gate wait in a line until one call answers them all. A sealed or an open gate has no
 //! waiters, which is `specs/GateInvariant.antt`.
 
-ghost use Rattle.std.specs.Prelude.{true, false, ◌≡◌, ℕ, ◌↔◌, ◌||◌, length, replicate, IfOk, IfErr, IfSome, IsOk, IsErr, IsNone, OnErr};
+ghost use Rattle.std.specs.Prelude.{true, false, ◌≡◌, ℕ, ◌↔◌, ◌||◌, length, min, replicate, IfOk, IfErr, IfSome, IsOk, IsErr, IsNone, OnErr};
 ghost use Rattle.saa_core_spec.specs.declared.request.Request.TheVariants.{Enter};
 ghost use Rattle.saa_core_spec.specs.declared.polling.Error.TheVariants.{NotRegistered};
 ghost use Rattle.saa_core_spec.specs.declared.gate.State.TheVariants.{Controlled, Sealed, Open};
@@ -14,8 +14,8 @@ ghost use Rattle.saa_core_spec.specs.Asking.{registered};
 ghost use Rattle.saa_core_spec.specs.Polling.{polled, read_as};
 ghost use Rattle.saa_core_spec.specs.Values.{gate_value, gate_error, permitted_value, rejected_value, opened_value, sealed_value, spurious_value};
 ghost use Rattle.saa_core_spec.specs.Gate.{gate_state, gate_step, let_through, moved, new_gate};
-ghost use Rattle.saa_core.specs.Slots.{WakesAnswered, empty_slots, held_slots, room_of, all_slots_answered};
-ghost use Rattle.saa_core.specs.Tickets.{StepsWithTicket, Calls, Belong, HasAnswer, Polled, IsForeign, dropping, fault_of, is_busy, is_yes, object_of};
+ghost use Rattle.saa_core.specs.Slots.{WakesAnswered, empty_slots, held_slots, room_of, slots_answered, all_slots_answered};
+ghost use Rattle.saa_core.specs.Tickets.{StepsWithTicket, Calls, Belong, HasAnswer, Polled, IsForeign, dropping, leaving, fault_of, is_busy, is_yes, object_of};
 ghost use Rattle.saa_core.specs.GateInvariant.{IsGateInvariant};
 ghost use Rattle.saa_core.specs.GatePolls.{GatePolled, IsGateTicket, is_answer, is_gate_number, is_gate_result};
 ghost use Rattle.saa_core.specs.Waiters.{IsWaiting, left_by};
@@ -136,6 +136,25 @@ impl GateCore {
         ensures invariant { IsGateInvariant self.new }
     {
         self.let_through(PERMITTED)
+    }
+
+    /// Lets so many waiters of a controlled gate pass, the oldest first, and answers how many those were: all, where fewer wait.
+    /// Costs O(how many are answered).
+    ///
+    /// An error says that the gate is sealed or open, and changes nothing.
+    pub fn permit_many(&mut self, n: usize) -> Result<usize, State>
+        ensures calls { Calls self.old self.new (gate_step (GateCall.PermitMany n)) (GateAnswer.Answered result) }
+        ensures answer { IsOk result ↔ (gate_state self.old.held ≡ Controlled) }
+        ensures permitted { IfOk result (λ count. (count ≡ min n (length self.old.slots.line))
+            × (self.new ≡ record self.old { slots = slots_answered permitted_value count self.old.slots })) }
+        ensures refused { IfErr result (λ state. (state ≡ gate_state self.old.held) × (self.new ≡ self.old)) }
+        ensures wakes { WakesAnswered self.old.slots self.new.slots }
+        ensures invariant { IsGateInvariant self.new }
+    {
+        match self.state {
+            State::Controlled => Ok(self.permit_front(n)),
+            state => Err(state),
+        }
     }
 
     /// Rejects all waiters of a controlled gate, and answers how many those were. Costs O(how many are answered).
@@ -284,6 +303,19 @@ impl GateCore {
         waiting
     }
 
+    // Permits the oldest waiters, as many as are asked for, and says how many those were.
+    fn permit_front(&mut self, n: usize) -> usize
+        ensures count { result ≡ min n (length self.old.slots.line) }
+        ensures permitted { self.new ≡ record self.old { slots = slots_answered permitted_value result self.old.slots } }
+        ensures wakes { WakesAnswered self.old.slots self.new.slots }
+        ensures invariant { IsGateInvariant self.new }
+    {
+        let count = n.min(usize::from(self.line.waiting()));
+        // A grant is the permit of a gate: both answer 0.
+        self.line.grant_front(count as u16);
+        count
+    }
+
     // The answer that everybody gets at once who enters: that of a sealed or an open gate.
     fn answer_at_once(&self) -> Option<u8>
         ensures { result ≡ answer_by_state (gate_state self.now.held) }
@@ -307,6 +339,19 @@ impl GateCore {
         }
         if self.line.leave(slot) {
             self.line.answer_all(SPURIOUS);
+        }
+    }
+
+    // Frees a slot of this core: its answer is consumed, or it leaves the line and all others wait on; a slot that isn't held is
+    // nothing.
+    fn depart(&mut self, slot: u16)
+        ensures vacated { self.new ≡ record self.old { slots = vacated (λ s. s) self.old.slots slot } }
+        ensures nobody { self.new.slots.pending_wakes ≡ self.old.slots.pending_wakes }
+        ensures wakes { WakesAnswered self.old.slots self.new.slots }
+        ensures invariant { IsGateInvariant self.new }
+    {
+        if self.line.take(slot).is_none() {
+            let _left = self.line.leave(slot);
         }
     }
 }
@@ -379,6 +424,7 @@ impl Primitive for GateCore {
             GateCall::State => GateAnswer::State(self.state()),
             GateCall::Reset => GateAnswer::Reset(self.reset()),
             GateCall::Permit => GateAnswer::Answered(self.permit()),
+            GateCall::PermitMany(n) => GateAnswer::Answered(self.permit_many(n)),
             GateCall::Reject => GateAnswer::Answered(self.reject()),
             GateCall::Open => {
                 let (before, answered) = self.open();
@@ -446,6 +492,33 @@ impl Primitive for GateCore {
             Registration::Unregistered => {}
             Registration::AtOnce(_value, _request, _is_sync) => {}
             Registration::InSlot(slot, _request, _is_sync) => self.vacate(slot),
+        }
+    }
+
+    /// Drops what a ticket is registered for, and disturbs nobody: it is idle afterwards in every case.
+    ///
+    /// A waiter leaves the line, and all others wait on as they did. An answer that wasn't consumed is only consumed. A ticket
+    /// whose slot isn't held in this core changes nothing here. Costs O(how many wait) for a waiter, and else O(1).
+    fn leave(&mut self, ticket: &mut Ticket)
+        ensures acts { StepsWithTicket self.old self.new ticket.old ticket.new leaving result }
+        ensures idle { ticket.new ≡ Unregistered }
+        ensures unregistered { ticket.old ≡ Unregistered → self.new ≡ self.old }
+        ensures others { IsWaiting self.old.slots ticket.old
+            → self.new ≡ record self.old { slots = left_by ticket.old self.old.slots } }
+        ensures consumed { ¬ IsWaiting self.old.slots ticket.old → self.new.slots.line ≡ self.old.slots.line }
+        ensures foreign { IsForeign self.old.slots ticket.old → self.new ≡ self.old }
+        ensures nobody { self.new.slots.pending_wakes ≡ self.old.slots.pending_wakes }
+        ensures state { self.new.held ≡ self.old.held }
+        ensures wakes { WakesAnswered self.old.slots self.new.slots }
+        ensures invariant { IsGateInvariant self.new }
+    {
+        let _opened = &self.line;
+        let registration = ticket.registration();
+        ticket.set(Registration::Unregistered);
+        match registration {
+            Registration::Unregistered => {}
+            Registration::AtOnce(_value, _request, _is_sync) => {}
+            Registration::InSlot(slot, _request, _is_sync) => self.depart(slot),
         }
     }
 

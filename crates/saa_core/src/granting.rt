@@ -13,7 +13,7 @@ ghost use Rattle.saa_core_spec.specs.Asking.{tried, registered};
 ghost use Rattle.saa_core_spec.specs.Polling.{polled, given_back, is_for_nothing};
 ghost use Rattle.saa_core.specs.Slots.{WakesAnswered, IsSound, held_slots, room_of, wake_taken, all_slots_answered};
 ghost use Rattle.saa_core.specs.declared.ticket.Registration.TheVariants.{Unregistered};
-ghost use Rattle.saa_core.specs.Tickets.{Core, StepsWithTicket, Calls, IsCoreSettled, HasAnswer, Polled, IsForeign, dropping, fault_of, is_busy, is_yes};
+ghost use Rattle.saa_core.specs.Tickets.{Core, StepsWithTicket, Calls, IsCoreSettled, HasAnswer, Polled, IsForeign, dropping, leaving, fault_of, is_busy, is_yes};
 ghost use Rattle.saa_core.specs.CoreParts.{core_settled, core_given, core_undone, core_vacated, takes_now, oldest_fitting, IsGranting, answer_to_all};
 
 use crate::line::LineOf;
@@ -230,6 +230,19 @@ impl<N: Needs> Granting<N> {
             Registration::AtOnce(value, request, _is_sync) => self.undo(value, request),
             Registration::InSlot(slot, request, _is_sync) => self.vacate(slot, request),
         }
+    }
+
+    /// Drops what a ticket is registered for, as [`Self::cancel`] does: here nobody is told that a waiter left.
+    pub fn leave(&mut self, ticket: &mut Ticket)
+        ensures acts { StepsWithTicket self.old self.new ticket.old ticket.new leaving result }
+        ensures idle { ticket.new ≡ Unregistered }
+        ensures unregistered { ticket.old ≡ Unregistered → self.new ≡ self.old }
+        ensures foreign { IsForeign self.old.slots ticket.old → self.new ≡ self.old }
+        ensures wakes { WakesAnswered self.old.slots self.new.slots }
+        ensures settled { IsCoreSettled self.new }
+    {
+        let _opened = &self.line;
+        self.cancel(ticket);
     }
 
     /// Takes out the oldest pending wake, and reports its slot; `None` exactly where none is pending. Costs O(1).

@@ -12,7 +12,7 @@ ghost use Rattle.saa_core_spec.specs.Object.{Object, After};
 ghost use Rattle.saa_core_spec.specs.Asking.{registered};
 ghost use Rattle.saa_core_spec.specs.Polling.{polled};
 ghost use Rattle.saa_core.specs.Slots.{WakesAnswered, held_slots, room_of, wake_taken};
-ghost use Rattle.saa_core.specs.Tickets.{Core, StepsWithTicket, Calls, HasAnswer, Polled, IsForeign, dropping, fault_of, is_busy, is_yes, object_of};
+ghost use Rattle.saa_core.specs.Tickets.{Core, StepsWithTicket, Calls, HasAnswer, Polled, IsForeign, dropping, leaving, fault_of, is_busy, is_yes, object_of};
 
 use crate::ticket::{Error, Full, How, Ticket};
 
@@ -115,6 +115,17 @@ pub trait Primitive: Drop {
     /// held in this core changes nothing here.
     fn cancel(&mut self, ticket: &mut Ticket)
         ensures acts { StepsWithTicket (core self.old) (core self.new) ticket.old ticket.new dropping result }
+        ensures idle { ticket.new ≡ Unregistered }
+        ensures unregistered { ticket.old ≡ Unregistered → core self.new ≡ core self.old }
+        ensures foreign { IsForeign (core self.old).slots ticket.old → core self.new ≡ core self.old }
+        ensures wakes { WakesAnswered (core self.old).slots (core self.new).slots }
+        ensures invariant { core_invariant (core self.new) };
+
+    /// Drops what a ticket is registered for, as [`Self::cancel`] does, and disturbs nobody by it.
+    ///
+    /// A waiter leaves the line, and at a gate all others wait on. At a semaphore, a lock and a barrier this is a cancel.
+    fn leave(&mut self, ticket: &mut Ticket)
+        ensures acts { StepsWithTicket (core self.old) (core self.new) ticket.old ticket.new leaving result }
         ensures idle { ticket.new ≡ Unregistered }
         ensures unregistered { ticket.old ≡ Unregistered → core self.new ≡ core self.old }
         ensures foreign { IsForeign (core self.old).slots ticket.old → core self.new ≡ core self.old }

@@ -475,6 +475,11 @@ impl<const MAX: usize> Primitive for SemaphoreCoreOf<MAX> {
         Granting::cancel(self, ticket);
     }
 
+    /// Drops what a ticket is registered for, as [`Self::cancel`] does.
+    fn leave(&mut self, ticket: &mut Ticket) {
+        Granting::leave(self, ticket);
+    }
+
     fn next_answered(&mut self) -> Option<u16> {
         Granting::next_answered(self)
     }

@@ -7,7 +7,7 @@ ghost use Rattle.std.specs.Prelude.{◌≡◌, ◌<◌, not, All, IsOk, IfOk, le
 ghost use Rattle.saa_core.specs.declared.ticket.Registration.TheVariants.{Unregistered};
 ghost use Rattle.saa_core_spec.specs.Object.{entry_at};
 ghost use Rattle.saa_core_spec.specs.Asking.{registered, is_idle};
-ghost use Rattle.saa_core_spec.specs.Polling.{polled, read_as, dropped};
+ghost use Rattle.saa_core_spec.specs.Polling.{polled, read_as, dropped, withdrawn};
 ghost use Rattle.saa_core.specs.Tickets.{object_of};
 ghost use Rattle.saa_core_spec.specs.Run.{IsWithin, done, replies, state_after};
 
@@ -101,6 +101,10 @@ impl<P: Primitive> Bench<P> {
                 self.cancel(pager);
                 ReplyOf::Dropped
             }
+            CommandOf::Leave(pager) => {
+                self.leave(pager);
+                ReplyOf::Dropped
+            }
         }
     }
 
@@ -158,5 +162,14 @@ impl<P: Primitive> Bench<P> {
         ensures pagers { length self.new.book ≡ length self.old.book }
     {
         self.core.cancel(&mut self.tickets[usize::from(pager)]);
+    }
+
+    // Drops what a pager is registered for, and disturbs nobody.
+    fn leave(&mut self, pager: u16)
+        requires { pager < length self.old.book }
+        ensures acts { self.new ≡ withdrawn self.old pager }
+        ensures pagers { length self.new.book ≡ length self.old.book }
+    {
+        self.core.leave(&mut self.tickets[usize::from(pager)]);
     }
 }

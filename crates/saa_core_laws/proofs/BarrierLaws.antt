@@ -1,7 +1,8 @@
 -- What every step of a barrier keeps, and so every run.
-use Rattle.std.proofs.Common.{◌≡◌, ℕ, ◌+◌, ◌<◌, ◌≤◌, eqb, List, [], ◌∷◌, ◌++◌, length, Some, None, refl, ap, arith, All, length-append}
+use Rattle.std.proofs.Common.{◌≡◌, ℕ, ◌+◌, ◌<◌, ◌≤◌, eqb, List, [], ◌∷◌, ◌++◌, length, Some, None, refl, ap, arith, All, length-append, subst}
 use Rattle.std.proofs.lemmas.Bool.{eqb-false}
 use Rattle.std.proofs.lemmas.Option.{cond_some}
+use Rattle.saa_core_spec.specs.declared.gate.State.{State}
 use Rattle.saa_core_spec.specs.declared.request.Request.{Request}
 use Rattle.saa_core_spec.specs.declared.barrier.BarrierCall.{BarrierCall}
 use Rattle.saa_core_spec.specs.declared.barrier.BarrierCall.TheVariants.{Count}
@@ -11,7 +12,7 @@ use Rattle.saa_core_spec.specs.Held.{Held, OfSemaphore, OfShutSemaphore, OfLock,
 use Rattle.saa_core_spec.specs.Object.{Object, After, Idle, Waiter, newly_made, with_entry, without}
 use Rattle.saa_core_spec.specs.Settling.{all_answered}
 use Rattle.saa_core_spec.specs.Asking.{answer_in}
-use Rattle.saa_core_spec.specs.Polling.{left_of, undone_of}
+use Rattle.saa_core_spec.specs.Polling.{left_of, quietly_left_of, undone_of}
 use Rattle.saa_core_spec.specs.Values.{barrier_value, passed_value, leader_value}
 use Rattle.saa_core_spec.specs.Barrier.{barrier_step, arrive_request}
 use Rattle.saa_core_spec.specs.Run.{IsWithin, state_after}
@@ -19,6 +20,7 @@ use Rattle.saa_core_laws.specs.Laws.{IsBarrierInOrder}
 use Rattle.saa_core_laws.proofs.Kept.{IsInOrder-kept, IsKept-newly_made, IsKept-all_answered, is_waiting-all_answered}
 use Rattle.saa_core_laws.proofs.Commands.{IsRight, IsRightAnswer, KeepsRight, IsRight-state_after, cond_none}
 use Rattle.saa_core_spec.proofs.Counts.{length-without}
+use Rattle.saa_core_spec.proofs.Leaving.{quiet-left}
 
 -- a barrier of this size whose round is incomplete, where one ever completes
 abbrev pub IsFineBarrier : ℕ → Held → List Waiter → Type 0
@@ -81,6 +83,16 @@ IsRight-barrier_left most names left (OfShutSemaphore bound out) line fine right
 IsRight-barrier_left most names left (OfLock lock) line fine right = absurd fine
 IsRight-barrier_left most names left (OfGate gate) line fine right = absurd fine
 
+-- no barrier is a gate
+pub no_gate-barrier : (most : ℕ) (held : Held) (line : List Waiter) → IsFineBarrier most held line → (gate : State) → held ≡ OfGate gate → ⊥
+no_gate-barrier most held line fine gate is = subst (λ (h : Held). IsFineBarrier most h line) is fine
+
+-- a name that waited has left quietly
+pub IsRight-barrier_left_quietly : (most names : ℕ) (left : Object) (held : Held) (line : List Waiter) → IsFineBarrier most held line
+    → IsRight (IsFineBarrier most) names left → IsRight (IsFineBarrier most) names (quietly_left_of left held)
+IsRight-barrier_left_quietly most names left held line fine right =
+    rw (quiet-left left held (no_gate-barrier most held line fine)) (IsRight-barrier_left most names left held line fine right)
+
 -- a dropped answer of a barrier gives nothing back
 pub IsRight-barrier_undone : (most names : ℕ) (s : Object) (held : Held) (line : List Waiter) (request : Request) → IsFineBarrier most held line
     → IsRight (IsFineBarrier most) names s → IsRight (IsFineBarrier most) names (undone_of s held request)
@@ -98,6 +110,9 @@ KeepsRight-barrier most names = record {
   joins = λ s name ask right e not_too_much. IsFineBarrier-joined most s s.held (name, arrive_request ask) (arrive_request ask) right.kind e;
   leaves = λ s name right kept.
       IsRight-barrier_left most names (record (with_entry s name Idle) { line = without name s.line }) s.held s.line right.kind
+      (record { kept = kept; kind = IsFineBarrier-fewer most s.held s.line (without name s.line) (omega (arith, length-without name s.line)) right.kind });
+  quiet = λ s name right kept.
+      IsRight-barrier_left_quietly most names (record (with_entry s name Idle) { line = without name s.line }) s.held s.line right.kind
       (record { kept = kept; kind = IsFineBarrier-fewer most s.held s.line (without name s.line) (omega (arith, length-without name s.line)) right.kind });
   undoes = λ s asked right. IsRight-barrier_undone most names s s.held s.line asked right.kind right;
 }

@@ -1,6 +1,6 @@
 -- What the steps of an object do to its book: an idle name stays idle, and an answer that is there stays as it is,
 -- where the step is neither a registration, a poll nor a drop of that name.
-use Rattle.std.proofs.Common.{◌≡◌, ℕ, ◌+◌, Bool, true, false, eqb, ◌⊎◌, inl, inr, List, [], ◌∷◌, length, set, take, Option, Some, None, refl, ap, ◌∙◌}
+use Rattle.std.proofs.Common.{◌≡◌, ℕ, ◌+◌, Bool, true, false, eqb, ◌⊎◌, inl, inr, List, [], ◌∷◌, length, min, set, take, Option, Some, None, refl, ap, ◌∙◌}
 use Rattle.std.proofs.lemmas.Bool.{cases_Bool, cases_eq, cases_lt}
 use Rattle.std.proofs.lemmas.Option.{cond_some}
 use Rattle.saa_core_spec.specs.declared.gate.State.{State}
@@ -12,18 +12,18 @@ use Rattle.saa_core_spec.specs.declared.semaphore.SemaphoreCall.TheVariants.{Try
 use Rattle.saa_core_spec.specs.declared.lock.LockCall.{LockCall}
 use Rattle.saa_core_spec.specs.declared.lock.LockCall.TheVariants.{TryLock, TryShare, ReleaseLock, ReleaseShare, Downgrade, PoisonLock, ClearPoison, IsFree, IsLocked, IsShared, IsPoisoned}
 use Rattle.saa_core_spec.specs.declared.gate.GateCall.{GateCall}
-use Rattle.saa_core_spec.specs.declared.gate.GateCall.TheVariants.{State as AskState, Reset, Permit, Reject, Open as DoOpen, Seal}
+use Rattle.saa_core_spec.specs.declared.gate.GateCall.TheVariants.{State as AskState, Reset, Permit, PermitMany, Reject, Open as DoOpen, Seal}
 use Rattle.saa_core_spec.specs.declared.barrier.BarrierCall.{BarrierCall}
 use Rattle.saa_core_spec.specs.declared.barrier.BarrierCall.TheVariants.{Count}
 use Rattle.saa_core_spec.specs.Held.{Held, OfSemaphore, OfShutSemaphore, OfLock, OfGate, OfBarrier, Free, Exclusive, Shared, Poisoned, plus, less}
 use Rattle.saa_core_spec.specs.Object.{Object, After, Entry, Idle, Waiting, Answered, Waiter, entry_at}
 use Rattle.saa_core_spec.specs.Settling.{fitting_front, answered_entry, answered_in, settled, all_answered}
 use Rattle.saa_core_spec.specs.Asking.{is_idle, is_granted_at_once, tried, granted_at_once, answer_in}
-use Rattle.saa_core_spec.specs.Polling.{is_for_nothing, given_back_of, given_back, left_of, undone_of}
+use Rattle.saa_core_spec.specs.Polling.{is_for_nothing, given_back_of, given_back, left_of, quietly_left_of, undone_of}
 use Rattle.saa_core_spec.specs.Values.{granted_value, closed_value, poisoned_value, leader_value, passed_value, opened_value, sealed_value, permitted_value, rejected_value, spurious_value}
 use Rattle.saa_core_spec.specs.Semaphore.{semaphore_step, shut_of}
 use Rattle.saa_core_spec.specs.Lock.{lock_step, is_locked, is_poisoned, downgraded_of, poisoned_of, cleared_of}
-use Rattle.saa_core_spec.specs.Gate.{gate_step, gate_state, let_through, reset_of}
+use Rattle.saa_core_spec.specs.Gate.{gate_step, gate_state, let_through, let_front_through, reset_of}
 use Rattle.saa_core_spec.specs.Barrier.{barrier_step}
 use Rattle.saa_core_laws.specs.Registrations.{is_answered}
 use Rattle.saa_core_laws.proofs.Order.{entry_at-same, entry_at-other, set_past, length-answered_in}
@@ -127,6 +127,14 @@ KeepsBook-left_of s (OfLock lock) = KeepsBook-settled s
 KeepsBook-left_of s (OfGate gate) = KeepsBook-answered_in spurious_value s.line s.book
 KeepsBook-left_of s (OfBarrier size) = KeepsBook-same s.book
 
+-- a name that waited has left quietly
+pub KeepsBook-quietly_left_of : (s : Object) (held : Held) → KeepsBook s.book (quietly_left_of s held).book
+KeepsBook-quietly_left_of s (OfSemaphore bound out) = KeepsBook-left_of s (OfSemaphore bound out)
+KeepsBook-quietly_left_of s (OfShutSemaphore bound out) = KeepsBook-left_of s (OfShutSemaphore bound out)
+KeepsBook-quietly_left_of s (OfLock lock) = KeepsBook-left_of s (OfLock lock)
+KeepsBook-quietly_left_of s (OfGate gate) = KeepsBook-same s.book
+KeepsBook-quietly_left_of s (OfBarrier size) = KeepsBook-left_of s (OfBarrier size)
+
 -- what was granted is given back
 pub KeepsBook-undone_of : (s : Object) (held : Held) (request : Request) → KeepsBook s.book (undone_of s held request).book
 KeepsBook-undone_of s (OfSemaphore bound out) request = KeepsBook-given_back s request
@@ -218,6 +226,12 @@ KeepsBook-let_through s value Controlled = KeepsBook-answered_in value s.line s.
 KeepsBook-let_through s value Sealed = KeepsBook-same s.book
 KeepsBook-let_through s value Open = KeepsBook-same s.book
 
+-- permitting the oldest
+pub KeepsBook-let_front_through : (s : Object) (n : ℕ) (gate : State) → KeepsBook s.book (let_front_through s n gate).state.book
+KeepsBook-let_front_through s n Controlled = KeepsBook-answered_in permitted_value (take (min n (length s.line)) s.line) s.book
+KeepsBook-let_front_through s n Sealed = KeepsBook-same s.book
+KeepsBook-let_front_through s n Open = KeepsBook-same s.book
+
 -- a reset
 pub KeepsBook-reset_of : (s : Object) (gate : State) → KeepsBook s.book (reset_of s gate).state.book
 KeepsBook-reset_of s Controlled = KeepsBook-same s.book
@@ -229,6 +243,7 @@ pub KeepsBook-gate_step : (call : GateCall) (s : Object) → KeepsBook s.book (g
 KeepsBook-gate_step AskState s = KeepsBook-same s.book
 KeepsBook-gate_step Reset s = KeepsBook-reset_of s (gate_state s.held)
 KeepsBook-gate_step Permit s = KeepsBook-let_through s permitted_value (gate_state s.held)
+KeepsBook-gate_step (PermitMany n) s = KeepsBook-let_front_through s n (gate_state s.held)
 KeepsBook-gate_step Reject s = KeepsBook-let_through s rejected_value (gate_state s.held)
 KeepsBook-gate_step DoOpen s = KeepsBook-answered_in opened_value s.line s.book
 KeepsBook-gate_step Seal s = KeepsBook-answered_in sealed_value s.line s.book

@@ -8,12 +8,12 @@ use Rattle.saa_core_spec.specs.declared.polling.How.{How}
 use Rattle.saa_core_spec.specs.declared.polling.How.TheVariants.{Try, Sync, Async}
 use Rattle.saa_core_spec.specs.declared.polling.Error.{Error}
 use Rattle.saa_core_spec.specs.declared.run.CommandOf.{CommandOf}
-use Rattle.saa_core_spec.specs.declared.run.CommandOf.TheVariants.{Call, Register, TryPoll, PollSync, PollAsync, Drop}
+use Rattle.saa_core_spec.specs.declared.run.CommandOf.TheVariants.{Call, Register, TryPoll, PollSync, PollAsync, Drop, Leave}
 use Rattle.std.specs.Prelude.{Result}
 use Rattle.saa_core_spec.specs.Held.{Held, asks_too_much}
 use Rattle.saa_core_spec.specs.Object.{Object, After, Entry, Idle, Waiting, Answered, Waiter, entry_at, with_entry, holds_slot, used, without}
 use Rattle.saa_core_spec.specs.Asking.{answer_at_once, registered, registered_of}
-use Rattle.saa_core_spec.specs.Polling.{is_right_mode, polled_in, polled_of, polled, left_of, undone_of, dropped_of, dropped}
+use Rattle.saa_core_spec.specs.Polling.{is_right_mode, polled_in, polled_of, polled, left_of, quietly_left_of, undone_of, dropped_of, dropped, withdrawn_of, withdrawn}
 use Rattle.saa_core_spec.specs.Values.{granted_value}
 use Rattle.saa_core_spec.specs.Run.{IsWithin, done, state_after}
 use Rattle.saa_core_laws.specs.Laws.{is_waiting}
@@ -30,7 +30,7 @@ pub record IsRightAnswer (Kind : Held → List Waiter → Type 0) (names : ℕ) 
   pub still : (name : ℕ) → is_waiting (entry_at s.book name) ≡ false → is_waiting (entry_at answer.state.book name) ≡ false
 
 -- What a primitive has to show of its own steps: of its calls, of an answer at once, of a name that joins the line
--- or leaves it, and of what is given back with a dropped answer
+-- or leaves it, or leaves it quietly, and of what is given back with a dropped answer
 pub record KeepsRight (C A Ask : Type 0) (Kind : Held → List Waiter → Type 0) (names : ℕ) (request : Ask → Request) (step : C → Object → After A) : Type 0 where
   pub calls : (call : C) (s : Object) → IsRight Kind names s → IsRight Kind names (step call s).state
   pub answers : (s : Object) (ask : Ask) (answer : After ℕ) → IsRight Kind names s → answer_at_once s (request ask) ≡ Some answer
@@ -39,6 +39,8 @@ pub record KeepsRight (C A Ask : Type 0) (Kind : Held → List Waiter → Type 0
       → asks_too_much s.held (request ask) ≡ false → Kind s.held (s.line ++ (name, request ask) ∷ [])
   pub leaves : (s : Object) (name : ℕ) → IsRight Kind names s → IsKept names (record (with_entry s name Idle) { line = without name s.line })
       → IsRight Kind names (left_of (record (with_entry s name Idle) { line = without name s.line }) s.held)
+  pub quiet : (s : Object) (name : ℕ) → IsRight Kind names s → IsKept names (record (with_entry s name Idle) { line = without name s.line })
+      → IsRight Kind names (quietly_left_of (record (with_entry s name Idle) { line = without name s.line }) s.held)
   pub undoes : (s : Object) (asked : Request) → IsRight Kind names s → IsRight Kind names (undone_of s s.held asked)
 
 -- an entry without a slot for a name that doesn't wait
@@ -140,6 +142,19 @@ module _ {C A V Ask : Type 0} (Kind : Held → List Waiter → Type 0) (names : 
       IsRight-dropped_of Kind names s name (entry_at s.book name) refl
       (keeps.leaves s name right (IsKept-left names s name right.kept)) keeps.undoes right
 
+  -- withdrawing a name with this entry
+  pub IsRight-withdrawn_of : (s : Object) (name : ℕ) (entry : Entry) → entry_at s.book name ≡ entry → IsRight Kind names s
+      → IsRight Kind names (withdrawn_of s name entry)
+  IsRight-withdrawn_of s name Idle at right = right
+  IsRight-withdrawn_of s name (Waiting request is_sync) at right = keeps.quiet s name right (IsKept-left names s name right.kept)
+  IsRight-withdrawn_of s name (Answered value request is_sync slotted) at right =
+      IsRight-dropped_of Kind names s name (Answered value request is_sync slotted) at
+      (keeps.leaves s name right (IsKept-left names s name right.kept)) keeps.undoes right
+
+  -- every withdrawal
+  pub IsRight-withdrawn : (s : Object) (name : ℕ) → IsRight Kind names s → IsRight Kind names (withdrawn s name)
+  IsRight-withdrawn s name right = IsRight-withdrawn_of s name (entry_at s.book name) refl right
+
   -- every command that speaks of names that there are
   pub IsRight-done : (command : CommandOf C Ask) (s : Object) → IsWithin names command
       → IsRight Kind names s → IsRight Kind names (done request step value command s).state
@@ -149,6 +164,7 @@ module _ {C A V Ask : Type 0} (Kind : Held → List Waiter → Type 0) (names : 
   IsRight-done (PollSync name) s within right = IsRight-polled Kind names s name Sync right
   IsRight-done (PollAsync name) s within right = IsRight-polled Kind names s name Async right
   IsRight-done (Drop name) s within right = IsRight-dropped s name right
+  IsRight-done (Leave name) s within right = IsRight-withdrawn s name right
 
   -- every list of such commands
   pub IsRight-run : (commands : List (CommandOf C Ask)) (s : Object) → AllByRecursion (IsWithin names) commands

@@ -1,10 +1,11 @@
 -- The permits of a semaphore are conserved by every command, and so by every run.
-use Rattle.std.proofs.Common.{◌≡◌, ℕ, ◌+◌, ◌-◌, ◌<◌, ◌≤◌, min, Bool, true, false, ◌&&◌, eqb, leb, cond, inl, inr, List, [], ◌∷◌, length, set, Option, Some, None, refl, sym, ap, ◌∙◌, arith, All, length-set}
+use Rattle.std.proofs.Common.{◌≡◌, ℕ, ◌+◌, ◌-◌, ◌<◌, ◌≤◌, min, Bool, true, false, ◌&&◌, eqb, leb, cond, inl, inr, List, [], ◌∷◌, length, set, Option, Some, None, refl, sym, ap, ◌∙◌, arith, All, length-set, subst}
 use Rattle.std.specs.List.{AllByRecursion, sum_by}
 use Rattle.std.proofs.lemmas.Bool.{cases_Bool, leb-true, and_parts}
 use Rattle.std.proofs.lemmas.Option.{cond_some}
 use Rattle.std.proofs.lemmas.List.Sums.{sum_by-cons}
 use Rattle.std.proofs.lemmas.List.Elements.{recursion_from_All}
+use Rattle.saa_core_spec.specs.declared.gate.State.{State}
 use Rattle.saa_core_spec.specs.declared.request.Request.{Request}
 use Rattle.saa_core_spec.specs.declared.request.Request.TheVariants.{Exclusive as AskExclusive, Shared as AskShared, WaitExclusive, WaitShared, Permits, Enter, Arrive}
 use Rattle.saa_core_spec.specs.declared.polling.How.{How}
@@ -12,7 +13,7 @@ use Rattle.saa_core_spec.specs.declared.polling.How.TheVariants.{Try, Sync, Asyn
 use Rattle.saa_core_spec.specs.declared.semaphore.SemaphoreCall.{SemaphoreCall}
 use Rattle.saa_core_spec.specs.declared.semaphore.SemaphoreCall.TheVariants.{TryAcquireMany, ReleaseMany, AvailablePermits, IsOpen, IsClosed, Shut, IsShut}
 use Rattle.saa_core_spec.specs.declared.run.CommandOf.{CommandOf}
-use Rattle.saa_core_spec.specs.declared.run.CommandOf.TheVariants.{Call, Register, TryPoll, PollSync, PollAsync, Drop}
+use Rattle.saa_core_spec.specs.declared.run.CommandOf.TheVariants.{Call, Register, TryPoll, PollSync, PollAsync, Drop, Leave}
 use Rattle.saa_core_spec.specs.Held.{Held, OfSemaphore, OfShutSemaphore, OfLock, OfGate, OfBarrier, fits, plus, less, asks_too_much}
 use Rattle.saa_core_spec.specs.Object.{Object, After, Entry, Idle, Waiting, Answered, entry_at, with_entry, is_nobody, without}
 use Rattle.saa_core_spec.specs.Settling.{settled}
@@ -22,6 +23,7 @@ use Rattle.saa_core_spec.specs.Values.{semaphore_value, granted_value, closed_va
 use Rattle.saa_core_spec.specs.Semaphore.{semaphore_step, new_semaphore, out_of, shut_of}
 use Rattle.saa_core_spec.specs.Run.{IsWithin, done, state_after}
 use Rattle.saa_core_spec.proofs.Counts.{same_number}
+use Rattle.saa_core_spec.proofs.Leaving.{withdrawn-dropped}
 use Rattle.saa_core_laws.specs.Laws.{is_waiting}
 use Rattle.saa_core_laws.specs.Registrations.{is_registered, is_answered}
 use Rattle.saa_core_laws.specs.Steps.{step_of, steps}
@@ -249,6 +251,10 @@ Conserves-shut_of s (OfBarrier size) is = Conserves-still s
 abbrev pub IsRightSemaphore : (most names : ℕ) → Object → Type 0
 IsRightSemaphore most names s = IsRight (Grants (IsFineSemaphore most) (OfSemaphore most 0)) names s
 
+-- no semaphore is a gate
+pub no_gate-semaphore : (most : ℕ) (held : Held) → IsFineSemaphore most held → (gate : State) → held ≡ OfGate gate → ⊥
+no_gate-semaphore most held fine gate is = subst (IsFineSemaphore most) is fine
+
 -- every command
 pub Conserves-done : (most names : ℕ) (command : CommandOf SemaphoreCall ℕ) (s : Object) → IsWithin names command → IsRightSemaphore most names s
     → out_of (done Permits semaphore_step semaphore_value command s).state.held + given_back_by (step_of Permits semaphore_step semaphore_value command s)
@@ -268,6 +274,9 @@ Conserves-done most names (TryPoll name) s within right = Conserves-polled_of s 
 Conserves-done most names (PollSync name) s within right = Conserves-polled_of s name Sync (entry_at s.book name)
 Conserves-done most names (PollAsync name) s within right = Conserves-polled_of s name Async (entry_at s.book name)
 Conserves-done most names (Drop name) s within right = Conserves-dropped_of most names s name (entry_at s.book name) refl right.kind.fine right.kept
+Conserves-done most names (Leave name) s within right =
+    rw (withdrawn-dropped s name (entry_at s.book name) (no_gate-semaphore most s.held right.kind.fine))
+    (Conserves-dropped_of most names s name (entry_at s.book name) refl right.kind.fine right.kept)
 
 -- every run of a semaphore that is right
 pub conserved-run : (most names : ℕ) (commands : List (CommandOf SemaphoreCall ℕ)) (s : Object) → AllByRecursion (IsWithin names) commands

@@ -1,22 +1,22 @@
 -- What every step of a gate keeps, and so every run.
-use Rattle.std.proofs.Common.{◌≡◌, ℕ, List, [], ◌∷◌, ◌++◌, Option, Some, None, refl, ◌⊎◌, inl, inr, All}
+use Rattle.std.proofs.Common.{◌≡◌, ℕ, zero, suc, List, [], ◌∷◌, ◌++◌, length, drop, min, Option, Some, None, refl, ap, ◌⊎◌, inl, inr, All}
 use Rattle.saa_core_spec.specs.declared.gate.State.{State}
 use Rattle.saa_core_spec.specs.declared.gate.State.TheVariants.{Controlled, Sealed, Open}
 use Rattle.saa_core_spec.specs.declared.request.Request.{Request}
 use Rattle.saa_core_spec.specs.declared.gate.GateCall.{GateCall}
-use Rattle.saa_core_spec.specs.declared.gate.GateCall.TheVariants.{State as AskState, Reset, Permit, Reject, Open as DoOpen, Seal}
+use Rattle.saa_core_spec.specs.declared.gate.GateCall.TheVariants.{State as AskState, Reset, Permit, PermitMany, Reject, Open as DoOpen, Seal}
 use Rattle.saa_core_spec.specs.declared.gate.GateAnswer.{GateAnswer}
 use Rattle.saa_core_spec.specs.declared.run.CommandOf.{CommandOf}
 use Rattle.saa_core_spec.specs.Held.{Held, OfSemaphore, OfShutSemaphore, OfLock, OfGate, OfBarrier}
 use Rattle.saa_core_spec.specs.Object.{Object, After, Idle, Waiter, with_entry, without}
 use Rattle.saa_core_spec.specs.Settling.{all_answered}
 use Rattle.saa_core_spec.specs.Asking.{answer_in}
-use Rattle.saa_core_spec.specs.Polling.{left_of, undone_of}
+use Rattle.saa_core_spec.specs.Polling.{left_of, quietly_left_of, undone_of}
 use Rattle.saa_core_spec.specs.Values.{gate_value, permitted_value, rejected_value, opened_value, sealed_value, spurious_value}
-use Rattle.saa_core_spec.specs.Gate.{gate_state, gate_step, enter_request, new_gate, let_through, moved, reset_of}
+use Rattle.saa_core_spec.specs.Gate.{gate_state, gate_step, enter_request, new_gate, let_through, front_permitted, let_front_through, moved, reset_of}
 use Rattle.saa_core_spec.specs.Run.{IsWithin, state_after}
 use Rattle.saa_core_laws.specs.Laws.{IsGateInOrder}
-use Rattle.saa_core_laws.proofs.Kept.{IsKept, IsInOrder-kept, IsKept-newly_made, IsKept-held, IsKept-all_answered}
+use Rattle.saa_core_laws.proofs.Kept.{IsKept, IsInOrder-kept, IsKept-newly_made, IsKept-held, IsKept-all_answered, IsKept-front_permitted}
 use Rattle.saa_core_laws.proofs.Commands.{IsRight, IsRightAnswer, KeepsRight, IsRight-state_after}
 
 -- a gate at which nobody waits unless it is controlled
@@ -49,6 +49,35 @@ IsRight-let_through names value s Controlled right = IsRight-all_let names value
 IsRight-let_through names value s Sealed right = right
 IsRight-let_through names value s Open right = right
 
+-- nobody is left of nobody
+dropped-nobody : (k : ℕ) (line : List Waiter) → line ≡ [] → drop k line ≡ []
+dropped-nobody zero line none = none
+dropped-nobody (suc k) [] none = refl
+dropped-nobody (suc k) (waiter ∷ line) none = cc
+
+-- a gate at which the oldest have left is fine
+pub IsFineGate-front : (k : ℕ) (held : Held) (line : List Waiter) → IsFineGate held line → IsFineGate held (drop k line)
+IsFineGate-front k (OfGate gate) line (inl controlled) = inl controlled
+IsFineGate-front k (OfGate gate) line (inr none) = inr (dropped-nobody k line none)
+IsFineGate-front k (OfSemaphore bound out) line fine = fine
+IsFineGate-front k (OfShutSemaphore bound out) line fine = fine
+IsFineGate-front k (OfLock lock) line fine = fine
+IsFineGate-front k (OfBarrier size) line fine = fine
+
+-- permitting the oldest
+pub IsRight-front_permitted : (names k : ℕ) (s : Object) → IsRight IsFineGate names s → IsRight IsFineGate names (front_permitted k s)
+IsRight-front_permitted names k s right = record {
+  kept = IsKept-front_permitted names s k right.kept;
+  kind = IsFineGate-front k s.held s.line right.kind;
+}
+
+-- in each state
+pub IsRight-let_front_through : (names n : ℕ) (s : Object) (gate : State) → IsRight IsFineGate names s
+    → IsRight IsFineGate names (let_front_through s n gate).state
+IsRight-let_front_through names n s Controlled right = IsRight-front_permitted names (min n (length s.line)) s right
+IsRight-let_front_through names n s Sealed right = right
+IsRight-let_front_through names n s Open right = right
+
 -- a reset, in each state
 pub IsRight-reset_of : (names : ℕ) (s : Object) (gate : State) → IsRight IsFineGate names s → IsRight IsFineGate names (reset_of s gate).state
 IsRight-reset_of names s Controlled right = right
@@ -67,6 +96,7 @@ pub IsRight-gate_step : (names : ℕ) (call : GateCall) (s : Object) → IsRight
 IsRight-gate_step names AskState s right = right
 IsRight-gate_step names Reset s right = IsRight-reset_of names s (gate_state s.held) right
 IsRight-gate_step names Permit s right = IsRight-let_through names permitted_value s (gate_state s.held) right
+IsRight-gate_step names (PermitMany n) s right = IsRight-let_front_through names n s (gate_state s.held) right
 IsRight-gate_step names Reject s right = IsRight-let_through names rejected_value s (gate_state s.held) right
 IsRight-gate_step names DoOpen s right = IsRight-moved names opened_value s Open right
 IsRight-gate_step names Seal s right = IsRight-moved names sealed_value s Sealed right
@@ -114,6 +144,24 @@ IsRight-gate_left names left (OfShutSemaphore bound out) line fine same kept = a
 IsRight-gate_left names left (OfLock lock) line fine same kept = absurd fine
 IsRight-gate_left names left (OfBarrier size) line fine same kept = absurd fine
 
+-- a gate from whose line a name has left is fine
+pub IsFineGate-without : (name : ℕ) (held : Held) (line : List Waiter) → IsFineGate held line → IsFineGate held (without name line)
+IsFineGate-without name (OfGate gate) line (inl controlled) = inl controlled
+IsFineGate-without name (OfGate gate) line (inr none) = inr (ap (without name) none)
+IsFineGate-without name (OfSemaphore bound out) line fine = fine
+IsFineGate-without name (OfShutSemaphore bound out) line fine = fine
+IsFineGate-without name (OfLock lock) line fine = fine
+IsFineGate-without name (OfBarrier size) line fine = fine
+
+-- a name that waited has left quietly: nothing else happens
+pub IsRight-gate_left_quietly : (names : ℕ) (left : Object) (held : Held) → left.held ≡ held → IsKept names left → IsFineGate held left.line
+    → IsRight IsFineGate names (quietly_left_of left held)
+IsRight-gate_left_quietly names left (OfGate gate) same kept fine = record { kept = kept; kind = rw same fine }
+IsRight-gate_left_quietly names left (OfSemaphore bound out) same kept fine = absurd fine
+IsRight-gate_left_quietly names left (OfShutSemaphore bound out) same kept fine = absurd fine
+IsRight-gate_left_quietly names left (OfLock lock) same kept fine = absurd fine
+IsRight-gate_left_quietly names left (OfBarrier size) same kept fine = absurd fine
+
 -- a dropped answer of a gate gives nothing back
 pub IsRight-gate_undone : (names : ℕ) (s : Object) (held : Held) (line : List Waiter) (request : Request) → IsFineGate held line
     → IsRight IsFineGate names s → IsRight IsFineGate names (undone_of s held request)
@@ -131,6 +179,9 @@ KeepsRight-gate names = record {
   joins = λ s name ask right e not_too_much. IsFineGate-joined s s.held s.line (s.line ++ (name, enter_request ask) ∷ []) (enter_request ask) right.kind e;
   leaves = λ s name right kept.
       IsRight-gate_left names (record (with_entry s name Idle) { line = without name s.line }) s.held s.line right.kind refl kept;
+  quiet = λ s name right kept.
+      IsRight-gate_left_quietly names (record (with_entry s name Idle) { line = without name s.line }) s.held refl kept
+      (IsFineGate-without name s.held s.line right.kind);
   undoes = λ s asked right. IsRight-gate_undone names s s.held s.line asked right.kind right;
 }
 

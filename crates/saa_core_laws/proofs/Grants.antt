@@ -1,6 +1,6 @@
 -- What a semaphore and a lock keep, both of which grant what fits: they stand settled, and each waiter would fit
 -- if nothing were out.
-use Rattle.std.proofs.Common.{◌≡◌, ℕ, zero, suc, Bool, true, false, ◌&&◌, eqb, List, [], ◌∷◌, ◌++◌, take, drop, Option, Some, None, refl, sym, ap, ◌∙◌, inl, inr, arith}
+use Rattle.std.proofs.Common.{◌≡◌, ℕ, zero, suc, Bool, true, false, ◌&&◌, eqb, List, [], ◌∷◌, ◌++◌, take, drop, Option, Some, None, refl, sym, ap, ◌∙◌, inl, inr, arith, subst}
 use Rattle.std.specs.List.{AllByRecursion}
 use Rattle.std.proofs.lemmas.Bool.{cases_Bool, and_parts}
 use Rattle.std.proofs.lemmas.Option.{cond_some}
@@ -10,12 +10,13 @@ use Rattle.saa_core_spec.specs.Held.{Held, OfSemaphore, OfShutSemaphore, OfLock,
 use Rattle.saa_core_spec.specs.Object.{Object, After, Idle, Waiter, with_entry, is_nobody, without}
 use Rattle.saa_core_spec.specs.Settling.{fitting_front, plus_all, settled}
 use Rattle.saa_core_spec.specs.Asking.{is_granted_at_once, tried, granted_at_once, answer_in}
-use Rattle.saa_core_spec.specs.Polling.{is_for_nothing, given_back_of, given_back, left_of, undone_of}
+use Rattle.saa_core_spec.specs.Polling.{is_for_nothing, given_back_of, given_back, left_of, quietly_left_of, undone_of}
 use Rattle.saa_core_spec.specs.Values.{granted_value, closed_value, poisoned_value}
 use Rattle.saa_core_laws.proofs.Kept.{IsKept, IsKept-held, IsKept-settled}
 use Rattle.saa_core_laws.proofs.Commands.{IsRight, IsRightAnswer, cond_none}
 use Rattle.saa_core_spec.proofs.FittingFronts.{fitting_front-fits, fitting_front-blocked, fitting_front-settled}
 use Rattle.saa_core_spec.proofs.Refusing.{less-refusing, plus_all-refusing}
+use Rattle.saa_core_spec.proofs.Leaving.{quiet-left}
 
 -- each waiter would fit with this held
 abbrev pub AllFit : Held → List Waiter → Type 0
@@ -203,6 +204,14 @@ module _ (IsFine : Held → Type 0) (empty : Held) (names : ℕ) (keeps : KeepsF
   IsRight-left_of s (OfLock lock) name fine right kept = IsRight-leaves s name right kept
   IsRight-left_of s (OfGate gate) name fine right kept = absurd (keeps.no_gate gate fine)
   IsRight-left_of s (OfBarrier size) name fine right kept = absurd (keeps.no_barrier size fine)
+
+  -- and one that has left quietly
+  pub IsRight-quietly_left_of : (s : Object) (held : Held) (name : ℕ) → IsFine held → IsRight (Grants IsFine empty) names s
+      → IsKept names (record (with_entry s name Idle) { line = without name s.line })
+      → IsRight (Grants IsFine empty) names (quietly_left_of (record (with_entry s name Idle) { line = without name s.line }) held)
+  IsRight-quietly_left_of s held name fine right kept =
+      rw (quiet-left (record (with_entry s name Idle) { line = without name s.line }) held (λ gate is. keeps.no_gate gate (subst IsFine is fine)))
+      (IsRight-left_of s held name fine right kept)
 
   -- what was granted is given back with a dropped answer
   pub IsRight-undone_of : (s : Object) (held : Held) (request : Request) → IsRight (Grants IsFine empty) names s

@@ -13,7 +13,7 @@ use Rattle.saa_core_spec.specs.declared.polling.How.TheVariants.{Try, Sync, Asyn
 use Rattle.saa_core_spec.specs.declared.semaphore.SemaphoreCall.{SemaphoreCall}
 use Rattle.saa_core_spec.specs.declared.semaphore.SemaphoreCall.TheVariants.{TryAcquireMany, ReleaseMany, AvailablePermits, IsOpen, IsClosed, Shut, IsShut}
 use Rattle.saa_core_spec.specs.declared.run.CommandOf.{CommandOf}
-use Rattle.saa_core_spec.specs.declared.run.CommandOf.TheVariants.{Call, Register, TryPoll, PollSync, PollAsync, Drop}
+use Rattle.saa_core_spec.specs.declared.run.CommandOf.TheVariants.{Call, Register, TryPoll, PollSync, PollAsync, Drop, Leave}
 use Rattle.saa_core_spec.specs.Held.{Held, OfSemaphore, OfShutSemaphore, OfLock, OfGate, OfBarrier, fits, plus, less}
 use Rattle.saa_core_spec.specs.Object.{Object, After, Entry, Idle, Waiting, Answered, Waiter, entry_at, with_entry, is_nobody, without}
 use Rattle.saa_core_spec.specs.Settling.{fitting_front, answered_entry, answered_in, settled}
@@ -22,6 +22,7 @@ use Rattle.saa_core_spec.specs.Polling.{is_right_mode, polled_in, polled_of, is_
 use Rattle.saa_core_spec.specs.Values.{semaphore_value, granted_value, closed_value}
 use Rattle.saa_core_spec.specs.Semaphore.{semaphore_step, new_semaphore, out_of, shut_of}
 use Rattle.saa_core_spec.specs.Run.{IsWithin, done, state_after}
+use Rattle.saa_core_spec.proofs.Leaving.{withdrawn-dropped}
 use Rattle.saa_core_laws.specs.Laws.{is_waiting}
 use Rattle.saa_core_laws.specs.Steps.{step_of, steps}
 use Rattle.saa_core_laws.specs.Conservation.{SemaphoreStep, permits_of, granted_between, granted_in_books, dropped_grant, given_back_by, grant_of, has_value, taken_in_hand_by, released_by, semaphore_run}
@@ -32,7 +33,7 @@ use Rattle.saa_core_laws.proofs.Grants.{Grants}
 use Rattle.saa_core_laws.proofs.SemaphoreLaws.{IsFineSemaphore, KeepsRight-semaphore}
 use Rattle.saa_core_laws.proofs.Books.{entry_at-answered_in}
 use Rattle.saa_core_laws.proofs.Permitted.{out-settled}
-use Rattle.saa_core_laws.proofs.Conserved.{IsRightSemaphore, out-given_back, undone-is, left-is, out-added}
+use Rattle.saa_core_laws.proofs.Conserved.{IsRightSemaphore, out-given_back, undone-is, left-is, out-added, no_gate-semaphore}
 
 -- the grants of a book that aren't consumed
 abbrev pub unconsumed : List Entry → ℕ
@@ -222,7 +223,7 @@ Covers-registered_of most s name request is_sync false None true within e fine =
 Covers-registered_of most s name request is_sync false None false within e fine =
     omega (arith, unconsumed-set s.book name (Waiting request is_sync) within)
 
--- who is told that the semaphore is shut has no grant by it
+-- a call that is told that the semaphore is shut has no grant by it
 pub grant_of-closed : (entry : Entry) → grant_of (answered_entry closed_value entry) ≡ grant_of entry
 grant_of-closed Idle = refl
 grant_of-closed (Waiting request is_sync) = refl
@@ -264,6 +265,9 @@ Covers-done most names (TryPoll name) s within right = Covers-polled_of s name T
 Covers-done most names (PollSync name) s within right = Covers-polled_of s name Sync (entry_at s.book name) refl
 Covers-done most names (PollAsync name) s within right = Covers-polled_of s name Async (entry_at s.book name) refl
 Covers-done most names (Drop name) s within right = Covers-dropped_of most names s name (entry_at s.book name) refl right.kind.fine right.kept
+Covers-done most names (Leave name) s within right =
+    rw (withdrawn-dropped s name (entry_at s.book name) (no_gate-semaphore most s.held right.kind.fine))
+    (Covers-dropped_of most names s name (entry_at s.book name) refl right.kind.fine right.kept)
 
 -- every run of a semaphore that is right
 pub covered-run : (most names : ℕ) (commands : List (CommandOf SemaphoreCall ℕ)) (s : Object) → AllByRecursion (IsWithin names) commands

@@ -7,6 +7,8 @@ use Rattle.saa_core_spec.specs.Held.{Held}
 use Rattle.saa_core_spec.specs.Object.{Object, Entry, Idle, Waiting, Answered, newly_made, entry_at, with_entry, holds_slot, one_if, slots_in, used, without}
 use Rattle.saa_core_spec.specs.Settling.{fitting_front, granted, settled, all_answered}
 use Rattle.saa_core_spec.specs.Asking.{joined, is_idle}
+use Rattle.saa_core_spec.specs.Values.{permitted_value}
+use Rattle.saa_core_spec.specs.Gate.{front_permitted}
 use Rattle.saa_core_laws.specs.Laws.{is_waiting, IsInOrder}
 use Rattle.saa_core_laws.proofs.Order.{IsInStep, slots_in-set, slots_in-answered_in, length-answered_in, IsInStep-granted, IsInStep-all_answered, IsInStep-written, IsInStep-without, IsInStep-joined, one_if-zero}
 
@@ -86,6 +88,14 @@ IsKept-granted names s k kept = record {
 pub IsKept-settled : (names : ℕ) (s : Object) → IsKept names s → IsKept names (settled s)
 unfolding settled
 IsKept-settled names s kept = IsKept-granted names s (fitting_front s.held s.line) kept
+
+-- the k oldest are permitted
+pub IsKept-front_permitted : (names : ℕ) (s : Object) (k : ℕ) → IsKept names s → IsKept names (front_permitted k s)
+IsKept-front_permitted names s k kept = record {
+  in_step = IsInStep-granted permitted_value k s.line s.book kept.in_step;
+  within_room = omega (arith, kept.within_room, slots_in-answered_in permitted_value (take k s.line) s.book);
+  size = length-answered_in permitted_value (take k s.line) s.book ∙ kept.size;
+}
 
 -- all waiters are answered
 pub IsKept-all_answered : (names value : ℕ) (s : Object) → IsKept names s → IsKept names (all_answered value s)

@@ -23,3 +23,4 @@ pub mod Rows
 pub mod Witnesses
 pub mod Refusals
 pub mod Shutting
+pub mod GateCrowds

@@ -19,7 +19,7 @@ use Rattle.saa_core_laws.specs.Laws.{IsLockInOrder}
 use Rattle.saa_core_laws.proofs.Fronts.{StandsSettled-from_front}
 use Rattle.saa_core_laws.proofs.Kept.{IsInOrder-kept, IsKept-newly_made, IsKept-held, IsKept-settled, IsKept-all_answered}
 use Rattle.saa_core_laws.proofs.Commands.{IsRight, KeepsRight, IsRight-state_after}
-use Rattle.saa_core_laws.proofs.Grants.{Grants, Grants-settled, KeepsFine, nobody-fits, IsRight-given_back, IsRight-tried, IsRightAnswer-answered, Grants-waits, IsRight-left_of, IsRight-undone_of}
+use Rattle.saa_core_laws.proofs.Grants.{Grants, Grants-settled, KeepsFine, nobody-fits, IsRight-given_back, IsRight-tried, IsRightAnswer-answered, Grants-waits, IsRight-left_of, IsRight-quietly_left_of, IsRight-undone_of}
 
 -- a lock in a state that a lock can be in
 abbrev pub IsFineLock : Held → Type 0
@@ -184,6 +184,7 @@ KeepsRight-lock names = record {
   joins = λ s name ask right e not_too_much.
       Grants-waits IsFineLock (OfLock Free) names KeepsFine-lock s s.held name (mode_request ask) refl right.kind.fine e (fits-mode ask) right.kind;
   leaves = λ s name right kept. IsRight-left_of IsFineLock (OfLock Free) names KeepsFine-lock s s.held name right.kind.fine right kept;
+  quiet = λ s name right kept. IsRight-quietly_left_of IsFineLock (OfLock Free) names KeepsFine-lock s s.held name right.kind.fine right kept;
   undoes = λ s asked right. IsRight-undone_of IsFineLock (OfLock Free) names KeepsFine-lock s s.held asked right;
 }
 

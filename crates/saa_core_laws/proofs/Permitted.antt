@@ -27,7 +27,7 @@ granted_between-still Idle after e = refl
 granted_between-still (Waiting request is_sync) after e = cc
 granted_between-still (Answered value request is_sync slotted) after e = refl
 
--- nor who isn't answered
+-- nor an entry that isn't answered
 pub granted_between-unanswered : (entry after : Entry) → is_answered after ≡ false → granted_between entry after ≡ 0
 granted_between-unanswered Idle after e = refl
 granted_between-unanswered (Waiting request is_sync) Idle e = refl
@@ -148,7 +148,7 @@ out-settled most s fine step =
       granted_in_books-front (fitting_front s.held s.line) s.line s.book step,
     )
 
--- who is told that the semaphore is shut is granted nothing
+-- a call that is told that the semaphore is shut is granted nothing
 pub granted_between-closed : (entry : Entry) → granted_between entry (answered_entry closed_value entry) ≡ 0
 granted_between-closed Idle = refl
 granted_between-closed (Waiting request is_sync) = refl

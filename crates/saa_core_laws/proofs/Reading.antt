@@ -6,12 +6,12 @@ use Rattle.saa_core_spec.specs.declared.polling.How.{How}
 use Rattle.saa_core_spec.specs.Held.{asks_too_much}
 use Rattle.saa_core_spec.specs.Object.{Object, After, Entry, Idle, Waiting, Answered, entry_at, with_entry, without}
 use Rattle.saa_core_spec.specs.Asking.{is_idle, answer_at_once, registered, registered_of}
-use Rattle.saa_core_spec.specs.Polling.{is_right_mode, polled_in, polled_of, polled, dropped_of, dropped}
+use Rattle.saa_core_spec.specs.Polling.{is_right_mode, polled_in, polled_of, polled, dropped_of, dropped, withdrawn_of, withdrawn}
 use Rattle.saa_core_spec.specs.Values.{granted_value}
 use Rattle.saa_core_laws.specs.Registrations.{is_registered, number_of, is_value, stands_then, is_answered}
 use Rattle.saa_core_laws.proofs.Order.{entry_at-same, entry_at-other, entry_at_past, set_past}
 use Rattle.saa_core_laws.proofs.Commands.{or_false-left}
-use Rattle.saa_core_laws.proofs.Books.{KeepsBook, KeepsBook-same, KeepsBook-left_of, KeepsBook-undone_of, KeepsBook-answered}
+use Rattle.saa_core_laws.proofs.Books.{KeepsBook, KeepsBook-same, KeepsBook-left_of, KeepsBook-quietly_left_of, KeepsBook-undone_of, KeepsBook-answered}
 
 -- What one command does for one name, whether it registers it, polls a value of it or drops it
 pub record ReadsStep (name : ℕ) (before after : Object) (made : Bool) (value : Option ℕ) (gone : Bool) : Type 0 where
@@ -48,7 +48,7 @@ ReadsStep-named name other before after made gone value own others = elim (cases
   | inr e ↦ rw e (others (λ same. eqb-false other name e (sym same)))
 ]
 
--- who isn't answered isn't told
+-- an entry that isn't answered isn't told
 pub is_answered-idle : (entry : Entry) → is_idle entry ≡ true → is_answered entry ≡ true → ⊥
 is_answered-idle Idle e there = cc
 is_answered-idle (Waiting request is_sync) e there = cc
@@ -267,4 +267,25 @@ ReadsStep-dropped name other s =
     let P : Bool → Type 0 = λ b. ReadsStep name s (dropped s other) b (cond (eqb other name) None None) (cond (eqb other name) true false) in
     let Q : Option ℕ → Type 0 = λ v. ReadsStep name s (dropped s other) false v (cond (eqb other name) true false) in
     let R : Bool → Type 0 = λ b. ReadsStep name s (dropped s other) false None b in
+    subst R (cond_test (eqb other name)) (subst Q (cond_nothing (eqb other name)) (subst P (cond_same (eqb other name)) step))
+
+-- a withdrawal of a name with this entry
+pub ReadsStep-withdrawn_of : (name other : ℕ) (s : Object) (entry : Entry) → entry_at s.book other ≡ entry
+    → ReadsStep name s (withdrawn_of s other entry) (cond (eqb other name) false false) (cond (eqb other name) None None) (cond (eqb other name) true false)
+ReadsStep-withdrawn_of name other s Idle at = ReadsStep-dropped_of name other s Idle at
+ReadsStep-withdrawn_of name other s (Waiting request is_sync) at =
+    let keeps = KeepsBook-quietly_left_of (record (with_entry s other Idle) { line = without other s.line }) s.held in
+    ReadsStep-named name other s _ false true None
+    (λ same. rw (← same) (ReadsStep-gone other s _ (ap is_idle at) keeps))
+    (λ ne. ReadsStep-other_first name other s _ Idle keeps ne)
+ReadsStep-withdrawn_of name other s (Answered value request is_sync slotted) at =
+    ReadsStep-dropped_of name other s (Answered value request is_sync slotted) at
+
+-- every withdrawal
+pub ReadsStep-withdrawn : (name other : ℕ) (s : Object) → ReadsStep name s (withdrawn s other) false None (eqb other name)
+ReadsStep-withdrawn name other s =
+    let step = ReadsStep-withdrawn_of name other s (entry_at s.book other) refl in
+    let P : Bool → Type 0 = λ b. ReadsStep name s (withdrawn s other) b (cond (eqb other name) None None) (cond (eqb other name) true false) in
+    let Q : Option ℕ → Type 0 = λ v. ReadsStep name s (withdrawn s other) false v (cond (eqb other name) true false) in
+    let R : Bool → Type 0 = λ b. ReadsStep name s (withdrawn s other) false None b in
     subst R (cond_test (eqb other name)) (subst Q (cond_nothing (eqb other name)) (subst P (cond_same (eqb other name)) step))

@@ -18,15 +18,16 @@ use Rattle.saa_core_spec.specs.declared.barrier.BarrierAnswer.{BarrierAnswer}
 use Rattle.saa_core_spec.specs.declared.run.ReplyOf.{ReplyOf}
 use Rattle.saa_core_spec.specs.declared.run.ReplyOf.TheVariants.{Polled}
 use Rattle.saa_core_spec.specs.declared.run.CommandOf.{CommandOf}
-use Rattle.saa_core_spec.specs.declared.run.CommandOf.TheVariants.{Call, Register, TryPoll, PollSync, PollAsync, Drop}
+use Rattle.saa_core_spec.specs.declared.run.CommandOf.TheVariants.{Call, Register, TryPoll, PollSync, PollAsync, Drop, Leave}
 use Rattle.saa_core_spec.specs.Held.{Held, OfSemaphore, OfShutSemaphore, OfLock, OfGate, OfBarrier, asks_too_much}
 use Rattle.saa_core_spec.specs.Object.{Object, After, Entry, Idle, Waiting, Answered, Waiter, entry_at, with_entry, newly_made, one_if, without}
 use Rattle.saa_core_spec.specs.Settling.{answered_entry, answered_in, all_answered}
 use Rattle.saa_core_spec.specs.Asking.{is_idle, answer_in, answer_at_once, registered_of}
-use Rattle.saa_core_spec.specs.Polling.{is_right_mode, polled_in, polled_of, polled, left_of, undone_of, dropped_of}
+use Rattle.saa_core_spec.specs.Polling.{is_right_mode, polled_in, polled_of, polled, left_of, undone_of, dropped_of, withdrawn_of}
 use Rattle.saa_core_spec.specs.Values.{barrier_value, granted_value, passed_value, leader_value}
 use Rattle.saa_core_spec.specs.Barrier.{barrier_step, arrive_request}
 use Rattle.saa_core_spec.specs.Run.{IsWithin, done, state_after}
+use Rattle.saa_core_spec.proofs.Leaving.{withdrawn-dropped}
 use Rattle.saa_core_laws.specs.Laws.{is_waiting}
 use Rattle.saa_core_laws.specs.Registrations.{is_registered, is_answered}
 use Rattle.saa_core_laws.specs.Steps.{step_of, steps}
@@ -36,7 +37,7 @@ use Rattle.saa_core_laws.proofs.Kept.{IsKept, IsKept-newly_made, is_waiting-all_
 use Rattle.saa_core_laws.proofs.Commands.{IsRight, IsRight-done, IsRight-state_after, or_false-left}
 use Rattle.saa_core_laws.proofs.Books.{entry_at-answered_in}
 use Rattle.saa_core_laws.proofs.Reading.{is_idle-emptied}
-use Rattle.saa_core_laws.proofs.BarrierLaws.{IsFineBarrier, KeepsRight-barrier, barrier-incomplete}
+use Rattle.saa_core_laws.proofs.BarrierLaws.{IsFineBarrier, KeepsRight-barrier, barrier-incomplete, no_gate-barrier}
 use Rattle.saa_core_spec.proofs.Counts.{length-without}
 
 -- What a step balances: the arrivals and the waiters are the leaders' rounds, the waiters, and the cancelled arrivals
@@ -161,6 +162,9 @@ Balances-done size names (TryPoll name) s within right = Balances-polled size s 
 Balances-done size names (PollSync name) s within right = Balances-polled size s name Sync
 Balances-done size names (PollAsync name) s within right = Balances-polled size s name Async
 Balances-done size names (Drop name) s within right = Balances-dropped_of size s name (entry_at s.book name) refl right.kept.in_step right.kind
+Balances-done size names (Leave name) s within right =
+    rw (withdrawn-dropped s name (entry_at s.book name) (no_gate-barrier size s.held s.line right.kind))
+    (Balances-dropped_of size s name (entry_at s.book name) refl right.kept.in_step right.kind)
 
 -- one more step of a count
 pub count-step : (is : BarrierStep → Bool) (step : BarrierStep) (run : List BarrierStep) → count_by is (step ∷ run) ≡ one_if (is step) + count_by is run
@@ -274,6 +278,7 @@ Completes-done size names (TryPoll name) s within right leads = cc
 Completes-done size names (PollSync name) s within right leads = cc
 Completes-done size names (PollAsync name) s within right leads = cc
 Completes-done size names (Drop name) s within right leads = cc
+Completes-done size names (Leave name) s within right leads = cc
 
 -- a name that is answered that it passes is told that it isn't the leader
 pub told-passed : (s : Object) (name : ℕ) (request : Request) (is_sync : Bool) → entry_at s.book name ≡ Answered passed_value request is_sync true
@@ -424,6 +429,11 @@ leads-answering size names (PollSync other) s name within right waits there = ab
 leads-answering size names (PollAsync other) s name within right waits there = absurd (poll-answers s name other Async waits there)
 leads-answering size names (Drop other) s name within right waits there =
     let none = waits-dropped_of size s name other (entry_at s.book other) right.kind (waiting-unanswered (entry_at s.book name) waits) in cc
+leads-answering size names (Leave other) s name within right waits there =
+    let none : is_answered (entry_at (withdrawn_of s other (entry_at s.book other)).book name) ≡ false =
+    ap (λ (o : Object). is_answered (entry_at o.book name)) (withdrawn-dropped s other (entry_at s.book other) (no_gate-barrier size s.held s.line right.kind))
+    ∙ waits-dropped_of size s name other (entry_at s.book other) right.kind (waiting-unanswered (entry_at s.book name) waits) in
+    cc
 
 -- after every run
 pub leads-next : (size room names : ℕ) (commands : List (CommandOf BarrierCall (Unit {0}))) (next : CommandOf BarrierCall (Unit {0})) (name : ℕ)

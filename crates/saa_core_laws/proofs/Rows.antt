@@ -6,7 +6,7 @@ use Rattle.saa_core_spec.specs.declared.request.Request.TheVariants.{Permits}
 use Rattle.saa_core_spec.specs.declared.polling.Error.{Error}
 use Rattle.saa_core_spec.specs.declared.polling.Error.TheVariants.{NotReady, Closed}
 use Rattle.saa_core_spec.specs.declared.run.CommandOf.{CommandOf}
-use Rattle.saa_core_spec.specs.declared.run.CommandOf.TheVariants.{Call, Register, TryPoll, PollSync, PollAsync, Drop}
+use Rattle.saa_core_spec.specs.declared.run.CommandOf.TheVariants.{Call, Register, TryPoll, PollSync, PollAsync, Drop, Leave}
 use Rattle.saa_core_spec.specs.declared.run.ReplyOf.{ReplyOf}
 use Rattle.saa_core_spec.specs.declared.run.ReplyOf.TheVariants.{Answered, Registered, Polled, Dropped}
 use Rattle.saa_core_spec.specs.declared.semaphore.SemaphoreCall.{SemaphoreCall}
@@ -23,9 +23,9 @@ use Rattle.saa_core_spec.specs.declared.lock.LockAnswer.TheVariants.{Bool as Loc
 use Rattle.saa_core_spec.specs.declared.gate.State.{State}
 use Rattle.saa_core_spec.specs.declared.gate.State.TheVariants.{Controlled, Sealed, Open}
 use Rattle.saa_core_spec.specs.declared.gate.Error.{Error as GateError}
-use Rattle.saa_core_spec.specs.declared.gate.Error.TheVariants.{Sealed as SealedError, SpuriousFailure, NotRegistered as GateNotRegistered, WrongMode as GateWrongMode}
+use Rattle.saa_core_spec.specs.declared.gate.Error.TheVariants.{Sealed as SealedError, SpuriousFailure, NotRegistered as GateNotRegistered, WrongMode as GateWrongMode, NotReady as GateNotReady}
 use Rattle.saa_core_spec.specs.declared.gate.GateCall.{GateCall}
-use Rattle.saa_core_spec.specs.declared.gate.GateCall.TheVariants.{State as AskState, Reset, Permit, Open as DoOpen, Seal}
+use Rattle.saa_core_spec.specs.declared.gate.GateCall.TheVariants.{State as AskState, Reset, Permit, PermitMany, Open as DoOpen, Seal}
 use Rattle.saa_core_spec.specs.declared.gate.GateAnswer.{GateAnswer}
 use Rattle.saa_core_spec.specs.declared.gate.GateAnswer.TheVariants.{State as SaysState, Reset as SaysReset, Answered as SaysAnswered, Moved}
 use Rattle.saa_core_spec.specs.declared.barrier.BarrierCall.{BarrierCall}
@@ -367,7 +367,7 @@ pub a_grant_before_the_shut_is_a_grant : SemaphoreTells 63 usual_room (
 unfolding settled
 a_grant_before_the_shut_is_a_grant = refl
 
--- The answer of a shut semaphore needs no slot, but who waited keeps its own until it is told.
+-- The answer of a shut semaphore needs no slot, but a waiter keeps its own until it is told.
 pub a_shut_semaphore_is_never_full : SemaphoreTells 63 1 (
     (Call (TryAcquireMany 63), says true)
     ∷ (reg 1 1, stands)
@@ -535,6 +535,37 @@ pub giving_up_at_a_gate_wakes_the_others : GateTells usual_room (
     ∷ [])
 unfolding settled
 giving_up_at_a_gate_wakes_the_others = refl
+
+-- A waiter that leaves quietly disturbs nobody: the other waits on, and is let in by the next permit.
+pub leaving_a_gate_quietly_disturbs_nobody : GateTells usual_room (
+    (reg 1 tt, stands)
+    ∷ (reg 2 tt, stands)
+    ∷ (Leave 1, Dropped)
+    ∷ (TryPoll 1, Polled (Err GateNotRegistered))
+    ∷ (TryPoll 2, Polled (Err GateNotReady))
+    ∷ (Call Permit, Answered (SaysAnswered (Ok 1)))
+    ∷ (TryPoll 2, Polled (Ok Controlled))
+    ∷ [])
+unfolding settled
+leaving_a_gate_quietly_disturbs_nobody = refl
+
+-- The oldest are let in, as many as are asked for; all where fewer wait. A gate that isn't controlled lets nobody in so.
+pub a_gate_lets_its_oldest_in : GateTells usual_room (
+    (reg 1 tt, stands)
+    ∷ (reg 2 tt, stands)
+    ∷ (reg 3 tt, stands)
+    ∷ (Call (PermitMany 2), Answered (SaysAnswered (Ok 2)))
+    ∷ (TryPoll 3, Polled (Err GateNotReady))
+    ∷ (TryPoll 1, Polled (Ok Controlled))
+    ∷ (TryPoll 2, Polled (Ok Controlled))
+    ∷ (Call (PermitMany 0), Answered (SaysAnswered (Ok 0)))
+    ∷ (Call (PermitMany 2), Answered (SaysAnswered (Ok 1)))
+    ∷ (TryPoll 3, Polled (Ok Controlled))
+    ∷ (Call Seal, Answered (Moved Controlled 0))
+    ∷ (Call (PermitMany 1), Answered (SaysAnswered (Err Sealed)))
+    ∷ [])
+unfolding settled
+a_gate_lets_its_oldest_in = refl
 
 -- A poll in the wrong mode leaves an answer that is there: the pager stays registered, which its next poll shows by
 -- having the answer. After that it is idle.

@@ -18,7 +18,7 @@ use Rattle.saa_core_laws.specs.Laws.{IsSemaphoreInOrder, IsSemaphoreWith}
 use Rattle.saa_core_laws.proofs.Fronts.{StandsSettled-from_front}
 use Rattle.saa_core_laws.proofs.Kept.{IsInOrder-kept, IsKept-newly_made, IsKept-held, IsKept-all_answered}
 use Rattle.saa_core_laws.proofs.Commands.{IsRight, KeepsRight, IsRight-state_after}
-use Rattle.saa_core_laws.proofs.Grants.{Grants, KeepsFine, nobody-fits, IsRight-given_back, IsRight-tried, IsRightAnswer-answered, Grants-waits, IsRight-left_of, IsRight-undone_of}
+use Rattle.saa_core_laws.proofs.Grants.{Grants, KeepsFine, nobody-fits, IsRight-given_back, IsRight-tried, IsRightAnswer-answered, Grants-waits, IsRight-left_of, IsRight-quietly_left_of, IsRight-undone_of}
 
 -- a semaphore with this bound and no more permits out, shut or not
 abbrev pub IsFineSemaphore : ℕ → Held → Type 0
@@ -125,6 +125,8 @@ KeepsRight-semaphore most names = record {
       (fits-not_too_much most ask s.held right.kind.fine not_too_much) right.kind;
   leaves = λ s name right kept.
       IsRight-left_of (IsFineSemaphore most) (OfSemaphore most 0) names (KeepsFine-semaphore most) s s.held name right.kind.fine right kept;
+  quiet = λ s name right kept.
+      IsRight-quietly_left_of (IsFineSemaphore most) (OfSemaphore most 0) names (KeepsFine-semaphore most) s s.held name right.kind.fine right kept;
   undoes = λ s asked right.
       IsRight-undone_of (IsFineSemaphore most) (OfSemaphore most 0) names (KeepsFine-semaphore most) s s.held asked right;
 }

@@ -1,5 +1,5 @@
 -- A semaphore or a lock that stands settled stays so under every command, whatever its line and book are.
-use Rattle.std.proofs.Common.{◌≡◌, ℕ, Bool, true, false, eqb, List, [], ◌∷◌, ◌++◌, Option, Some, None, refl, sym, ap, ◌∙◌, inl, inr}
+use Rattle.std.proofs.Common.{◌≡◌, ℕ, Bool, true, false, eqb, List, [], ◌∷◌, ◌++◌, Option, Some, None, refl, sym, ap, ◌∙◌, inl, inr, subst}
 use Rattle.std.proofs.lemmas.Bool.{cases_Bool, and_parts}
 use Rattle.std.proofs.lemmas.Option.{cond_some}
 use Rattle.std.specs.Prelude.{Result}
@@ -8,7 +8,7 @@ use Rattle.saa_core_spec.specs.declared.polling.How.{How}
 use Rattle.saa_core_spec.specs.declared.polling.How.TheVariants.{Try, Sync, Async}
 use Rattle.saa_core_spec.specs.declared.polling.Error.{Error}
 use Rattle.saa_core_spec.specs.declared.run.CommandOf.{CommandOf}
-use Rattle.saa_core_spec.specs.declared.run.CommandOf.TheVariants.{Call, Register, TryPoll, PollSync, PollAsync, Drop}
+use Rattle.saa_core_spec.specs.declared.run.CommandOf.TheVariants.{Call, Register, TryPoll, PollSync, PollAsync, Drop, Leave}
 use Rattle.saa_core_spec.specs.Held.{Held, OfSemaphore, OfShutSemaphore, OfLock, OfGate, OfBarrier, Free, Exclusive, Shared, Poisoned, fits, plus, less, refuses_all}
 use Rattle.saa_core_spec.specs.Object.{Object, After, Entry, Idle, Waiting, Answered, Waiter, with_entry, entry_at, without}
 use Rattle.saa_core_spec.specs.Settling.{fitting_front, settled}
@@ -18,6 +18,7 @@ use Rattle.saa_core_spec.specs.Values.{granted_value, closed_value, poisoned_val
 use Rattle.saa_core_spec.specs.Run.{done, state_after}
 use Rattle.saa_core_spec.proofs.FittingFronts.{fitting_front-settled}
 use Rattle.saa_core_spec.proofs.Refusing.{less-refusing, plus_all-refusing}
+use Rattle.saa_core_spec.proofs.Leaving.{withdrawn-dropped}
 use Rattle.saa_core_laws.proofs.Commands.{cond_none}
 use Rattle.saa_core_laws.proofs.Grants.{KeepsFine, fitting_front-joined, is_nobody-empty, fine-settled}
 
@@ -187,6 +188,9 @@ module _ (IsFine : Held → Type 0) (keeps : KeepsFine IsFine) where
     Stands-done (PollSync name) s stands = Stands-polled_of IsFine s name Sync (entry_at s.book name) stands
     Stands-done (PollAsync name) s stands = Stands-polled_of IsFine s name Async (entry_at s.book name) stands
     Stands-done (Drop name) s stands = Stands-dropped_of s name (entry_at s.book name) stands
+    Stands-done (Leave name) s stands =
+        rw (withdrawn-dropped s name (entry_at s.book name) (λ gate is. keeps.no_gate gate (subst IsFine is stands.fine)))
+        (Stands-dropped_of s name (entry_at s.book name) stands)
 
     -- every list of commands
     pub Stands-run : (commands : List (CommandOf C Ask)) (s : Object) → Stands IsFine s.held s.line

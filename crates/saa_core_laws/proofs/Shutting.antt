@@ -10,12 +10,12 @@ use Rattle.saa_core_spec.specs.declared.polling.How.TheVariants.{Try, Sync, Asyn
 use Rattle.saa_core_spec.specs.declared.semaphore.SemaphoreCall.{SemaphoreCall}
 use Rattle.saa_core_spec.specs.declared.semaphore.SemaphoreCall.TheVariants.{TryAcquireMany, ReleaseMany, AvailablePermits, IsOpen, IsClosed, Shut, IsShut}
 use Rattle.saa_core_spec.specs.declared.run.CommandOf.{CommandOf}
-use Rattle.saa_core_spec.specs.declared.run.CommandOf.TheVariants.{Call, Register, TryPoll, PollSync, PollAsync, Drop}
+use Rattle.saa_core_spec.specs.declared.run.CommandOf.TheVariants.{Call, Register, TryPoll, PollSync, PollAsync, Drop, Leave}
 use Rattle.saa_core_spec.specs.Held.{Held, OfSemaphore, OfShutSemaphore, OfLock, OfGate, OfBarrier, fits, plus, less, asks_too_much}
 use Rattle.saa_core_spec.specs.Object.{Object, After, Entry, Idle, Waiting, Answered, Waiter, entry_at, with_entry, used, is_nobody, without}
 use Rattle.saa_core_spec.specs.Settling.{fitting_front, plus_all, answered_entry, settled}
 use Rattle.saa_core_spec.specs.Asking.{is_idle, is_granted_at_once, tried, answer_in, answer_at_once, registered_of, registered}
-use Rattle.saa_core_spec.specs.Polling.{is_right_mode, polled_in, polled_of, is_for_nothing, given_back_of, given_back, left_of, undone_of, dropped_of}
+use Rattle.saa_core_spec.specs.Polling.{is_right_mode, polled_in, polled_of, is_for_nothing, given_back_of, given_back, left_of, quietly_left_of, undone_of, dropped_of, withdrawn_of}
 use Rattle.saa_core_spec.specs.Values.{semaphore_value, granted_value, closed_value}
 use Rattle.saa_core_spec.specs.Semaphore.{semaphore_step, new_semaphore, bound_of, out_of, is_shut, shut_of}
 use Rattle.saa_core_spec.specs.Run.{IsWithin, done, state_after}
@@ -166,6 +166,20 @@ is_shut-dropped_of s name (Answered value request is_sync slotted) shut = elim (
   | inr e ↦ rw e shut
 ]
 
+pub is_shut-quietly_left_of : (s : Object) (held : Held) → is_shut s.held ≡ true → is_shut (quietly_left_of s held).held ≡ true
+is_shut-quietly_left_of s (OfSemaphore bound out) shut = is_shut-left_of s (OfSemaphore bound out) shut
+is_shut-quietly_left_of s (OfShutSemaphore bound out) shut = is_shut-left_of s (OfShutSemaphore bound out) shut
+is_shut-quietly_left_of s (OfLock lock) shut = is_shut-left_of s (OfLock lock) shut
+is_shut-quietly_left_of s (OfGate gate) shut = shut
+is_shut-quietly_left_of s (OfBarrier size) shut = shut
+
+pub is_shut-withdrawn_of : (s : Object) (name : ℕ) (entry : Entry) → is_shut s.held ≡ true → is_shut (withdrawn_of s name entry).held ≡ true
+is_shut-withdrawn_of s name Idle shut = shut
+is_shut-withdrawn_of s name (Waiting request is_sync) shut =
+    is_shut-quietly_left_of (record (with_entry s name Idle) { line = without name s.line }) s.held shut
+is_shut-withdrawn_of s name (Answered value request is_sync slotted) shut =
+    is_shut-dropped_of s name (Answered value request is_sync slotted) shut
+
 -- a shut of what is shut changes nothing
 pub is_shut-shut_of : (s : Object) (held : Held) → is_shut s.held ≡ true → is_shut (shut_of s held).state.held ≡ true
 is_shut-shut_of s (OfSemaphore bound out) shut = refl
@@ -189,6 +203,7 @@ is_shut-done (TryPoll name) s shut = is_shut-polled_of s name Try (entry_at s.bo
 is_shut-done (PollSync name) s shut = is_shut-polled_of s name Sync (entry_at s.book name) shut
 is_shut-done (PollAsync name) s shut = is_shut-polled_of s name Async (entry_at s.book name) shut
 is_shut-done (Drop name) s shut = is_shut-dropped_of s name (entry_at s.book name) shut
+is_shut-done (Leave name) s shut = is_shut-withdrawn_of s name (entry_at s.book name) shut
 
 -- and no list of them
 pub is_shut-run : (commands : List (CommandOf SemaphoreCall ℕ)) (s : Object) → is_shut s.held ≡ true
@@ -238,7 +253,7 @@ pub others-shut : (s : Object) (name : ℕ) → is_waiting (entry_at s.book name
     → entry_at (semaphore_step Shut s).state.book name ≡ entry_at s.book name
 others-shut s name still = others-shut_of s s.held name still
 
--- who waits is
+-- a waiter is
 pub waiters-shut_of : (most names : ℕ) (s : Object) (held : Held) (name : ℕ) (request : Request) (is_sync : Bool) → IsFineSemaphore most held
     → IsKept names s → (is_shut held ≡ true → is_waiting (entry_at s.book name) ≡ false)
     → entry_at s.book name ≡ Waiting request is_sync

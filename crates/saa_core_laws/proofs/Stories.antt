@@ -19,7 +19,7 @@ use Rattle.saa_core_spec.specs.declared.gate.GateAnswer.{GateAnswer}
 use Rattle.saa_core_spec.specs.declared.barrier.BarrierCall.{BarrierCall}
 use Rattle.saa_core_spec.specs.declared.barrier.BarrierAnswer.{BarrierAnswer}
 use Rattle.saa_core_spec.specs.declared.run.CommandOf.{CommandOf}
-use Rattle.saa_core_spec.specs.declared.run.CommandOf.TheVariants.{Call, Register, TryPoll, PollSync, PollAsync, Drop}
+use Rattle.saa_core_spec.specs.declared.run.CommandOf.TheVariants.{Call, Register, TryPoll, PollSync, PollAsync, Drop, Leave}
 use Rattle.saa_core_spec.specs.Object.{Object, After, Entry, Idle, Waiting, Answered, entry_at, newly_made}
 use Rattle.saa_core_spec.specs.Asking.{is_idle, answer_at_once, registered_of}
 use Rattle.saa_core_spec.specs.declared.gate.State.{State}
@@ -34,7 +34,7 @@ use Rattle.saa_core_laws.specs.Registrations.{as_kept, registers, value_polled, 
 use Rattle.saa_core_laws.proofs.Order.{set_past}
 use Rattle.saa_core_laws.proofs.Kept.{entry_at-replicate}
 use Rattle.saa_core_laws.proofs.Books.{KeepsBook, KeepsBook-same, KeepsBook-answered, KeepsBook-semaphore_step, KeepsBook-lock_step, KeepsBook-gate_step, KeepsBook-barrier_step}
-use Rattle.saa_core_laws.proofs.Reading.{ReadsStep, ReadsStep-kept, ReadsStep-polled, ReadsStep-registered, ReadsStep-dropped}
+use Rattle.saa_core_laws.proofs.Reading.{ReadsStep, ReadsStep-kept, ReadsStep-polled, ReadsStep-registered, ReadsStep-dropped, ReadsStep-withdrawn}
 
 -- a registration of a name that isn't there, by its four cases, keeps the book
 pub KeepsBook-registered_past : (s : Object) (other : ℕ) (request : Request) (is_sync is_refused : Bool) (answer : Option (After ℕ)) (is_full : Bool)
@@ -69,6 +69,7 @@ module _ {C K A : Type 0} (request : K → Request) (step : C → Object → Aft
   ReadsStep-done name (PollSync other) s within = ReadsStep-polled name other s Sync
   ReadsStep-done name (PollAsync other) s within = ReadsStep-polled name other s Async
   ReadsStep-done name (Drop other) s within = ReadsStep-dropped name other s
+  ReadsStep-done name (Leave other) s within = ReadsStep-withdrawn name other s
 
   -- the value that is polled was there, of whatever names a command speaks
   pub told-done : (s : Object) (command : CommandOf C K) (name value : ℕ)
@@ -80,6 +81,7 @@ module _ {C K A : Type 0} (request : K → Request) (step : C → Object → Aft
   told-done s (PollSync other) name value e = (ReadsStep-polled name other s Sync).told value e
   told-done s (PollAsync other) name value e = (ReadsStep-polled name other s Async).told value e
   told-done s (Drop other) name value e = cc
+  told-done s (Leave other) name value e = cc
 
   -- an answer that is there stays, of whatever names a command speaks
   pub kept-done : (s : Object) (command : CommandOf C K) (name : ℕ) → is_answered (entry_at s.book name) ≡ true
@@ -94,6 +96,7 @@ module _ {C K A : Type 0} (request : K → Request) (step : C → Object → Aft
   kept-done s (PollSync other) name there none still = (ReadsStep-polled name other s Sync).kept there none refl
   kept-done s (PollAsync other) name there none still = (ReadsStep-polled name other s Async).kept there none refl
   kept-done s (Drop other) name there none still = (ReadsStep-dropped name other s).kept there refl still
+  kept-done s (Leave other) name there none still = (ReadsStep-withdrawn name other s).kept there refl still
 
   -- a run says which names stand, from what stood before it
   pub reads-run : (names name : ℕ) (commands : List (CommandOf C K)) (s : Object) (stood : Bool) → length s.book ≡ names
@@ -146,6 +149,7 @@ module _ {C K A : Type 0} (request : K → Request) (step : C → Object → Aft
     same_state s (PollSync name) = refl
     same_state s (PollAsync name) = refl
     same_state s (Drop name) = refl
+    same_state s (Leave name) = refl
 
     -- and its reply is the one that is read
     pub same_reply : (s : Object) (command : CommandOf C K)
@@ -156,6 +160,7 @@ module _ {C K A : Type 0} (request : K → Request) (step : C → Object → Aft
     same_reply s (PollSync name) = refl
     same_reply s (PollAsync name) = refl
     same_reply s (Drop name) = refl
+    same_reply s (Leave name) = refl
 
     -- so all objects of a run are the same
     pub same_states-run : (s : Object) (commands : List (CommandOf C K)) → state_after request step value commands s ≡ state_after request step as_kept commands s

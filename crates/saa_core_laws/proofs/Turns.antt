@@ -1,5 +1,5 @@
 -- A semaphore and a lock answer the waiters in the order of the line.
-use Rattle.std.proofs.Common.{◌≡◌, ℕ, zero, suc, ◌<◌, ◌≤◌, Bool, true, false, eqb, ◌⊎◌, inl, inr, List, [], ◌∷◌, ◌++◌, drop, Option, Some, None, slice_get, refl, sym, ap, ◌∙◌, arith}
+use Rattle.std.proofs.Common.{◌≡◌, ℕ, zero, suc, ◌<◌, ◌≤◌, Bool, true, false, eqb, ◌⊎◌, inl, inr, List, [], ◌∷◌, ◌++◌, drop, Option, Some, None, slice_get, refl, sym, ap, ◌∙◌, arith, subst}
 use Rattle.std.specs.Prelude.{Result}
 use Rattle.std.proofs.lemmas.Bool.{cases_Bool, cases_eq, eqb-true}
 use Rattle.std.proofs.lemmas.Option.{cond_some}
@@ -12,7 +12,7 @@ use Rattle.saa_core_spec.specs.declared.semaphore.SemaphoreCall.TheVariants.{Try
 use Rattle.saa_core_spec.specs.declared.lock.LockCall.{LockCall}
 use Rattle.saa_core_spec.specs.declared.lock.LockCall.TheVariants.{TryLock, TryShare, ReleaseLock, ReleaseShare, Downgrade, PoisonLock, ClearPoison, IsFree, IsLocked, IsShared, IsPoisoned}
 use Rattle.saa_core_spec.specs.declared.run.CommandOf.{CommandOf}
-use Rattle.saa_core_spec.specs.declared.run.CommandOf.TheVariants.{Call, Register, TryPoll, PollSync, PollAsync, Drop}
+use Rattle.saa_core_spec.specs.declared.run.CommandOf.TheVariants.{Call, Register, TryPoll, PollSync, PollAsync, Drop, Leave}
 use Rattle.saa_core_spec.specs.Held.{Held, OfSemaphore, OfShutSemaphore, OfLock, OfGate, OfBarrier, Free, Exclusive, Shared, Poisoned, plus, less}
 use Rattle.saa_core_spec.specs.Object.{Object, After, Entry, Idle, Waiting, Answered, Waiter, entry_at, with_entry, one_if, times, without}
 use Rattle.saa_core_spec.specs.Settling.{fitting_front, settled}
@@ -23,6 +23,7 @@ use Rattle.saa_core_spec.specs.Semaphore.{semaphore_step, shut_of}
 use Rattle.saa_core_spec.specs.Lock.{lock_step, is_locked, is_poisoned, downgraded_of, poisoned_of, cleared_of}
 use Rattle.saa_core_spec.specs.Run.{done}
 use Rattle.saa_core_spec.proofs.Counts.{times-take_drop, times-without_same, times-without_other, one_if-same}
+use Rattle.saa_core_spec.proofs.Leaving.{withdrawn-dropped}
 use Rattle.saa_core_laws.specs.Laws.{is_waiting}
 use Rattle.saa_core_laws.specs.Registrations.{is_answered}
 use Rattle.saa_core_laws.specs.RunLaws.{AnswersInOrder}
@@ -132,6 +133,15 @@ KeepsTurns-settled before s once same first second stands stays =
       ap (times second) line,
     ))
 
+-- where the oldest leave the line
+pub KeepsTurns-front : (before after : Object) (k : ℕ) → StandOnce before.line → after.line ≡ drop k before.line → KeepsTurns before after
+KeepsTurns-front before after k once same first second stands stays =
+    inl (omega (
+      arith,
+      times-dropped k before.line first second once stands (omega (arith, stays, ap (times first) same)),
+      ap (times second) same,
+    ))
+
 -- the line that settling leaves after a name has left
 pub times-settled : (s : Object) (line : List Waiter) (first second : ℕ) → s.line ≡ line → StandOnce line → StandsBefore line first second
     → 0 < times first (settled s).line → 0 < times second (settled s).line
@@ -145,7 +155,7 @@ times-settled s line first second same once stands stays =
       ap (times second) dropped,
     )
 
--- who isn't in the line isn't in what settling leaves of it
+-- a name that isn't in the line isn't in what settling leaves of it
 pub times-settled_none : (s : Object) (name : ℕ) → times name s.line ≡ 0 → times name (settled s).line ≡ 0
 unfolding settled
 times-settled_none s name none = omega (arith, none, times-take_drop name (fitting_front s.held s.line) s.line)
@@ -253,6 +263,9 @@ module _ (IsFine : Held → Type 0) (keeps : KeepsFine IsFine) where
     KeepsTurns-done (PollSync name) s fine once = KeepsTurns-same s (polled_of s name Sync (entry_at s.book name)).state (line-polled_of s name Sync (entry_at s.book name))
     KeepsTurns-done (PollAsync name) s fine once = KeepsTurns-same s (polled_of s name Async (entry_at s.book name)).state (line-polled_of s name Async (entry_at s.book name))
     KeepsTurns-done (Drop name) s fine once = KeepsTurns-dropped_of s name (entry_at s.book name) fine once
+    KeepsTurns-done (Leave name) s fine once =
+        rw (withdrawn-dropped s name (entry_at s.book name) (λ gate is. keeps.no_gate gate (subst IsFine is fine)))
+        (KeepsTurns-dropped_of s name (entry_at s.book name) fine once)
 
 -- what is answered doesn't wait
 pub answered-still : (entry : Entry) → is_answered entry ≡ true → is_waiting entry ≡ false

@@ -9,7 +9,7 @@ use Rattle.saa_core_spec.specs.declared.semaphore.SemaphoreCall.TheVariants.{Try
 use Rattle.saa_core_spec.specs.declared.semaphore.SemaphoreAnswer.{SemaphoreAnswer}
 use Rattle.saa_core_spec.specs.declared.semaphore.SemaphoreAnswer.TheVariants.{Bool as SaysBool}
 use Rattle.saa_core_spec.specs.declared.run.CommandOf.{CommandOf}
-use Rattle.saa_core_spec.specs.declared.run.CommandOf.TheVariants.{Call, Register, TryPoll, PollSync, PollAsync, Drop}
+use Rattle.saa_core_spec.specs.declared.run.CommandOf.TheVariants.{Call, Register, TryPoll, PollSync, PollAsync, Drop, Leave}
 use Rattle.saa_core_spec.specs.declared.run.ReplyOf.{ReplyOf}
 use Rattle.saa_core_spec.specs.declared.run.ReplyOf.TheVariants.{Answered as Says, Registered, Polled}
 use Rattle.saa_core_spec.specs.Object.{Object, Entry, Idle, Waiting, Answered, entry_at}
@@ -46,7 +46,7 @@ abbrev pub granted_between : (before after : Entry) → ℕ
 granted_between (Waiting request is_sync) (Answered value asked was_sync slotted) = if value == granted_value then permits_of request else 0
 granted_between _ _ = 0
 
--- what all are granted who waited before and are answered with a grant after
+-- what is granted to all waiters that are answered with a grant after
 abbrev pub granted_in_books : (before after : List Entry) → ℕ
 granted_in_books [] after = 0
 granted_in_books (entry ∷ before) [] = 0
@@ -70,6 +70,7 @@ dropped_grant s (Answered value request is_sync slotted) =
 abbrev pub released : Object → CommandOf SemaphoreCall ℕ → ReplyOf SemaphoreAnswer (Result (Unit {0}) Error) → ℕ
 released s (Call (ReleaseMany n)) (Says (SaysBool is_so)) = if is_so then n else 0
 released s (Drop name) reply = dropped_grant s (entry_at s.book name)
+released s (Leave name) reply = dropped_grant s (entry_at s.book name)
 released s _ _ = 0
 
 -- what a step gives back

@@ -5,7 +5,7 @@ use Rattle.saa_core_spec.specs.declared.polling.Error.{Error}
 use Rattle.saa_core_spec.specs.declared.barrier.BarrierCall.{BarrierCall}
 use Rattle.saa_core_spec.specs.declared.barrier.BarrierAnswer.{BarrierAnswer}
 use Rattle.saa_core_spec.specs.declared.run.CommandOf.{CommandOf}
-use Rattle.saa_core_spec.specs.declared.run.CommandOf.TheVariants.{Register, TryPoll, Drop}
+use Rattle.saa_core_spec.specs.declared.run.CommandOf.TheVariants.{Register, TryPoll, Drop, Leave}
 use Rattle.saa_core_spec.specs.declared.run.ReplyOf.{ReplyOf}
 use Rattle.saa_core_spec.specs.declared.run.ReplyOf.TheVariants.{Registered, Polled}
 use Rattle.saa_core_spec.specs.Held.{OfBarrier}
@@ -33,6 +33,7 @@ is_arrival step = arrives step.command step.after.reply
 -- whether a command drops a name that waits in this book
 abbrev pub drops_waiting : {C K : Type 0} → CommandOf C K → List Entry → Bool
 drops_waiting (Drop name) book = is_waiting (entry_at book name)
+drops_waiting (Leave name) book = is_waiting (entry_at book name)
 drops_waiting _ book = false
 
 -- whether an arrival is dropped while it waits

@@ -5,7 +5,7 @@ use Rattle.saa_core_spec.specs.declared.request.Request.{Request}
 use Rattle.saa_core_spec.specs.declared.request.Full.{Full}
 use Rattle.saa_core_spec.specs.declared.polling.Error.{Error}
 use Rattle.saa_core_spec.specs.declared.run.CommandOf.{CommandOf}
-use Rattle.saa_core_spec.specs.declared.run.CommandOf.TheVariants.{Register, TryPoll, PollSync, PollAsync, Drop}
+use Rattle.saa_core_spec.specs.declared.run.CommandOf.TheVariants.{Register, TryPoll, PollSync, PollAsync, Drop, Leave}
 use Rattle.saa_core_spec.specs.declared.run.ReplyOf.{ReplyOf}
 use Rattle.saa_core_spec.specs.declared.run.ReplyOf.TheVariants.{Answered as Says, Registered, Polled, Dropped}
 use Rattle.saa_core_spec.specs.Held.{Held}
@@ -42,6 +42,7 @@ value_polled name _ _ = None
 -- whether a command drops a name
 abbrev pub drops : {C K : Type 0} → ℕ → CommandOf C K → Bool
 drops name (Drop other) = other == name
+drops name (Leave other) = other == name
 drops name _ = false
 
 -- whether there is a value

@@ -3,7 +3,7 @@
 //! They show that the definitions of `specs/` mean what they should. No program needs to call these functions;
 //! what they ensure is proved all the same. [`all`] names each, and `runs::laws` has those of whole runs together.
 
-ghost use Rattle.std.specs.Prelude.{◌≡◌, ℕ, ◌+◌, ◌-◌, ◌/◌, ◌<◌, ◌≤◌, ◌↔◌, Bool, not, ◌||◌, false, List, Result, Ok, All, IsTrue, true, min, sum};
+ghost use Rattle.std.specs.Prelude.{◌≡◌, ℕ, ◌+◌, ◌-◌, ◌/◌, ◌<◌, ◌≤◌, ◌↔◌, Bool, not, ◌||◌, false, List, length, Result, Ok, All, IsTrue, true, min, sum};
 ghost use Rattle.std.specs.List.{count_by, sum_by};
 ghost use Rattle.saa_core_spec.specs.declared.request.Request.{Request};
 ghost use Rattle.saa_core_spec.specs.declared.request.Request.TheVariants.{Permits};
@@ -14,6 +14,7 @@ ghost use Rattle.saa_core_spec.specs.declared.lock.Mode.{Mode};
 ghost use Rattle.saa_core_spec.specs.declared.lock.LockCall.{LockCall};
 ghost use Rattle.saa_core_spec.specs.declared.lock.LockAnswer.{LockAnswer};
 ghost use Rattle.saa_core_spec.specs.declared.gate.GateCall.{GateCall};
+ghost use Rattle.saa_core_spec.specs.declared.gate.GateCall.TheVariants.{Permit, PermitMany};
 ghost use Rattle.saa_core_spec.specs.declared.gate.GateAnswer.{GateAnswer};
 ghost use Rattle.saa_core_spec.specs.declared.barrier.BarrierCall.{BarrierCall};
 ghost use Rattle.saa_core_spec.specs.declared.barrier.BarrierAnswer.{BarrierAnswer};
@@ -21,12 +22,12 @@ ghost use Rattle.saa_core_spec.specs.declared.run.CommandOf.{CommandOf};
 ghost use Rattle.saa_core_spec.specs.declared.run.CommandOf.TheVariants.{Drop};
 ghost use Rattle.saa_core_spec.specs.Held.{Held, LockState, OfSemaphore, OfLock, OfGate, OfBarrier, Free, Poisoned, asks_too_much};
 ghost use Rattle.saa_core_spec.specs.Asking.{is_idle, tried, registered};
-ghost use Rattle.saa_core_spec.specs.Polling.{given_back};
+ghost use Rattle.saa_core_spec.specs.Polling.{given_back, dropped, withdrawn};
 ghost use Rattle.saa_core_spec.specs.declared.gate.State.{State};
 ghost use Rattle.saa_core_spec.specs.declared.gate.State.TheVariants.{Controlled};
 ghost use Rattle.saa_core_spec.specs.declared.gate.Error.{Error as GateError};
 ghost use Rattle.saa_core_spec.specs.declared.polling.Error.{Error};
-ghost use Rattle.saa_core_spec.specs.Object.{Object, Waiter, Idle, Waiting, Answered, entry_at, with_entry, newly_made};
+ghost use Rattle.saa_core_spec.specs.Object.{Object, Waiter, Idle, Waiting, Answered, entry_at, with_entry, newly_made, without};
 ghost use Rattle.saa_core_spec.specs.Settling.{fitting_front, settled};
 ghost use Rattle.saa_core_spec.specs.Values.{semaphore_value, lock_value, gate_value, barrier_value, granted_value, closed_value};
 ghost use Rattle.saa_core_spec.specs.Semaphore.{semaphore_step, new_semaphore, bound_of, out_of, is_shut};
@@ -195,7 +196,7 @@ pub fn permits_conserved()
 
 /// A semaphore is shut for good: with it every waiter is answered Closed, once, and nothing is granted from then on.
 ///
-/// `answered`, `others`: it answers all who wait, after every run, and changes no other entry. `for_good`: no list of commands opens
+/// `answered`, `others`: it answers all waiters, after every run, and changes no other entry. `for_good`: no list of commands opens
 /// it. `refused`, `told`: from then on every try is false and changes nothing, and every registration of an idle name that doesn't
 /// ask for more than there ever is has its answer at once, takes no slot and changes nothing else. `given_back`: what is out
 /// comes back as ever. That nobody waits there is [`nobody_waits_for_nothing`]'s.
@@ -220,6 +221,35 @@ pub fn shutting()
     ensures given_back { (s : Object) (n : ℕ)
         → is_shut s.held ≡ true → n ≤ out_of s.held
         → ((given_back s (Permits n)).reply ≡ true) × (out_of (given_back s (Permits n)).state.held + n ≡ out_of s.held) }
+{}
+
+/// A name that leaves quietly is idle, and disturbs nobody: a gate isn't told of it as it is of a drop.
+///
+/// `elsewhere`: where what is held is no gate, it is a drop. `idle`, `others`, `line`: at a gate its own entry is idle, every other
+/// entry stays as it was, and in the line all others stay where they are.
+pub fn quiet_leaves()
+    ensures elsewhere { (s : Object) (name : ℕ)
+        → ((gate : State) → ¬ (s.held ≡ OfGate gate)) → withdrawn s name ≡ dropped s name }
+    ensures idle { (s : Object) (gate : State) (name : ℕ)
+        → s.held ≡ OfGate gate → entry_at (withdrawn s name).book name ≡ Idle }
+    ensures others { (s : Object) (gate : State) (name other : ℕ)
+        → s.held ≡ OfGate gate → ¬ (other ≡ name)
+        → entry_at (withdrawn s name).book other ≡ entry_at s.book other }
+    ensures line { (s : Object) (gate : State) (name : ℕ) (request : Request) (is_sync : Bool)
+        → s.held ≡ OfGate gate → entry_at s.book name ≡ Waiting request is_sync
+        → (withdrawn s name).line ≡ without name s.line }
+{}
+
+/// A gate lets its oldest waiters in: as many as are asked for, and all where no more wait.
+///
+/// After every run nobody is let in while an older one still waits.
+pub fn permits()
+    ensures all { (s : Object) (n : ℕ)
+        → length s.line ≤ n → gate_step (PermitMany n) s ≡ gate_step Permit s }
+    ensures in_order { (room names n : ℕ) (commands : List (CommandOf GateCall (Unit {0})))
+        → All (IsWithin names) commands
+        → let s = state_after enter_request gate_step gate_value commands (new_gate room names) in
+        AnswersInOrder s (gate_step (PermitMany n) s).state }
 {}
 
 /// A barrier of size `N` has named as many leaders as full rounds of `N` arrivals, not counting arrivals that were dropped
@@ -280,6 +310,8 @@ pub fn all()
     answers_once();
     permits_conserved();
     shutting();
+    quiet_leaves();
+    permits();
     leaders();
     false_registrations();
 }

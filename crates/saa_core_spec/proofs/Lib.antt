@@ -1,3 +1,4 @@
 pub mod Counts
 pub mod FittingFronts
 pub mod Refusing
+pub mod Leaving

@@ -87,6 +87,26 @@ dropped_of s name (Answered value request is_sync slotted) =
 abbrev pub dropped : Object → ℕ → Object
 dropped s name = dropped_of s name (entry_at s.book name)
 
+-- a name that waited has left, and nobody is disturbed by it: at a gate all others wait on. Elsewhere it is as after a drop
+abbrev pub quietly_left_of : Object → Held → Object
+quietly_left_of s (OfSemaphore bound out) = left_of s (OfSemaphore bound out)
+quietly_left_of s (OfShutSemaphore bound out) = left_of s (OfShutSemaphore bound out)
+quietly_left_of s (OfLock lock) = left_of s (OfLock lock)
+quietly_left_of s (OfGate gate) = s
+quietly_left_of s (OfBarrier size) = left_of s (OfBarrier size)
+
+-- Withdrawing what a name is registered for: dropping it, but for the others at a gate, which aren't told that a waiter
+-- left. It is idle afterwards in every case
+abbrev pub withdrawn_of : Object → ℕ → Entry → Object
+withdrawn_of s name Idle = s
+withdrawn_of s name (Waiting request is_sync) =
+    quietly_left_of (record (with_entry s name Idle) { line = without name s.line }) s.held
+withdrawn_of s name (Answered value request is_sync slotted) =
+    dropped_of s name (Answered value request is_sync slotted)
+
+abbrev pub withdrawn : Object → ℕ → Object
+withdrawn s name = withdrawn_of s name (entry_at s.book name)
+
 -- a poll whose answer is read as a primitive reads it
 abbrev pub read_as : {V : Type 0} → (Result ℕ Error → V) → After (Result ℕ Error) → After V
 read_as value after = record { state = after.state; reply = value after.reply }

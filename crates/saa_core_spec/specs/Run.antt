@@ -6,12 +6,12 @@ use Rattle.saa_core_spec.specs.declared.polling.How.TheVariants.{Try, Sync, Asyn
 use Rattle.saa_core_spec.specs.declared.polling.Error.{Error}
 use Rattle.saa_core_spec.specs.declared.request.Full.{Full}
 use Rattle.saa_core_spec.specs.declared.run.CommandOf.{CommandOf}
-use Rattle.saa_core_spec.specs.declared.run.CommandOf.TheVariants.{Call, Register, TryPoll, PollSync, PollAsync, Drop}
+use Rattle.saa_core_spec.specs.declared.run.CommandOf.TheVariants.{Call, Register, TryPoll, PollSync, PollAsync, Drop, Leave}
 use Rattle.saa_core_spec.specs.declared.run.ReplyOf.{ReplyOf}
 use Rattle.saa_core_spec.specs.declared.run.ReplyOf.TheVariants.{Answered, Registered, Polled, Dropped}
 use Rattle.saa_core_spec.specs.Object.{Object, After}
 use Rattle.saa_core_spec.specs.Asking.{registered}
-use Rattle.saa_core_spec.specs.Polling.{polled, dropped}
+use Rattle.saa_core_spec.specs.Polling.{polled, dropped, withdrawn}
 
 -- whether a command speaks of no name but the first so many
 abbrev pub IsWithin : {C K : Type 0} → ℕ → CommandOf C K → Type 0
@@ -21,6 +21,7 @@ IsWithin names (TryPoll name) = name < names
 IsWithin names (PollSync name) = name < names
 IsWithin names (PollAsync name) = name < names
 IsWithin names (Drop name) = name < names
+IsWithin names (Leave name) = name < names
 
 -- a call, a registration, a poll and a drop as commands
 abbrev pub after_call : {A V : Type 0} → After A → After (ReplyOf A V)
@@ -40,6 +41,7 @@ done request step value (TryPoll name) s = after_poll value (polled s name Try)
 done request step value (PollSync name) s = after_poll value (polled s name Sync)
 done request step value (PollAsync name) s = after_poll value (polled s name Async)
 done request step value (Drop name) s = record { state = dropped s name; reply = Dropped }
+done request step value (Leave name) s = record { state = withdrawn s name; reply = Dropped }
 
 -- the replies to a list of commands, in order
 abbrev pub replies : {C K A V : Type 0} → (K → Request) → (C → Object → After A) → (Result ℕ Error → V) → List (CommandOf C K) → Object → List (ReplyOf A V)

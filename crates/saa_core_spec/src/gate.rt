@@ -56,6 +56,8 @@ pub enum GateCall {
     Reset,
     /// Lets all waiters of a controlled gate pass.
     Permit,
+    /// Lets so many waiters of a controlled gate pass, the oldest first.
+    PermitMany(usize),
     /// Rejects all waiters of a controlled gate.
     Reject,
     /// Opens the gate, and lets all waiters pass.
@@ -71,7 +73,7 @@ pub enum GateAnswer {
     State(State),
     /// Of `Reset`: the state before, where it wasn't controlled.
     Reset(Option<State>),
-    /// Of `Permit` and `Reject`: how many were answered, or the state that isn't controlled.
+    /// Of `Permit`, `PermitMany` and `Reject`: how many were answered, or the state that isn't controlled.
     Answered(Result<usize, State>),
     /// Of `Open` and `Seal`: the state before, and how many were answered.
     Moved(State, usize),

@@ -19,6 +19,8 @@ pub enum CommandOf<C, K> {
     PollAsync(u16),
     /// Drops what a pager is registered for; the pager is idle afterwards and can be used again.
     Drop(u16),
+    /// Drops what a pager is registered for and disturbs nobody: at a gate the others wait on, and elsewhere it is `Drop`.
+    Leave(u16),
 }
 
 /// The reply to a command, over the answers `A` of calls and the values `V` of polls.
@@ -30,6 +32,6 @@ pub enum ReplyOf<A, V> {
     Registered(Result<bool, Full>),
     /// To a poll.
     Polled(V),
-    /// To `Drop`.
+    /// To `Drop` and `Leave`.
     Dropped,
 }

@@ -42,8 +42,8 @@ pub trait AnswerReader {
 ///
 /// Its output is what its answer reads as, or `Full` where it would have to wait and there is no slot for one more waiter. While the answer isn't there
 /// it stays pending, and its task is woken once it is; of several tasks that polled it the last is woken. A poll after
-/// the end asks to be polled again, and changes nothing. Dropping it drops what it is registered for, as a pager's drop
-/// does: a waiter leaves the queue, and what was granted and not told yet is given back. Contracts see the form, what is pending there, and the source that its task
+/// the end asks to be polled again, and changes nothing. Dropping it drops what it is registered for: a waiter leaves the queue, and
+/// disturbs nobody by it, and what was granted and not told yet is given back. Contracts see the form, what is pending there, and the source that its task
 /// waits for; its output is one that the form says of that (`gives`).
 pub struct Acquiring<'s, S: Pends, Q> {
     form: &'s S,

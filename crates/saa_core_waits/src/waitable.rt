@@ -200,7 +200,7 @@ pub trait Pends: Waitable {
         ensures kept { Keeps cx.old cx.new }
         ensures admitted { Self.admits self.now registration.new };
 
-    /// Drops what is pending: what it is registered for is cancelled, as by [`Waitable::cancel_registration`].
+    /// Drops what is pending: a waiter leaves the queue and disturbs nobody by it, and what was granted and not told yet is given back.
     fn give_up(&self, pending: &mut Self::Pending)
         requires { admits_pending self.now pending.old }
         ensures left { is_registered pending.new ≡ false }

@@ -168,7 +168,7 @@ chain-newer words older (waiter ∷ next ∷ rest) newer place h stands =
           ]
     ]
 
--- who isn't in a line, and isn't its newer end, isn't the first of it
+-- a place that isn't in a line, and isn't its newer end, isn't the first of it
 first_link-apart : (place newer : ℕ) (line : List Waiter) → times place line ≡ 0 → (place + 1 ≡ newer → ⊥) → place + 1 ≡ first_link line newer → ⊥
 first_link-apart place newer [] absent apart is = apart is
 first_link-apart place newer (waiter ∷ rest) absent apart is =

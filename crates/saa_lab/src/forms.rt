@@ -49,6 +49,7 @@ pub enum Asks {
     State,
     Reset,
     Permit,
+    PermitMany,
     Reject,
     Open,
     Seal,
@@ -59,6 +60,7 @@ pub enum Asks {
     PollAsync,
     Registered,
     Drop,
+    Leave,
     Poll,
     Cancel,
 }
@@ -101,7 +103,7 @@ impl Shape {
 pub type Form = (&'static str, Asks, Shape);
 
 /// The lines of a script about a semaphore.
-pub static OF_A_SEMAPHORE: [Form; 13] = [
+pub static OF_A_SEMAPHORE: [Form; 14] = [
     ("try", Asks::Try, Shape::Counted),
     ("release", Asks::Release, Shape::Counted),
     ("available", Asks::Available, Shape::Alone),
@@ -115,10 +117,11 @@ pub static OF_A_SEMAPHORE: [Form; 13] = [
     ("poll_async", Asks::PollAsync, Shape::OfPager),
     ("registered", Asks::Registered, Shape::OfPager),
     ("drop", Asks::Drop, Shape::OfPager),
+    ("leave", Asks::Leave, Shape::OfPager),
 ];
 
 /// The lines of a script about a lock.
-pub static OF_A_LOCK: [Form; 17] = [
+pub static OF_A_LOCK: [Form; 18] = [
     ("try_lock", Asks::TryLock, Shape::Alone),
     ("try_share", Asks::TryShare, Shape::Alone),
     ("release_lock", Asks::ReleaseLock, Shape::Alone),
@@ -136,13 +139,15 @@ pub static OF_A_LOCK: [Form; 17] = [
     ("poll_async", Asks::PollAsync, Shape::OfPager),
     ("registered", Asks::Registered, Shape::OfPager),
     ("drop", Asks::Drop, Shape::OfPager),
+    ("leave", Asks::Leave, Shape::OfPager),
 ];
 
 /// The lines of a script about a gate.
-pub static OF_A_GATE: [Form; 12] = [
+pub static OF_A_GATE: [Form; 14] = [
     ("state", Asks::State, Shape::Alone),
     ("reset", Asks::Reset, Shape::Alone),
     ("permit", Asks::Permit, Shape::Alone),
+    ("permit_many", Asks::PermitMany, Shape::Counted),
     ("reject", Asks::Reject, Shape::Alone),
     ("open", Asks::Open, Shape::Alone),
     ("seal", Asks::Seal, Shape::Alone),
@@ -152,10 +157,11 @@ pub static OF_A_GATE: [Form; 12] = [
     ("poll_async", Asks::PollAsync, Shape::OfPager),
     ("registered", Asks::Registered, Shape::OfPager),
     ("drop", Asks::Drop, Shape::OfPager),
+    ("leave", Asks::Leave, Shape::OfPager),
 ];
 
 /// The lines of a script about a barrier.
-pub static OF_A_BARRIER: [Form; 7] = [
+pub static OF_A_BARRIER: [Form; 8] = [
     ("count", Asks::Arrivals, Shape::Alone),
     ("reg", Asks::Register, Shape::PagerAlone),
     ("try_poll", Asks::TryPoll, Shape::OfPager),
@@ -163,6 +169,7 @@ pub static OF_A_BARRIER: [Form; 7] = [
     ("poll_async", Asks::PollAsync, Shape::OfPager),
     ("registered", Asks::Registered, Shape::OfPager),
     ("drop", Asks::Drop, Shape::OfPager),
+    ("leave", Asks::Leave, Shape::OfPager),
 ];
 
 /// The calls of a semaphore in words.

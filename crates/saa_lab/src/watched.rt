@@ -1,4 +1,4 @@
-//! A core with a hundred pagers, and what its calls say of who waits: the queue, and who was answered.
+//! A core with a hundred pagers, and what its calls show of the waiters: the queue, and which pagers were answered.
 //!
 //! The replies are the core's, made by the calls that a bench makes. The queue is read off them: a pager that is registered in a slot waits
 //! until the core reports the wake of that slot, or it is dropped.
@@ -65,6 +65,7 @@ impl<P: Spoken> Watched<P> {
                 format!(in alloc; "{is_registered}")
             }
             Asks::Drop => self.cancel(alloc, said.pager),
+            Asks::Leave => self.leave(alloc, said.pager),
             _ => match P::call_of(said.asks, said.count) {
                 Some(call) => P::answer_text(alloc, self.core.call(call)),
                 None => Ok(String::new(alloc)),
@@ -72,7 +73,7 @@ impl<P: Spoken> Watched<P> {
         }
     }
 
-    /// The pagers whose wakes the core reports, in its order; they wait no more.
+    /// The pagers whose wakes the core reports, in its order; they no longer wait.
     pub fn answered(&mut self, alloc: Global) -> Result<Vec<u16>, AllocError> {
         let mut answered = Vec::new(alloc);
         for _slot in 0..PAGERS {
@@ -139,6 +140,14 @@ impl<P: Spoken> Watched<P> {
         self.forget(pager);
         if let Some(ticket) = self.tickets.get_mut(usize::from(pager)) {
             self.core.cancel(ticket);
+        }
+        String::from_str(alloc, "dropped")
+    }
+
+    fn leave(&mut self, alloc: Global, pager: u16) -> Result<String, AllocError> {
+        self.forget(pager);
+        if let Some(ticket) = self.tickets.get_mut(usize::from(pager)) {
+            self.core.leave(ticket);
         }
         String::from_str(alloc, "dropped")
     }

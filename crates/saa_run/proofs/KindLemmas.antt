@@ -9,7 +9,7 @@ use Rattle.saa_core_spec.specs.declared.lock.Mode.TheVariants.{Exclusive, Shared
 use Rattle.saa_core_spec.specs.declared.lock.LockCall.{LockCall}
 use Rattle.saa_core_spec.specs.declared.lock.LockCall.TheVariants.{TryLock, TryShare, ReleaseLock, ReleaseShare, Downgrade, PoisonLock, ClearPoison, IsFree, IsLocked, IsShared, IsPoisoned}
 use Rattle.saa_core_spec.specs.declared.gate.GateCall.{GateCall}
-use Rattle.saa_core_spec.specs.declared.gate.GateCall.TheVariants.{State, Reset, Permit, Reject, Open, Seal}
+use Rattle.saa_core_spec.specs.declared.gate.GateCall.TheVariants.{State, Reset, Permit, PermitMany, Reject, Open, Seal}
 use Rattle.saa_core_spec.specs.declared.barrier.BarrierCall.{BarrierCall}
 use Rattle.saa_core_spec.specs.declared.barrier.BarrierCall.TheVariants.{Count}
 use Rattle.saa_run.specs.declared.script.command.ScriptLine.TheVariants.{Do}
@@ -17,7 +17,7 @@ use Rattle.saa_run.specs.Language.{lone_call_in, counted_call_in, lone_line, cou
 use Rattle.saa_run.specs.Spelling.{AreNumbers}
 use Rattle.saa_run.specs.SemaphoreWords.{semaphore_ask, semaphore_readings, semaphore_call_fields, semaphore_call_numbers, semaphore_spellings}
 use Rattle.saa_run.specs.LockWords.{lock_modes, lock_ask, lock_readings, lock_call_word, lock_mode_word, lock_spellings}
-use Rattle.saa_run.specs.GateWords.{gate_readings, gate_call_word, gate_spellings}
+use Rattle.saa_run.specs.GateWords.{gate_readings, gate_call_fields, gate_call_numbers, gate_spellings}
 use Rattle.saa_run.specs.BarrierWords.{barrier_readings, barrier_call_word, barrier_spellings}
 use Rattle.saa_run.specs.Replies.{no_ask}
 use Rattle.saa_run_text.proofs.FieldLemmas.{number_found, number_said}
@@ -131,30 +131,32 @@ lock_fits = record {
   ask_few = λ mode. omega arith;
 }
 
-gate_call_said : (call : GateCall) → line_in gate_readings (gate_call_word call ∷ []) ≡ Some (Do (Call call))
-unfolding lone_line lone_call_in
-gate_call_said State = refl
-gate_call_said Reset = refl
-gate_call_said Permit = refl
-gate_call_said Reject = refl
-gate_call_said Open = refl
-gate_call_said Seal = refl
+gate_call_said : (call : GateCall) → AreNumbers (gate_call_numbers call) → line_in gate_readings (gate_call_fields call) ≡ Some (Do (Call call))
+unfolding lone_line counted_line pager_line lone_call_in counted_call_in
+gate_call_said State small = refl
+gate_call_said Reset small = refl
+gate_call_said Permit small = refl
+gate_call_said (PermitMany n) small = rw (number_said n small.0) refl
+gate_call_said Reject small = refl
+gate_call_said Open small = refl
+gate_call_said Seal small = refl
 
-gate_call_is_word : (call : GateCall) → IsWord (gate_call_word call)
-gate_call_is_word State = IsWord-literal (codes "state") refl refl
-gate_call_is_word Reset = IsWord-literal (codes "reset") refl refl
-gate_call_is_word Permit = IsWord-literal (codes "permit") refl refl
-gate_call_is_word Reject = IsWord-literal (codes "reject") refl refl
-gate_call_is_word Open = IsWord-literal (codes "open") refl refl
-gate_call_is_word Seal = IsWord-literal (codes "seal") refl refl
+gate_call_words : (call : GateCall) → AreNumbers (gate_call_numbers call) → Words (gate_call_fields call)
+gate_call_words State small = word_alone (codes "state") (IsWord-literal (codes "state") refl refl)
+gate_call_words Reset small = word_alone (codes "reset") (IsWord-literal (codes "reset") refl refl)
+gate_call_words Permit small = word_alone (codes "permit") (IsWord-literal (codes "permit") refl refl)
+gate_call_words (PermitMany n) small = word_and_number (codes "permit_many") n (IsWord-literal (codes "permit_many") refl refl) small.0
+gate_call_words Reject small = word_alone (codes "reject") (IsWord-literal (codes "reject") refl refl)
+gate_call_words Open small = word_alone (codes "open") (IsWord-literal (codes "open") refl refl)
+gate_call_words Seal small = word_alone (codes "seal") (IsWord-literal (codes "seal") refl refl)
 
 pub gate_fits : Fits gate_readings gate_spellings
 gate_fits = record {
   lone_found = ((refl, tt), ((refl, tt), ((refl, tt), ((refl, tt), ((refl, tt), ((refl, tt), tt))))));
-  counted_found = tt;
+  counted_found = (λ n small. (refl, (small, tt)), tt);
   ask_found = no_ask_found;
-  call_said = λ call small. gate_call_said call;
-  call_words = λ call small. word_alone (gate_call_word call) (gate_call_is_word call);
+  call_said = gate_call_said;
+  call_words = gate_call_words;
   ask_said = λ ask small. refl;
   ask_words = λ ask small. tt;
   ask_few = λ ask. omega arith;

@@ -127,7 +127,7 @@ module _ {C K : Type 0} (readings : Readings C K) where
       let pager = option_map-found make.0 (pager_of field) line make.2 in
       subst IsLineWithin pager.2
       (meaning_in-found (λ w m. (p : ℕ) → p < 100 → IsLineWithin (m p)) pager_lines
-      (λ p small. small, (λ p small. small, (λ p small. small, (λ p small. small, (λ p small. small, tt))))) word make.0 make.1 pager.0 (pager_found field pager.0 pager.1).1)
+      (λ p small. small, (λ p small. small, (λ p small. small, (λ p small. small, (λ p small. small, (λ p small. small, tt)))))) word make.0 make.1 pager.0 (pager_found field pager.0 pager.1).1)
 
   registration_within : (word pager : List ℕ) (ask : Option K) (mode : Option Bool) (line : ScriptLine C K) → registration word (pager_of pager) ask mode ≡ Some line → IsLineWithin line
   unfolding registration

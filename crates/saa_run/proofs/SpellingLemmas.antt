@@ -6,7 +6,7 @@ use Rattle.std.specs.Str.{bytes_eq}
 use Rattle.std.specs.List.{AllByRecursion}
 use Rattle.std.proofs.lemmas.Slice.Eq.{bytes_eq-Decides}
 use Rattle.std.proofs.lemmas.Bool.Decides.{nat_tests}
-use Rattle.saa_core_spec.specs.declared.run.CommandOf.TheVariants.{Call, Register, TryPoll, PollSync, PollAsync, Drop}
+use Rattle.saa_core_spec.specs.declared.run.CommandOf.TheVariants.{Call, Register, TryPoll, PollSync, PollAsync, Drop, Leave}
 use Rattle.saa_run.specs.declared.script.command.Bound.{Bound}
 use Rattle.saa_run.specs.declared.script.command.Bound.TheVariants.{One, Thousand, Greatest}
 use Rattle.saa_run.specs.declared.script.command.FirstLine.{FirstLine}
@@ -99,7 +99,7 @@ module _ {C K : Type 0} (readings : Readings C K) (spellings : Spellings C K) (f
       subst (AreFields (word ∷ field ∷ [])) pager.2
       (subst (λ f. AreFields (word ∷ f ∷ []) (make.0 pager.0)) (sym written.0)
       (meaning_in-found (λ w m. (p : ℕ) → p < 100 → AreFields (w ∷ decimal p ∷ []) (m p)) pager_lines
-      (λ p small. (refl, small), (λ p small. (refl, small), (λ p small. (refl, small), (λ p small. (refl, small), (λ p small. (refl, small), tt))))) word make.0 make.1 pager.0 written.1))
+      (λ p small. (refl, small), (λ p small. (refl, small), (λ p small. (refl, small), (λ p small. (refl, small), (λ p small. (refl, small), (λ p small. (refl, small), tt)))))) word make.0 make.1 pager.0 written.1))
 
   -- a registration
   registration_is : (word pager mode : List ℕ) (asked : List (List ℕ)) (line : ScriptLine C K) → registration word (pager_of pager) (readings.ask asked) (mode_of mode) ≡ Some line
@@ -160,6 +160,7 @@ module _ {C K : Type 0} (readings : Readings C K) (spellings : Spellings C K) (f
   fields_said (Do (PollSync p)) small = rw (pager_said p small) refl
   fields_said (Do (PollAsync p)) small = rw (pager_said p small) refl
   fields_said (Do (Drop p)) small = rw (pager_said p small) refl
+  fields_said (Do (Leave p)) small = rw (pager_said p small) refl
   fields_said (Registered p) small = rw (pager_said p small) refl
 
   line_words : (line : ScriptLine C K) → IsLineInRange spellings line → Words (line_fields spellings line)
@@ -176,6 +177,7 @@ module _ {C K : Type 0} (readings : Readings C K) (spellings : Spellings C K) (f
   line_words (Do (PollSync p)) small = pager_words (codes "poll_sync") p (IsWord-literal (codes "poll_sync") refl refl) small
   line_words (Do (PollAsync p)) small = pager_words (codes "poll_async") p (IsWord-literal (codes "poll_async") refl refl) small
   line_words (Do (Drop p)) small = pager_words (codes "drop") p (IsWord-literal (codes "drop") refl refl) small
+  line_words (Do (Leave p)) small = pager_words (codes "leave") p (IsWord-literal (codes "leave") refl refl) small
   line_words (Registered p) small = pager_words (codes "registered") p (IsWord-literal (codes "registered") refl refl) small
 
   -- a good line is a spelling

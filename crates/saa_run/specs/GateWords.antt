@@ -6,7 +6,7 @@ use Rattle.saa_core_spec.specs.declared.gate.State.TheVariants.{Controlled, Seal
 use Rattle.saa_core_spec.specs.declared.gate.Error.{Error}
 use Rattle.saa_core_spec.specs.declared.gate.Error.TheVariants.{Rejected, Sealed as IsSealed, SpuriousFailure, NotRegistered, WrongMode, NotReady}
 use Rattle.saa_core_spec.specs.declared.gate.GateCall.{GateCall}
-use Rattle.saa_core_spec.specs.declared.gate.GateCall.TheVariants.{State as AskState, Reset, Permit, Reject, Open as DoOpen, Seal}
+use Rattle.saa_core_spec.specs.declared.gate.GateCall.TheVariants.{State as AskState, Reset, Permit, PermitMany, Reject, Open as DoOpen, Seal}
 use Rattle.saa_core_spec.specs.declared.gate.GateAnswer.{GateAnswer}
 use Rattle.saa_core_spec.specs.declared.gate.GateAnswer.TheVariants.{State as SaysState, Reset as SaysReset, Answered, Moved}
 use Rattle.saa_core_spec.specs.Object.{Object, After}
@@ -27,24 +27,35 @@ gate_readings = record {
       (codes "reject", Reject) ∷
       (codes "open", DoOpen) ∷
       (codes "seal", Seal) ∷ [];
-  counted = [];
+  counted = (codes "permit_many", PermitMany) ∷ [];
   ask = no_ask;
 }
 
--- the word of a call
-abbrev pub gate_call_word : GateCall → List ℕ
-gate_call_word AskState = codes "state"
-gate_call_word Reset = codes "reset"
-gate_call_word Permit = codes "permit"
-gate_call_word Reject = codes "reject"
-gate_call_word DoOpen = codes "open"
-gate_call_word Seal = codes "seal"
+-- the fields of a call
+abbrev pub gate_call_fields : GateCall → List (List ℕ)
+gate_call_fields AskState = codes "state" ∷ []
+gate_call_fields Reset = codes "reset" ∷ []
+gate_call_fields Permit = codes "permit" ∷ []
+gate_call_fields (PermitMany n) = codes "permit_many" ∷ decimal n ∷ []
+gate_call_fields Reject = codes "reject" ∷ []
+gate_call_fields DoOpen = codes "open" ∷ []
+gate_call_fields Seal = codes "seal" ∷ []
+
+-- the numbers of a call
+abbrev pub gate_call_numbers : GateCall → List ℕ
+gate_call_numbers (PermitMany n) = n ∷ []
+gate_call_numbers AskState = []
+gate_call_numbers Reset = []
+gate_call_numbers Permit = []
+gate_call_numbers Reject = []
+gate_call_numbers DoOpen = []
+gate_call_numbers Seal = []
 
 -- how its lines are spelled
 abbrev pub gate_spellings : Spellings GateCall (Unit {0})
 gate_spellings = record {
-  call_fields = λ call. gate_call_word call ∷ [];
-  call_numbers = λ call. [];
+  call_fields = gate_call_fields;
+  call_numbers = gate_call_numbers;
   ask_fields = λ ask. [];
   ask_numbers = λ ask. [];
 }

@@ -2,7 +2,7 @@
 use Rattle.std.specs.Prelude.{ℕ, Bool, true, false, List, [], ◌∷◌, length, Option, Some, None, nat_lt, if◌then◌else◌, codes, option_and_then}
 use Rattle.std.specs.Option.{option_map, option_map_or}
 use Rattle.std.specs.Str.{bytes_eq}
-use Rattle.saa_core_spec.specs.declared.run.CommandOf.TheVariants.{Call, Register, TryPoll, PollSync, PollAsync, Drop}
+use Rattle.saa_core_spec.specs.declared.run.CommandOf.TheVariants.{Call, Register, TryPoll, PollSync, PollAsync, Drop, Leave}
 use Rattle.saa_run.specs.declared.script.command.Bound.{Bound}
 use Rattle.saa_run.specs.declared.script.command.Bound.TheVariants.{One, Thousand, Greatest}
 use Rattle.saa_run.specs.declared.script.command.FirstLine.{FirstLine}
@@ -53,7 +53,8 @@ pager_lines =
     (codes "poll_sync", λ pager. Do (PollSync pager)) ∷
     (codes "poll_async", λ pager. Do (PollAsync pager)) ∷
     (codes "registered", λ pager. Registered pager) ∷
-    (codes "drop", λ pager. Do (Drop pager)) ∷ []
+    (codes "drop", λ pager. Do (Drop pager)) ∷
+    (codes "leave", λ pager. Do (Leave pager)) ∷ []
 
 -- a call that is one word
 unfoldable pub lone_call_in : {C K : Type 0} → Readings C K → List ℕ → Option C

@@ -1,7 +1,7 @@
 -- How each line of a script is spelled: its fields, joined by single spaces, with numbers in plain decimal.
 use Rattle.std.specs.Prelude.{◌≡◌, ◌<◌, ℕ, Bool, true, false, ◌↔◌, List, [], ◌∷◌, ◌++◌, Some, codes, decimal}
 use Rattle.std.specs.List.{AllByRecursion, join_with_byte}
-use Rattle.saa_core_spec.specs.declared.run.CommandOf.TheVariants.{Call, Register, TryPoll, PollSync, PollAsync, Drop}
+use Rattle.saa_core_spec.specs.declared.run.CommandOf.TheVariants.{Call, Register, TryPoll, PollSync, PollAsync, Drop, Leave}
 use Rattle.saa_run.specs.declared.script.command.FirstLine.{FirstLine}
 use Rattle.saa_run.specs.declared.script.command.FirstLine.TheVariants.{Semaphore, Bounded, Lock, Gate, Barrier}
 use Rattle.saa_run.specs.declared.script.command.ScriptLine.{ScriptLine}
@@ -48,6 +48,7 @@ line_fields spellings (Do (TryPoll p)) = codes "try_poll" ∷ decimal p ∷ []
 line_fields spellings (Do (PollSync p)) = codes "poll_sync" ∷ decimal p ∷ []
 line_fields spellings (Do (PollAsync p)) = codes "poll_async" ∷ decimal p ∷ []
 line_fields spellings (Do (Drop p)) = codes "drop" ∷ decimal p ∷ []
+line_fields spellings (Do (Leave p)) = codes "leave" ∷ decimal p ∷ []
 line_fields spellings (Registered p) = codes "registered" ∷ decimal p ∷ []
 
 -- the numbers of a line are in range
@@ -58,6 +59,7 @@ IsLineInRange spellings (Do (TryPoll p)) = IsPager p
 IsLineInRange spellings (Do (PollSync p)) = IsPager p
 IsLineInRange spellings (Do (PollAsync p)) = IsPager p
 IsLineInRange spellings (Do (Drop p)) = IsPager p
+IsLineInRange spellings (Do (Leave p)) = IsPager p
 IsLineInRange spellings (Registered p) = IsPager p
 
 -- the fields of a first line

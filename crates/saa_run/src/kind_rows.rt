@@ -4,7 +4,7 @@
 use crate::tests::Row;
 
 /// Each story, what is written of it, and the status.
-pub(crate) static KIND_ROWS: [Row; 36] = [
+pub(crate) static KIND_ROWS: [Row; 37] = [
     // A reader, one who only waits and a writer pass in the order of asking, and poison ends a wait:
     // examples/readers_and_a_writer.script.
     Row {
@@ -112,6 +112,12 @@ pub(crate) static KIND_ROWS: [Row; 36] = [
     Row {
         input: "gate 4\nreg 1 sync\nreg 2 sync\ndrop 1\ntry_poll 2\npermit\nopen\npermit\n",
         output: "true\ntrue\ndropped\nspurious\nok 0\ncontrolled 0\nerr open\n",
+        status: 0,
+    },
+    // Who leaves quietly disturbs nobody, and the oldest are let in.
+    Row {
+        input: "gate 4\nreg 1 sync\nreg 2 sync\nreg 3 sync\nreg 4 sync\nleave 1\ntry_poll 2\npermit_many 2\npoll_sync 2\npoll_sync 3\npoll_sync 4\npermit_many 2\npermit_many 2\nseal\npermit_many 1\n",
+        output: "true\ntrue\ntrue\ntrue\ndropped\nnot_ready\nok 2\nok controlled\nok controlled\nnot_ready\nok 1\nok 0\ncontrolled 0\nerr sealed\n",
         status: 0,
     },
     // An answer stays there in the wrong mode.

@@ -41,27 +41,28 @@ static SCRIPTS: [First; 5] = [
 ];
 
 const OF_A_SEMAPHORE: [&str; 4] = [
-    "try_poll|poll_sync|poll_async|registered|drop P",
+    "try_poll|poll_sync|poll_async|registered|drop|leave P",
     "available|is_open|is_closed",
     "try|release N",
     "reg P N sync|async",
 ];
 
 const OF_A_LOCK: [&str; 4] = [
-    "try_poll|poll_sync|poll_async|registered|drop P",
+    "try_poll|poll_sync|poll_async|registered|drop|leave P",
     "try_lock|try_share|release_lock|release_share|downgrade|poison_lock|clear_poison",
     "is_free|is_locked|is_shared|is_poisoned",
     "reg P exclusive|shared|wait_exclusive|wait_shared sync|async",
 ];
 
-const OF_A_GATE: [&str; 3] = [
-    "try_poll|poll_sync|poll_async|registered|drop P",
+const OF_A_GATE: [&str; 4] = [
+    "try_poll|poll_sync|poll_async|registered|drop|leave P",
     "state|permit|reject|open|seal|reset",
+    "permit_many N",
     "reg P sync|async",
 ];
 
 const OF_A_BARRIER: [&str; 3] = [
-    "try_poll|poll_sync|poll_async|registered|drop P",
+    "try_poll|poll_sync|poll_async|registered|drop|leave P",
     "count",
     "reg P sync|async",
 ];

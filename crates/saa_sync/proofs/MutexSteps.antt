@@ -10,7 +10,7 @@ use Rattle.saa_core_spec.specs.Object.{Object, After}
 use Rattle.saa_core_spec.specs.Asking.{registered}
 use Rattle.saa_core_spec.specs.Polling.{polled, read_as}
 use Rattle.saa_core.specs.declared.ticket.Registration.TheVariants.{Unregistered, AtOnce, InSlot}
-use Rattle.saa_core.specs.Tickets.{Core, StepsWithTicket, IsNeverTooMuch, dropping, is_busy, object_of}
+use Rattle.saa_core.specs.Tickets.{Core, StepsWithTicket, IsNeverTooMuch, leaving, is_busy, object_of}
 use Rattle.saa_core.proofs.TicketLemmas.Modes.{registered-or-full}
 use Rattle.saa_core.proofs.TicketLemmas.Follows.{follow, then}
 use Rattle.saa_core_waits.specs.declared.waitable.CallStart.{CallStart}
@@ -32,22 +32,22 @@ begun-polled old mid new t0 t1 t2 request is_registered answer is_true call late
     (then mid new t1 t2 (λ s name. polled s name Sync) (λ s name. read_as begun_poll (polled s name Sync)) answer (begun_poll answer)
     (λ s next name leads. ap (read_as begun_poll) leads) later)
 
--- the drop behind a poll that found no answer
+-- the leave behind a poll that found no answer
 abbrev unanswered : {A : Type 0} → After A → After (Result ℕ Error)
 unanswered after = record { state = after.state; reply = Err NotReady }
 
--- a poll as sync that finds no answer and then a drop are the end of a wait whose time is up
-pub polled-dropped : (old mid new : Core) (t0 t1 t2 : Registration) (answer : Result ℕ Error)
+-- a poll as sync that finds no answer and then a quiet leave are the end of a wait whose time is up
+pub polled-left : (old mid new : Core) (t0 t1 t2 : Registration) (answer : Result ℕ Error)
     → answer ≡ Err NotReady
     → StepsWithTicket old mid t0 t1 (λ s name. polled s name Sync) answer
-    → StepsWithTicket mid new t1 t2 dropping tt
+    → StepsWithTicket mid new t1 t2 leaving tt
     → StepsWithTicket old new t0 t2 concluded answer
-polled-dropped old mid new t0 t1 t2 answer is call later =
+polled-left old mid new t0 t1 t2 answer is call later =
     subst (λ a. StepsWithTicket old new t0 t2 concluded a) (sym is)
-    (follow old mid new t0 t1 t2 (λ s name. polled s name Sync) (λ s name. unanswered (dropping s name)) concluded (Err NotReady) (Err NotReady)
+    (follow old mid new t0 t1 t2 (λ s name. polled s name Sync) (λ s name. unanswered (leaving s name)) concluded (Err NotReady) (Err NotReady)
     (λ s next name leads. ap (concluded_from name) leads)
     (subst (λ a. StepsWithTicket old mid t0 t1 (λ s name. polled s name Sync) a) is call)
-    (then mid new t1 t2 dropping (λ s name. unanswered (dropping s name)) tt (Err NotReady)
+    (then mid new t1 t2 leaving (λ s name. unanswered (leaving s name)) tt (Err NotReady)
     (λ s next name leads. ap unanswered leads) later))
 
 -- a refusal hands its one error on

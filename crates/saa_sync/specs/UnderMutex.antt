@@ -8,7 +8,7 @@ use Rattle.saa_core_spec.specs.declared.polling.How.TheVariants.{Sync}
 use Rattle.saa_core_spec.specs.declared.polling.Error.TheVariants.{Closed, NotReady, NotRegistered, WrongMode}
 use Rattle.saa_core_spec.specs.Asking.{registered}
 use Rattle.saa_core_spec.specs.Object.{Object, After}
-use Rattle.saa_core_spec.specs.Polling.{dropped, polled, read_as}
+use Rattle.saa_core_spec.specs.Polling.{withdrawn, polled, read_as}
 use Rattle.saa_core.specs.declared.ticket.Registration.{Registration}
 use Rattle.saa_core.specs.declared.ticket.Registration.TheVariants.{Unregistered}
 use Rattle.saa_core.specs.Beginning.{mode_of}
@@ -50,10 +50,11 @@ begun_from name after = begun_of name after.state after.reply
 abbrev pub begun : Object → ℕ → Request → After (Result CallStart Full)
 begun s name request = begun_from name (registered s name request true)
 
--- how a wait ends whose time is up, by what a last poll says: where the answer isn't there, what the name is registered for is dropped
+-- how a wait ends whose time is up, by what a last poll says: where the answer isn't there, what the name is registered for is withdrawn,
+-- which disturbs nobody
 abbrev pub concluded_of : ℕ → Object → Result ℕ Error → After (Result ℕ Error)
 concluded_of name s (Ok value) = record { state = s; reply = Ok value }
-concluded_of name s (Err NotReady) = record { state = dropped s name; reply = Err NotReady }
+concluded_of name s (Err NotReady) = record { state = withdrawn s name; reply = Err NotReady }
 concluded_of name s (Err NotRegistered) = record { state = s; reply = Err NotRegistered }
 concluded_of name s (Err WrongMode) = record { state = s; reply = Err WrongMode }
 concluded_of name s (Err Closed) = record { state = s; reply = Err Closed }
@@ -61,7 +62,7 @@ concluded_of name s (Err Closed) = record { state = s; reply = Err Closed }
 abbrev pub concluded_from : ℕ → After (Result ℕ Error) → After (Result ℕ Error)
 concluded_from name after = concluded_of name after.state after.reply
 
--- A wait whose time is up ends with a poll as sync: an answer that is there is consumed, and else the name is dropped
+-- A wait whose time is up ends with a poll as sync: an answer that is there is consumed, and else the name is withdrawn
 abbrev pub concluded : Object → ℕ → After (Result ℕ Error)
 concluded s name = concluded_from name (polled s name Sync)
 
@@ -82,9 +83,9 @@ pub record IsPolled (how : How) (old new : Registration) (answer : Result ℕ Er
   pub polled : Polled old new how (error_of answer)
   pub answered : HasAnswer old answer
 
--- a poll as sync, and a cancel where the answer isn't there yet
-pub record IsPolledOrCancelled (old new : Registration) (answer : Result ℕ Error) : Type 0 where
+-- a poll as sync, and a quiet leave where the answer isn't there yet
+pub record IsPolledOrLeft (old new : Registration) (answer : Result ℕ Error) : Type 0 where
   pub between : Registration
   pub polled : IsPolled Sync old between answer
   pub answered : is_not_ready (error_of answer) ≡ false → new ≡ between
-  pub cancelled : is_not_ready (error_of answer) ≡ true → new ≡ Unregistered
+  pub left : is_not_ready (error_of answer) ≡ true → new ≡ Unregistered

@@ -3,7 +3,7 @@
 //! Each call locks the mutex around the core once, makes one step of it, and wakes what is pending. What the step does is the contract
 //! of the core's method, held to `specs/Gate.antt` of `saa_core_spec`.
 
-ghost use Rattle.std.specs.Prelude.{◌≡◌, ◌||◌, true, false, None, Ok, Some, IfErr, IfOk, IfSome, IsOk};
+ghost use Rattle.std.specs.Prelude.{◌≡◌, ◌≤◌, ◌||◌, true, false, None, Ok, Some, IfErr, IfOk, IfSome, IsOk};
 ghost use Rattle.saa_core_spec.specs.declared.gate.State.TheVariants.{Controlled};
 ghost use Rattle.saa_core_spec.specs.Values.{gate_value};
 ghost use Rattle.saa_core_spec.specs.declared.request.Request.TheVariants.{Enter as AskEnter};
@@ -79,6 +79,22 @@ impl<R: Wait + Drop> Form<R, GateCore> {
         )
     }
 
+    /// Lets so many waiters of a controlled gate pass, the oldest first, wakes exactly those, and answers how many they were: all,
+    /// where fewer wait. All others wait on.
+    ///
+    /// An error says that the gate is sealed or open, and changes nothing. Costs what [`Self::permit`] does.
+    pub fn permit_many(&self, n: usize) -> Result<usize, State>
+        ensures refused { IfErr result (λ state. ¬ (state ≡ Controlled)) }
+        ensures within { IfOk result (λ count. count ≤ n) }
+    {
+        self.step(
+            move |core| -> Result<usize, State>
+                ensures refused { IfErr result (λ state. ¬ (state ≡ Controlled)) }
+                ensures within { IfOk result (λ count. count ≤ n) }
+            { core.permit_many(n) },
+        )
+    }
+
     /// Rejects all waiters of a controlled gate, wakes exactly those, and answers how many they were.
     ///
     /// An error says that the gate is sealed or open, and changes nothing. Costs what [`Self::permit`] does.
@@ -110,7 +126,7 @@ impl<R: Wait + Drop> Form<R, GateCore> {
     ///
     /// `Ok(Ok(state))`: it passed, permitted at a controlled gate or at an open one. `Ok(Err(Rejected))`: all waiters
     /// were rejected. `Ok(Err(Sealed))`: the gate is sealed, or was while this waited. `Ok(Err(SpuriousFailure))`:
-    /// another waiter cancelled, so all others may enter again. No other error comes. `Full`: it would have to
+    /// a pager cancelled, so all others may enter again; a timed call or a future that leaves disturbs nobody. No other error comes. `Full`: it would have to
     /// wait, and as many slots are held as there is room; nothing is changed. Nothing stays registered in any case.
     pub fn enter_sync(&self) -> Result<Result<State, Error>, Full>
         ensures { IfOk result (λ answer. gate_fault answer ≡ None) }

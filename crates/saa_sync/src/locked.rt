@@ -9,7 +9,7 @@ ghost use Rattle.saa_core.specs.Tickets.{StepsWithTicket, is_busy};
 ghost use Rattle.saa_core.specs.Slots.{WakesAnswered, wake_taken};
 ghost use Rattle.saa_core.specs.Beginning.{BeginWakes, alone, mode_of};
 ghost use Rattle.saa_core_waits.specs.Waits.{HasStarted};
-ghost use Rattle.saa_sync.specs.UnderMutex.{IsPolled, IsPolledOrCancelled, IsRegistered, begun, concluded, has_joined, registration_of, slot_woken};
+ghost use Rattle.saa_sync.specs.UnderMutex.{IsPolled, IsPolledOrLeft, IsRegistered, begun, concluded, has_joined, registration_of, slot_woken};
 
 use crate::rest::Spent;
 use crate::wakers::Wakers;
@@ -149,16 +149,16 @@ impl<P: Primitive> Locked<P> {
     }
 
     // Ends the wait of a ticket that was registered as sync: takes the answer if it is there, and else drops what the ticket is
-    // registered for, and says `NotReady`.
-    pub(crate) fn poll_or_cancel(&mut self, ticket: &mut Ticket) -> Result<u8, Error>
+    // registered for, and says `NotReady`. Nobody is told that it left: at a gate all others wait on.
+    pub(crate) fn poll_or_leave(&mut self, ticket: &mut Ticket) -> Result<u8, Error>
         ensures acts { StepsWithTicket (P.core self.old.core) (P.core self.new.core) ticket.old ticket.new concluded result }
-        ensures ended { IsPolledOrCancelled ticket.old ticket.new result }
+        ensures ended { IsPolledOrLeft ticket.old ticket.new result }
         ensures lost { mode_of ticket.old ≡ Some true → IfErr result (λ error. (error ≡ NotReady) ⊎ (error ≡ NotRegistered)) }
     {
         let answer = self.core.poll_number(ticket, How::Sync);
         let is_unanswered = matches!(answer, Err(Error::NotReady));
         if is_unanswered {
-            self.core.cancel(ticket);
+            self.core.leave(ticket);
         }
         answer
     }

@@ -111,7 +111,7 @@ joins-parts place entry rest none =
       | inr apart ↦ (λ is. let wrong : true ≡ false = sym is ∙ apart in absurd (cc), rw apart at none)
     ]
 
--- who waits in the end, and hasn't joined, waited all along
+-- a place that waits in the end, and hasn't joined, waited all along
 run-out : (needs : Needs) (place : ℕ) (state : AbstractState) (history : List (ℕ × Event)) (last : AbstractState) → IsRun needs state history last
     → joins (part_of place history) ≡ false → is_in place state.line ≡ false → is_in place last.line ≡ false
 run-out needs place state [] last run none out = subst (λ (z : AbstractState). is_in place z.line ≡ false) run out
@@ -165,7 +165,7 @@ part-past other place event rest none =
       | inr apart ↦ rw apart refl
     ]
 
--- who is out of the queue doesn't cancel before it joins
+-- a place out of the queue doesn't cancel before it joins
 cancels-out : (needs : Needs) (state : AbstractState) (place : ℕ) (event : Event) (later : List Event) → IsEnabled needs state place event
     → is_in place state.line ≡ false → (joins (event ∷ []) ≡ false → cancels later ≡ false) → cancels (event ∷ later) ≡ false
 cancels-out needs state place (Joined request) later allowed out rest = refl
@@ -253,7 +253,7 @@ remaining-past place event queue rest none =
     append-nil (remaining queue ((place, event) ∷ rest))
     ∙ remaining-same queue ((place, event) ∷ rest) rest (λ other some. part-past other place event rest none)
 
--- who is among the oldest of a queue isn't behind them
+-- a place among the oldest of a queue isn't behind them
 front-once : (askers place : ℕ) (queue : List (ℕ × ℕ)) → times place queue ≤ 1 → is_in place (take askers queue) ≡ true
     → is_in place (drop askers queue) ≡ false
 front-once askers place queue once some =
@@ -297,7 +297,7 @@ remaining-step needs state place event rest last allowed run once = remaining-pa
 remaining-end : (queue : List (ℕ × ℕ)) → remaining queue [] ≡ queue
 remaining-end queue = remaining-all queue [] (λ place some. refl)
 
--- who stays and who has joined are who is answered and who waits in the end
+-- the waiters that stay, and those that have joined, are those that are answered and those that wait in the end
 pub run-in_order : (needs : Needs) (state : AbstractState) (history : List (ℕ × Event)) (last : AbstractState) → IsRun needs state history last → AreOnce state
     → remaining state.line history ++ joined history ≡ answered (answers_from state.line history) ++ waiting_from state.line history
 run-in_order needs state [] last run once = append-nil (remaining state.line []) ∙ remaining-end state.line
@@ -386,7 +386,7 @@ none-if false = refl
 unchanged : (test : Bool) (has : List ℕ) → has ++ [] ≡ (if test then [] else []) ++ has
 unchanged test has = append-nil has ∙ ap (λ (l : List ℕ). l ++ has) (sym (none-if test))
 
--- who is answered gets that one answer, and has no other
+-- a place that is answered gets that one answer, and no other
 answers-step : (state : AbstractState) (other value : ℕ) (front : List (ℕ × ℕ)) (test : Bool) → times other front + one_if (is_some (state.due other)) + one_if (is_some (state.shown other)) ≤ 1
     → has_of state other ++ values_of other (each_with value front)
     ≡ (if test then [] else []) ++ (kept_by (state.shown other) ++ kept_by (answered_with value front state.due other))
@@ -528,7 +528,7 @@ ahead-some one place (waiter ∷ rest) behind some =
       | inr apart ↦ rw apart (ap (λ (b : Bool). (waiter.0 == one) || b) (ahead-some one place rest behind (rw apart at some)))
     ]
 
--- whoever is in front is ahead of who is behind
+-- a place in front is ahead of one behind
 ahead-none : (one place : ℕ) (front behind : List (ℕ × ℕ)) → is_in place front ≡ false → is_ahead one place (front ++ behind) ≡ false
     → (is_in one front ≡ false) × (is_ahead one place behind ≡ false)
 ahead-none one place [] behind out none = (refl, none)

@@ -52,7 +52,7 @@ module _ (whole : ℕ) where
   ask-drop (asker ∷ line) (suc count) all = ask-drop line count all.1
 
 module _ (needs : Needs) (whole : ℕ) (w : IsWhole needs whole) where
-  -- who is granted at a time is one, where nothing is held
+  -- one waiter is granted at a time, if nothing is held
   pub record IsOneFront (count : ℕ) (front : List (ℕ × ℕ)) : Type 0 where
     pub asker : ℕ × ℕ
     pub is : front ≡ asker ∷ []

@@ -22,7 +22,7 @@ abbrev pub named : List Event → List Event
 named [] = []
 named (event ∷ rest) = if is_named event then (event ∷ named rest) else named rest
 
--- whether an event is of who waits: it joins the queue, takes its answer or finds that it isn't there yet, or leaves
+-- whether an event is a waiter's: it joins the queue, takes its answer or finds that it isn't there yet, or leaves
 abbrev pub is_waiters : Event → Bool
 is_waiters (Joined request) = true
 is_waiters (Took value) = true

@@ -1,4 +1,4 @@
--- FIFO, as the events of a history show it: who waits, who was answered in which order, and what a place's own events say of that. No definition here
+-- FIFO, as the events of a history show it: which places wait, in which order they were answered, and what a place's own events say of that. No definition here
 -- names the abstract state, or says when an event is enabled. A reader of the clauses has to believe this.
 use Rattle.std.specs.Prelude.{◌≡◌, ℕ, ◌+◌, ◌≤◌, Bool, true, false, if◌then◌else◌, ◌==◌, List, [], ◌∷◌, ◌++◌, length, take, drop}
 use Rattle.saa_core_spec.specs.Values.{granted_value, poisoned_value}

@@ -258,7 +258,7 @@ pub record IsLine (words : ℕ → LineWord) (line cut uncut : List (ℕ × ℕ)
   pub stays : IsBehind words 0 uncut
   pub some : is_empty uncut ≡ true → cut ≡ []
 
--- a place is held by the object exactly where it is registered in the line. Any number from the last place on is a visitor's, who has no words of its own: it
+-- a place is held by the object exactly where it is registered in the line. Any number from the last place on is a visitor's, which has no words of its own: it
 -- isn't registered in the line, and doesn't join it
 pub record AreSeats (places : ℕ) (standing : ℕ → Place) (state : AbstractState) : Type 0 where
   pub held : (place : ℕ) → held_by place state ≡ one_if (is_slot (standing place).registration)

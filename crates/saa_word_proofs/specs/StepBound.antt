@@ -41,7 +41,7 @@ by_seen number seen same stale = if number == word_number count_bits seen then s
 abbrev pub waiting : (ℕ → ℕ) → ℕ → ℕ
 waiting ways number = ways (word_of count_bits number).tail
 
--- what is left besides of who takes its own answer once it is done with the line, and gives back what it was granted: where it has to grant
+-- what is left besides of a call that takes its own answer once it is done with the line, and gives back what it was granted: where it has to grant
 -- and show first, and where it is done with that; so many wait then
 abbrev pub more_to_walk : Back → ℕ → ℕ
 more_to_walk back waiting = if takes_back back then 3 * waiting + 5 else 0

@@ -14,7 +14,7 @@ ghost use Rattle.saa_word_proofs.specs.Order.{TakesInOrder, answered, answers, j
 /// waiter either. The waiters that joined and didn't cancel, in the order of joining, are those that were answered, in the order of their answers,
 /// and then those that wait. A place takes its answers in that order, each once, and none before it is there and shown.
 ///
-/// The last two clauses need no reading of who waits. A waiter that cancels has joined since anything was last got at once. If it hasn't
+/// The last two clauses don't name the waiters. A waiter that cancels has joined since anything was last got at once. If it hasn't
 /// joined since another place did, so that it is the older waiter, that place has taken no answer in between.
 pub fn fifo()
     ensures no_barging { (needs : Needs) (withheld : ℕ) (before after : List (ℕ × Event)) (place request : ℕ) (last : AbstractState)

@@ -32,7 +32,7 @@ pub enum Operation {
 }
 
 impl Stage {
-    /// The operation that the place of this number makes at the stage, out of so many places. A visitor, who has no words of its own, has any number.
+    /// The operation that the place of this number makes at the stage, out of so many places. A visitor has no words of its own, and may have any number.
     pub fn operation(self, rules: Rules, places: u16, me: u16) -> Operation
         requires within { me < 65535 }
         requires wide { (needs_of rules).top < 2 ^ count_bits }

@@ -200,7 +200,7 @@ extends-append u v w front rest one other = record {
   latest = latest-append u.number one.more other.more one.latest (subst (λ n. seen_by n other.more ≡ other.more) one.number other.latest);
 }
 
--- Events of who waits
+-- Waiters' events
 
 and-assoc : (one other more : Bool) → one && (other && more) ≡ (one && other) && more
 and-assoc true other more = refl
@@ -212,7 +212,7 @@ never-append (event ∷ front) rest =
     ap (λ (b : Bool). not (is_waiters event) && b) (never-append front rest)
     ∙ and-assoc (not (is_waiters event)) (never_waits front) (never_waits rest)
 
--- an event that no answer names is none of who waits
+-- an event that no answer names is no waiter's
 unnamed-never : (event : Event) → is_named event ≡ false → is_waiters event ≡ false
 unnamed-never (Granted askers) none = refl
 unnamed-never Closed none = refl
@@ -260,7 +260,7 @@ given-never needs what seen = either-never seen.is_poisoned _ _ (gave-not-never 
 poisoning-never : (seen : Word) → never_waits (poisoning_events seen) ≡ true
 poisoning-never seen = either-never (seen.is_poisoned || not (seen.count == lock_count Exclusive)) (NotPoisoned ∷ []) [] refl refl
 
--- what answers name of a step of a visitor is of nobody who waits
+-- the events that answers name of a visitor's step are no waiter's
 pub visitor-names : (needs : Needs) (stage : Stage) (found : ℕ) → IsVisiting stage → never_waits (named_at needs stage found) ≡ true
 visitor-names needs (ReadLoad reading) found visits = refl
 visitor-names needs (AskLoad ask) found visits = decided-never needs ask.request ask.joins (word_of count_bits found)

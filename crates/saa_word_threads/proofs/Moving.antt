@@ -298,7 +298,7 @@ module _ (about : About) (few : about.places < 65536) (wide : (needs_of about.ru
           rw test none.1,
         )
 
-    -- a visitor makes no event of who waits
+    -- a visitor makes no waiter's event
     visitor-never : about.places ≤ v.number → never_waits made.events ≡ true
     visitor-never beyond =
         never-same made.events (named_at (needs_of about.rules) place.stage found) made.names

@@ -18,6 +18,8 @@ pub enum Call {
     Reset,
     /// Of `permit`.
     Permit,
+    /// Of `permit_many`.
+    PermitMany(usize),
     /// Of `reject`.
     Reject,
     /// Of `open`.
@@ -41,6 +43,8 @@ pub enum Asked {
     PollNumber(How),
     /// Of `cancel`.
     Cancel,
+    /// Of `leave`.
+    Leave,
     /// Of the ticket itself.
     IsRegistered,
 }
@@ -65,6 +69,7 @@ impl Told for GateCore {
             Call::State => Answer::In(self.state()),
             Call::Reset => Answer::Reset(self.reset()),
             Call::Permit => Answer::Moved(self.permit()),
+            Call::PermitMany(n) => Answer::Moved(self.permit_many(n)),
             Call::Reject => Answer::Moved(self.reject()),
             Call::Open => {
                 let (state, count) = self.open();
@@ -91,6 +96,10 @@ fn ask(core: &mut GateCore, ticket: &mut Ticket, asked: Asked) -> Answer {
         Asked::PollNumber(how) => Answer::PolledNumber(core.poll_number(ticket, how)),
         Asked::Cancel => {
             core.cancel(ticket);
+            Answer::Nothing
+        }
+        Asked::Leave => {
+            core.leave(ticket);
             Answer::Nothing
         }
         Asked::IsRegistered => Answer::Is(ticket.is_registered()),
@@ -144,6 +153,33 @@ static DROPPED_WAITERS: [Row; 16] = [
 #[test]
 fn a_dropped_waiter_wakes_the_others(rt: HostRuntime) {
     tell_at(&rt, 4, &DROPPED_WAITERS);
+}
+
+// The first of four leaves quietly, and then one that was let in and not polled. The two oldest are let in, and then the last.
+static LEFT_QUIETLY: [Row; 18] = [
+    (Call::Of(0, REGISTER), JOINED),
+    (Call::Of(1, REGISTER), JOINED),
+    (Call::Of(2, REGISTER), JOINED),
+    (Call::Of(3, REGISTER), JOINED),
+    (Call::Of(0, Asked::Leave), Answer::Nothing),
+    (Call::Of(0, Asked::IsRegistered), Answer::Is(false)),
+    (Call::Next, Answer::Next(None)),
+    (Call::Of(1, TRY), Answer::Passed(Err(Error::NotReady))),
+    (Call::PermitMany(2), Answer::Moved(Ok(2))),
+    (Call::Of(1, TRY), Answer::Passed(Ok(State::Controlled))),
+    (Call::Of(2, Asked::Leave), Answer::Nothing),
+    (Call::Of(2, Asked::IsRegistered), Answer::Is(false)),
+    (Call::Of(3, TRY), Answer::Passed(Err(Error::NotReady))),
+    (Call::PermitMany(0), Answer::Moved(Ok(0))),
+    (Call::PermitMany(9), Answer::Moved(Ok(1))),
+    (Call::Of(3, TRY), Answer::Passed(Ok(State::Controlled))),
+    (Call::Seal, Answer::Was(State::Controlled, 0)),
+    (Call::PermitMany(1), Answer::Moved(Err(State::Sealed))),
+];
+
+#[test]
+fn who_leaves_quietly_disturbs_nobody(rt: HostRuntime) {
+    tell_at(&rt, 4, &LEFT_QUIETLY);
 }
 
 static NO_SLOT: [Row; 7] = [

@@ -67,6 +67,7 @@ impl<R: Wait + Drop + Copy> Form for Tried<R> {
             GateCall::State => GateAnswer::State(self.gate.state(Ordering::SeqCst)),
             GateCall::Reset => GateAnswer::Reset(self.gate.reset()),
             GateCall::Permit => GateAnswer::Answered(self.gate.permit()),
+            GateCall::PermitMany(n) => GateAnswer::Answered(self.gate.permit_many(n)),
             GateCall::Reject => GateAnswer::Answered(self.gate.reject()),
             GateCall::Open => {
                 let (before, count) = self.gate.open();
@@ -115,6 +116,7 @@ const EVERY_MOVE: Trial<'static, GateCore> = TrialOf {
         GateCall::State,
         GateCall::Reset,
         GateCall::Permit,
+        GateCall::PermitMany(1),
         GateCall::Reject,
         GateCall::Open,
         GateCall::Seal,
@@ -125,31 +127,31 @@ const EVERY_MOVE: Trial<'static, GateCore> = TrialOf {
     waits: &[((), Way::Plain), ((), Way::With)],
     sizes: &[0, 1, 2],
     length: 0,
-    wanted: (22, 9),
+    wanted: (23, 9),
 };
 
 static TRIALS: [Trial<'static, GateCore>; 5] = [
     EVERY_MOVE,
     TrialOf {
         length: 1,
-        wanted: (22, 9 * 22),
+        wanted: (23, 9 * 23),
         ..EVERY_MOVE
     },
     TrialOf {
         length: 2,
-        wanted: (22, 9 * 22 * 22),
+        wanted: (23, 9 * 23 * 23),
         ..EVERY_MOVE
     },
     TrialOf {
         length: 3,
-        wanted: (22, 9 * 22 * 22 * 22),
+        wanted: (23, 9 * 23 * 23 * 23),
         ..EVERY_MOVE
     },
     // From a controlled gate.
     TrialOf {
         sizes: &[0],
         length: 4,
-        wanted: (22, 3 * 22 * 22 * 22 * 22),
+        wanted: (23, 3 * 23 * 23 * 23 * 23),
         ..EVERY_MOVE
     },
 ];

@@ -5,13 +5,13 @@ use crate::barrier_stories::{BarrierCall, BarrierStory};
 use crate::gate_stories::{GateCall, GateStory, Move};
 use crate::stories::Told::{Answer, Count, Is, Moved, Nothing, Passage};
 use crate::stories::Who::{First, Second, Third};
-use saa_sync::gate::{Error, State};
+use saa_sync::gate::State;
 
 pub(crate) static AT_A_GATE: [GateStory; 1] = [
-    // The first task leaves, the others stay. Then one is dropped that was never polled, and one that has its answer, which neither
-    // changes.
+    // The first task leaves, and the others wait on, until they are let in. Then one is dropped that was never polled, and one that
+    // has its answer, which neither changes.
     GateStory {
-        name: "a waiter is cancelled",
+        name: "a waiter is dropped",
         room: 4,
         rows: &[
             (GateCall::Ask(Second), Nothing),
@@ -21,15 +21,20 @@ pub(crate) static AT_A_GATE: [GateStory; 1] = [
             (GateCall::Poll(Second, Second), Passage(None)),
             (GateCall::Poll(Third, Third), Passage(None)),
             (GateCall::LetGo(First), Nothing),
+            (GateCall::IsWoken(Second), Is(false)),
+            (GateCall::IsWoken(Third), Is(false)),
+            (GateCall::Poll(Second, Second), Passage(None)),
+            (GateCall::Make(Move::PermitMany(1)), Moved(Ok(1))),
             (GateCall::IsWoken(Second), Is(true)),
-            (GateCall::IsWoken(Third), Is(true)),
+            (GateCall::IsWoken(Third), Is(false)),
             (
                 GateCall::Poll(Second, Second),
-                Passage(Some(Ok(Err(Error::SpuriousFailure)))),
+                Passage(Some(Ok(Ok(State::Controlled)))),
             ),
+            (GateCall::Make(Move::Permit), Moved(Ok(1))),
             (
                 GateCall::Poll(Third, Third),
-                Passage(Some(Ok(Err(Error::SpuriousFailure)))),
+                Passage(Some(Ok(Ok(State::Controlled)))),
             ),
             (GateCall::Make(Move::Permit), Moved(Ok(0))),
             (GateCall::Ask(Second), Nothing),

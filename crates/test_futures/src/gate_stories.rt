@@ -24,6 +24,7 @@ use std::sync::atomic::Ordering;
 #[derive(Clone, Copy)]
 pub(crate) enum Move {
     Permit,
+    PermitMany(usize),
     Reject,
     Open,
     Seal,
@@ -170,6 +171,7 @@ fn give_up<R: Wait + Drop>(gate: &Gate<R>) -> Told {
 fn make<R: Wait + Drop>(gate: &Gate<R>, by: Move) -> Told {
     match by {
         Move::Permit => Moved(gate.permit()),
+        Move::PermitMany(n) => Moved(gate.permit_many(n)),
         Move::Reject => Moved(gate.reject()),
         Move::Open => Was(gate.open()),
         Move::Seal => Was(gate.seal()),

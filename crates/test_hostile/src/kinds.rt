@@ -41,6 +41,10 @@ pub fn reply<P: Modelled>(model: &mut Model, command: &Command<P>) -> Reply<P> {
             model.forget(name);
             ReplyOf::Dropped
         }
+        CommandOf::Leave(name) => {
+            model.leave(name);
+            ReplyOf::Dropped
+        }
     }
 }
 
@@ -185,6 +189,14 @@ fn let_through(model: &mut Model, value: u8) -> GateAnswer {
     })
 }
 
+// Lets at most so many waiters of a controlled gate pass, the oldest first.
+fn let_front(model: &mut Model, most: usize) -> GateAnswer {
+    GateAnswer::Answered(match state(model) {
+        State::Controlled => Ok(model.answer_front(most, 0)),
+        other => Err(other),
+    })
+}
+
 // Brings the gate into a state, and answers all waiters.
 fn moved(model: &mut Model, to: State, value: u8) -> GateAnswer {
     let before = state(model);
@@ -216,6 +228,7 @@ impl Modelled for GateCore {
                 }
             }),
             GateCall::Permit => let_through(model, 0),
+            GateCall::PermitMany(most) => let_front(model, most),
             GateCall::Reject => let_through(model, 4),
             GateCall::Open => moved(model, State::Open, 2),
             GateCall::Seal => moved(model, State::Sealed, 9),

@@ -213,6 +213,15 @@ impl Model {
         count
     }
 
+    /// Answers at most so many waiters, the oldest first, and returns how many they were.
+    pub fn answer_front(&mut self, most: usize, value: u8) -> usize {
+        let count = most.min(self.waiting());
+        for _waiter in 0..count {
+            self.answer_oldest(value);
+        }
+        count
+    }
+
     // Grants the oldest if it fits; whether it did.
     fn grant_oldest(&mut self) -> bool {
         let Some(name) = self.oldest else {
@@ -313,8 +322,21 @@ impl Model {
         }
     }
 
-    /// Drops what a name is registered for.
+    /// Drops what a name is registered for, and tells the others at a gate so.
     pub fn forget(&mut self, name: u16) {
+        let is_heard = self.is_waiting(name) && matches!(self.held, Held::Gate(_));
+        self.leave(name);
+        if is_heard {
+            self.answer_all(12);
+        }
+    }
+
+    fn is_waiting(&self, name: u16) -> bool {
+        matches!(self.entry(name), Entry::Waiting { .. })
+    }
+
+    /// Drops what a name is registered for; at a gate the others wait on.
+    pub fn leave(&mut self, name: u16) {
         let entry = self.entry(name);
         self.set(name, Entry::Idle);
         match entry {
@@ -323,23 +345,12 @@ impl Model {
                     self.oldest = self.next;
                 }
                 self.next = None;
-                self.left();
+                self.settle();
             }
             Entry::Answered { value: 0, need, .. } => {
                 self.give_back(need);
             }
             _ => {}
-        }
-    }
-
-    // A waiter has left the queue.
-    fn left(&mut self) {
-        match self.held {
-            Held::Gate(_) => {
-                self.answer_all(12);
-            }
-            Held::Barrier(_) => {}
-            _ => self.settle(),
         }
     }
 }

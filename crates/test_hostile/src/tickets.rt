@@ -71,6 +71,10 @@ fn ask<P: Polls>(core: &mut P, ticket: &mut Ticket, command: &Command<P>) -> Rep
             core.cancel(ticket);
             ReplyOf::Dropped
         }
+        CommandOf::Leave(_) => {
+            core.leave(ticket);
+            ReplyOf::Dropped
+        }
     }
 }
 
@@ -83,6 +87,7 @@ fn name_of<C: Copy, K: Copy>(command: &CommandOf<C, K>) -> u16 {
         CommandOf::PollSync(name) => name,
         CommandOf::PollAsync(name) => name,
         CommandOf::Drop(name) => name,
+        CommandOf::Leave(name) => name,
     }
 }
 
@@ -205,7 +210,7 @@ static A_CLEARED_LOCK: [Row<LockCore>; 6] = [
     ),
 ];
 
-// Nobody asks whose lock a dropped grant ends.
+// A dropped grant releases the lock, whichever task owns it.
 #[test]
 fn a_dropped_grant_of_a_cleared_lock_ends_another_s(rt: HostRuntime) {
     tell_locks(&rt, 4, &A_CLEARED_LOCK);

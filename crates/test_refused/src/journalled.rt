@@ -131,6 +131,7 @@ fn is_within(command: &Command<SemaphoreCore>, pagers: usize) -> bool
         | CommandOf::TryPoll(pager)
         | CommandOf::PollSync(pager)
         | CommandOf::PollAsync(pager)
-        | CommandOf::Drop(pager) => usize::from(pager) < pagers,
+        | CommandOf::Drop(pager)
+        | CommandOf::Leave(pager) => usize::from(pager) < pagers,
     }
 }

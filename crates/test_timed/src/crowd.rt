@@ -4,7 +4,8 @@ use crate::calls::ALONE;
 use crate::forms::Time::{Ever, Long, Short, Zero};
 use crate::forms::{Form, MADE, Made};
 use crate::stories::Act::{
-    AcquireLate, AcquirePlain, Available, Count, EnterLate, Release, ReleaseLate, ReleaseMany,
+    AcquireLate, AcquirePlain, Available, Count, EnterLate, LetPass, Release, ReleaseLate,
+    ReleaseMany,
 };
 use crate::stories::Ask::{Acquire, AcquireMany, Arrive, Enter};
 use crate::stories::Row::{Does, Has, In};
@@ -98,12 +99,12 @@ pub(crate) static STORIES: [Story; 7] = [
         after: &[Does(Available(0))],
         ..SLEEPING
     },
-    // A wait at a gate whose time is up tells all others so, and one at a barrier takes its arrival back.
+    // A wait at a gate whose time is up disturbs nobody, and one at a barrier takes its arrival back.
     Story {
-        name: "a gate tells others and a barrier forgets",
+        name: "a gate lets the others wait on and a barrier forgets",
         rows: &[Has(Sign::Asleep(Form::Gate, 1)), Does(EnterLate)],
         rescue: &[Has(Sign::Clock(LATE))],
-        beside: &[In(Long, Enter(Ok(None)))],
+        beside: &[In(Long, Enter(Ok(None))), Does(LetPass(1))],
         after: &[In(Zero, Arrive(Ok(None))), Does(Count(3))],
         ..SLEEPING
     },

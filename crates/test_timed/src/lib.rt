@@ -1,4 +1,4 @@
-//! Tests of waits that end in time: what a call is told whose time is up, and what it leaves.
+//! Tests of timed waits: what a call is told once its time is up, and what it leaves.
 //!
 //! Where time decides, the clock is a test's own: it moves when the test says so, by a step at each reading, or by a leap behind one; or it
 //! is the runtime's, by which a call is told only that it isn't early. So no test depends on how fast the machine is. Every test joins its

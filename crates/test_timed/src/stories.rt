@@ -81,7 +81,7 @@ pub(crate) enum Act {
     Seal,
     LetPass(usize),
     Reject(usize),
-    // The gate is asked for as the time of the others is up; they tell all.
+    // The gate is asked for as the time of the others is up; they leave, and this waits on until it is let in.
     EnterLate,
     Count(usize),
     Register(bool),
@@ -304,10 +304,8 @@ fn at_gate<R: Wait + Drop, C: Wait + Clock + Drop>(
         Act::Seal => gate.seal() == (State::Open, 0),
         Act::LetPass(count) => gate.permit() == Ok(count),
         Act::Reject(count) => gate.reject() == Ok(count),
-        // A waiter that leaves meanwhile tells so.
-        Act::EnterLate => {
-            gate.enter_sync_with(|| clock.set(LATE)) == Ok(Err(GateError::SpuriousFailure))
-        }
+        // A waiter that leaves meanwhile disturbs nobody.
+        Act::EnterLate => gate.enter_sync_with(|| clock.set(LATE)) == Ok(Ok(State::Controlled)),
         _ => false,
     }
 }

@@ -1,5 +1,5 @@
 -- The gate: what a call that enters is answered, what its calls do, and what happens when a waiter leaves.
-use Rattle.std.proofs.Common.{◌≡◌, ℕ, Bool, true, List, length, Some, None, Ok, refl, ap, ◌∙◌}
+use Rattle.std.proofs.Common.{◌≡◌, ℕ, ◌≤◌, Bool, true, List, length, min, Some, None, Ok, refl, sym, ap, ◌∙◌}
 use Rattle.saa_core_spec.specs.declared.request.Request.TheVariants.{Enter}
 use Rattle.saa_core_spec.specs.declared.gate.State.{State}
 use Rattle.saa_core_spec.specs.declared.gate.State.TheVariants.{Controlled, Sealed, Open}
@@ -7,12 +7,14 @@ use Rattle.saa_core_spec.specs.declared.gate.GateAnswer.TheVariants.{Answered, M
 use Rattle.saa_core_spec.specs.Held.{OfGate}
 use Rattle.saa_core_spec.specs.Object.{Object}
 use Rattle.saa_core_spec.specs.Asking.{registered, answer_at_once, answer_in}
-use Rattle.saa_core_spec.specs.Values.{spurious_value, sealed_value, opened_value}
-use Rattle.saa_core_spec.specs.Gate.{gate_state, let_through, moved}
-use Rattle.saa_core.specs.Slots.{Slots, all_slots_answered, IsSound}
+use Rattle.saa_core_spec.specs.Values.{spurious_value, sealed_value, opened_value, permitted_value}
+use Rattle.saa_core_spec.specs.Gate.{gate_state, let_through, front_permitted, let_front_through, moved}
+use Rattle.saa_core.specs.Slots.{Slots, slots_answered, all_slots_answered, IsSound}
 use Rattle.saa_core.specs.declared.ticket.Registration.{Registration}
 use Rattle.saa_core.specs.declared.ticket.Registration.TheVariants.{Unregistered, AtOnce}
-use Rattle.saa_core.specs.Tickets.{Core, StepsWithTicket, Calls, object_of}
+use Rattle.saa_core.specs.Tickets.{Core, StepsWithTicket, Calls, object_of, named}
+use Rattle.saa_core.proofs.TicketLemmas.Naming.{length-named}
+use Rattle.saa_core.proofs.TicketLemmas.Steps.{front-object, front-belong}
 use Rattle.saa_core.proofs.TicketLemmas.Polls.{after}
 use Rattle.saa_core.specs.GateParts.{answer_by_state}
 use Rattle.saa_core.proofs.GatheringLemmas.Gathering.{Gathers, register_answered}
@@ -52,6 +54,20 @@ pub let_through_calls : (v : ℕ) (slots : Slots) → IsSound slots
     (λ s. let_through s v (gate_state s.held)) (Answered (Ok (length slots.line)))
 let_through_calls v slots sound = record {
   calls = λ ts b. (all_calls (OfGate Controlled) (OfGate Controlled) v slots (λ n. Answered (Ok n)) sound).calls ts b;
+}
+
+-- a controlled gate permits its oldest waiters, as many as are asked for
+pub let_front_through_calls : (n : ℕ) (slots : Slots) → IsSound slots
+    → Calls (record { held = OfGate Controlled; slots = slots }) (record { held = OfGate Controlled; slots = slots_answered permitted_value (min n (length slots.line)) slots })
+    (λ s. let_front_through s n (gate_state s.held)) (Answered (Ok (min n (length slots.line))))
+let_front_through_calls n slots sound = record {
+  calls = λ ts b.
+      let s : Object = object_of (record { held = OfGate Controlled; slots = slots }) ts in
+      let k : ℕ = min n (length slots.line) in (
+        ap (λ j. after (Answered (Ok (min n j))) (front_permitted (min n j) s)) (length-named ts slots.line)
+            ∙ ap (λ (t : Object). after (Answered (Ok k)) t) (sym (front-object (OfGate Controlled) permitted_value k slots ts sound b)),
+        front-belong permitted_value k slots ts sound b,
+      );
 }
 
 -- a gate goes to another state, and answers all waiters

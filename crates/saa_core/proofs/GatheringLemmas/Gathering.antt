@@ -86,7 +86,7 @@ cancel_at_once h close slots v r m gathers = record {
 }
 
 -- a ticket that was answered out of the line
-cancel_answered : (h : Held) (close : Slots → Slots) (slots : Slots) (slot v : ℕ) (r : Request) (m : Bool) → Gathers h close → IsSound slots → answer_in slots.answers slot ≡ Some v
+pub cancel_answered : (h : Held) (close : Slots → Slots) (slots : Slots) (slot v : ℕ) (r : Request) (m : Bool) → Gathers h close → IsSound slots → answer_in slots.answers slot ≡ Some v
     → StepsWithTicket (record { held = h; slots = slots }) (record { held = h; slots = slots_taken slots slot }) (InSlot slot r m) Unregistered dropping tt
 cancel_answered h close slots slot v r m gathers sound there = record {
   acts = λ ts name here b.

@@ -82,7 +82,7 @@ pub settle-less : (line : List Waiter) → 0 < length line → length (drop 1 li
 settle-less [] some = absurd (omega arith)
 settle-less (w ∷ ws) some = omega arith
 
--- what stands settled stands so with one more, who isn't granted at once
+-- a settled queue stays settled with one more waiter that isn't granted at once
 pub settled-joined : (held : Held) (line : List Waiter) (w : Waiter) → fitting_front held line ≡ 0
     → (is_nobody line && fits held w.1) ≡ false → fitting_front held (line ++ w ∷ []) ≡ 0
 settled-joined held [] w front blocked = fitting_front-blocked held w [] blocked

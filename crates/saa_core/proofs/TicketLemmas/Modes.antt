@@ -57,7 +57,7 @@ pub reply-alone : {A : Type 0} (old new : Core) (ticket : Registration) (step : 
 reply-alone old new ticket step reply call =
     sym (ap (λ a. a.reply) (call.acts (Unregistered ∷ []) 0 refl (idle-belongs old.slots)).0)
 
--- who isn't refused is registered, or finds the room full
+-- a call that isn't refused is registered, or finds the room full
 never-false : (s : Object) (request : Request) (is_sync : Bool) (answer : Option (After ℕ)) (is_full : Bool)
     → IfOk (registered_of s 0 request is_sync false answer is_full).reply (λ is_registered. is_registered ≡ true)
 never-false s request is_sync (Some after) is_full = refl

@@ -90,7 +90,7 @@ wakes-same slots sound = record {
       ap (λ (l : List Waiter). pending_after l slots.pending_wakes) (sym nobody);
 }
 
--- what is owed after a call is a matter of who waited before it, and what was owed
+-- the wakes pending after a call follow from the waiters before it, and the wakes pending then
 pub wakes-from : (old mid new : Slots) → mid.line ≡ old.line → mid.pending_wakes ≡ old.pending_wakes → WakesAnswered mid new → WakesAnswered old new
 wakes-from old mid new line pending_wakes owes = record {
   exact = owes.exact ∙ ap (λ (l : List Waiter). pending_after (answered_of l new.answers) mid.pending_wakes) line ∙ ap (λ (o : List ℕ). pending_after (answered_of old.line new.answers) o) pending_wakes;

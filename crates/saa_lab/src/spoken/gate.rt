@@ -16,11 +16,12 @@ impl Spoken for GateCore {
         &OF_A_GATE
     }
 
-    fn call_of(asks: Asks, _count: usize) -> Option<GateCall> {
+    fn call_of(asks: Asks, count: usize) -> Option<GateCall> {
         match asks {
             Asks::State => Some(GateCall::State),
             Asks::Reset => Some(GateCall::Reset),
             Asks::Permit => Some(GateCall::Permit),
+            Asks::PermitMany => Some(GateCall::PermitMany(count)),
             Asks::Reject => Some(GateCall::Reject),
             Asks::Open => Some(GateCall::Open),
             Asks::Seal => Some(GateCall::Seal),

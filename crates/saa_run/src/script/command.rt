@@ -156,6 +156,9 @@ fn pager_words<C, K>(word: &[u8], field: &[u8]) -> Option<ScriptLine<C, K>>
     if word == b"drop".as_slice() {
         return Some(ScriptLine::Do(CommandOf::Drop(pager)));
     }
+    if word == b"leave".as_slice() {
+        return Some(ScriptLine::Do(CommandOf::Leave(pager)));
+    }
     None
 }
 

@@ -1,6 +1,6 @@
 //! What scripts say to a gate, and what it answers. Held to `specs/GateWords.antt`.
 ghost use Rattle.std.specs.Prelude.{◌≡◌};
-ghost use Rattle.saa_run.specs.Language.{lone_call_in};
+ghost use Rattle.saa_run.specs.Language.{counted_call_in, lone_call_in};
 ghost use Rattle.saa_run.specs.GateWords.{gate_answer, gate_poll, gate_readings};
 ghost use Rattle.saa_run.specs.ScriptSaid.{said_words};
 
@@ -20,9 +20,8 @@ impl Spoken for GateCore {
         lone_call(word)
     }
 
-    #[tactic(auto, unfolding(crate::specs::Language::counted_call_in))]
-    fn counted_call(_word: &[u8], _count: usize) -> Option<GateCall> {
-        None
+    fn counted_call(word: &[u8], count: usize) -> Option<GateCall> {
+        counted_call(word, count)
     }
 
     #[tactic(auto, unfolding(crate::specs::Language::ask_in))]
@@ -39,7 +38,7 @@ impl Spoken for GateCore {
     }
 }
 
-/// The words of the calls.
+/// The words of the calls that are one word.
 static CALLS: [(&str, GateCall); 6] = [
     ("state", GateCall::State),
     ("reset", GateCall::Reset),
@@ -55,6 +54,17 @@ fn lone_call(word: &[u8]) -> Option<GateCall>
     ensures { result ≡ lone_call_in gate_readings word.now }
 {
     meaning(&CALLS, word)
+}
+
+/// A call that is a word and a number.
+#[tactic(auto, unfolding(crate::specs::Language::counted_call_in))]
+fn counted_call(word: &[u8], count: usize) -> Option<GateCall>
+    ensures { result ≡ counted_call_in gate_readings word.now count }
+{
+    if word == b"permit_many".as_slice() {
+        return Some(GateCall::PermitMany(count));
+    }
+    None
 }
 
 /// What a call's answer says.

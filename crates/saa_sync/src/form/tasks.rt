@@ -80,14 +80,15 @@ impl<R: Wait + Drop, P: Primitive> Pends for Form<R, P> {
         Poll::Ready(answer)
     }
 
-    /// Drops what is pending at the core, and wakes each waiter that this answered. Takes no mutex where it isn't registered.
+    /// Drops what is pending at the core, and wakes each waiter that this answered; at a gate it disturbs nobody. Takes no mutex
+    /// where it isn't registered.
     fn give_up(&self, pending: &mut PendingRegistration<P>) {
         let slot = pending.slot();
         if slot.is_none() {
             return;
         }
         let mut locked = self.lock();
-        pending.cancel_on(&mut locked.core);
+        pending.leave_on(&mut locked.core);
         let _unused = locked.wakers.take_of(slot);
         self.leave(locked);
     }

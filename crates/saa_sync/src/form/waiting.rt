@@ -108,7 +108,7 @@ impl<R: Wait + Clock + Drop, P: Primitive> WaitableUntil for Form<R, P> {
         let (mut locked, told) = self.wait_until(ticket, deadline);
         let answer = match told {
             Some(answer) => answer,
-            None => locked.poll_or_cancel(ticket),
+            None => locked.poll_or_leave(ticket),
         };
         if answer.is_err() {
             // The core doesn't know the ticket.

@@ -6,7 +6,7 @@ ghost use Rattle.saa_core.specs.declared.ticket.Registration.TheVariants.{Unregi
 ghost use Rattle.saa_core.specs.Beginning.{BeginWakes, alone};
 ghost use Rattle.saa_core.specs.Futures.{PendingState, asked, has_joined, is_end, is_waiting, progress_as, waited};
 ghost use Rattle.saa_core.specs.Slots.{WakesAnswered};
-ghost use Rattle.saa_core.specs.Tickets.{StepsWithTicket, dropping, is_busy};
+ghost use Rattle.saa_core.specs.Tickets.{StepsWithTicket, dropping, leaving, is_busy};
 
 use crate::form::Form;
 use saa_core::future::Progress;
@@ -64,6 +64,17 @@ pub trait PollOn {
             → WakesAnswered (Self.Core.core core.old).slots (Self.Core.core core.new).slots }
         ensures asking { (pending self.new).request ≡ (pending self.old).request }
         ensures rest { self.new ≡ with_pending self.old (pending self.new) };
+
+    /// Ends it as the drop of it does: it drops what it is registered for in a core, and disturbs nobody there.
+    fn leave_on(&mut self, core: &mut Self::Core)
+        ensures acts { StepsWithTicket (Self.Core.core core.old) (Self.Core.core core.new) (pending self.old).ticket (pending self.new).ticket leaving result }
+        ensures idle { (pending self.new).ticket ≡ Unregistered }
+        ensures ended { (pending self.new).has_ended ≡ true }
+        ensures unregistered { is_busy (pending self.old).ticket ≡ false → core.new ≡ core.old }
+        ensures wakes { is_busy (pending self.old).ticket ≡ true
+            → WakesAnswered (Self.Core.core core.old).slots (Self.Core.core core.new).slots }
+        ensures asking { (pending self.new).request ≡ (pending self.old).request }
+        ensures rest { self.new ≡ with_pending self.old (pending self.new) };
 }
 
 impl<'s, R: Wait + Drop, P: Primitive, Q: AnswerReader> PollOn for Acquiring<'s, Form<R, P>, Q> {
@@ -90,6 +101,12 @@ impl<'s, R: Wait + Drop, P: Primitive, Q: AnswerReader> PollOn for Acquiring<'s,
         let mut pending = self.take_pending();
         pending.cancel_on(core);
         self.put_pending(pending);
+    }
+
+    fn leave_on(&mut self, core: &mut P) {
+        let mut leaving = self.take_pending();
+        leaving.leave_on(core);
+        self.put_pending(leaving);
     }
 }
 
@@ -118,5 +135,11 @@ impl<'s, R: Wait + Drop, P: Primitive, Q: AnswerReader, F: FnOnce() + Drop> Poll
         let mut taken = self.take_pending();
         taken.cancel_on(core);
         self.put_pending(taken);
+    }
+
+    fn leave_on(&mut self, core: &mut P) {
+        let mut left = self.take_pending();
+        left.leave_on(core);
+        self.put_pending(left);
     }
 }

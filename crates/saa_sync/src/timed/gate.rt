@@ -24,7 +24,7 @@ pub enum TimedEntry {
 impl<R: Wait + Clock + Drop> Form<R, GateCore> {
     /// Passes the gate as [`Self::enter_sync`] does, and waits at most so long.
     ///
-    /// If time is up, all other waiters are told a spurious failure by that. `Full` as there.
+    /// If time is up, it leaves the queue, and all other waiters wait on. `Full` as there.
     pub fn enter_sync_for(&self, duration: Duration) -> Result<TimedEntry, Full>
         ensures { IfOk result (λ told. entry_fault told ≡ None) }
     {

@@ -65,7 +65,7 @@ without-once place request before after once =
     ∙ ap (λ (l : List (ℕ × ℕ)). l ++ without place ((place, request) ∷ after)) (without-out place before out_before)
     ∙ ap (λ (l : List (ℕ × ℕ)). before ++ l) here
 
--- who isn't in a line isn't in one that somebody has left
+-- a place that isn't in a line isn't in one that another has left
 pub out-left : (place : ℕ) (line before after : List (ℕ × ℕ)) (asker : ℕ × ℕ) → line ≡ before ++ asker ∷ after
     → is_in place line ≡ false → is_in place (before ++ after) ≡ false
 out-left place line before after asker parts out =

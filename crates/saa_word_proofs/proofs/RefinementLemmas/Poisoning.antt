@@ -126,7 +126,7 @@ held-poisoned state me place once =
       | inr none ↦ rw none (omega (arith, in-no place state.line none))
     ]
 
--- A lock is poisoned by a write to the main word: who waited is owed by the place that poisoned, which goes on at a stage
+-- A lock is poisoned by a write to the main word: the waiters' answers are owed by the place that poisoned, which goes on at a stage
 poisoned-stands : (needs : Needs) (places : ℕ) (row : ℕ → ℕ) (standing : ℕ → Place) (state : AbstractState) (me : ℕ) (s : Refines needs places row standing state)
     (stage : Stage) → joins_line stage ≡ false → s.holder == 0 ≡ true → s.owed me ≡ [] → needs.is_lock ≡ true
     → IsRanged needs stage → IsAlone needs (standing me).registration (standing me).back stage

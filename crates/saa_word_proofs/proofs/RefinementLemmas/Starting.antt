@@ -52,7 +52,7 @@ same-place : (needs : Needs) (places : ℕ) (row : ℕ → ℕ) (standing : ℕ 
     → Refines needs places row (updated standing me (standing me)) state
 same-place needs places row standing state me s = subst (λ (f : ℕ → Place). Refines needs places row f state) (sym (updated-same standing me (standing me) refl)) s
 
--- who isn't registered holds no place
+-- a call that isn't registered holds no place
 idle-slot : (registration : Registration) → is_idle registration ≡ true → is_slot registration ≡ false
 idle-slot Idle is = refl
 idle-slot (Once value request) is = absurd (cc)

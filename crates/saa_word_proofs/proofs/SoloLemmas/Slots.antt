@@ -62,7 +62,7 @@ push-registered : (registered : ℕ → Registration) (place request : ℕ) (lin
 push-registered registered place request [] are last = (last, tt)
 push-registered registered place request (asker ∷ rest) are last = (are.0, push-registered registered place request rest are.1 last)
 
--- who isn't held isn't in the line
+-- a place that isn't held isn't in the line
 pub not-in : (state : AbstractState) (me most : ℕ) → held_by me state ≤ most → one_if (is_some (state.shown me)) ≡ most → is_in me state.line ≡ false
 not-in state me most held shown =
     elim (cases_Bool (is_in me state.line)) [

@@ -30,7 +30,7 @@ by_seen-within number seen same stale low high a b c d =
       | inr differs ↦ rw differs (b, d)
     ]
 
--- What is left of who takes its own answer afterwards
+-- What is left of a call that takes its own answer afterwards
 
 -- it is the more the more wait
 pub more-within : (back : Back) (few many : ℕ) → few ≤ many → more_to_walk back few ≤ more_to_walk back many
@@ -63,7 +63,7 @@ end-within back few many within =
       | inr ends ↦ rw ends (omega arith)
     ]
 
--- nothing more is left of who doesn't take its own answer
+-- nothing more is left of a call that doesn't take its own answer
 pub more-none : (back : Back) (wait : ℕ) → takes_back back ≡ false → more_to_walk back wait ≡ 0
 more-none back wait ends = rw ends refl
 

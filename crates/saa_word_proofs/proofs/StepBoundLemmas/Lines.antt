@@ -109,7 +109,7 @@ shows needs places row standing state s me stage at = subst (λ (now : Stage). I
 
 -- The line as the holder of the flag sees it
 
--- who holds the flag
+-- the flag's holder
 pub holder-is : (needs : Needs) (places : ℕ) (row : ℕ → ℕ) (standing : ℕ → Place) (state : AbstractState) (s : Refines needs places row standing state) (me : ℕ)
     → is_holder (standing me).stage ≡ true → s.holder ≡ me + 1
 holder-is needs places row standing state s me holds = same_number s.holder (me + 1) (sym (s.stages.one me) ∙ holds)

@@ -347,7 +347,7 @@ module _ (needs : Needs) (places : ℕ) (row : ℕ → ℕ) (standing : ℕ → 
   ways-kept other (PoisonExchange seen) at = rest-kept
   ways-kept other Clear at = tt
 
--- who isn't registered isn't held
+-- a place that isn't registered isn't held
 free-place : (needs : Needs) (places : ℕ) (row : ℕ → ℕ) (standing : ℕ → Place) (state : AbstractState) (s : Refines needs places row standing state) (me : ℕ)
     → is_slot (standing me).registration ≡ false → held_by me state ≡ 0
 free-place needs places row standing state s me none = s.seats.held me ∙ ap one_if none
