@@ -22,7 +22,7 @@ fn main(rt: HostRuntime) -> io::Result<()> {
             println!(rt; "{} items, of the sum {}", tally.items, tally.sum)?;
             println!(rt; "{} out of order", tally.out_of_order)?;
             let is_told = ends_in_time(&rt, rt.alloc(), Duration::from_millis(5))?;
-            println!(rt; "who waited in vain was told in time: {is_told}")
+            println!(rt; "a call whose time was up was told so: {is_told}")
         }
         _ => println!(rt; "usage: example_queue N, with N from 1 to 16"),
     }

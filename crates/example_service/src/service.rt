@@ -1,180 +1,193 @@
-//! Workers that ask a gate before they work, and somebody who starts and stops the service.
+//! A service: jobs that are admitted, a queue of them, and workers that do them until it is stopped.
 
-use futures::executor::block_on;
-use saa_sync::Barrier;
-use saa_sync::gate::{Error, Gate, State};
-use std::alloc::{AllocError, AllocGlobal, Global};
-use std::random::RandomSource;
+use crate::report::{Answer, Report};
+use saa_sync::gate::{Error, Gate};
+use saa_sync::timed::TimedEntry;
+use saa_sync::{Barrier, SemaphoreOf};
+use saa_sync_queue::Queue;
+use std::alloc::{AllocError, Global};
 use std::sync::Wait;
 use std::sync::atomic::{AtomicU64, Ordering};
-use std::thread::{self, Threads, yield_now};
+use std::thread;
+use std::time::{Clock, Duration};
 
-/// What a worker is told when it asks for work.
-#[derive(Clone, Copy, PartialEq)]
-pub enum Verdict {
-    /// The waiters were let in.
-    LetIn,
-    /// The service is open to all.
-    Passed,
-    /// The waiters were turned away, or another waiter gave up: ask again.
-    AskAgain,
-    /// The service has stopped.
-    Stopped,
+/// How many jobs are in the service at most, queued or at work.
+pub const ROOM: usize = 32;
+
+/// A job: the number that its client gave it, and what is to be done.
+#[derive(Clone, Copy)]
+pub struct Job {
+    pub number: u64,
+    pub task: Task,
 }
 
-/// What the gate's answer says.
-///
-/// The other errors are those of polls, which who enters never meets: the contract of `enter_sync` says so, so that the last
-/// arm is proved to be out of reach.
-fn ask<R: Wait + Drop>(gate: &Gate<R>) -> Verdict {
-    match gate.enter_sync() {
-        Ok(Ok(State::Open)) => Verdict::Passed,
-        Ok(Ok(_permitted)) => Verdict::LetIn,
-        Ok(Err(Error::Rejected)) | Ok(Err(Error::SpuriousFailure)) => Verdict::AskAgain,
-        Ok(Err(Error::Sealed)) => Verdict::Stopped,
-        Ok(Err(Error::NotRegistered | Error::WrongMode | Error::NotReady)) => unreachable!(),
-        Err(_full) => Verdict::AskAgain,
-    }
+/// What is to be done.
+#[derive(Clone, Copy)]
+pub enum Task {
+    /// Work of this length.
+    Short(Duration),
+    /// Work that is under way as the service is stopped.
+    Long,
 }
 
-/// How many were told what.
-#[derive(Clone, Copy, PartialEq)]
-pub struct Told {
-    pub let_in: u64,
-    pub stopped: u64,
-    pub passed: u64,
-}
-
-/// The same, while it is counted.
+/// The service. A job that is in it has a permit of `admission`, which is given back as the job leaves, done or not.
 #[derive(Drop)]
-struct Counts {
-    let_in: AtomicU64,
-    stopped: AtomicU64,
-    passed: AtomicU64,
-}
-
-impl Counts {
-    fn count(&self, verdict: Verdict) {
-        let _ = match verdict {
-            Verdict::LetIn => self.let_in.fetch_add(1, Ordering::SeqCst),
-            Verdict::Stopped => self.stopped.fetch_add(1, Ordering::SeqCst),
-            Verdict::Passed => self.passed.fetch_add(1, Ordering::SeqCst),
-            Verdict::AskAgain => 0,
-        };
-    }
-
-    fn told(&self) -> Told {
-        Told {
-            let_in: self.let_in.load(Ordering::SeqCst),
-            stopped: self.stopped.load(Ordering::SeqCst),
-            passed: self.passed.load(Ordering::SeqCst),
-        }
-    }
-}
-
-/// The service: its gate, and a place where all meet who were let in.
-#[derive(Drop)]
-struct Service<'r, R: Wait> {
-    gate: Gate<&'r R>,
-    drained: Barrier<&'r R>,
-    counts: Counts,
+pub struct Service<'r, R: Wait> {
+    rt: &'r R,
+    admission: SemaphoreOf<&'r R, ROOM>,
+    queue: Queue<&'r R, Job, ROOM>,
+    start: Gate<&'r R>,
+    meeting: Barrier<&'r R>,
+    end: Gate<&'r R>,
+    done: AtomicU64,
+    sum: AtomicU64,
 }
 
 impl<'r, R: Wait> Service<'r, R> {
-    // A service that hasn't let in anybody, for so many at a time.
-    fn new(rt: &'r R, alloc: Global, room: u16) -> Result<Self, AllocError> {
+    /// A service that isn't started, for so many workers and one client that waits.
+    pub fn new(rt: &'r R, alloc: Global, workers: u16) -> Result<Self, AllocError> {
+        let all = workers.saturating_add(1);
         Ok(Service {
-            gate: Gate::new(rt, alloc, room)?,
-            drained: Barrier::with_count(rt, alloc, usize::from(room), room)?,
-            counts: Counts {
-                let_in: AtomicU64::new(0),
-                stopped: AtomicU64::new(0),
-                passed: AtomicU64::new(0),
-            },
+            rt,
+            admission: SemaphoreOf::new(rt, alloc, 1)?,
+            queue: Queue::new(rt, alloc, workers)?,
+            start: Gate::new(rt, alloc, workers)?,
+            meeting: Barrier::with_count(rt, alloc, usize::from(all), all)?,
+            end: Gate::new(rt, alloc, 1)?,
+            done: AtomicU64::new(0),
+            sum: AtomicU64::new(0),
         })
     }
 
-    // A worker.
-    fn work(&self) {
-        self.go_on(ask(&self.gate));
+    /// Lets the workers begin.
+    pub fn start(&self) {
+        let _ = self.start.open();
     }
 
-    // A task that is polled, in a thread that has nothing else to do; it stands in the same line.
-    fn poll(&self, rt: &R)
-    where
-        R: AllocGlobal + RandomSource,
-    {
-        let verdict = match block_on(rt, self.gate.enter_async()) {
-            Ok(Ok(Ok(_permitted))) => Verdict::LetIn,
-            Ok(_) => Verdict::Stopped,
-            // no memory for polling: it waits as a thread does
-            Err(_refused) => ask(&self.gate),
-        };
-        self.go_on(verdict);
+    /// Stops the service: no worker begins another job, and no job is accepted any more. Jobs that are accepted stay in the queue.
+    pub fn stop(&self) {
+        let _ = self.start.seal();
+        let _ = self.admission.shut();
+        let _ = self.queue.close();
+        let _ = self.end.open();
     }
 
-    // Who was let in does its work, and asks again once all that was begun is done.
-    fn go_on(&self, verdict: Verdict) {
-        self.counts.count(verdict);
-        if verdict == Verdict::LetIn {
-            let _ = self.drained.wait_sync();
-            self.counts.count(ask(&self.gate));
+    /// Waits until each worker is at a long job, or at the end of it.
+    pub fn meet(&self) {
+        let _ = self.meeting.wait_sync();
+    }
+
+    /// Offers a job, and waits until there is room for it.
+    pub fn offer(&self, job: Job) -> Answer {
+        match self.admission.acquire_sync() {
+            Ok(()) => self.enqueue(job),
+            Err(_closed) => Answer::Stopped,
         }
     }
 
-    // Permits the waiters to enter until so many were let in.
-    fn let_in(&self, rt: &R, all: usize) {
-        let mut awaited = all;
-        for _permit in rt.forever() {
-            if awaited == 0 {
+    // Puts an admitted job into the queue, which has a place for each; a service that was stopped meanwhile takes none.
+    fn enqueue(&self, job: Job) -> Answer {
+        match self.queue.try_push(job) {
+            Ok(()) => Answer::Accepted,
+            Err(_closed) => {
+                self.leave();
+                Answer::Stopped
+            }
+        }
+    }
+
+    // Makes room for another job.
+    fn leave(&self) {
+        let _ = self.admission.release();
+    }
+
+    /// Takes the jobs that were left in the queue of a service that was stopped, and counts them.
+    pub fn drain(&self, report: &mut Report) {
+        for _job in 0..ROOM {
+            let Ok(job) = self.queue.try_pop() else {
+                return;
+            };
+            self.leave();
+            report.count_drained(job.number);
+        }
+    }
+
+    /// What the workers did, once they have ended, and whether the service is empty.
+    pub fn count_done(&self, report: &mut Report) {
+        report.done = self.done.load(Ordering::SeqCst);
+        report.done_sum = self.sum.load(Ordering::SeqCst);
+        report.is_empty = self.admission.available_permits(Ordering::SeqCst) == ROOM;
+    }
+}
+
+impl<'r, R: Wait + Clock> Service<'r, R> {
+    /// Offers a job, and waits for room for as long as the client would.
+    pub fn offer_for(&self, job: Job, patience: Duration) -> Answer {
+        match self.admission.acquire_sync_for(patience) {
+            Ok(Some(())) => self.enqueue(job),
+            Ok(None) => Answer::Refused,
+            Err(_closed) => Answer::Stopped,
+        }
+    }
+
+    /// A worker: does one job after another from the start to the stop.
+    pub fn work(&self) {
+        for _job in self.rt.forever() {
+            // Before it takes a job: one that is taken is done.
+            if !may_begin(&self.start) {
                 return;
             }
-            awaited = awaited.saturating_sub(self.gate.permit().unwrap_or(0));
-            yield_now();
+            match self.queue.pop() {
+                Ok(job) => self.finish(job),
+                Err(_closed) => return,
+            }
         }
     }
 
-    // Opens the service that was stopped, and asks once more.
-    fn open_to_all(&self) {
-        let _ = self.gate.reset();
-        let _ = self.gate.open();
-        self.counts.count(ask(&self.gate));
+    // Does a job.
+    fn finish(&self, job: Job) {
+        match job.task {
+            Task::Short(length) => {
+                if !length.is_zero() {
+                    thread::sleep(self.rt, length);
+                }
+            }
+            Task::Long => {
+                self.meet();
+                self.meet();
+            }
+        }
+        let _ = self.done.fetch_add(1, Ordering::SeqCst);
+        let _ = self.sum.fetch_add(job.number, Ordering::SeqCst);
+        self.leave();
     }
 }
 
-// Starts so many workers and a polled task, lets all in once, and stops the service. Whether all were started.
-fn run_once<R: Threads + Wait + AllocGlobal + RandomSource + Sync>(
-    rt: &R,
-    service: &Service<'_, R>,
-    workers: u16,
-) -> bool {
-    thread::scope(thread::scope_env(), rt, |scope| {
-        let mut is_whole = scope.spawn(move || service.poll(rt)).is_ok();
-        for _worker in 0..workers {
-            is_whole = is_whole && scope.spawn(move || service.work()).is_ok();
+impl<'r, R: Wait + Clock + Print> Service<'r, R> {
+    /// Prints each second how many jobs are done, until the service is stopped.
+    pub fn print_progress(&self) {
+        let second = Duration::from_secs(1);
+        for _second in self.rt.forever() {
+            let Ok(TimedEntry::Late) = self.end.enter_sync_for(second) else {
+                return;
+            };
+            let done = self.done.load(Ordering::SeqCst);
+            if println!(self.rt; "{done} jobs are done").is_err() {
+                return;
+            }
         }
-        if is_whole {
-            service.let_in(rt, usize::from(workers).saturating_add(1));
-            let _ = service.drained.wait_sync();
-        }
-        let _ = service.gate.seal();
-        is_whole
-    })
+    }
 }
 
-/// Starts a service with so many workers and a polled task, lets all in once, stops it, and opens it to all.
-///
-/// The error comes where memory was refused or a thread couldn't be started: then it is stopped before anybody was let in.
-pub fn serve<R: Threads + Wait + AllocGlobal + RandomSource + Sync>(
-    rt: &R,
-    alloc: Global,
-    workers: u16,
-) -> Result<Told, AllocError> {
-    let service = Service::new(rt, alloc, workers.saturating_add(2))?;
-    if run_once(rt, &service, workers) {
-        service.open_to_all();
-        Ok(service.counts.told())
-    } else {
-        Err(AllocError)
+// Whether a worker may begin a job: it waits at the gate until the service is started or stopped.
+//
+// The last errors are those of polls. No call that enters meets them, by the contract of `enter_sync`, so the last arm is proved to be out of reach.
+fn may_begin<R: Wait + Drop>(start: &Gate<R>) -> bool {
+    match start.enter_sync() {
+        Ok(Ok(_open)) => true,
+        Ok(Err(Error::Sealed)) => false,
+        // Never here: nobody rejects, no pager leaves, and the gate has a slot for each worker.
+        Ok(Err(Error::Rejected)) | Ok(Err(Error::SpuriousFailure)) | Err(_) => false,
+        Ok(Err(Error::NotRegistered | Error::WrongMode | Error::NotReady)) => unreachable!(),
     }
 }

@@ -21,7 +21,7 @@ impl<R: Wait + Clock + Drop + Copy> Desk<R> {
         Ok(Desk { seats, served })
     }
 
-    // Serves a caller, who waits for a seat for a minute at most. The seat is free again once its permit is dropped.
+    // Serves a caller. It waits for a seat for a minute at most. The seat is free again once its permit is dropped.
     fn serve(&self) -> Result<bool, AcquireError> {
         let Some(_seat) = self.seats.acquire_permit_for(Duration::from_secs(60))? else {
             return Ok(false);

@@ -9,7 +9,7 @@ use std::{io, thread};
 fn main(rt: HostRuntime) -> io::Result<()> {
     // A controlled gate, and room for two waiters.
     let gate = Gate::new(&rt, rt.alloc(), 2)?;
-    // Who comes first waits; who comes when it is open passes at once.
+    // A worker that comes early waits; one that comes once it is open passes at once.
     let (started, _before) = thread::join(&rt, || both(&rt, &gate), || gate.open());
     println!(rt; "{started} started")?;
     let (_before, waiting) = gate.seal();
@@ -17,7 +17,7 @@ fn main(rt: HostRuntime) -> io::Result<()> {
     println!(rt; "{} passed after that", both(&rt, &gate))
 }
 
-// Sends two workers to the gate, and counts who passed.
+// Sends two workers to the gate, and counts those that passed.
 fn both<R: thread::Threads, G: Wait + Drop + Sync>(rt: &R, gate: &Gate<G>) -> u64 {
     let (one, other) = thread::join(rt, || passes(gate), || passes(gate));
     u64::from(one).saturating_add(u64::from(other))

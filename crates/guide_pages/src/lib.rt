@@ -21,6 +21,8 @@ mod lock_free;
 #[cfg(test)]
 mod pager;
 #[cfg(test)]
+mod pool;
+#[cfg(test)]
 mod seats;
 #[cfg(test)]
 mod semaphore;

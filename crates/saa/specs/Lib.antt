@@ -42,6 +42,9 @@ pub use Rattle.saa_sync.specs.BarrierAnswers
 pub use Rattle.saa_sync.specs.GateAnswers
 pub use Rattle.saa_sync.specs.LockAnswers
 pub use Rattle.saa_sync.specs.SemaphoreAnswers
+pub use Rattle.saa_sync_pool.specs.Refusals as PoolRefusals
+pub use Rattle.saa_sync_queue.specs.HandedBack as QueueItems
+pub use Rattle.saa_sync_queue.specs.Refusals as QueueRefusals
 pub use Rattle.saa_word_steps.specs.Needs
 pub use Rattle.saa_word_steps.specs.Readings as WordReadings
 pub use Rattle.saa_word_steps.specs.AbstractState

@@ -1,6 +1,6 @@
-//! The pool: its values are behind a mutex (`shelf`), and a semaphore has a permit for each of them that is in, so it decides who is let in for one.
+//! The pool: its values are behind a mutex (`shelf`), and a semaphore has a permit for each of them that is in, so it decides which task gets one.
 //!
-//! Each value is in before its permit is, and a permit is taken before its value. So who has a permit finds a value, but where the pool was
+//! Each value is in before its permit is, and a permit is taken before its value. So a task with a permit finds a value, unless the pool was
 //! closed meanwhile.
 
 ghost use Rattle.std.specs.Prelude.{◌≡◌, ◌+◌, ◌<◌, ◌≤◌, IfErr};

@@ -2,7 +2,7 @@
 //! both ends.
 //!
 //! `queue` has the queue and its calls, and `future` the waits of tasks at both ends. `items` has the items, under one mutex: what no call may get
-//! wrong is proved there. Two semaphores count free places and items, and decide who is let in, in which order, and how each kind of call waits.
+//! wrong is proved there. Two semaphores count free places and items, and decide which task is let in, in which order, and how each kind of call waits.
 #![tactic(auto)]
 
 mod future;

@@ -1,8 +1,8 @@
-//! The queue: its items are behind a mutex (`items`); one semaphore has a permit for each free place, and another for each item, so they decide who is
-//! let in at either end.
+//! The queue: its items are behind a mutex (`items`); one semaphore has a permit for each free place, and another for each item, so they decide which
+//! task is let in at either end.
 //!
-//! Each item is in before its permit is, and a permit is taken before its item. So who has a consumer's permit finds an item. A closed queue lets
-//! consumers in for what is left as ever, in turn; who takes the last item shuts the consumers' semaphore, so those that wait then are told.
+//! Each item is in before its permit is, and a permit is taken before its item. So a task with a consumer's permit finds an item. A closed queue lets
+//! consumers in for what is left as ever, in turn. The consumer that takes the last item shuts the consumers' semaphore, so the waiting ones are told.
 
 ghost use Rattle.std.specs.Prelude.{◌≡◌, ◌<◌, ◌≤◌, IfErr};
 ghost use Rattle.saa_sync_queue.specs.HandedBack.{item_of};

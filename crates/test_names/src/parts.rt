@@ -1,4 +1,4 @@
-//! What is in the modules of cores, threaded forms, laws, lines and words.
+//! What is in the modules of cores, threaded forms, the pool and the queue on these, laws, lines and words.
 
 /// A semaphore's core, form and permits.
 pub mod semaphore {
@@ -55,6 +55,16 @@ pub mod ticket {
 pub mod bench {
     pub use saa::bench::{Bench, Command, CommandOf, Primitive, Reply, ReplyOf, laws};
     pub use saa::journal::{Journal, JournalMemory, Journalled, Share};
+}
+
+/// A pool of values.
+pub mod pool {
+    pub use saa::pool::{CheckingOut, Checkout, Counts, Drained, Pool, Refused, Shrunk};
+}
+
+/// A bounded queue.
+pub mod queue {
+    pub use saa::queue::{PopError, Popping, PoppingFrom, PushError, Pushing, PushingTo, Queue};
 }
 
 /// The laws of runs.
