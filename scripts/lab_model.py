@@ -255,20 +255,40 @@ class Gate(Model):
 class Barrier(Model):
     def __init__(self, size, room):
         super().__init__(room)
-        self.size = min(size, 63)
+        # (arrivals of the round that don't wait, and rounds that are complete)
+        self.size, self.arrived, self.rounds = min(size, 63), 0, 0
+
+    def missing(self):
+        return max(self.size - self.arrived - len(self.queue), 0)
 
     def held(self):
-        count = self.size - len(self.queue)
-        return "1 arrival to come" if count == 1 else f"{max(count, 0)} arrivals to come"
+        return "1 arrival to come" if self.missing() == 1 else f"{self.missing()} arrivals to come"
+
+    def resize(self, size, arrived):
+        """Whether the round is complete at this size, with so many arrivals that don't wait."""
+        self.size, self.arrived = size, arrived
+        is_complete = max(size, 1) <= arrived + len(self.queue)
+        if is_complete:
+            self.give_all("false")
+            self.arrived = 0
+            self.rounds += 1
+        return truth(is_complete)
 
     def at_once(self, asks):
-        if len(self.queue) + 1 != self.size:
+        if self.arrived + len(self.queue) + 1 != self.size:
             return None
-        self.give_all("false")
+        self.resize(self.size, self.arrived + 1)
         return "true"
 
     def call(self, word):
-        return str(max(self.size - len(self.queue), 0))
+        if word in ("count", "round"):
+            return str(self.missing() if word == "count" else self.rounds)
+        if self.size == (63 if word == "join" else 0):
+            return "false"
+        if word == "join":
+            self.resize(self.size + 1, self.arrived)
+            return "true"
+        return self.resize(self.size, self.arrived + 1) if word == "arrive" else self.resize(self.size - 1, self.arrived)
 
 
 def made(words):

@@ -58,7 +58,7 @@ IsGranting (OfSemaphore bound out) = Unit {0}
 IsGranting (OfShutSemaphore bound out) = Unit {0}
 IsGranting (OfLock lock) = Unit {0}
 IsGranting (OfGate gate) = ⊥
-IsGranting (OfBarrier size) = ⊥
+IsGranting (OfBarrier size arrived round) = ⊥
 
 -- the answer that every registration gets at once, whatever it asks: that of a poisoned lock, and that of a shut semaphore
 abbrev pub answer_to_all : Held → Option ℕ

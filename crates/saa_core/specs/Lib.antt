@@ -1,4 +1,5 @@
 pub mod BarrierInvariant
+pub mod BarrierParts
 pub mod Futures
 pub mod GateInvariant
 pub mod GatePolls

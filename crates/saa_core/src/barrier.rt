@@ -1,10 +1,10 @@
 //! The barrier: as many tasks as its size wait for one another, and pass together.
 //!
 //! The core is held to `specs/Barrier.antt` of `saa_core_spec` by every call, with any tickets that are registered in it.
-//! The waiters are in a line; the last arrival of a round never does. That a round stays incomplete while tasks
-//! wait is `specs/BarrierInvariant.antt`.
+//! The waiters are in a line; the last arrival of a round never is. An arrival that doesn't wait is only counted. That a round
+//! stays incomplete while tasks wait is `specs/BarrierInvariant.antt`.
 
-ghost use Rattle.std.specs.Prelude.{true, false, ◌≡◌, ℕ, ◌+◌, ◌-◌, ◌≤◌, ◌==◌, ◌||◌, length, min, replicate, IsOk, IfOk, OnErr, IsErr};
+ghost use Rattle.std.specs.Prelude.{true, false, ◌≡◌, ℕ, ◌+◌, ◌-◌, ◌≤◌, ◌==◌, ◌||◌, ◌&&◌, nat_lt, length, min, replicate, IsOk, IfOk, OnErr, IsErr};
 ghost use Rattle.saa_core_spec.specs.declared.request.Request.TheVariants.{Arrive};
 ghost use Rattle.saa_core_spec.specs.declared.polling.Error.TheVariants.{NotRegistered};
 ghost use Rattle.saa_core.specs.declared.ticket.Registration.TheVariants.{Unregistered, AtOnce};
@@ -12,12 +12,14 @@ ghost use Rattle.saa_core_spec.specs.Held.{OfBarrier, max_tasks};
 ghost use Rattle.saa_core_spec.specs.Asking.{registered};
 ghost use Rattle.saa_core_spec.specs.Polling.{polled, read_as};
 ghost use Rattle.saa_core_spec.specs.Values.{barrier_value, leader_value, passed_value};
-ghost use Rattle.saa_core_spec.specs.Barrier.{size_of, barrier_step, new_barrier};
+ghost use Rattle.saa_core_spec.specs.Barrier.{size_of, arrived_of, round_of, is_complete, barrier_step, new_barrier};
 ghost use Rattle.saa_core.specs.Slots.{WakesAnswered, empty_slots, held_slots, room_of, all_slots_answered};
 ghost use Rattle.saa_core.specs.Tickets.{StepsWithTicket, Calls, Belong, Polled, IsForeign, dropping, fault_of, is_busy, is_yes, object_of};
 ghost use Rattle.saa_core.specs.BarrierInvariant.{IsBarrierInvariant};
 ghost use Rattle.saa_core.specs.Waiters.{IsWaiting, left_by};
 ghost use Rattle.saa_core.specs.GatheringParts.{vacated};
+ghost use Rattle.saa_core.specs.BarrierParts.{core_complete, core_resized};
+ghost use Rattle.saa_core_spec.specs.Object.{one_if};
 
 use crate::line::Line;
 use crate::primitive::Primitive;
@@ -41,6 +43,10 @@ const LEADER: u8 = 1;
 #[derive(Drop)]
 pub struct BarrierCore {
     size: usize,
+    // Arrivals of this round that don't wait.
+    arrived: usize,
+    // Rounds that are complete.
+    round: u64,
     line: Line,
 }
 
@@ -53,12 +59,13 @@ impl Model for BarrierCore {
 
     ghost Value = { Core };
 
-    ghost view = { λ barrier. record { held = OfBarrier barrier.size; slots = barrier.line } };
+    ghost view = { λ barrier. record { held = OfBarrier barrier.size barrier.arrived barrier.round; slots = barrier.line } };
 
     ghost invariant = { λ barrier. record {
       sound : IsSound barrier.line;
       small : barrier.size ≤ max_tasks;
-      incomplete : IsBarrierOf (OfBarrier barrier.size) barrier.line.line;
+      few : barrier.arrived ≤ max_tasks;
+      incomplete : IsBarrierOf (OfBarrier barrier.size barrier.arrived barrier.round) barrier.line.line;
     } };
 }
 
@@ -69,12 +76,12 @@ impl BarrierCore {
     /// A barrier for so many tasks, and room for so many waiters. A number above 63 is cut to it.
     /// Costs O(`room`).
     ///
-    /// The size never changes. At a barrier of size 0 every arrival waits, and none is ever answered; at one of size 1
+    /// At a barrier of size 0 every arrival waits, and none is answered before [`Self::join`]; at one of size 1
     /// every arrival passes at once. Reserves all the memory that it will ever need; the error comes only where that was
     /// refused.
     pub fn with_count(alloc: Global, count: usize, room: u16) -> Result<Self, AllocError>
         ensures made { IfOk result (λ core.
-            core ≡ record { held = OfBarrier (min count max_tasks); slots = empty_slots room }) }
+            core ≡ record { held = OfBarrier (min count max_tasks) 0 0; slots = empty_slots room }) }
         ensures no_room { room ≡ 0 → IsOk result }
         ensures idle_tickets { IfOk result (λ core. (names : ℕ) → Belong core.slots (replicate names Unregistered)) }
         ensures object { IfOk result (λ core. (names : ℕ)
@@ -83,23 +90,91 @@ impl BarrierCore {
         let line = Line::with_room(alloc, room)?;
         Ok(BarrierCore {
             size: count.min(Self::MAX_TASKS),
+            arrived: 0,
+            round: 0,
             line,
         })
     }
 
-    /// How many arrivals the round still waits for: the size less the waiters, and 0 at a barrier of size 0. Costs O(1).
+    /// How many arrivals the round still waits for: the size less the arrivals, and 0 at a barrier of size 0. Costs O(1).
     pub fn count(&self) -> usize
         ensures calls { Calls self.now self.now (barrier_step BarrierCall.Count) (BarrierAnswer.Count result) }
-        ensures answer { result ≡ size_of self.now.held - length self.now.slots.line }
+        ensures answer { result ≡ size_of self.now.held - (arrived_of self.now.held + length self.now.slots.line) }
         ensures within { result ≤ max_tasks }
     {
-        self.size.saturating_sub(usize::from(self.line.waiting()))
+        self.size
+            .saturating_sub(self.arrived + usize::from(self.line.waiting()))
+    }
+
+    /// How many rounds are complete, up to `u64::MAX`, where the number stays. Costs O(1).
+    ///
+    /// It grows by 1 each time a round is complete, and by nothing else. The round of an arrival is the number that this says
+    /// just before it arrives.
+    pub fn round(&self) -> u64
+        ensures calls { Calls self.now self.now (barrier_step BarrierCall.Round) (BarrierAnswer.Round result) }
+        ensures answer { result ≡ round_of self.now.held }
+    {
+        self.round
+    }
+
+    /// Arrives without waiting, as at a latch; says whether this completes the round.
+    ///
+    /// `true`: all waiters are answered that they passed, none as the leader, and the next round begins. `false`: the round waits
+    /// for one arrival less; at a barrier of size 0 nothing changes. Costs O(how many are answered).
+    pub fn count_arrival(&mut self) -> bool
+        ensures calls { Calls self.old self.new (barrier_step BarrierCall.Arrive) (BarrierAnswer.Bool result) }
+        ensures answer { result ≡ (nat_lt 0 (size_of self.old.held)
+            && is_complete (size_of self.old.held) (arrived_of self.old.held + 1 + length self.old.slots.line)) }
+        ensures wakes { WakesAnswered self.old.slots self.new.slots }
+        ensures invariant { IsBarrierInvariant self.new }
+    {
+        if self.size == 0 {
+            return false;
+        }
+        self.resize(self.size, self.arrived + 1)
+    }
+
+    /// Makes the barrier one task larger, from this round on; says whether it did.
+    ///
+    /// `false` exactly at the greatest size, [`Self::MAX_TASKS`]: nothing changes. Waiters of a barrier of size 0 are answered that
+    /// they passed, as its round is complete at size 1. Costs O(how many are answered).
+    pub fn join(&mut self) -> bool
+        ensures calls { Calls self.old self.new (barrier_step BarrierCall.Join) (BarrierAnswer.Bool result) }
+        ensures answer { result ≡ nat_lt (size_of self.old.held) max_tasks }
+        ensures size { size_of self.new.held ≡ size_of self.old.held + one_if result }
+        ensures wakes { WakesAnswered self.old.slots self.new.slots }
+        ensures invariant { IsBarrierInvariant self.new }
+    {
+        if self.size == Self::MAX_TASKS {
+            return false;
+        }
+        let _is_complete = self.resize(self.size + 1, self.arrived);
+        true
+    }
+
+    /// Makes the barrier one task smaller, from this round on; says whether this completes the round.
+    ///
+    /// `true`: all other tasks have arrived, and there are some. All waiters are answered that they passed, none as the leader, and
+    /// the next round begins. `false`: the round waits for one arrival less; at a barrier of size 0 nothing changes. A task whose
+    /// own arrival waits cancels that first. Costs O(how many are answered).
+    pub fn leave(&mut self) -> bool
+        ensures calls { Calls self.old self.new (barrier_step BarrierCall.Leave) (BarrierAnswer.Bool result) }
+        ensures answer { result ≡ (nat_lt 0 (size_of self.old.held)
+            && is_complete (size_of self.old.held - 1) (arrived_of self.old.held + length self.old.slots.line)) }
+        ensures size { size_of self.new.held ≡ size_of self.old.held - 1 }
+        ensures wakes { WakesAnswered self.old.slots self.new.slots }
+        ensures invariant { IsBarrierInvariant self.new }
+    {
+        if self.size == 0 {
+            return false;
+        }
+        self.resize(self.size - 1, self.arrived)
     }
 
     /// Registers an idle ticket as an arrival, as sync or as async.
     ///
-    /// `Ok(true)`: where all others of the round wait, the round is complete: they are answered that they passed, and this
-    /// arrival is answered at once that it is the leader, and needs no slot. Else it waits, last in the line, in a slot.
+    /// `Ok(true)`: if all others of the round have arrived, the round is complete: the waiters are answered that they passed, and
+    /// this arrival is answered at once that it is the leader, and needs no slot. Else it waits, last in the line, in a slot.
     /// `Ok(false)`: the ticket isn't idle; nothing changes. `Err(Full)`: it would have to wait, and as many slots are held
     /// as there is room; nothing changes. Costs O(how many are answered).
     pub fn arrive(&mut self, ticket: &mut Ticket, is_sync: bool) -> Result<bool, Full>
@@ -107,14 +182,14 @@ impl BarrierCore {
         ensures ticket { is_busy ticket.new ≡ (is_busy ticket.old || is_yes result) }
         ensures busy { is_busy ticket.old ≡ true
             → (result ≡ Ok false) × (self.new ≡ self.old) × (ticket.new ≡ ticket.old) }
-        ensures last { is_busy ticket.old ≡ false → length self.old.slots.line + 1 ≡ size_of self.old.held
-            → (result ≡ Ok true) × (self.new ≡ record self.old { slots = all_slots_answered passed_value self.old.slots })
+        ensures last { is_busy ticket.old ≡ false → arrived_of self.old.held + length self.old.slots.line + 1 ≡ size_of self.old.held
+            → (result ≡ Ok true) × (self.new ≡ core_complete self.old.slots (size_of self.old.held) (round_of self.old.held))
             × (ticket.new ≡ AtOnce leader_value Arrive is_sync) }
         ensures full { IsErr result → held_slots self.old.slots ≡ room_of self.old.slots }
-        ensures nobody { ¬ (length self.old.slots.line + 1 ≡ size_of self.old.held)
-            → self.new.slots.pending_wakes ≡ self.old.slots.pending_wakes }
+        ensures nobody { ¬ (arrived_of self.old.held + length self.old.slots.line + 1 ≡ size_of self.old.held)
+            → (self.new.held ≡ self.old.held) × (self.new.slots.pending_wakes ≡ self.old.slots.pending_wakes) }
         ensures refused { is_yes result ≡ false → (self.new ≡ self.old) × (ticket.new ≡ ticket.old) }
-        ensures size { self.new.held ≡ self.old.held }
+        ensures size { size_of self.new.held ≡ size_of self.old.held }
         ensures wakes { WakesAnswered self.old.slots self.new.slots }
         ensures invariant { IsBarrierInvariant self.new }
     {
@@ -123,7 +198,7 @@ impl BarrierCore {
             return Ok(false);
         }
         if self.completes_round() {
-            self.line.answer_all(PASSED);
+            let _is_complete = self.resize(self.size, self.arrived + 1);
             ticket.set(Registration::AtOnce(LEADER, Request::Arrive, is_sync));
             return Ok(true);
         }
@@ -153,11 +228,33 @@ impl BarrierCore {
         read_answer(answer)
     }
 
-    // Whether all others of the round wait, so that one more arrival completes it.
+    // Whether all others of the round have arrived, so that one more arrival completes it.
     fn completes_round(&self) -> bool
-        ensures { result ≡ (length self.now.slots.line + 1 == size_of self.now.held) }
+        ensures { result ≡ (arrived_of self.now.held + length self.now.slots.line + 1 == size_of self.now.held) }
     {
-        usize::from(self.line.waiting()) + 1 == self.size
+        self.arrived + usize::from(self.line.waiting()) + 1 == self.size
+    }
+
+    // Makes the barrier of this size, with so many arrivals that don't wait; says whether its round is complete then. If so, all
+    // waiters pass, and the next round begins.
+    fn resize(&mut self, size: usize, arrived: usize) -> bool
+        requires small { size ≤ max_tasks }
+        requires few { arrived ≤ max_tasks }
+        ensures complete { result ≡ is_complete size (arrived + length self.old.slots.line) }
+        ensures state { self.new ≡ core_resized self.old.slots size arrived (round_of self.old.held) }
+        ensures wakes { WakesAnswered self.old.slots self.new.slots }
+        ensures invariant { IsBarrierInvariant self.new }
+    {
+        let is_complete = completes(size, arrived + usize::from(self.line.waiting()));
+        self.size = size;
+        if !is_complete {
+            self.arrived = arrived;
+            return false;
+        }
+        self.line.answer_all(PASSED);
+        self.arrived = 0;
+        self.round = self.round.saturating_add(1);
+        true
     }
 
     // Frees a slot of this core: its answer is consumed, or it leaves the line; a slot that isn't held is nothing.
@@ -171,6 +268,13 @@ impl BarrierCore {
             let _left = self.line.leave(slot);
         }
     }
+}
+
+// Whether so many arrivals complete a round of this size: as many as that, or more, and at least one.
+fn completes(size: usize, arrivals: usize) -> bool
+    ensures { result ≡ is_complete size arrivals }
+{
+    0 < arrivals && size <= arrivals
 }
 
 // What the number of an answer means: the leader or not.
@@ -220,6 +324,10 @@ impl Primitive for BarrierCore {
         let _opened = &self.line;
         match call {
             BarrierCall::Count => BarrierAnswer::Count(self.count()),
+            BarrierCall::Arrive => BarrierAnswer::Bool(self.count_arrival()),
+            BarrierCall::Join => BarrierAnswer::Bool(self.join()),
+            BarrierCall::Leave => BarrierAnswer::Bool(BarrierCore::leave(self)),
+            BarrierCall::Round => BarrierAnswer::Round(self.round()),
         }
     }
 

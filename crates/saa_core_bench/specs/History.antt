@@ -23,4 +23,4 @@ pub record Replays {C K A V : Type 0} (request : K → Request) (step : C → Ob
 
 -- an object that is nothing in particular
 pub nothing : Object
-nothing = newly_made (OfBarrier 0) 0 0
+nothing = newly_made (OfBarrier 0 0 0) 0 0

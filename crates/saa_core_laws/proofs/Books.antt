@@ -1,6 +1,6 @@
 -- What the steps of an object do to its book: an idle name stays idle, and an answer that is there stays as it is,
 -- where the step is neither a registration, a poll nor a drop of that name.
-use Rattle.std.proofs.Common.{◌≡◌, ℕ, ◌+◌, Bool, true, false, eqb, ◌⊎◌, inl, inr, List, [], ◌∷◌, length, min, set, take, Option, Some, None, refl, ap, ◌∙◌}
+use Rattle.std.proofs.Common.{◌≡◌, ℕ, ◌+◌, ◌-◌, nat_lt, Bool, true, false, eqb, ◌⊎◌, inl, inr, List, [], ◌∷◌, length, min, set, take, Option, Some, None, refl, ap, ◌∙◌}
 use Rattle.std.proofs.lemmas.Bool.{cases_Bool, cases_eq, cases_lt}
 use Rattle.std.proofs.lemmas.Option.{cond_some}
 use Rattle.saa_core_spec.specs.declared.gate.State.{State}
@@ -14,17 +14,17 @@ use Rattle.saa_core_spec.specs.declared.lock.LockCall.TheVariants.{TryLock, TryS
 use Rattle.saa_core_spec.specs.declared.gate.GateCall.{GateCall}
 use Rattle.saa_core_spec.specs.declared.gate.GateCall.TheVariants.{State as AskState, Reset, Permit, PermitMany, Reject, Open as DoOpen, Seal}
 use Rattle.saa_core_spec.specs.declared.barrier.BarrierCall.{BarrierCall}
-use Rattle.saa_core_spec.specs.declared.barrier.BarrierCall.TheVariants.{Count}
-use Rattle.saa_core_spec.specs.Held.{Held, OfSemaphore, OfShutSemaphore, OfLock, OfGate, OfBarrier, Free, Exclusive, Shared, Poisoned, plus, less}
+use Rattle.saa_core_spec.specs.declared.barrier.BarrierCall.TheVariants.{Count, Arrive as DoArrive, Join, Leave as LeaveOne, Round}
+use Rattle.saa_core_spec.specs.Held.{Held, OfSemaphore, OfShutSemaphore, OfLock, OfGate, OfBarrier, Free, Exclusive, Shared, Poisoned, plus, less, max_tasks}
 use Rattle.saa_core_spec.specs.Object.{Object, After, Entry, Idle, Waiting, Answered, Waiter, entry_at}
-use Rattle.saa_core_spec.specs.Settling.{fitting_front, answered_entry, answered_in, settled, all_answered}
+use Rattle.saa_core_spec.specs.Settling.{fitting_front, answered_entry, answered_in, settled, all_answered, round_complete}
 use Rattle.saa_core_spec.specs.Asking.{is_idle, is_granted_at_once, tried, granted_at_once, answer_in}
 use Rattle.saa_core_spec.specs.Polling.{is_for_nothing, given_back_of, given_back, left_of, quietly_left_of, undone_of}
 use Rattle.saa_core_spec.specs.Values.{granted_value, closed_value, poisoned_value, leader_value, passed_value, opened_value, sealed_value, permitted_value, rejected_value, spurious_value}
 use Rattle.saa_core_spec.specs.Semaphore.{semaphore_step, shut_of}
 use Rattle.saa_core_spec.specs.Lock.{lock_step, is_locked, is_poisoned, downgraded_of, poisoned_of, cleared_of}
 use Rattle.saa_core_spec.specs.Gate.{gate_step, gate_state, let_through, let_front_through, reset_of}
-use Rattle.saa_core_spec.specs.Barrier.{barrier_step}
+use Rattle.saa_core_spec.specs.Barrier.{barrier_step, is_complete, resized, arrived_at, joined_by, left_by_one}
 use Rattle.saa_core_laws.specs.Registrations.{is_answered}
 use Rattle.saa_core_laws.proofs.Order.{entry_at-same, entry_at-other, set_past, length-answered_in}
 
@@ -125,7 +125,7 @@ KeepsBook-left_of s (OfSemaphore bound out) = KeepsBook-settled s
 KeepsBook-left_of s (OfShutSemaphore bound out) = KeepsBook-settled s
 KeepsBook-left_of s (OfLock lock) = KeepsBook-settled s
 KeepsBook-left_of s (OfGate gate) = KeepsBook-answered_in spurious_value s.line s.book
-KeepsBook-left_of s (OfBarrier size) = KeepsBook-same s.book
+KeepsBook-left_of s (OfBarrier size arrived round) = KeepsBook-same s.book
 
 -- a name that waited has left quietly
 pub KeepsBook-quietly_left_of : (s : Object) (held : Held) → KeepsBook s.book (quietly_left_of s held).book
@@ -133,7 +133,7 @@ KeepsBook-quietly_left_of s (OfSemaphore bound out) = KeepsBook-left_of s (OfSem
 KeepsBook-quietly_left_of s (OfShutSemaphore bound out) = KeepsBook-left_of s (OfShutSemaphore bound out)
 KeepsBook-quietly_left_of s (OfLock lock) = KeepsBook-left_of s (OfLock lock)
 KeepsBook-quietly_left_of s (OfGate gate) = KeepsBook-same s.book
-KeepsBook-quietly_left_of s (OfBarrier size) = KeepsBook-left_of s (OfBarrier size)
+KeepsBook-quietly_left_of s (OfBarrier size arrived round) = KeepsBook-left_of s (OfBarrier size arrived round)
 
 -- what was granted is given back
 pub KeepsBook-undone_of : (s : Object) (held : Held) (request : Request) → KeepsBook s.book (undone_of s held request).book
@@ -141,7 +141,7 @@ KeepsBook-undone_of s (OfSemaphore bound out) request = KeepsBook-given_back s r
 KeepsBook-undone_of s (OfShutSemaphore bound out) request = KeepsBook-given_back s request
 KeepsBook-undone_of s (OfLock lock) request = KeepsBook-given_back s request
 KeepsBook-undone_of s (OfGate gate) request = KeepsBook-same s.book
-KeepsBook-undone_of s (OfBarrier size) request = KeepsBook-same s.book
+KeepsBook-undone_of s (OfBarrier size arrived round) request = KeepsBook-same s.book
 
 -- a registration that is granted at once
 pub KeepsBook-granted_at_once : (s : Object) (request : Request) (answer : After ℕ) → granted_at_once s request ≡ Some answer
@@ -169,8 +169,8 @@ KeepsBook-answered s (OfLock Poisoned) request answer e = KeepsBook-unchanged s 
 KeepsBook-answered s (OfGate Controlled) request answer e = cc
 KeepsBook-answered s (OfGate Sealed) request answer e = KeepsBook-unchanged s sealed_value answer e
 KeepsBook-answered s (OfGate Open) request answer e = KeepsBook-unchanged s opened_value answer e
-KeepsBook-answered s (OfBarrier size) request answer e =
-    let parts = cond_some (eqb (length s.line + 1) size) (record { state = all_answered passed_value s; reply = leader_value }) answer e in
+KeepsBook-answered s (OfBarrier size arrived round) request answer e =
+    let parts = cond_some (eqb (arrived + length s.line + 1) size) (record { state = round_complete passed_value s size round; reply = leader_value }) answer e in
     rw (← parts.1) (KeepsBook-answered_in passed_value s.line s.book)
 
 -- a shut
@@ -179,7 +179,7 @@ KeepsBook-shut_of s (OfSemaphore bound out) = KeepsBook-answered_in closed_value
 KeepsBook-shut_of s (OfShutSemaphore bound out) = KeepsBook-same s.book
 KeepsBook-shut_of s (OfLock lock) = KeepsBook-same s.book
 KeepsBook-shut_of s (OfGate gate) = KeepsBook-same s.book
-KeepsBook-shut_of s (OfBarrier size) = KeepsBook-same s.book
+KeepsBook-shut_of s (OfBarrier size arrived round) = KeepsBook-same s.book
 
 -- every call of a semaphore
 pub KeepsBook-semaphore_step : (call : SemaphoreCall) (s : Object) → KeepsBook s.book (semaphore_step call s).state.book
@@ -248,6 +248,50 @@ KeepsBook-gate_step Reject s = KeepsBook-let_through s rejected_value (gate_stat
 KeepsBook-gate_step DoOpen s = KeepsBook-answered_in opened_value s.line s.book
 KeepsBook-gate_step Seal s = KeepsBook-answered_in sealed_value s.line s.book
 
+-- a barrier of another size
+pub KeepsBook-resized : (s : Object) (size arrived round : ℕ) → KeepsBook s.book (resized s size arrived round).book
+KeepsBook-resized s size arrived round = elim (cases_Bool (is_complete size (arrived + length s.line))) [
+  | inl e ↦ rw e (KeepsBook-answered_in passed_value s.line s.book)
+  | inr e ↦ rw e (KeepsBook-same s.book)
+]
+
+-- an arrival for which nobody waits
+pub KeepsBook-arrived_at : (s : Object) (held : Held) → KeepsBook s.book (arrived_at s held).state.book
+KeepsBook-arrived_at s (OfBarrier size arrived round) = elim (cases_Bool (nat_lt 0 size)) [
+  | inl e ↦ rw e (KeepsBook-resized s size (arrived + 1) round)
+  | inr e ↦ rw e (KeepsBook-same s.book)
+]
+KeepsBook-arrived_at s (OfSemaphore bound out) = KeepsBook-same s.book
+KeepsBook-arrived_at s (OfShutSemaphore bound out) = KeepsBook-same s.book
+KeepsBook-arrived_at s (OfLock lock) = KeepsBook-same s.book
+KeepsBook-arrived_at s (OfGate gate) = KeepsBook-same s.book
+
+-- one task more
+pub KeepsBook-joined_by : (s : Object) (held : Held) → KeepsBook s.book (joined_by s held).state.book
+KeepsBook-joined_by s (OfBarrier size arrived round) = elim (cases_Bool (nat_lt size max_tasks)) [
+  | inl e ↦ rw e (KeepsBook-resized s (size + 1) arrived round)
+  | inr e ↦ rw e (KeepsBook-same s.book)
+]
+KeepsBook-joined_by s (OfSemaphore bound out) = KeepsBook-same s.book
+KeepsBook-joined_by s (OfShutSemaphore bound out) = KeepsBook-same s.book
+KeepsBook-joined_by s (OfLock lock) = KeepsBook-same s.book
+KeepsBook-joined_by s (OfGate gate) = KeepsBook-same s.book
+
+-- one task less
+pub KeepsBook-left_by_one : (s : Object) (held : Held) → KeepsBook s.book (left_by_one s held).state.book
+KeepsBook-left_by_one s (OfBarrier size arrived round) = elim (cases_Bool (nat_lt 0 size)) [
+  | inl e ↦ rw e (KeepsBook-resized s (size - 1) arrived round)
+  | inr e ↦ rw e (KeepsBook-same s.book)
+]
+KeepsBook-left_by_one s (OfSemaphore bound out) = KeepsBook-same s.book
+KeepsBook-left_by_one s (OfShutSemaphore bound out) = KeepsBook-same s.book
+KeepsBook-left_by_one s (OfLock lock) = KeepsBook-same s.book
+KeepsBook-left_by_one s (OfGate gate) = KeepsBook-same s.book
+
 -- every call of a barrier
 pub KeepsBook-barrier_step : (call : BarrierCall) (s : Object) → KeepsBook s.book (barrier_step call s).state.book
 KeepsBook-barrier_step Count s = KeepsBook-same s.book
+KeepsBook-barrier_step DoArrive s = KeepsBook-arrived_at s s.held
+KeepsBook-barrier_step Join s = KeepsBook-joined_by s s.held
+KeepsBook-barrier_step LeaveOne s = KeepsBook-left_by_one s s.held
+KeepsBook-barrier_step Round s = KeepsBook-same s.book

@@ -63,7 +63,7 @@ out-less most (OfShutSemaphore bound out) rest Enter fine e = cc
 out-less most (OfShutSemaphore bound out) rest Arrive fine e = cc
 out-less most (OfLock lock) rest request fine e = absurd fine
 out-less most (OfGate gate) rest request fine e = absurd fine
-out-less most (OfBarrier size) rest request fine e = absurd fine
+out-less most (OfBarrier size arrived round) rest request fine e = absurd fine
 
 -- a request for nothing has no permits
 pub permits_of-nothing : (request : Request) → is_for_nothing request ≡ true → permits_of request ≡ 0
@@ -107,7 +107,7 @@ undone-is most s (OfSemaphore bound out) request fine = refl
 undone-is most s (OfShutSemaphore bound out) request fine = refl
 undone-is most s (OfLock lock) request fine = absurd fine
 undone-is most s (OfGate gate) request fine = absurd fine
-undone-is most s (OfBarrier size) request fine = absurd fine
+undone-is most s (OfBarrier size arrived round) request fine = absurd fine
 
 -- and settles when a name has left
 pub left-is : (most : ℕ) (s : Object) (held : Held) → IsFineSemaphore most held → left_of s held ≡ settled s
@@ -115,7 +115,7 @@ left-is most s (OfSemaphore bound out) fine = refl
 left-is most s (OfShutSemaphore bound out) fine = refl
 left-is most s (OfLock lock) fine = absurd fine
 left-is most s (OfGate gate) fine = absurd fine
-left-is most s (OfBarrier size) fine = absurd fine
+left-is most s (OfBarrier size arrived round) fine = absurd fine
 
 -- what a step conserves
 abbrev pub Conserves : (before after : Object) (taken given : ℕ) → Type 0
@@ -180,7 +180,7 @@ out-added most (OfSemaphore bound out) request fine fit = ap out_of (out-plus bo
 out-added most (OfShutSemaphore bound out) request fine fit = cc
 out-added most (OfLock lock) request fine fit = absurd fine
 out-added most (OfGate gate) request fine fit = absurd fine
-out-added most (OfBarrier size) request fine fit = absurd fine
+out-added most (OfBarrier size arrived round) request fine fit = absurd fine
 
 -- a try
 pub Conserves-tried : (most : ℕ) (s : Object) (request : Request) → IsFineSemaphore most s.held
@@ -206,7 +206,7 @@ IsGranted-answered most s (OfShutSemaphore bound out) request answer is fine e =
     rw (← same) (record { out = omega arith; book = refl })
 IsGranted-answered most s (OfLock lock) request answer is fine e = absurd is
 IsGranted-answered most s (OfGate gate) request answer is fine e = absurd is
-IsGranted-answered most s (OfBarrier size) request answer is fine e = absurd is
+IsGranted-answered most s (OfBarrier size arrived round) request answer is fine e = absurd is
 
 -- an idle name is granted nothing out of the line
 pub granted_between-idle : (entry after : Entry) → is_idle entry ≡ true → granted_between entry after ≡ 0
@@ -245,7 +245,7 @@ Conserves-shut_of s (OfSemaphore bound out) is = omega (arith, ap out_of is, gra
 Conserves-shut_of s (OfShutSemaphore bound out) is = Conserves-still s
 Conserves-shut_of s (OfLock lock) is = Conserves-still s
 Conserves-shut_of s (OfGate gate) is = Conserves-still s
-Conserves-shut_of s (OfBarrier size) is = Conserves-still s
+Conserves-shut_of s (OfBarrier size arrived round) is = Conserves-still s
 
 -- what a semaphore keeps, which the steps rest on
 abbrev pub IsRightSemaphore : (most names : ℕ) → Object → Type 0

@@ -27,7 +27,7 @@ quietly_left-at_gate s (OfGate state) gate is = refl
 quietly_left-at_gate s (OfSemaphore bound out) gate is = cc
 quietly_left-at_gate s (OfShutSemaphore bound out) gate is = cc
 quietly_left-at_gate s (OfLock lock) gate is = cc
-quietly_left-at_gate s (OfBarrier size) gate is = cc
+quietly_left-at_gate s (OfBarrier size arrived round) gate is = cc
 
 -- nor when an answer is given up
 pub undone-at_gate : (s : Object) (held : Held) (gate : State) (request : Request) → held ≡ OfGate gate → undone_of s held request ≡ s
@@ -35,7 +35,7 @@ undone-at_gate s (OfGate state) gate request is = refl
 undone-at_gate s (OfSemaphore bound out) gate request is = cc
 undone-at_gate s (OfShutSemaphore bound out) gate request is = cc
 undone-at_gate s (OfLock lock) gate request is = cc
-undone-at_gate s (OfBarrier size) gate request is = cc
+undone-at_gate s (OfBarrier size arrived round) gate request is = cc
 
 -- a name that was made idle is
 pub entry_at-emptied : (book : List Entry) (name : ℕ) → entry_at (set book name Idle) name ≡ Idle

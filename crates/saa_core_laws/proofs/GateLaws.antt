@@ -25,7 +25,7 @@ IsFineGate (OfGate gate) line = (gate ≡ Controlled) ⊎ (line ≡ [])
 IsFineGate (OfSemaphore bound out) line = ⊥
 IsFineGate (OfShutSemaphore bound out) line = ⊥
 IsFineGate (OfLock lock) line = ⊥
-IsFineGate (OfBarrier size) line = ⊥
+IsFineGate (OfBarrier size arrived round) line = ⊥
 
 -- a gate at which nobody waits is fine
 pub IsFineGate-nobody : (held : Held) (line : List Waiter) → IsFineGate held line → IsFineGate held []
@@ -33,7 +33,7 @@ IsFineGate-nobody (OfGate gate) line fine = inr refl
 IsFineGate-nobody (OfSemaphore bound out) line fine = fine
 IsFineGate-nobody (OfShutSemaphore bound out) line fine = fine
 IsFineGate-nobody (OfLock lock) line fine = fine
-IsFineGate-nobody (OfBarrier size) line fine = fine
+IsFineGate-nobody (OfBarrier size arrived round) line fine = fine
 
 -- all waiters are answered
 pub IsRight-all_let : (names value : ℕ) (s : Object) → IsRight IsFineGate names s → IsRight IsFineGate names (all_answered value s)
@@ -62,7 +62,7 @@ IsFineGate-front k (OfGate gate) line (inr none) = inr (dropped-nobody k line no
 IsFineGate-front k (OfSemaphore bound out) line fine = fine
 IsFineGate-front k (OfShutSemaphore bound out) line fine = fine
 IsFineGate-front k (OfLock lock) line fine = fine
-IsFineGate-front k (OfBarrier size) line fine = fine
+IsFineGate-front k (OfBarrier size arrived round) line fine = fine
 
 -- permitting the oldest
 pub IsRight-front_permitted : (names k : ℕ) (s : Object) → IsRight IsFineGate names s → IsRight IsFineGate names (front_permitted k s)
@@ -119,7 +119,7 @@ IsRightAnswer-entered names s (OfGate Open) line request answer fine e right = I
 IsRightAnswer-entered names s (OfSemaphore bound out) line request answer fine e right = absurd fine
 IsRightAnswer-entered names s (OfShutSemaphore bound out) line request answer fine e right = absurd fine
 IsRightAnswer-entered names s (OfLock lock) line request answer fine e right = absurd fine
-IsRightAnswer-entered names s (OfBarrier size) line request answer fine e right = absurd fine
+IsRightAnswer-entered names s (OfBarrier size arrived round) line request answer fine e right = absurd fine
 
 -- a name joins only the line of a controlled gate
 pub IsFineGate-joined : (s : Object) (held : Held) (line joined : List Waiter) (request : Request) → IsFineGate held line
@@ -130,7 +130,7 @@ IsFineGate-joined s (OfGate Open) line joined request fine e = cc
 IsFineGate-joined s (OfSemaphore bound out) line joined request fine e = absurd fine
 IsFineGate-joined s (OfShutSemaphore bound out) line joined request fine e = absurd fine
 IsFineGate-joined s (OfLock lock) line joined request fine e = absurd fine
-IsFineGate-joined s (OfBarrier size) line joined request fine e = absurd fine
+IsFineGate-joined s (OfBarrier size arrived round) line joined request fine e = absurd fine
 
 -- a name that waited has left
 pub IsRight-gate_left : (names : ℕ) (left : Object) (held : Held) (line : List Waiter) → IsFineGate held line → left.held ≡ held
@@ -142,7 +142,7 @@ IsRight-gate_left names left (OfGate gate) line fine same kept = record {
 IsRight-gate_left names left (OfSemaphore bound out) line fine same kept = absurd fine
 IsRight-gate_left names left (OfShutSemaphore bound out) line fine same kept = absurd fine
 IsRight-gate_left names left (OfLock lock) line fine same kept = absurd fine
-IsRight-gate_left names left (OfBarrier size) line fine same kept = absurd fine
+IsRight-gate_left names left (OfBarrier size arrived round) line fine same kept = absurd fine
 
 -- a gate from whose line a name has left is fine
 pub IsFineGate-without : (name : ℕ) (held : Held) (line : List Waiter) → IsFineGate held line → IsFineGate held (without name line)
@@ -151,7 +151,7 @@ IsFineGate-without name (OfGate gate) line (inr none) = inr (ap (without name) n
 IsFineGate-without name (OfSemaphore bound out) line fine = fine
 IsFineGate-without name (OfShutSemaphore bound out) line fine = fine
 IsFineGate-without name (OfLock lock) line fine = fine
-IsFineGate-without name (OfBarrier size) line fine = fine
+IsFineGate-without name (OfBarrier size arrived round) line fine = fine
 
 -- a name that waited has left quietly: nothing else happens
 pub IsRight-gate_left_quietly : (names : ℕ) (left : Object) (held : Held) → left.held ≡ held → IsKept names left → IsFineGate held left.line
@@ -160,7 +160,7 @@ IsRight-gate_left_quietly names left (OfGate gate) same kept fine = record { kep
 IsRight-gate_left_quietly names left (OfSemaphore bound out) same kept fine = absurd fine
 IsRight-gate_left_quietly names left (OfShutSemaphore bound out) same kept fine = absurd fine
 IsRight-gate_left_quietly names left (OfLock lock) same kept fine = absurd fine
-IsRight-gate_left_quietly names left (OfBarrier size) same kept fine = absurd fine
+IsRight-gate_left_quietly names left (OfBarrier size arrived round) same kept fine = absurd fine
 
 -- a dropped answer of a gate gives nothing back
 pub IsRight-gate_undone : (names : ℕ) (s : Object) (held : Held) (line : List Waiter) (request : Request) → IsFineGate held line
@@ -169,7 +169,7 @@ IsRight-gate_undone names s (OfGate gate) line request fine right = right
 IsRight-gate_undone names s (OfSemaphore bound out) line request fine right = absurd fine
 IsRight-gate_undone names s (OfShutSemaphore bound out) line request fine right = absurd fine
 IsRight-gate_undone names s (OfLock lock) line request fine right = absurd fine
-IsRight-gate_undone names s (OfBarrier size) line request fine right = absurd fine
+IsRight-gate_undone names s (OfBarrier size arrived round) line request fine right = absurd fine
 
 -- every step of a gate
 pub KeepsRight-gate : (names : ℕ) → KeepsRight GateCall GateAnswer (Unit {0}) IsFineGate names enter_request gate_step
@@ -192,7 +192,7 @@ gate-bounded (OfGate gate) line fine = (gate, refl, fine)
 gate-bounded (OfSemaphore bound out) line fine = absurd fine
 gate-bounded (OfShutSemaphore bound out) line fine = absurd fine
 gate-bounded (OfLock lock) line fine = absurd fine
-gate-bounded (OfBarrier size) line fine = absurd fine
+gate-bounded (OfBarrier size arrived round) line fine = absurd fine
 
 -- every run of a newly made gate leaves it in order
 pub gate-in_order : (room names : ℕ) (commands : List (CommandOf GateCall (Unit {0}))) → All (IsWithin names) commands

@@ -36,7 +36,7 @@ pub record KeepsFine (IsFine : Held → Type 0) : Type 0 where
   pub adds : (held : Held) (request : Request) → IsFine held → fits held request ≡ true → IsFine (plus held request)
   pub takes : (held rest : Held) (request : Request) → IsFine held → less held request ≡ Some rest → IsFine rest
   pub no_gate : (gate : State) → IsFine (OfGate gate) → ⊥
-  pub no_barrier : (size : ℕ) → IsFine (OfBarrier size) → ⊥
+  pub no_barrier : (size arrived round : ℕ) → IsFine (OfBarrier size arrived round) → ⊥
 
 -- the waiters after the first k
 pub AllFit-drop : (empty : Held) (k : ℕ) (line : List Waiter) → AllFit empty line → AllFit empty (drop k line)
@@ -159,7 +159,7 @@ module _ (IsFine : Held → Type 0) (empty : Held) (names : ℕ) (keeps : KeepsF
       let same : ◌≡◌ {A = After ℕ} (record { state = s; reply = poisoned_value }) answer = cc in
       rw (← same) (record { right = right; still = λ name before. before })
   IsRightAnswer-answered s (OfGate gate) request answer fine e right = absurd (keeps.no_gate gate fine)
-  IsRightAnswer-answered s (OfBarrier size) request answer fine e right = absurd (keeps.no_barrier size fine)
+  IsRightAnswer-answered s (OfBarrier size arrived round) request answer fine e right = absurd (keeps.no_barrier size arrived round fine)
 
   -- a name that joins the line, which isn't granted at once and isn't refused
   pub Grants-joined : (s : Object) (name : ℕ) (request : Request) → granted_at_once s request ≡ None → refuses_all s.held ≡ false
@@ -182,7 +182,7 @@ module _ (IsFine : Held → Type 0) (empty : Held) (names : ℕ) (keeps : KeepsF
   Grants-waits s (OfShutSemaphore bound out) name request is fine e fit grants = cc
   Grants-waits s (OfLock Poisoned) name request is fine e fit grants = cc
   Grants-waits s (OfGate gate) name request is fine e fit grants = absurd (keeps.no_gate gate fine)
-  Grants-waits s (OfBarrier size) name request is fine e fit grants = absurd (keeps.no_barrier size fine)
+  Grants-waits s (OfBarrier size arrived round) name request is fine e fit grants = absurd (keeps.no_barrier size arrived round fine)
 
   -- settling once a name has left
   pub IsRight-leaves : (s : Object) (name : ℕ) → IsRight (Grants IsFine empty) names s
@@ -203,7 +203,7 @@ module _ (IsFine : Held → Type 0) (empty : Held) (names : ℕ) (keeps : KeepsF
   IsRight-left_of s (OfShutSemaphore bound out) name fine right kept = IsRight-leaves s name right kept
   IsRight-left_of s (OfLock lock) name fine right kept = IsRight-leaves s name right kept
   IsRight-left_of s (OfGate gate) name fine right kept = absurd (keeps.no_gate gate fine)
-  IsRight-left_of s (OfBarrier size) name fine right kept = absurd (keeps.no_barrier size fine)
+  IsRight-left_of s (OfBarrier size arrived round) name fine right kept = absurd (keeps.no_barrier size arrived round fine)
 
   -- and one that has left quietly
   pub IsRight-quietly_left_of : (s : Object) (held : Held) (name : ℕ) → IsFine held → IsRight (Grants IsFine empty) names s
@@ -220,4 +220,4 @@ module _ (IsFine : Held → Type 0) (empty : Held) (names : ℕ) (keeps : KeepsF
   IsRight-undone_of s (OfShutSemaphore bound out) request right = IsRight-given_back s request right
   IsRight-undone_of s (OfLock lock) request right = IsRight-given_back s request right
   IsRight-undone_of s (OfGate gate) request right = right
-  IsRight-undone_of s (OfBarrier size) request right = right
+  IsRight-undone_of s (OfBarrier size arrived round) request right = right

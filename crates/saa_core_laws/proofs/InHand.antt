@@ -210,7 +210,7 @@ Covers-granted most s (OfShutSemaphore bound out) name request is_sync answer is
     rw (← same) (omega (arith, unconsumed-set s.book name (Answered closed_value request is_sync false) within))
 Covers-granted most s (OfLock lock) name request is_sync answer is fine within e = absurd is
 Covers-granted most s (OfGate gate) name request is_sync answer is fine within e = absurd is
-Covers-granted most s (OfBarrier size) name request is_sync answer is fine within e = absurd is
+Covers-granted most s (OfBarrier size arrived round) name request is_sync answer is fine within e = absurd is
 
 -- a registration, by its four cases
 pub Covers-registered_of : (most : ℕ) (s : Object) (name : ℕ) (request : Request) (is_sync is_refused : Bool) (answer : Option (After ℕ)) (is_full : Bool)
@@ -245,7 +245,7 @@ Covers-shut_of s (OfSemaphore bound out) is = omega (arith, ap out_of is, uncons
 Covers-shut_of s (OfShutSemaphore bound out) is = Covers-still s
 Covers-shut_of s (OfLock lock) is = Covers-still s
 Covers-shut_of s (OfGate gate) is = Covers-still s
-Covers-shut_of s (OfBarrier size) is = Covers-still s
+Covers-shut_of s (OfBarrier size arrived round) is = Covers-still s
 
 -- every command
 pub Covers-done : (most names : ℕ) (command : CommandOf SemaphoreCall ℕ) (s : Object) → IsWithin names command → IsRightSemaphore most names s
@@ -300,7 +300,7 @@ reply-given_back most s (OfShutSemaphore bound out) n false fine within =
     let enough : leb n out ≡ true = le-leb n out within in rw enough refl
 reply-given_back most s (OfLock lock) n false fine within = absurd fine
 reply-given_back most s (OfGate gate) n false fine within = absurd fine
-reply-given_back most s (OfBarrier size) n false fine within = absurd fine
+reply-given_back most s (OfBarrier size arrived round) n false fine within = absurd fine
 
 -- a drop of a grant of what is out
 pub dropped_grant-whole : (most : ℕ) (s : Object) (entry : Entry) (n : ℕ) (is_sync slotted : Bool) → entry ≡ Answered granted_value (Permits n) is_sync slotted

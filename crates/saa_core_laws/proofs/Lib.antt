@@ -7,6 +7,7 @@ pub mod SemaphoreLaws
 pub mod LockLaws
 pub mod GateLaws
 pub mod BarrierLaws
+pub mod OpenBarriers
 pub mod Settled
 pub mod SettledKinds
 pub mod Waits
@@ -24,3 +25,4 @@ pub mod Witnesses
 pub mod Refusals
 pub mod Shutting
 pub mod GateCrowds
+pub mod RoundCounts

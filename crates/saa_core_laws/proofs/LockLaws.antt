@@ -27,7 +27,7 @@ IsFineLock (OfLock lock) = IsLockState lock
 IsFineLock (OfSemaphore bound out) = ⊥
 IsFineLock (OfShutSemaphore bound out) = ⊥
 IsFineLock (OfGate gate) = ⊥
-IsFineLock (OfBarrier size) = ⊥
+IsFineLock (OfBarrier size arrived round) = ⊥
 
 -- a grant of what fits keeps it
 pub IsLockState-plus : (lock : LockState) (request : Request) → IsLockState lock → lock_fits lock request ≡ true
@@ -84,7 +84,7 @@ IsFineLock-plus (OfLock lock) request fine fit = IsLockState-plus lock request f
 IsFineLock-plus (OfSemaphore bound out) request fine fit = absurd fine
 IsFineLock-plus (OfShutSemaphore bound out) request fine fit = absurd fine
 IsFineLock-plus (OfGate gate) request fine fit = absurd fine
-IsFineLock-plus (OfBarrier size) request fine fit = absurd fine
+IsFineLock-plus (OfBarrier size arrived round) request fine fit = absurd fine
 
 -- what is left of a lock is a lock
 pub IsFineLock-held_lock : (rest : Option LockState) (held : Held) → ((lock : LockState) → rest ≡ Some lock → IsLockState lock)
@@ -101,7 +101,7 @@ IsFineLock-less (OfLock lock) rest request fine e =
 IsFineLock-less (OfSemaphore bound out) rest request fine e = absurd fine
 IsFineLock-less (OfShutSemaphore bound out) rest request fine e = absurd fine
 IsFineLock-less (OfGate gate) rest request fine e = absurd fine
-IsFineLock-less (OfBarrier size) rest request fine e = absurd fine
+IsFineLock-less (OfBarrier size arrived round) rest request fine e = absurd fine
 
 -- so a lock grants what fits
 pub KeepsFine-lock : KeepsFine IsFineLock
@@ -109,7 +109,7 @@ KeepsFine-lock = record {
   adds = IsFineLock-plus;
   takes = IsFineLock-less;
   no_gate = λ gate fine. fine;
-  no_barrier = λ size fine. fine;
+  no_barrier = λ size arrived round fine. fine;
 }
 
 -- every mode would fit a free lock
@@ -128,7 +128,7 @@ held-poisoned (OfLock (Shared n)) e = cc
 held-poisoned (OfSemaphore bound out) e = cc
 held-poisoned (OfShutSemaphore bound out) e = cc
 held-poisoned (OfGate gate) e = cc
-held-poisoned (OfBarrier size) e = cc
+held-poisoned (OfBarrier size arrived round) e = cc
 
 -- a downgrade settles the lock of one sharer
 pub IsRight-downgraded_of : (names : ℕ) (s : Object) (is_own : Bool) → IsRight (Grants IsFineLock (OfLock Free)) names s
@@ -194,7 +194,7 @@ lock-bounded (OfLock lock) fine = (lock, refl, fine)
 lock-bounded (OfSemaphore bound out) fine = absurd fine
 lock-bounded (OfShutSemaphore bound out) fine = absurd fine
 lock-bounded (OfGate gate) fine = absurd fine
-lock-bounded (OfBarrier size) fine = absurd fine
+lock-bounded (OfBarrier size arrived round) fine = absurd fine
 
 -- a lock that is right is in order
 pub IsLockInOrder-right : (names : ℕ) (s : Object) → IsRight (Grants IsFineLock (OfLock Free)) names s → IsLockInOrder s

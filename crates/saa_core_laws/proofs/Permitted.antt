@@ -106,7 +106,7 @@ out-plus_front most (OfShutSemaphore bound out) [] fine = omega arith
 out-plus_front most (OfShutSemaphore bound out) (waiter ∷ line) fine = omega arith
 out-plus_front most (OfLock lock) line fine = absurd fine
 out-plus_front most (OfGate gate) line fine = absurd fine
-out-plus_front most (OfBarrier size) line fine = absurd fine
+out-plus_front most (OfBarrier size arrived round) line fine = absurd fine
 
 -- what the k oldest are granted is what they asked
 pub granted_in_books-front : (k : ℕ) (line : List Waiter) (book : List Entry) → IsInStep line book

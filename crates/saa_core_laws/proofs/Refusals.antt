@@ -48,8 +48,8 @@ gate-never s name gate request is_sync held idle is_false =
     let refused : IsTrue (asks_too_much s.held request) = idle-refused s name request is_sync idle is_false in
     cc (rw held at refused)
 
-pub barrier-never : (s : Object) (name size : ℕ) (request : Request) (is_sync : Bool)
-    → s.held ≡ OfBarrier size → entry_at s.book name ≡ Idle → (registered s name request is_sync).reply ≡ Ok false → ⊥
-barrier-never s name size request is_sync held idle is_false =
+pub barrier-never : (s : Object) (name size arrived round : ℕ) (request : Request) (is_sync : Bool)
+    → s.held ≡ OfBarrier size arrived round → entry_at s.book name ≡ Idle → (registered s name request is_sync).reply ≡ Ok false → ⊥
+barrier-never s name size arrived round request is_sync held idle is_false =
     let refused : IsTrue (asks_too_much s.held request) = idle-refused s name request is_sync idle is_false in
     cc (rw held at refused)

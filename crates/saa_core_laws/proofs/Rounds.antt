@@ -1,5 +1,5 @@
 -- The leaders of a barrier: every step keeps the balance of arrivals, leaders, cancelled arrivals and the waiters.
-use Rattle.std.proofs.Common.{◌≡◌, ℕ, ◌+◌, ◌-◌, ◌*◌, ◌/◌, ◌<◌, Bool, true, false, ◌&&◌, eqb, cond, inl, inr, List, [], ◌∷◌, length, set, Option, Some, None, refl, sym, ap, ◌∙◌, arith, All, length-append}
+use Rattle.std.proofs.Common.{◌≡◌, ℕ, ◌+◌, ◌-◌, ◌*◌, ◌/◌, ◌<◌, Bool, true, false, ◌&&◌, eqb, cond, inl, inr, List, [], ◌∷◌, length, set, Option, Some, None, refl, sym, ap, ◌∙◌, arith, All, length-append, min, subst}
 use Rattle.std.specs.Prelude.{Result, Ok}
 use Rattle.std.specs.List.{AllByRecursion, count_by}
 use Rattle.std.proofs.Math.Nat.{mul-add, mul_comm}
@@ -13,15 +13,15 @@ use Rattle.saa_core_spec.specs.declared.polling.How.{How}
 use Rattle.saa_core_spec.specs.declared.polling.How.TheVariants.{Try, Sync, Async}
 use Rattle.saa_core_spec.specs.declared.polling.Error.{Error}
 use Rattle.saa_core_spec.specs.declared.barrier.BarrierCall.{BarrierCall}
-use Rattle.saa_core_spec.specs.declared.barrier.BarrierCall.TheVariants.{Count}
+use Rattle.saa_core_spec.specs.declared.barrier.BarrierCall.TheVariants.{Count, Arrive as DoArrive, Join, Leave as LeaveOne, Round}
 use Rattle.saa_core_spec.specs.declared.barrier.BarrierAnswer.{BarrierAnswer}
 use Rattle.saa_core_spec.specs.declared.run.ReplyOf.{ReplyOf}
 use Rattle.saa_core_spec.specs.declared.run.ReplyOf.TheVariants.{Polled}
 use Rattle.saa_core_spec.specs.declared.run.CommandOf.{CommandOf}
 use Rattle.saa_core_spec.specs.declared.run.CommandOf.TheVariants.{Call, Register, TryPoll, PollSync, PollAsync, Drop, Leave}
-use Rattle.saa_core_spec.specs.Held.{Held, OfSemaphore, OfShutSemaphore, OfLock, OfGate, OfBarrier, asks_too_much}
+use Rattle.saa_core_spec.specs.Held.{Held, OfSemaphore, OfShutSemaphore, OfLock, OfGate, OfBarrier, asks_too_much, max_rounds}
 use Rattle.saa_core_spec.specs.Object.{Object, After, Entry, Idle, Waiting, Answered, Waiter, entry_at, with_entry, newly_made, one_if, without}
-use Rattle.saa_core_spec.specs.Settling.{answered_entry, answered_in, all_answered}
+use Rattle.saa_core_spec.specs.Settling.{answered_entry, answered_in, all_answered, round_complete}
 use Rattle.saa_core_spec.specs.Asking.{is_idle, answer_in, answer_at_once, registered_of}
 use Rattle.saa_core_spec.specs.Polling.{is_right_mode, polled_in, polled_of, polled, left_of, undone_of, dropped_of, withdrawn_of}
 use Rattle.saa_core_spec.specs.Values.{barrier_value, granted_value, passed_value, leader_value}
@@ -31,13 +31,13 @@ use Rattle.saa_core_spec.proofs.Leaving.{withdrawn-dropped}
 use Rattle.saa_core_laws.specs.Laws.{is_waiting}
 use Rattle.saa_core_laws.specs.Registrations.{is_registered, is_answered}
 use Rattle.saa_core_laws.specs.Steps.{step_of, steps}
-use Rattle.saa_core_laws.specs.Leaders.{BarrierStep, is_arrival, is_given_up, is_leader, names_leader, barrier_run, barrier_next, told, CompletesRound}
+use Rattle.saa_core_laws.specs.Leaders.{BarrierStep, is_arrival, is_given_up, is_leader, names_leader, barrier_run, barrier_next, told, CompletesRound, IsOfFixedSize}
 use Rattle.saa_core_laws.proofs.Order.{IsInStep, entry_at-same, entry_at-other, length-answered_in}
 use Rattle.saa_core_laws.proofs.Kept.{IsKept, IsKept-newly_made, is_waiting-all_answered}
 use Rattle.saa_core_laws.proofs.Commands.{IsRight, IsRight-done, IsRight-state_after, or_false-left}
 use Rattle.saa_core_laws.proofs.Books.{entry_at-answered_in}
 use Rattle.saa_core_laws.proofs.Reading.{is_idle-emptied}
-use Rattle.saa_core_laws.proofs.BarrierLaws.{IsFineBarrier, KeepsRight-barrier, barrier-incomplete, no_gate-barrier}
+use Rattle.saa_core_laws.proofs.BarrierLaws.{IsFineBarrier, KeepsRight-barrier, barrier-incomplete, no_gate-barrier, fixed_step, done-fixed, state_after-fixed}
 use Rattle.saa_core_spec.proofs.Counts.{length-without}
 
 -- What a step balances: the arrivals and the waiters are the leaders' rounds, the waiters, and the cancelled arrivals
@@ -68,7 +68,7 @@ Balances-polled size s name how = omega (arith, ap (λ (l : List Waiter). length
 
 -- a barrier only forgets a name that left
 pub line-left_of : (most : ℕ) (s : Object) (held : Held) (line : List Waiter) → IsFineBarrier most held line → (left_of s held).line ≡ s.line
-line-left_of most s (OfBarrier size) line fine = refl
+line-left_of most s (OfBarrier size arrived round) line fine = refl
 line-left_of most s (OfSemaphore bound out) line fine = absurd fine
 line-left_of most s (OfShutSemaphore bound out) line fine = absurd fine
 line-left_of most s (OfLock lock) line fine = absurd fine
@@ -77,7 +77,7 @@ line-left_of most s (OfGate gate) line fine = absurd fine
 -- and gets nothing back
 pub line-undone_of : (most : ℕ) (s : Object) (held : Held) (line : List Waiter) (request : Request) → IsFineBarrier most held line
     → (undone_of s held request).line ≡ s.line
-line-undone_of most s (OfBarrier size) line request fine = refl
+line-undone_of most s (OfBarrier size arrived round) line request fine = refl
 line-undone_of most s (OfSemaphore bound out) line request fine = absurd fine
 line-undone_of most s (OfShutSemaphore bound out) line request fine = absurd fine
 line-undone_of most s (OfLock lock) line request fine = absurd fine
@@ -103,17 +103,19 @@ Balances-dropped_of size s name (Answered value request is_sync slotted) at step
 
 -- what an arrival that is answered at once finds and leaves
 pub record IsLast (size : ℕ) (s : Object) (answer : After ℕ) : Type 0 where
+  pub next : Held
   pub full : length s.line + 1 ≡ size
-  pub state : answer.state ≡ all_answered passed_value s
+  pub state : answer.state ≡ all_answered passed_value (record s { held = next })
   pub reply : answer.reply ≡ leader_value
 
 -- only the last of a round is
 pub IsLast-answered : (most : ℕ) (s : Object) (held : Held) (line : List Waiter) (request : Request) (answer : After ℕ) → IsFineBarrier most held line
     → answer_in s held request ≡ Some answer → IsLast most s answer
-IsLast-answered most s (OfBarrier size) line request answer fine e =
-    let parts = cond_some (eqb (length s.line + 1) size) (record { state = all_answered passed_value s; reply = leader_value }) answer e in
+IsLast-answered most s (OfBarrier size arrived round) line request answer fine e =
+    let parts = cond_some (eqb (arrived + length s.line + 1) size) (record { state = round_complete passed_value s size round; reply = leader_value }) answer e in
     record {
-      full = eqb-true (length s.line + 1) size parts.0 ∙ fine.0;
+      next = OfBarrier size 0 (min (round + 1) max_rounds);
+      full = omega (arith, eqb-true (arrived + length s.line + 1) size parts.0, fine.0, fine.2);
       state = sym (ap (λ (a : After ℕ). a.state) parts.1);
       reply = sym (ap (λ (a : After ℕ). a.reply) parts.1);
     }
@@ -151,11 +153,15 @@ Balances-registered_of size s name request is_sync false None false within e fin
 -- every command of a barrier that is right
 pub Balances-done : (size names : ℕ) (command : CommandOf BarrierCall (Unit {0})) (s : Object) → IsWithin names command
     → IsRight (IsFineBarrier size) names s
-    → Balances size (length s.line) (length (done arrive_request barrier_step barrier_value command s).state.line)
-    (is_arrival (step_of arrive_request barrier_step barrier_value command s))
-    (names_leader (step_of arrive_request barrier_step barrier_value command s))
-    (is_given_up (step_of arrive_request barrier_step barrier_value command s))
+    → Balances size (length s.line) (length (done arrive_request fixed_step barrier_value command s).state.line)
+    (is_arrival (step_of arrive_request fixed_step barrier_value command s))
+    (names_leader (step_of arrive_request fixed_step barrier_value command s))
+    (is_given_up (step_of arrive_request fixed_step barrier_value command s))
 Balances-done size names (Call Count) s within right = Balances-still size (length s.line)
+Balances-done size names (Call DoArrive) s within right = Balances-still size (length s.line)
+Balances-done size names (Call Join) s within right = Balances-still size (length s.line)
+Balances-done size names (Call LeaveOne) s within right = Balances-still size (length s.line)
+Balances-done size names (Call Round) s within right = Balances-still size (length s.line)
 Balances-done size names (Register name ask is_sync) s within right =
     Balances-registered_of size s name (arrive_request ask) is_sync _ (answer_at_once s (arrive_request ask)) _ (omega (arith, right.kept.size)) refl right.kind
 Balances-done size names (TryPoll name) s within right = Balances-polled size s name Try
@@ -176,15 +182,15 @@ count-step is step run = elim (cases_Bool (is step)) [
 -- the balance over every run of a barrier that is right
 pub balance-run : (size names : ℕ) (commands : List (CommandOf BarrierCall (Unit {0}))) (s : Object) → AllByRecursion (IsWithin names) commands
     → IsRight (IsFineBarrier size) names s
-    → count_by is_arrival (steps arrive_request barrier_step barrier_value commands s) + length s.line
-    ≡ size * count_by names_leader (steps arrive_request barrier_step barrier_value commands s)
-    + length (state_after arrive_request barrier_step barrier_value commands s).line
-    + count_by is_given_up (steps arrive_request barrier_step barrier_value commands s)
+    → count_by is_arrival (steps arrive_request fixed_step barrier_value commands s) + length s.line
+    ≡ size * count_by names_leader (steps arrive_request fixed_step barrier_value commands s)
+    + length (state_after arrive_request fixed_step barrier_value commands s).line
+    + count_by is_given_up (steps arrive_request fixed_step barrier_value commands s)
 balance-run size names [] s within right = omega arith
 balance-run size names (command ∷ commands) s within right =
-    let step : BarrierStep = step_of arrive_request barrier_step barrier_value command s in
-    let run : List BarrierStep = steps arrive_request barrier_step barrier_value commands step.after.state in
-    let after = IsRight-done (IsFineBarrier size) names arrive_request barrier_step barrier_value (KeepsRight-barrier size names) command s within.0 right in
+    let step : BarrierStep = step_of arrive_request fixed_step barrier_value command s in
+    let run : List BarrierStep = steps arrive_request fixed_step barrier_value commands step.after.state in
+    let after = IsRight-done (IsFineBarrier size) names arrive_request fixed_step barrier_value (KeepsRight-barrier size names) command s within.0 right in
     let product : size * count_by names_leader (step ∷ run) ≡ size * one_if (names_leader step) + size * count_by names_leader run =
     ap (λ n. size * n) (count-step names_leader step run) ∙ mul-add size (one_if (names_leader step)) (count_by names_leader run) in
     omega (
@@ -210,22 +216,53 @@ pub record Completes (size : ℕ) (before after : Object) : Type 0 where
   pub others : (name : ℕ) (request : Request) (is_sync : Bool) → entry_at before.book name ≡ Waiting request is_sync
       → entry_at after.book name ≡ Answered passed_value request is_sync true
 
+-- the steps of a run of a barrier whose size stays, and the step that comes next
+abbrev pub fixed_run : (size room names : ℕ) → List (CommandOf BarrierCall (Unit {0})) → List BarrierStep
+fixed_run size room names commands = steps arrive_request fixed_step barrier_value commands (newly_made (OfBarrier size 0 0) room names)
+
+abbrev pub fixed_next : (size room names : ℕ) → List (CommandOf BarrierCall (Unit {0})) → CommandOf BarrierCall (Unit {0}) → BarrierStep
+fixed_next size room names commands next =
+    step_of arrive_request fixed_step barrier_value next
+    (state_after arrive_request fixed_step barrier_value commands (newly_made (OfBarrier size 0 0) room names))
+
+-- they are those of the barrier, where each command keeps its size
+pub steps-fixed : (commands : List (CommandOf BarrierCall (Unit {0}))) (s : Object) → AllByRecursion IsOfFixedSize commands
+    → steps arrive_request barrier_step barrier_value commands s ≡ steps arrive_request fixed_step barrier_value commands s
+steps-fixed [] s fixed = refl
+steps-fixed (command ∷ commands) s fixed =
+    ap (λ (after : After (ReplyOf BarrierAnswer (Result Bool Error))).
+    let step : BarrierStep = record { before = s; command = command; after = after } in
+    step ∷ steps arrive_request barrier_step barrier_value commands after.state) (done-fixed command s fixed.0)
+    ∙ ap (λ (run : List BarrierStep). step_of arrive_request fixed_step barrier_value command s ∷ run)
+    (steps-fixed commands (done arrive_request fixed_step barrier_value command s).state fixed.1)
+
+pub next-fixed : (size room names : ℕ) (commands : List (CommandOf BarrierCall (Unit {0}))) (next : CommandOf BarrierCall (Unit {0}))
+    → All IsOfFixedSize commands → IsOfFixedSize next
+    → barrier_next size room names commands next ≡ fixed_next size room names commands next
+next-fixed size room names commands next fixed next_fixed =
+    let s : Object = newly_made (OfBarrier size 0 0) room names in
+    ap (λ (o : Object). step_of arrive_request barrier_step barrier_value next o)
+    (state_after-fixed commands s (recursion_from_All IsOfFixedSize commands fixed))
+    ∙ ap (λ (after : After (ReplyOf BarrierAnswer (Result Bool Error))).
+    let step : BarrierStep = record { before = state_after arrive_request fixed_step barrier_value commands s; command = next; after = after } in step)
+    (done-fixed next (state_after arrive_request fixed_step barrier_value commands s) next_fixed)
+
 -- a newly made barrier is right
-pub IsRight-newly_made : (size room names : ℕ) → IsRight (IsFineBarrier size) names (newly_made (OfBarrier size) room names)
-IsRight-newly_made size room names = record { kept = IsKept-newly_made (OfBarrier size) room names; kind = (refl, λ some. some) }
+pub IsRight-newly_made : (size room names : ℕ) → IsRight (IsFineBarrier size) names (newly_made (OfBarrier size 0 0) room names)
+IsRight-newly_made size room names = record { kept = IsKept-newly_made (OfBarrier size 0 0) room names; kind = (refl, λ some. some, refl) }
 
 -- as many leaders as full rounds of the arrivals that weren't cancelled
 pub leaders-counted : (size room names : ℕ) (commands : List (CommandOf BarrierCall (Unit {0}))) → 0 < size → All (IsWithin names) commands
-    → count_by names_leader (barrier_run size room names commands)
-    ≡ (count_by is_arrival (barrier_run size room names commands) - count_by is_given_up (barrier_run size room names commands)) / size
+    → count_by names_leader (fixed_run size room names commands)
+    ≡ (count_by is_arrival (fixed_run size room names commands) - count_by is_given_up (fixed_run size room names commands)) / size
 leaders-counted size room names commands some within =
     let made = IsRight-newly_made size room names in
-    let end = IsRight-state_after (IsFineBarrier size) names arrive_request barrier_step barrier_value (KeepsRight-barrier size names) commands
-    (newly_made (OfBarrier size) room names) within made in
+    let end = IsRight-state_after (IsFineBarrier size) names arrive_request fixed_step barrier_value (KeepsRight-barrier size names) commands
+    (newly_made (OfBarrier size 0 0) room names) within made in
     let fewer = barrier-incomplete size _ _ end.kind some in
-    let balance = balance-run size names commands (newly_made (OfBarrier size) room names) (recursion_from_All (IsWithin names) commands within) made in
-    leaders-of size (count_by is_arrival (barrier_run size room names commands)) (count_by is_given_up (barrier_run size room names commands))
-    (count_by names_leader (barrier_run size room names commands)) _ fewer balance
+    let balance = balance-run size names commands (newly_made (OfBarrier size 0 0) room names) (recursion_from_All (IsWithin names) commands within) made in
+    leaders-of size (count_by is_arrival (fixed_run size room names commands)) (count_by is_given_up (fixed_run size room names commands))
+    (count_by names_leader (fixed_run size room names commands)) _ fewer balance
 
 -- a name that waits is answered when all waiters are
 pub passes : (names value : ℕ) (s : Object) (name : ℕ) (request : Request) (is_sync : Bool) → IsKept names s → entry_at s.book name ≡ Waiting request is_sync
@@ -268,8 +305,8 @@ CompletesRound-registered_of size names s name request is_sync false None false 
 -- every command that names a leader
 pub Completes-done : (size names : ℕ) (command : CommandOf BarrierCall (Unit {0})) (s : Object) → IsWithin names command
     → IsRight (IsFineBarrier size) names s
-    → names_leader (step_of arrive_request barrier_step barrier_value command s) ≡ true
-    → Completes size s (done arrive_request barrier_step barrier_value command s).state
+    → names_leader (step_of arrive_request fixed_step barrier_value command s) ≡ true
+    → Completes size s (done arrive_request fixed_step barrier_value command s).state
 Completes-done size names (Call call) s within right leads = cc
 Completes-done size names (Register name ask is_sync) s within right leads =
     CompletesRound-registered_of size names s name (arrive_request ask) is_sync _ (answer_at_once s (arrive_request ask)) _ right
@@ -299,22 +336,22 @@ told-leader s name e =
 
 -- the entry of an arrival that leads
 pub leads-entry : (size : ℕ) (command : CommandOf BarrierCall (Unit {0})) (s : Object) (name : ℕ) (is_sync : Bool)
-    → names_leader (step_of arrive_request barrier_step barrier_value command s) ≡ true → command ≡ Register name tt is_sync
-    → is_leader (entry_at (done arrive_request barrier_step barrier_value command s).state.book name) ≡ true
+    → names_leader (step_of arrive_request fixed_step barrier_value command s) ≡ true → command ≡ Register name tt is_sync
+    → is_leader (entry_at (done arrive_request fixed_step barrier_value command s).state.book name) ≡ true
 leads-entry size command s name is_sync leads is =
-    let there : names_leader (step_of arrive_request barrier_step barrier_value (Register name tt is_sync) s) ≡ true =
-    ap (λ c. names_leader (step_of arrive_request barrier_step barrier_value c s)) (sym is) ∙ leads in
-    ap (λ c. is_leader (entry_at (done arrive_request barrier_step barrier_value c s).state.book name)) is
+    let there : names_leader (step_of arrive_request fixed_step barrier_value (Register name tt is_sync) s) ≡ true =
+    ap (λ c. names_leader (step_of arrive_request fixed_step barrier_value c s)) (sym is) ∙ leads in
+    ap (λ c. is_leader (entry_at (done arrive_request fixed_step barrier_value c s).state.book name)) is
     ∙ (and_parts _ _ there).1
 
 -- after every run
 pub CompletesRound-next : (size room names : ℕ) (commands : List (CommandOf BarrierCall (Unit {0}))) (next : CommandOf BarrierCall (Unit {0}))
     → All (IsWithin names) commands → IsWithin names next
-    → names_leader (barrier_next size room names commands next) ≡ true
-    → CompletesRound size (barrier_next size room names commands next)
+    → names_leader (fixed_next size room names commands next) ≡ true
+    → CompletesRound size (fixed_next size room names commands next)
 CompletesRound-next size room names commands next within next_within leads =
-    let found = IsRight-state_after (IsFineBarrier size) names arrive_request barrier_step barrier_value (KeepsRight-barrier size names) commands
-    (newly_made (OfBarrier size) room names) within (IsRight-newly_made size room names) in
+    let found = IsRight-state_after (IsFineBarrier size) names arrive_request fixed_step barrier_value (KeepsRight-barrier size names) commands
+    (newly_made (OfBarrier size 0 0) room names) within (IsRight-newly_made size room names) in
     let completes = Completes-done size names next _ next_within found leads in
     record {
       full = completes.full;
@@ -367,7 +404,7 @@ poll-answers s name other how waits there =
 
 -- a barrier's book isn't changed by what a name leaves
 pub book-left_of : (most : ℕ) (s : Object) (held : Held) (line : List Waiter) → IsFineBarrier most held line → (left_of s held).book ≡ s.book
-book-left_of most s (OfBarrier size) line fine = refl
+book-left_of most s (OfBarrier size arrived round) line fine = refl
 book-left_of most s (OfSemaphore bound out) line fine = absurd fine
 book-left_of most s (OfShutSemaphore bound out) line fine = absurd fine
 book-left_of most s (OfLock lock) line fine = absurd fine
@@ -376,7 +413,7 @@ book-left_of most s (OfGate gate) line fine = absurd fine
 -- nor by what is given back
 pub book-undone_of : (most : ℕ) (s : Object) (held : Held) (line : List Waiter) (request : Request) → IsFineBarrier most held line
     → (undone_of s held request).book ≡ s.book
-book-undone_of most s (OfBarrier size) line request fine = refl
+book-undone_of most s (OfBarrier size arrived round) line request fine = refl
 book-undone_of most s (OfSemaphore bound out) line request fine = absurd fine
 book-undone_of most s (OfShutSemaphore bound out) line request fine = absurd fine
 book-undone_of most s (OfLock lock) line request fine = absurd fine
@@ -418,9 +455,13 @@ waits-registered_of size s name other request is_sync false None false fine with
 -- every command answers waiters only where it leads
 pub leads-answering : (size names : ℕ) (command : CommandOf BarrierCall (Unit {0})) (s : Object) (name : ℕ) → IsWithin names command
     → IsRight (IsFineBarrier size) names s → is_waiting (entry_at s.book name) ≡ true
-    → is_answered (entry_at (done arrive_request barrier_step barrier_value command s).state.book name) ≡ true
-    → names_leader (step_of arrive_request barrier_step barrier_value command s) ≡ true
+    → is_answered (entry_at (done arrive_request fixed_step barrier_value command s).state.book name) ≡ true
+    → names_leader (step_of arrive_request fixed_step barrier_value command s) ≡ true
 leads-answering size names (Call Count) s name within right waits there = let none = waiting-unanswered (entry_at s.book name) waits in cc
+leads-answering size names (Call DoArrive) s name within right waits there = let none = waiting-unanswered (entry_at s.book name) waits in cc
+leads-answering size names (Call Join) s name within right waits there = let none = waiting-unanswered (entry_at s.book name) waits in cc
+leads-answering size names (Call LeaveOne) s name within right waits there = let none = waiting-unanswered (entry_at s.book name) waits in cc
+leads-answering size names (Call Round) s name within right waits there = let none = waiting-unanswered (entry_at s.book name) waits in cc
 leads-answering size names (Register other ask is_sync) s name within right waits there =
     waits-registered_of size s name other (arrive_request ask) is_sync _ (answer_at_once s (arrive_request ask)) _ right.kind
     (omega (arith, right.kept.size)) (λ e. or_false-left (is_idle (entry_at s.book other)) (asks_too_much s.held (arrive_request ask)) e) refl waits there
@@ -438,10 +479,40 @@ leads-answering size names (Leave other) s name within right waits there =
 -- after every run
 pub leads-next : (size room names : ℕ) (commands : List (CommandOf BarrierCall (Unit {0}))) (next : CommandOf BarrierCall (Unit {0})) (name : ℕ)
     → All (IsWithin names) commands → IsWithin names next
+    → is_waiting (entry_at (fixed_next size room names commands next).before.book name) ≡ true
+    → is_answered (entry_at (fixed_next size room names commands next).after.state.book name) ≡ true
+    → names_leader (fixed_next size room names commands next) ≡ true
+leads-next size room names commands next name within next_within waits there =
+    let found = IsRight-state_after (IsFineBarrier size) names arrive_request fixed_step barrier_value (KeepsRight-barrier size names) commands
+    (newly_made (OfBarrier size 0 0) room names) within (IsRight-newly_made size room names) in
+    leads-answering size names next _ name next_within found waits there
+
+-- The same of the barrier, over runs in which its size stays
+pub leaders-counted_fixed : (size room names : ℕ) (commands : List (CommandOf BarrierCall (Unit {0}))) → 0 < size → All (IsWithin names) commands
+    → All IsOfFixedSize commands
+    → count_by names_leader (barrier_run size room names commands)
+    ≡ (count_by is_arrival (barrier_run size room names commands) - count_by is_given_up (barrier_run size room names commands)) / size
+leaders-counted_fixed size room names commands some within fixed =
+    subst (λ (run : List BarrierStep). count_by names_leader run ≡ (count_by is_arrival run - count_by is_given_up run) / size)
+    (sym (steps-fixed commands (newly_made (OfBarrier size 0 0) room names) (recursion_from_All IsOfFixedSize commands fixed)))
+    (leaders-counted size room names commands some within)
+
+pub CompletesRound-next_fixed : (size room names : ℕ) (commands : List (CommandOf BarrierCall (Unit {0}))) (next : CommandOf BarrierCall (Unit {0}))
+    → All (IsWithin names) commands → IsWithin names next → All IsOfFixedSize commands → IsOfFixedSize next
+    → names_leader (barrier_next size room names commands next) ≡ true
+    → CompletesRound size (barrier_next size room names commands next)
+CompletesRound-next_fixed size room names commands next within next_within fixed next_fixed =
+    subst (λ (step : BarrierStep). names_leader step ≡ true → CompletesRound size step)
+    (sym (next-fixed size room names commands next fixed next_fixed))
+    (CompletesRound-next size room names commands next within next_within)
+
+pub leads-next_fixed : (size room names : ℕ) (commands : List (CommandOf BarrierCall (Unit {0}))) (next : CommandOf BarrierCall (Unit {0})) (name : ℕ)
+    → All (IsWithin names) commands → IsWithin names next → All IsOfFixedSize commands → IsOfFixedSize next
     → is_waiting (entry_at (barrier_next size room names commands next).before.book name) ≡ true
     → is_answered (entry_at (barrier_next size room names commands next).after.state.book name) ≡ true
     → names_leader (barrier_next size room names commands next) ≡ true
-leads-next size room names commands next name within next_within waits there =
-    let found = IsRight-state_after (IsFineBarrier size) names arrive_request barrier_step barrier_value (KeepsRight-barrier size names) commands
-    (newly_made (OfBarrier size) room names) within (IsRight-newly_made size room names) in
-    leads-answering size names next _ name next_within found waits there
+leads-next_fixed size room names commands next name within next_within fixed next_fixed =
+    subst (λ (step : BarrierStep). is_waiting (entry_at step.before.book name) ≡ true
+    → is_answered (entry_at step.after.state.book name) ≡ true → names_leader step ≡ true)
+    (sym (next-fixed size room names commands next fixed next_fixed))
+    (leads-next size room names commands next name within next_within)

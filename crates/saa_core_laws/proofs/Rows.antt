@@ -29,9 +29,9 @@ use Rattle.saa_core_spec.specs.declared.gate.GateCall.TheVariants.{State as AskS
 use Rattle.saa_core_spec.specs.declared.gate.GateAnswer.{GateAnswer}
 use Rattle.saa_core_spec.specs.declared.gate.GateAnswer.TheVariants.{State as SaysState, Reset as SaysReset, Answered as SaysAnswered, Moved}
 use Rattle.saa_core_spec.specs.declared.barrier.BarrierCall.{BarrierCall}
-use Rattle.saa_core_spec.specs.declared.barrier.BarrierCall.TheVariants.{Count}
+use Rattle.saa_core_spec.specs.declared.barrier.BarrierCall.TheVariants.{Count, Arrive as DoArrive, Join, Leave as LeaveOne, Round}
 use Rattle.saa_core_spec.specs.declared.barrier.BarrierAnswer.{BarrierAnswer}
-use Rattle.saa_core_spec.specs.declared.barrier.BarrierAnswer.TheVariants.{Count as SaysCount}
+use Rattle.saa_core_spec.specs.declared.barrier.BarrierAnswer.TheVariants.{Count as SaysCount, Bool as BarrierBool, Round as SaysRound}
 use Rattle.saa_core_spec.specs.Held.{max_permits}
 use Rattle.saa_core_spec.specs.Settling.{settled}
 use Rattle.saa_core_spec.specs.Values.{semaphore_value, lock_value, gate_value, barrier_value}
@@ -656,3 +656,59 @@ pub the_last_arrival_needs_no_slot : BarrierTells 2 1 (
     ∷ [])
 unfolding settled
 the_last_arrival_needs_no_slot = refl
+
+-- A task that joins is waited for from then on, and the round waits for one less once it has left: its leaving completes the
+-- round, which has no leader then.
+pub a_barrier_changes_its_size : BarrierTells 2 usual_room (
+    (Call Join, Answered (BarrierBool true))
+    ∷ (reg 1 tt, stands)
+    ∷ (reg 2 tt, stands)
+    ∷ (Call Count, Answered (SaysCount 1))
+    ∷ (Call LeaveOne, Answered (BarrierBool true))
+    ∷ (Call Round, Answered (SaysRound 1))
+    ∷ (PollSync 1, polled_as false)
+    ∷ (PollSync 2, polled_as false)
+    ∷ (Call Count, Answered (SaysCount 2))
+    ∷ (Call LeaveOne, Answered (BarrierBool false))
+    ∷ (reg 3 tt, stands)
+    ∷ (PollSync 3, polled_as true)
+    ∷ (Call Round, Answered (SaysRound 2))
+    ∷ [])
+unfolding settled
+a_barrier_changes_its_size = refl
+
+-- Arrivals for which nobody waits count as others do, and the last of a round says that it is complete.
+pub arrivals_of_a_latch_are_counted : BarrierTells 3 usual_room (
+    (reg 1 tt, stands)
+    ∷ (Call DoArrive, Answered (BarrierBool false))
+    ∷ (Call Count, Answered (SaysCount 1))
+    ∷ (Call DoArrive, Answered (BarrierBool true))
+    ∷ (PollSync 1, polled_as false)
+    ∷ (Call Round, Answered (SaysRound 1))
+    ∷ (Call DoArrive, Answered (BarrierBool false))
+    ∷ (Call DoArrive, Answered (BarrierBool false))
+    ∷ (reg 2 tt, stands)
+    ∷ (PollSync 2, polled_as true)
+    ∷ (Call Round, Answered (SaysRound 2))
+    ∷ [])
+unfolding settled
+arrivals_of_a_latch_are_counted = refl
+
+-- At size 0 nobody arrives or leaves; who waits there passes once a task joins. No more than 63 join.
+pub a_barrier_of_size_0_may_grow : BarrierTells 0 usual_room (
+    (Call LeaveOne, Answered (BarrierBool false))
+    ∷ (Call DoArrive, Answered (BarrierBool false))
+    ∷ (reg 1 tt, stands)
+    ∷ (Call Join, Answered (BarrierBool true))
+    ∷ (PollSync 1, polled_as false)
+    ∷ (Call Round, Answered (SaysRound 1))
+    ∷ [])
+unfolding settled
+a_barrier_of_size_0_may_grow = refl
+
+pub no_more_than_63_join : BarrierTells 63 usual_room (
+    (Call Join, Answered (BarrierBool false))
+    ∷ (Call Count, Answered (SaysCount 63))
+    ∷ [])
+unfolding settled
+no_more_than_63_join = refl

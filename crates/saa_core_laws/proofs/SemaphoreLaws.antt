@@ -26,7 +26,7 @@ IsFineSemaphore most (OfSemaphore bound out) = (bound ≡ most) × (out ≤ most
 IsFineSemaphore most (OfShutSemaphore bound out) = (bound ≡ most) × (out ≤ most)
 IsFineSemaphore most (OfLock lock) = ⊥
 IsFineSemaphore most (OfGate gate) = ⊥
-IsFineSemaphore most (OfBarrier size) = ⊥
+IsFineSemaphore most (OfBarrier size arrived round) = ⊥
 
 -- a grant of what fits keeps it
 pub IsFineSemaphore-plus : (most : ℕ) (held : Held) (request : Request) → IsFineSemaphore most held → fits held request ≡ true
@@ -41,7 +41,7 @@ IsFineSemaphore-plus most (OfSemaphore bound out) Arrive fine fit = cc
 IsFineSemaphore-plus most (OfShutSemaphore bound out) request fine fit = cc
 IsFineSemaphore-plus most (OfLock lock) request fine fit = absurd fine
 IsFineSemaphore-plus most (OfGate gate) request fine fit = absurd fine
-IsFineSemaphore-plus most (OfBarrier size) request fine fit = absurd fine
+IsFineSemaphore-plus most (OfBarrier size arrived round) request fine fit = absurd fine
 
 -- and so does what is given back
 pub IsFineSemaphore-less : (most : ℕ) (held rest : Held) (request : Request) → IsFineSemaphore most held → less held request ≡ Some rest
@@ -66,7 +66,7 @@ IsFineSemaphore-less most (OfShutSemaphore bound out) rest Enter fine e = cc
 IsFineSemaphore-less most (OfShutSemaphore bound out) rest Arrive fine e = cc
 IsFineSemaphore-less most (OfLock lock) rest request fine e = absurd fine
 IsFineSemaphore-less most (OfGate gate) rest request fine e = absurd fine
-IsFineSemaphore-less most (OfBarrier size) rest request fine e = absurd fine
+IsFineSemaphore-less most (OfBarrier size arrived round) rest request fine e = absurd fine
 
 -- so a semaphore grants what fits
 pub KeepsFine-semaphore : (most : ℕ) → KeepsFine (IsFineSemaphore most)
@@ -74,7 +74,7 @@ KeepsFine-semaphore most = record {
   adds = IsFineSemaphore-plus most;
   takes = IsFineSemaphore-less most;
   no_gate = λ gate fine. fine;
-  no_barrier = λ size fine. fine;
+  no_barrier = λ size arrived round fine. fine;
 }
 
 -- what isn't too much would fit if nothing were out
@@ -84,7 +84,7 @@ fits-not_too_much most n (OfSemaphore bound out) fine e = le-leb (0 + n) most (o
 fits-not_too_much most n (OfShutSemaphore bound out) fine e = le-leb (0 + n) most (omega (arith, fine.0, ltb-false bound n e))
 fits-not_too_much most n (OfLock lock) fine e = absurd fine
 fits-not_too_much most n (OfGate gate) fine e = absurd fine
-fits-not_too_much most n (OfBarrier size) fine e = absurd fine
+fits-not_too_much most n (OfBarrier size arrived round) fine e = absurd fine
 
 -- a semaphore that is shut leaves nobody waiting
 pub IsRight-shut_of : (most names : ℕ) (s : Object) (held : Held) → IsFineSemaphore most held
@@ -97,7 +97,7 @@ IsRight-shut_of most names s (OfSemaphore bound out) fine right = record {
 IsRight-shut_of most names s (OfShutSemaphore bound out) fine right = right
 IsRight-shut_of most names s (OfLock lock) fine right = right
 IsRight-shut_of most names s (OfGate gate) fine right = right
-IsRight-shut_of most names s (OfBarrier size) fine right = right
+IsRight-shut_of most names s (OfBarrier size arrived round) fine right = right
 
 -- every call of a semaphore
 pub IsRight-semaphore_step : (most names : ℕ) (call : SemaphoreCall) (s : Object)
@@ -137,7 +137,7 @@ semaphore-bounded most (OfSemaphore bound out) fine = (out, inl (ap (λ b. OfSem
 semaphore-bounded most (OfShutSemaphore bound out) fine = (out, inr (ap (λ b. OfShutSemaphore b out) fine.0), fine.1)
 semaphore-bounded most (OfLock lock) fine = absurd fine
 semaphore-bounded most (OfGate gate) fine = absurd fine
-semaphore-bounded most (OfBarrier size) fine = absurd fine
+semaphore-bounded most (OfBarrier size arrived round) fine = absurd fine
 
 -- a shut semaphore refuses every request
 pub shut-refuses : (held : Held) → is_shut held ≡ true → refuses_all held ≡ true
@@ -145,7 +145,7 @@ shut-refuses (OfShutSemaphore bound out) e = refl
 shut-refuses (OfSemaphore bound out) e = cc
 shut-refuses (OfLock lock) e = cc
 shut-refuses (OfGate gate) e = cc
-shut-refuses (OfBarrier size) e = cc
+shut-refuses (OfBarrier size arrived round) e = cc
 
 -- a semaphore that is right is in order
 pub IsSemaphoreInOrder-right : (most names : ℕ) (s : Object) → IsRight (Grants (IsFineSemaphore most) (OfSemaphore most 0)) names s

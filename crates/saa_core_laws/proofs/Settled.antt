@@ -111,7 +111,7 @@ module _ (IsFine : Held → Type 0) (keeps : KeepsFine IsFine) where
       let same : ◌≡◌ {A = After ℕ} (record { state = s; reply = poisoned_value }) answer = cc in
       rw (← same) stands
   Stands-answered s (OfGate gate) request answer fine e stands = absurd (keeps.no_gate gate fine)
-  Stands-answered s (OfBarrier size) request answer fine e stands = absurd (keeps.no_barrier size fine)
+  Stands-answered s (OfBarrier size arrived round) request answer fine e stands = absurd (keeps.no_barrier size arrived round fine)
 
   -- one more who isn't granted at once and isn't refused
   pub Stands-joined : (s : Object) (waiter : Waiter) → granted_at_once s waiter.1 ≡ None → refuses_all s.held ≡ false
@@ -132,7 +132,7 @@ module _ (IsFine : Held → Type 0) (keeps : KeepsFine IsFine) where
   Stands-waits s (OfShutSemaphore bound out) waiter is fine e stands = cc
   Stands-waits s (OfLock Poisoned) waiter is fine e stands = cc
   Stands-waits s (OfGate gate) waiter is fine e stands = absurd (keeps.no_gate gate fine)
-  Stands-waits s (OfBarrier size) waiter is fine e stands = absurd (keeps.no_barrier size fine)
+  Stands-waits s (OfBarrier size arrived round) waiter is fine e stands = absurd (keeps.no_barrier size arrived round fine)
 
   -- a registration, by its four cases
   pub Stands-registered_of : (s : Object) (name : ℕ) (request : Request) (is_sync is_refused : Bool) (answer : Option (After ℕ)) (is_full : Bool)
@@ -155,7 +155,7 @@ module _ (IsFine : Held → Type 0) (keeps : KeepsFine IsFine) where
   Stands-left_of s (OfLock lock) name fine stands =
       Stands-settled (record (with_entry s name Idle) { line = without name s.line }) stands.fine (λ refuses. ap (without name) (stands.refused refuses))
   Stands-left_of s (OfGate gate) name fine stands = absurd (keeps.no_gate gate fine)
-  Stands-left_of s (OfBarrier size) name fine stands = absurd (keeps.no_barrier size fine)
+  Stands-left_of s (OfBarrier size arrived round) name fine stands = absurd (keeps.no_barrier size arrived round fine)
 
   -- what was granted is given back with a dropped answer
   pub Stands-undone_of : (s : Object) (held : Held) (request : Request) → Stands IsFine s.held s.line
@@ -164,7 +164,7 @@ module _ (IsFine : Held → Type 0) (keeps : KeepsFine IsFine) where
   Stands-undone_of s (OfShutSemaphore bound out) request stands = Stands-given_back s request stands
   Stands-undone_of s (OfLock lock) request stands = Stands-given_back s request stands
   Stands-undone_of s (OfGate gate) request stands = stands
-  Stands-undone_of s (OfBarrier size) request stands = stands
+  Stands-undone_of s (OfBarrier size arrived round) request stands = stands
 
   -- every drop
   pub Stands-dropped_of : (s : Object) (name : ℕ) (entry : Entry) → Stands IsFine s.held s.line

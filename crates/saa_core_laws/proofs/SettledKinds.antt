@@ -31,7 +31,7 @@ IsOfBound most (OfSemaphore bound out) = bound ≡ most
 IsOfBound most (OfShutSemaphore bound out) = bound ≡ most
 IsOfBound most (OfLock lock) = ⊥
 IsOfBound most (OfGate gate) = ⊥
-IsOfBound most (OfBarrier size) = ⊥
+IsOfBound most (OfBarrier size arrived round) = ⊥
 
 -- a grant keeps the bound
 pub IsOfBound-plus : (most : ℕ) (held : Held) (request : Request) → IsOfBound most held → fits held request ≡ true → IsOfBound most (plus held request)
@@ -45,7 +45,7 @@ IsOfBound-plus most (OfSemaphore bound out) Arrive fine fit = fine
 IsOfBound-plus most (OfShutSemaphore bound out) request fine fit = cc
 IsOfBound-plus most (OfLock lock) request fine fit = absurd fine
 IsOfBound-plus most (OfGate gate) request fine fit = absurd fine
-IsOfBound-plus most (OfBarrier size) request fine fit = absurd fine
+IsOfBound-plus most (OfBarrier size arrived round) request fine fit = absurd fine
 
 -- and so does what is given back
 pub IsOfBound-less : (most : ℕ) (held rest : Held) (request : Request) → IsOfBound most held → less held request ≡ Some rest → IsOfBound most rest
@@ -69,7 +69,7 @@ IsOfBound-less most (OfShutSemaphore bound out) rest Enter fine e = cc
 IsOfBound-less most (OfShutSemaphore bound out) rest Arrive fine e = cc
 IsOfBound-less most (OfLock lock) rest request fine e = absurd fine
 IsOfBound-less most (OfGate gate) rest request fine e = absurd fine
-IsOfBound-less most (OfBarrier size) rest request fine e = absurd fine
+IsOfBound-less most (OfBarrier size arrived round) rest request fine e = absurd fine
 
 -- so a semaphore grants what fits
 pub KeepsFine-bound : (most : ℕ) → KeepsFine (IsOfBound most)
@@ -77,7 +77,7 @@ KeepsFine-bound most = record {
   adds = IsOfBound-plus most;
   takes = IsOfBound-less most;
   no_gate = λ gate fine. fine;
-  no_barrier = λ size fine. fine;
+  no_barrier = λ size arrived round fine. fine;
 }
 
 -- a lock in any state
@@ -86,7 +86,7 @@ IsAnyLock (OfLock lock) = Unit {0}
 IsAnyLock (OfSemaphore bound out) = ⊥
 IsAnyLock (OfShutSemaphore bound out) = ⊥
 IsAnyLock (OfGate gate) = ⊥
-IsAnyLock (OfBarrier size) = ⊥
+IsAnyLock (OfBarrier size arrived round) = ⊥
 
 -- a grant leaves a lock
 pub IsAnyLock-plus : (held : Held) (request : Request) → IsAnyLock held → fits held request ≡ true → IsAnyLock (plus held request)
@@ -94,7 +94,7 @@ IsAnyLock-plus (OfLock lock) request fine fit = tt
 IsAnyLock-plus (OfSemaphore bound out) request fine fit = absurd fine
 IsAnyLock-plus (OfShutSemaphore bound out) request fine fit = absurd fine
 IsAnyLock-plus (OfGate gate) request fine fit = absurd fine
-IsAnyLock-plus (OfBarrier size) request fine fit = absurd fine
+IsAnyLock-plus (OfBarrier size arrived round) request fine fit = absurd fine
 
 -- what is left of a lock is one
 pub IsAnyLock-held_lock : (rest : Option LockState) (held : Held) → held_lock rest ≡ Some held → IsAnyLock held
@@ -107,7 +107,7 @@ IsAnyLock-less (OfLock lock) rest request fine e = IsAnyLock-held_lock (lock_les
 IsAnyLock-less (OfSemaphore bound out) rest request fine e = absurd fine
 IsAnyLock-less (OfShutSemaphore bound out) rest request fine e = absurd fine
 IsAnyLock-less (OfGate gate) rest request fine e = absurd fine
-IsAnyLock-less (OfBarrier size) rest request fine e = absurd fine
+IsAnyLock-less (OfBarrier size arrived round) rest request fine e = absurd fine
 
 -- so a lock grants what fits
 pub KeepsFine-any_lock : KeepsFine IsAnyLock
@@ -115,7 +115,7 @@ KeepsFine-any_lock = record {
   adds = IsAnyLock-plus;
   takes = IsAnyLock-less;
   no_gate = λ gate fine. fine;
-  no_barrier = λ size fine. fine;
+  no_barrier = λ size arrived round fine. fine;
 }
 
 -- a semaphore that is shut leaves nobody waiting
@@ -125,7 +125,7 @@ Stands-shut_of most s (OfSemaphore bound out) fine stands = record { fine = fine
 Stands-shut_of most s (OfShutSemaphore bound out) fine stands = stands
 Stands-shut_of most s (OfLock lock) fine stands = stands
 Stands-shut_of most s (OfGate gate) fine stands = stands
-Stands-shut_of most s (OfBarrier size) fine stands = stands
+Stands-shut_of most s (OfBarrier size arrived round) fine stands = stands
 
 -- every call of a semaphore
 pub Stands-semaphore_step : (most : ℕ) (call : SemaphoreCall) (s : Object) → Stands (IsOfBound most) s.held s.line
@@ -180,7 +180,7 @@ kind-bound most (OfSemaphore bound out) fine = (out, inl (ap (λ b. OfSemaphore 
 kind-bound most (OfShutSemaphore bound out) fine = (out, inr (ap (λ b. OfShutSemaphore b out) fine))
 kind-bound most (OfLock lock) fine = absurd fine
 kind-bound most (OfGate gate) fine = absurd fine
-kind-bound most (OfBarrier size) fine = absurd fine
+kind-bound most (OfBarrier size arrived round) fine = absurd fine
 
 -- and the other way round
 pub IsOfBound-kind : (most out : ℕ) (held : Held) → IsSemaphoreWith most out held → IsOfBound most held
@@ -193,7 +193,7 @@ bound-shut most (OfSemaphore bound out) fine e = cc
 bound-shut most (OfShutSemaphore bound out) fine e = refl
 bound-shut most (OfLock lock) fine e = absurd fine
 bound-shut most (OfGate gate) fine e = absurd fine
-bound-shut most (OfBarrier size) fine e = absurd fine
+bound-shut most (OfBarrier size arrived round) fine e = absurd fine
 
 -- a lock is one
 pub kind-any_lock : (held : Held) → IsAnyLock held → (lock : LockState) × (held ≡ OfLock lock)
@@ -201,7 +201,7 @@ kind-any_lock (OfLock lock) fine = (lock, refl)
 kind-any_lock (OfSemaphore bound out) fine = absurd fine
 kind-any_lock (OfShutSemaphore bound out) fine = absurd fine
 kind-any_lock (OfGate gate) fine = absurd fine
-kind-any_lock (OfBarrier size) fine = absurd fine
+kind-any_lock (OfBarrier size arrived round) fine = absurd fine
 
 -- a lock refuses every request only where it is poisoned
 pub any_lock-poisoned : (held : Held) → IsAnyLock held → refuses_all held ≡ true → held ≡ OfLock Poisoned
@@ -212,7 +212,7 @@ any_lock-poisoned (OfLock (Shared n)) fine e = cc
 any_lock-poisoned (OfSemaphore bound out) fine e = absurd fine
 any_lock-poisoned (OfShutSemaphore bound out) fine e = absurd fine
 any_lock-poisoned (OfGate gate) fine e = absurd fine
-any_lock-poisoned (OfBarrier size) fine e = absurd fine
+any_lock-poisoned (OfBarrier size arrived round) fine e = absurd fine
 
 -- a settled semaphore, as the law says it and as the proof does
 pub Stands-semaphore : (most : ℕ) (s : Object) → IsSettledSemaphore most s → Stands (IsOfBound most) s.held s.line

@@ -38,7 +38,7 @@ plus_all-shut (OfShutSemaphore bound out) (waiter ∷ line) e = plus_all-shut (O
 plus_all-shut (OfSemaphore bound out) (waiter ∷ line) e = cc
 plus_all-shut (OfLock lock) (waiter ∷ line) e = cc
 plus_all-shut (OfGate gate) (waiter ∷ line) e = cc
-plus_all-shut (OfBarrier size) (waiter ∷ line) e = cc
+plus_all-shut (OfBarrier size arrived round) (waiter ∷ line) e = cc
 
 -- so settling changes nothing of it
 pub held-settled_shut : (s : Object) → is_shut s.held ≡ true → (settled s).held ≡ s.held
@@ -62,7 +62,7 @@ is_shut-less (OfShutSemaphore bound out) rest Arrive shut e = cc
 is_shut-less (OfSemaphore bound out) rest request shut e = cc
 is_shut-less (OfLock lock) rest request shut e = cc
 is_shut-less (OfGate gate) rest request shut e = cc
-is_shut-less (OfBarrier size) rest request shut e = cc
+is_shut-less (OfBarrier size arrived round) rest request shut e = cc
 
 -- giving back
 pub is_shut-given_back_of : (s : Object) (request : Request) (is_nothing : Bool) (rest : Option Held) → less s.held request ≡ rest
@@ -95,7 +95,7 @@ answer_in-shut s (OfShutSemaphore bound out) request shut = refl
 answer_in-shut s (OfSemaphore bound out) request shut = cc
 answer_in-shut s (OfLock lock) request shut = cc
 answer_in-shut s (OfGate gate) request shut = cc
-answer_in-shut s (OfBarrier size) request shut = cc
+answer_in-shut s (OfBarrier size arrived round) request shut = cc
 
 -- and asks for no more than there are permits
 pub asks_too_much-shut : (held : Held) (n : ℕ) → is_shut held ≡ true → n ≤ bound_of held → asks_too_much held (Permits n) ≡ false
@@ -103,7 +103,7 @@ asks_too_much-shut (OfShutSemaphore bound out) n shut within = le-ltb bound n wi
 asks_too_much-shut (OfSemaphore bound out) n shut within = cc
 asks_too_much-shut (OfLock lock) n shut within = cc
 asks_too_much-shut (OfGate gate) n shut within = cc
-asks_too_much-shut (OfBarrier size) n shut within = cc
+asks_too_much-shut (OfBarrier size arrived round) n shut within = cc
 
 -- an idle name that registers has its answer at once, and nothing else changes
 pub registered-shut : (s : Object) (name n : ℕ) (is_sync : Bool) → is_shut s.held ≡ true → entry_at s.book name ≡ Idle → n ≤ bound_of s.held
@@ -148,14 +148,14 @@ is_shut-left_of s (OfSemaphore bound out) shut = is_shut-settled s shut
 is_shut-left_of s (OfShutSemaphore bound out) shut = is_shut-settled s shut
 is_shut-left_of s (OfLock lock) shut = is_shut-settled s shut
 is_shut-left_of s (OfGate gate) shut = shut
-is_shut-left_of s (OfBarrier size) shut = shut
+is_shut-left_of s (OfBarrier size arrived round) shut = shut
 
 pub is_shut-undone_of : (s : Object) (held : Held) (request : Request) → is_shut s.held ≡ true → is_shut (undone_of s held request).held ≡ true
 is_shut-undone_of s (OfSemaphore bound out) request shut = is_shut-given_back s request shut
 is_shut-undone_of s (OfShutSemaphore bound out) request shut = is_shut-given_back s request shut
 is_shut-undone_of s (OfLock lock) request shut = is_shut-given_back s request shut
 is_shut-undone_of s (OfGate gate) request shut = shut
-is_shut-undone_of s (OfBarrier size) request shut = shut
+is_shut-undone_of s (OfBarrier size arrived round) request shut = shut
 
 pub is_shut-dropped_of : (s : Object) (name : ℕ) (entry : Entry) → is_shut s.held ≡ true → is_shut (dropped_of s name entry).held ≡ true
 is_shut-dropped_of s name Idle shut = shut
@@ -171,7 +171,7 @@ is_shut-quietly_left_of s (OfSemaphore bound out) shut = is_shut-left_of s (OfSe
 is_shut-quietly_left_of s (OfShutSemaphore bound out) shut = is_shut-left_of s (OfShutSemaphore bound out) shut
 is_shut-quietly_left_of s (OfLock lock) shut = is_shut-left_of s (OfLock lock) shut
 is_shut-quietly_left_of s (OfGate gate) shut = shut
-is_shut-quietly_left_of s (OfBarrier size) shut = shut
+is_shut-quietly_left_of s (OfBarrier size arrived round) shut = shut
 
 pub is_shut-withdrawn_of : (s : Object) (name : ℕ) (entry : Entry) → is_shut s.held ≡ true → is_shut (withdrawn_of s name entry).held ≡ true
 is_shut-withdrawn_of s name Idle shut = shut
@@ -186,7 +186,7 @@ is_shut-shut_of s (OfSemaphore bound out) shut = refl
 is_shut-shut_of s (OfShutSemaphore bound out) shut = shut
 is_shut-shut_of s (OfLock lock) shut = shut
 is_shut-shut_of s (OfGate gate) shut = shut
-is_shut-shut_of s (OfBarrier size) shut = shut
+is_shut-shut_of s (OfBarrier size arrived round) shut = shut
 
 -- so no command opens it
 pub is_shut-done : (command : CommandOf SemaphoreCall ℕ) (s : Object) → is_shut s.held ≡ true
@@ -221,7 +221,7 @@ less-shut (OfShutSemaphore bound out) n shut within =
 less-shut (OfSemaphore bound out) n shut within = cc
 less-shut (OfLock lock) n shut within = cc
 less-shut (OfGate gate) n shut within = cc
-less-shut (OfBarrier size) n shut within = cc
+less-shut (OfBarrier size arrived round) n shut within = cc
 
 pub given_back-shut : (s : Object) (n : ℕ) → is_shut s.held ≡ true → n ≤ out_of s.held
     → ((given_back s (Permits n)).reply ≡ true) × (out_of (given_back s (Permits n)).state.held + n ≡ out_of s.held)
@@ -247,7 +247,7 @@ others-shut_of s (OfSemaphore bound out) name still = elim (entry_at-answered_in
 others-shut_of s (OfShutSemaphore bound out) name still = refl
 others-shut_of s (OfLock lock) name still = refl
 others-shut_of s (OfGate gate) name still = refl
-others-shut_of s (OfBarrier size) name still = refl
+others-shut_of s (OfBarrier size arrived round) name still = refl
 
 pub others-shut : (s : Object) (name : ℕ) → is_waiting (entry_at s.book name) ≡ false
     → entry_at (semaphore_step Shut s).state.book name ≡ entry_at s.book name
@@ -266,7 +266,7 @@ waiters-shut_of most names s (OfShutSemaphore bound out) name request is_sync fi
     cc
 waiters-shut_of most names s (OfLock lock) name request is_sync fine kept nobody at = absurd fine
 waiters-shut_of most names s (OfGate gate) name request is_sync fine kept nobody at = absurd fine
-waiters-shut_of most names s (OfBarrier size) name request is_sync fine kept nobody at = absurd fine
+waiters-shut_of most names s (OfBarrier size arrived round) name request is_sync fine kept nobody at = absurd fine
 
 -- after every run
 pub waiters-shut : (bound permits room names : ℕ) (commands : List (CommandOf SemaphoreCall ℕ)) (name : ℕ) (request : Request) (is_sync : Bool)

@@ -213,7 +213,7 @@ module _ (IsFine : Held → Type 0) (keeps : KeepsFine IsFine) where
       let same : ◌≡◌ {A = After ℕ} (record { state = s; reply = poisoned_value }) answer = cc in
       sym (ap (λ (a : After ℕ). a.state.line) same)
   line-answered s (OfGate gate) request answer fine e = absurd (keeps.no_gate gate fine)
-  line-answered s (OfBarrier size) request answer fine e = absurd (keeps.no_barrier size fine)
+  line-answered s (OfBarrier size arrived round) request answer fine e = absurd (keeps.no_barrier size arrived round fine)
 
   -- a registration, by its four cases
   pub KeepsTurns-registered_of : (s : Object) (name : ℕ) (request : Request) (is_sync is_refused : Bool) (answer : Option (After ℕ)) (is_full : Bool)
@@ -232,7 +232,7 @@ module _ (IsFine : Held → Type 0) (keeps : KeepsFine IsFine) where
   KeepsTurns-left_of s (OfShutSemaphore bound out) name fine once = KeepsTurns-left s name once
   KeepsTurns-left_of s (OfLock lock) name fine once = KeepsTurns-left s name once
   KeepsTurns-left_of s (OfGate gate) name fine once = absurd (keeps.no_gate gate fine)
-  KeepsTurns-left_of s (OfBarrier size) name fine once = absurd (keeps.no_barrier size fine)
+  KeepsTurns-left_of s (OfBarrier size arrived round) name fine once = absurd (keeps.no_barrier size arrived round fine)
 
   -- what was granted is given back
   pub KeepsTurns-undone_of : (before s : Object) (held : Held) (request : Request) → StandOnce before.line → s.line ≡ before.line
@@ -241,7 +241,7 @@ module _ (IsFine : Held → Type 0) (keeps : KeepsFine IsFine) where
   KeepsTurns-undone_of before s (OfShutSemaphore bound out) request once same = KeepsTurns-given_back before s request once same
   KeepsTurns-undone_of before s (OfLock lock) request once same = KeepsTurns-given_back before s request once same
   KeepsTurns-undone_of before s (OfGate gate) request once same = KeepsTurns-same before s same
-  KeepsTurns-undone_of before s (OfBarrier size) request once same = KeepsTurns-same before s same
+  KeepsTurns-undone_of before s (OfBarrier size arrived round) request once same = KeepsTurns-same before s same
 
   -- every drop
   pub KeepsTurns-dropped_of : (s : Object) (name : ℕ) (entry : Entry) → IsFine s.held → StandOnce s.line → KeepsTurns s (dropped_of s name entry)
@@ -294,7 +294,7 @@ KeepsTurns-shut_of s (OfSemaphore bound out) = KeepsTurns-nobody s (shut_of s (O
 KeepsTurns-shut_of s (OfShutSemaphore bound out) = KeepsTurns-same s s refl
 KeepsTurns-shut_of s (OfLock lock) = KeepsTurns-same s s refl
 KeepsTurns-shut_of s (OfGate gate) = KeepsTurns-same s s refl
-KeepsTurns-shut_of s (OfBarrier size) = KeepsTurns-same s s refl
+KeepsTurns-shut_of s (OfBarrier size arrived round) = KeepsTurns-same s s refl
 
 -- every call of a semaphore
 pub KeepsTurns-semaphore_step : (call : SemaphoreCall) (s : Object) → StandOnce s.line → KeepsTurns s (semaphore_step call s).state

@@ -15,26 +15,28 @@ use Rattle.saa_core_spec.specs.declared.lock.LockCall.TheVariants.{TryLock, Rele
 use Rattle.saa_core_spec.specs.declared.gate.GateCall.{GateCall}
 use Rattle.saa_core_spec.specs.declared.gate.GateCall.TheVariants.{Open as DoOpen}
 use Rattle.saa_core_spec.specs.declared.barrier.BarrierCall.{BarrierCall}
+use Rattle.saa_core_spec.specs.declared.barrier.BarrierCall.TheVariants.{Arrive as DoArrive, Join, Leave as LeaveOne}
 use Rattle.saa_core_spec.specs.declared.run.CommandOf.{CommandOf}
 use Rattle.saa_core_spec.specs.declared.run.CommandOf.TheVariants.{Call, Register, TryPoll, PollAsync, Drop}
 use Rattle.saa_core_spec.specs.declared.run.ReplyOf.TheVariants.{Polled}
-use Rattle.saa_core_spec.specs.Held.{Held, OfSemaphore, OfLock, OfGate, Free, Exclusive as Owned, Poisoned}
-use Rattle.saa_core_spec.specs.Object.{Object, Idle, Waiting, Answered, entry_at}
+use Rattle.saa_core_spec.specs.Held.{Held, OfSemaphore, OfLock, OfGate, OfBarrier, Free, Exclusive as Owned, Poisoned}
+use Rattle.saa_core_spec.specs.Object.{Object, Idle, Waiting, Answered, entry_at, newly_made}
 use Rattle.saa_core_spec.specs.Settling.{fitting_front, settled}
-use Rattle.saa_core_spec.specs.Values.{semaphore_value, lock_value, gate_value}
+use Rattle.saa_core_spec.specs.Values.{semaphore_value, lock_value, gate_value, barrier_value}
 use Rattle.saa_core_spec.specs.Semaphore.{semaphore_step, new_semaphore, out_of}
 use Rattle.saa_core_spec.specs.Lock.{lock_step, mode_request, new_lock}
 use Rattle.saa_core_spec.specs.Gate.{gate_step, enter_request, new_gate}
+use Rattle.saa_core_spec.specs.Barrier.{round_of, barrier_step, arrive_request}
 use Rattle.saa_core_spec.specs.Run.{IsWithin, done, state_after}
 use Rattle.saa_core_laws.specs.RunLaws.{IsSettledSemaphore, IsSettledLock, NobodyWaits, AnswersInOrder}
 use Rattle.saa_core_laws.specs.Registrations.{Story, IsStory, found, stands_in, next_of, registers, value_polled, as_kept}
-use Rattle.saa_core_laws.specs.Leaders.{is_arrival, is_given_up, names_leader, barrier_run, barrier_next, CompletesRound, told}
+use Rattle.saa_core_laws.specs.Leaders.{IsOfFixedSize, is_arrival, is_given_up, names_leader, completes_round, barrier_run, barrier_next, CompletesRound, told}
 use Rattle.saa_core_laws.specs.Conservation.{semaphore_run, granted_by, given_back_by, released_by, taken_in_hand_by}
 use Rattle.saa_core_laws.proofs.Fronts.{StandsSettled-from_front}
 use Rattle.saa_core_laws.proofs.SettledKinds.{semaphore-settled_run, lock-settled_run}
 use Rattle.saa_core_laws.proofs.Waits.{semaphore-nobody_waits, free_lock-nobody_waits, poisoned_lock-nobody_waits, gate-nobody_waits}
 use Rattle.saa_core_laws.proofs.TurnsKept.{semaphore-in_turn}
-use Rattle.saa_core_laws.proofs.Rounds.{CompletesRound-next}
+use Rattle.saa_core_laws.proofs.Rounds.{CompletesRound-next_fixed}
 use Rattle.saa_core_laws.proofs.Stories.{AnswersOnce-lock}
 
 -- A settled object stays settled
@@ -279,9 +281,26 @@ the_next_arrival_leads = (refl, refl, refl, refl)
 -- as the law says it
 pub the_next_arrival_completes_a_round : CompletesRound 2 (barrier_next 2 4 4 one_gives_up (Register 3 tt false))
 the_next_arrival_completes_a_round =
-    CompletesRound-next 2 4 4 one_gives_up (Register 3 tt false)
+    CompletesRound-next_fixed 2 4 4 one_gives_up (Register 3 tt false)
     (All-from_recursion (IsWithin 4) one_gives_up (omega arith, (omega arith, (omega arith, (omega arith, (omega arith, (omega arith, tt)))))))
-    (omega arith) the_next_arrival_leads.0
+    (omega arith) (All-from_recursion IsOfFixedSize one_gives_up (tt, (tt, (tt, (tt, (tt, (tt, tt))))))) tt the_next_arrival_leads.0
+
+-- Rounds are counted, whoever completes them
+
+-- at a barrier of two, 1 waits until one arrives that doesn't wait; once a task has joined, 2 and 3 wait until one has left; then 0 is
+-- the second to arrive
+abbrev three_rounds : List (CommandOf BarrierCall (Unit {0}))
+three_rounds =
+    Register 1 tt true ∷ Call DoArrive ∷ Call Join ∷ Register 2 tt true ∷ Register 3 tt true ∷ Call LeaveOne ∷ Call DoArrive
+    ∷ Register 0 tt true ∷ []
+
+-- three rounds are complete, of which one has a leader
+pub three_rounds-counted :
+    (count_by completes_round (barrier_run 2 4 4 three_rounds) ≡ 3)
+    × (count_by names_leader (barrier_run 2 4 4 three_rounds) ≡ 1)
+    × (round_of (state_after arrive_request barrier_step barrier_value three_rounds (newly_made (OfBarrier 2 0 0) 4 4)).held ≡ 3)
+unfolding settled
+three_rounds-counted = (refl, refl, refl)
 
 -- Permits are conserved
 

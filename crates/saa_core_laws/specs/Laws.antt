@@ -8,6 +8,7 @@ use Rattle.saa_core_spec.specs.Held.{Held, OfSemaphore, OfShutSemaphore, OfLock,
 use Rattle.saa_core_spec.specs.Object.{Object, Entry, Idle, Waiting, Answered, Waiter, entry_at, used, one_if, times}
 use Rattle.saa_core_spec.specs.Settling.{plus_all}
 use Rattle.saa_core_spec.specs.Semaphore.{is_shut}
+use Rattle.saa_core_spec.specs.Barrier.{size_of, arrivals}
 
 -- Each of the first k of the line fits what is held plus the requests before it. A relation, which computes no k
 pub record IsFittingFront (held : Held) (line : List Waiter) (k : ℕ) : Type 0 where
@@ -61,8 +62,15 @@ pub record IsGateInOrder (s : Object) : Type 0 where
   pub order : IsInOrder s
   pub bounded : (gate : State) × (s.held ≡ OfGate gate) × ((gate ≡ Controlled) ⊎ (s.line ≡ []))
 
--- a barrier in order: it keeps its size, and fewer wait than pass together, where anybody ever does
+-- a barrier in order: it keeps its size, all who arrived in its round wait, and those are fewer than pass together, where
+-- anybody ever does
 pub record IsBarrierInOrder (size : ℕ) (s : Object) : Type 0 where
   pub order : IsInOrder s
-  pub bounded : s.held ≡ OfBarrier size
+  pub bounded : (round : ℕ) × (s.held ≡ OfBarrier size 0 round)
   pub incomplete : 0 < size → length s.line < size
+
+-- a barrier in order, of any size by then: fewer have arrived in its round than pass together, where anybody ever does
+pub record IsOpenBarrier (s : Object) : Type 0 where
+  pub order : IsInOrder s
+  pub bounded : (size : ℕ) × (arrived : ℕ) × (round : ℕ) × (s.held ≡ OfBarrier size arrived round)
+  pub incomplete : 0 < size_of s.held → arrivals s < size_of s.held

@@ -28,7 +28,7 @@ use Rattle.saa_core_spec.specs.Run.{IsWithin, done, state_after}
 use Rattle.saa_core_laws.specs.Laws.{is_waiting}
 use Rattle.saa_core_laws.specs.RunLaws.{NobodyWaits, AnswersInOrder}
 use Rattle.saa_core_laws.specs.Registrations.{AnswersOnce, is_answered}
-use Rattle.saa_core_laws.specs.Leaders.{is_arrival, is_given_up, names_leader, barrier_run, barrier_next, CompletesRound}
+use Rattle.saa_core_laws.specs.Leaders.{IsOfFixedSize, is_arrival, is_given_up, names_leader, barrier_run, barrier_next, CompletesRound}
 use Rattle.saa_core_laws.specs.Conservation.{granted_by, given_back_by, released_by, taken_in_hand_by, semaphore_run}
 use Rattle.saa_core_laws.specs.Steps.{step_of}
 
@@ -93,18 +93,18 @@ pub record RegistrationsAnsweredOnce : Type 0 where
   pub barrier : AnswersOnce BarrierCall (Unit {0}) BarrierAnswer (Result Bool Error) arrive_request barrier_step barrier_value
 
 -- the leaders of a barrier: one for each full round of arrivals, not counting those that were dropped while they waited;
--- it is the arrival that completes the round
+-- it is the arrival that completes the round. This is so while the size stays, and nobody arrives who doesn't wait
 pub record LeadersCounted : Type 0 where
   pub counted : (size room names : ℕ) (commands : List (CommandOf BarrierCall (Unit {0})))
-      → 0 < size → All (IsWithin names) commands
+      → 0 < size → All (IsWithin names) commands → All IsOfFixedSize commands
       → let run = barrier_run size room names commands in
       count_by names_leader run ≡ (count_by is_arrival run - count_by is_given_up run) / size
   pub round : (size room names : ℕ) (commands : List (CommandOf BarrierCall (Unit {0}))) (next : CommandOf BarrierCall (Unit {0}))
-      → All (IsWithin names) commands → IsWithin names next
+      → All (IsWithin names) commands → IsWithin names next → All IsOfFixedSize commands → IsOfFixedSize next
       → let step = barrier_next size room names commands next in
       IsTrue (names_leader step) → CompletesRound size step
   pub nothing_else : (size room names : ℕ) (commands : List (CommandOf BarrierCall (Unit {0}))) (next : CommandOf BarrierCall (Unit {0})) (name : ℕ)
-      → All (IsWithin names) commands → IsWithin names next
+      → All (IsWithin names) commands → IsWithin names next → All IsOfFixedSize commands → IsOfFixedSize next
       → let step = barrier_next size room names commands next in
       IsTrue (is_waiting (entry_at step.before.book name))
       → IsTrue (is_answered (entry_at step.after.state.book name))

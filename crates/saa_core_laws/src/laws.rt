@@ -20,7 +20,7 @@ ghost use Rattle.saa_core_spec.specs.declared.barrier.BarrierCall.{BarrierCall};
 ghost use Rattle.saa_core_spec.specs.declared.barrier.BarrierAnswer.{BarrierAnswer};
 ghost use Rattle.saa_core_spec.specs.declared.run.CommandOf.{CommandOf};
 ghost use Rattle.saa_core_spec.specs.declared.run.CommandOf.TheVariants.{Drop};
-ghost use Rattle.saa_core_spec.specs.Held.{Held, LockState, OfSemaphore, OfLock, OfGate, OfBarrier, Free, Poisoned, asks_too_much};
+ghost use Rattle.saa_core_spec.specs.Held.{Held, LockState, OfSemaphore, OfLock, OfGate, OfBarrier, Free, Poisoned, asks_too_much, max_rounds};
 ghost use Rattle.saa_core_spec.specs.Asking.{is_idle, tried, registered};
 ghost use Rattle.saa_core_spec.specs.Polling.{given_back, dropped, withdrawn};
 ghost use Rattle.saa_core_spec.specs.declared.gate.State.{State};
@@ -33,12 +33,12 @@ ghost use Rattle.saa_core_spec.specs.Values.{semaphore_value, lock_value, gate_v
 ghost use Rattle.saa_core_spec.specs.Semaphore.{semaphore_step, new_semaphore, bound_of, out_of, is_shut};
 ghost use Rattle.saa_core_spec.specs.Lock.{lock_step, mode_request, new_lock};
 ghost use Rattle.saa_core_spec.specs.Gate.{gate_step, enter_request, new_gate};
-ghost use Rattle.saa_core_spec.specs.Barrier.{barrier_step, arrive_request};
+ghost use Rattle.saa_core_spec.specs.Barrier.{round_of, barrier_step, arrive_request};
 ghost use Rattle.saa_core_spec.specs.Run.{IsWithin, done, state_after};
-ghost use Rattle.saa_core_laws.specs.Laws.{is_waiting, IsFittingFront, StandsSettled, GrantsInTurn, IsSemaphoreInOrder, IsLockInOrder, IsGateInOrder, IsBarrierInOrder};
+ghost use Rattle.saa_core_laws.specs.Laws.{is_waiting, IsFittingFront, StandsSettled, GrantsInTurn, IsSemaphoreInOrder, IsLockInOrder, IsGateInOrder, IsBarrierInOrder, IsOpenBarrier};
 ghost use Rattle.saa_core_laws.specs.RunLaws.{IsSettledSemaphore, IsSettledLock, NobodyWaits, AnswersInOrder};
 ghost use Rattle.saa_core_laws.specs.Registrations.{AnswersOnce, is_answered};
-ghost use Rattle.saa_core_laws.specs.Leaders.{is_arrival, is_given_up, names_leader, barrier_run, barrier_next, CompletesRound};
+ghost use Rattle.saa_core_laws.specs.Leaders.{IsOfFixedSize, is_arrival, is_given_up, names_leader, completes_round, LetsAllPass, barrier_run, barrier_next, CompletesRound};
 ghost use Rattle.saa_core_laws.specs.Conservation.{granted_by, given_back_by, released_by, taken_in_hand_by, semaphore_run};
 ghost use Rattle.saa_core_laws.specs.Steps.{step_of};
 ghost use Rattle.saa_core_laws.specs.WholeRuns.{WholeRuns};
@@ -84,11 +84,17 @@ pub fn gate_runs()
         → IsGateInOrder (state_after enter_request gate_step gate_value commands (new_gate room names)) }
 {}
 
-/// Every run of a newly made barrier of any size leaves it in order: it keeps its size, and its round is incomplete.
+/// Every run of a newly made barrier of any size leaves it in order: its round is incomplete.
+///
+/// `fixed`: while no call changes its size or arrives without waiting, it keeps its size, and all who arrived wait. `open`: of any
+/// run, fewer have arrived than pass together.
 pub fn barrier_runs()
-    ensures { (size room names : ℕ) (commands : List (CommandOf BarrierCall (Unit {0})))
+    ensures fixed { (size room names : ℕ) (commands : List (CommandOf BarrierCall (Unit {0})))
+        → All (IsWithin names) commands → All IsOfFixedSize commands
+        → IsBarrierInOrder size (state_after arrive_request barrier_step barrier_value commands (newly_made (OfBarrier size 0 0) room names)) }
+    ensures open { (size room names : ℕ) (commands : List (CommandOf BarrierCall (Unit {0})))
         → All (IsWithin names) commands
-        → IsBarrierInOrder size (state_after arrive_request barrier_step barrier_value commands (newly_made (OfBarrier size) room names)) }
+        → IsOpenBarrier (state_after arrive_request barrier_step barrier_value commands (newly_made (OfBarrier size 0 0) room names)) }
 {}
 
 /// A settled semaphore stays settled, whatever is out, whatever its line and its book are, and however it came there; and
@@ -256,22 +262,44 @@ pub fn permits()
 /// while they waited.
 ///
 /// The arrival that completes a round is its leader, and is told so; all others of the round are told that they aren't.
-/// No waiter is answered in any other way.
+/// No waiter is answered in any other way. This is so of runs in which the size stays, and nobody arrives who doesn't wait.
 pub fn leaders()
     ensures counted { (size room names : ℕ) (commands : List (CommandOf BarrierCall (Unit {0})))
-        → 0 < size → All (IsWithin names) commands
+        → 0 < size → All (IsWithin names) commands → All IsOfFixedSize commands
         → let run = barrier_run size room names commands in
         count_by names_leader run ≡ (count_by is_arrival run - count_by is_given_up run) / size }
     ensures round { (size room names : ℕ) (commands : List (CommandOf BarrierCall (Unit {0}))) (next : CommandOf BarrierCall (Unit {0}))
-        → All (IsWithin names) commands → IsWithin names next
+        → All (IsWithin names) commands → IsWithin names next → All IsOfFixedSize commands → IsOfFixedSize next
         → let step = barrier_next size room names commands next in
         IsTrue (names_leader step) → CompletesRound size step }
+    ensures nothing_else { (size room names : ℕ) (commands : List (CommandOf BarrierCall (Unit {0}))) (next : CommandOf BarrierCall (Unit {0})) (name : ℕ)
+        → All (IsWithin names) commands → IsWithin names next → All IsOfFixedSize commands → IsOfFixedSize next
+        → let step = barrier_next size room names commands next in
+        IsTrue (is_waiting (entry_at step.before.book name))
+        → IsTrue (is_answered (entry_at step.after.state.book name))
+        → IsTrue (names_leader step) }
+{}
+
+/// The number of a barrier's rounds counts the rounds that are complete, of any run: the leaders, and the calls that complete a
+/// round without one.
+///
+/// It counts up to the most that a u64 can say, and stays there. A step that completes a round lets all waiters pass, and the next
+/// round begins with no arrival; no other step answers a waiter.
+pub fn rounds()
+    ensures counted { (size room names : ℕ) (commands : List (CommandOf BarrierCall (Unit {0})))
+        → All (IsWithin names) commands
+        → round_of (state_after arrive_request barrier_step barrier_value commands (newly_made (OfBarrier size 0 0) room names)).held
+        ≡ min (count_by completes_round (barrier_run size room names commands)) max_rounds }
+    ensures passed { (size room names : ℕ) (commands : List (CommandOf BarrierCall (Unit {0}))) (next : CommandOf BarrierCall (Unit {0}))
+        → All (IsWithin names) commands → IsWithin names next
+        → let step = barrier_next size room names commands next in
+        IsTrue (completes_round step) → LetsAllPass step.before step.after.state }
     ensures nothing_else { (size room names : ℕ) (commands : List (CommandOf BarrierCall (Unit {0}))) (next : CommandOf BarrierCall (Unit {0})) (name : ℕ)
         → All (IsWithin names) commands → IsWithin names next
         → let step = barrier_next size room names commands next in
         IsTrue (is_waiting (entry_at step.before.book name))
         → IsTrue (is_answered (entry_at step.after.state.book name))
-        → IsTrue (names_leader step) }
+        → IsTrue (completes_round step) }
 {}
 
 /// A registration is false exactly where its name isn't idle, or it asks a semaphore for more permits than there ever are.
@@ -289,8 +317,8 @@ pub fn false_registrations()
         → s.held ≡ OfLock lock → entry_at s.book name ≡ Idle → ¬ ((registered s name request is_sync).reply ≡ Ok false) }
     ensures gate { (s : Object) (name : ℕ) (gate : State) (request : Request) (is_sync : Bool)
         → s.held ≡ OfGate gate → entry_at s.book name ≡ Idle → ¬ ((registered s name request is_sync).reply ≡ Ok false) }
-    ensures barrier { (s : Object) (name size : ℕ) (request : Request) (is_sync : Bool)
-        → s.held ≡ OfBarrier size → entry_at s.book name ≡ Idle → ¬ ((registered s name request is_sync).reply ≡ Ok false) }
+    ensures barrier { (s : Object) (name size arrived round : ℕ) (request : Request) (is_sync : Bool)
+        → s.held ≡ OfBarrier size arrived round → entry_at s.book name ≡ Idle → ¬ ((registered s name request is_sync).reply ≡ Ok false) }
 {}
 
 /// Every law, by its name; together those of the runs from newly made primitives are one, which is the contract here too.

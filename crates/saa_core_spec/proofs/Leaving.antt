@@ -11,7 +11,7 @@ quiet-left s (OfSemaphore bound out) no_gate = refl
 quiet-left s (OfShutSemaphore bound out) no_gate = refl
 quiet-left s (OfLock lock) no_gate = refl
 quiet-left s (OfGate gate) no_gate = absurd (no_gate gate refl)
-quiet-left s (OfBarrier size) no_gate = refl
+quiet-left s (OfBarrier size arrived round) no_gate = refl
 
 -- and so does every name
 pub withdrawn-dropped : (s : Object) (name : ℕ) (entry : Entry) → ((gate : State) → s.held ≡ OfGate gate → ⊥)

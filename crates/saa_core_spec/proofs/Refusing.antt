@@ -28,7 +28,7 @@ fits-refusing (OfLock (Shared n)) request refuses = cc
 fits-refusing (OfShutSemaphore bound out) request refuses = refl
 fits-refusing (OfSemaphore bound out) request refuses = cc
 fits-refusing (OfGate gate) request refuses = cc
-fits-refusing (OfBarrier size) request refuses = cc
+fits-refusing (OfBarrier size arrived round) request refuses = cc
 
 -- so what a request fits doesn't refuse it
 pub fits-not_refusing : (held : Held) (request : Request) → fits held request ≡ true → refuses_all held ≡ false
@@ -68,7 +68,7 @@ plus-not_refusing (OfSemaphore bound out) Enter fit = refl
 plus-not_refusing (OfSemaphore bound out) Arrive fit = refl
 plus-not_refusing (OfShutSemaphore bound out) request fit = cc
 plus-not_refusing (OfGate gate) request fit = cc
-plus-not_refusing (OfBarrier size) request fit = cc
+plus-not_refusing (OfBarrier size arrived round) request fit = cc
 
 -- no lock is poisoned, and none is cleared, by what is given back
 pub lock_less-refusing : (lock : LockState) (rest : Held) (request : Request) → held_lock (lock_less lock request) ≡ Some rest
@@ -121,7 +121,7 @@ less-refusing (OfShutSemaphore bound out) rest WaitShared e = cc
 less-refusing (OfShutSemaphore bound out) rest Enter e = cc
 less-refusing (OfShutSemaphore bound out) rest Arrive e = cc
 less-refusing (OfGate gate) rest request e = cc
-less-refusing (OfBarrier size) rest request e = cc
+less-refusing (OfBarrier size arrived round) rest request e = cc
 
 -- settling neither begins nor ends it
 pub plus_all-refusing : (held : Held) (line : List Waiter)

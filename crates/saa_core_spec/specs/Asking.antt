@@ -6,7 +6,7 @@ use Rattle.saa_core_spec.specs.declared.request.Request.{Request}
 use Rattle.saa_core_spec.specs.declared.request.Full.{Full}
 use Rattle.saa_core_spec.specs.Held.{Held, OfSemaphore, OfShutSemaphore, OfLock, OfGate, OfBarrier, LockState, Free, Exclusive, Shared, Poisoned, fits, plus, asks_too_much}
 use Rattle.saa_core_spec.specs.Object.{Object, After, Entry, Idle, Waiting, Answered, entry_at, with_entry, used, is_nobody}
-use Rattle.saa_core_spec.specs.Settling.{all_answered}
+use Rattle.saa_core_spec.specs.Settling.{round_complete}
 use Rattle.saa_core_spec.specs.Values.{granted_value, closed_value, poisoned_value, leader_value, passed_value, opened_value, sealed_value}
 
 -- whether a request is granted at once: nobody waits, and it fits. (What a semaphore never has doesn't fit.)
@@ -46,10 +46,10 @@ gate_answers s Sealed = Some (record { state = s; reply = sealed_value })
 gate_answers s Open = Some (record { state = s; reply = opened_value })
 
 -- the last arrival of a round lets all waiters pass, and is the leader
-abbrev pub barrier_answers : Object → ℕ → Option (After ℕ)
-barrier_answers s size =
-    if length s.line + 1 == size
-    then Some (record { state = all_answered passed_value s; reply = leader_value })
+abbrev pub barrier_answers : Object → (size arrived round : ℕ) → Option (After ℕ)
+barrier_answers s size arrived round =
+    if arrived + length s.line + 1 == size
+    then Some (record { state = round_complete passed_value s size round; reply = leader_value })
     else None
 
 -- the state and the answer of a registration that needn't wait
@@ -58,7 +58,7 @@ answer_in s (OfSemaphore bound out) request = granted_at_once s request
 answer_in s (OfShutSemaphore bound out) request = closed_answer s
 answer_in s (OfLock lock) request = lock_answers s lock request
 answer_in s (OfGate gate) request = gate_answers s gate
-answer_in s (OfBarrier size) request = barrier_answers s size
+answer_in s (OfBarrier size arrived round) request = barrier_answers s size arrived round
 
 abbrev pub answer_at_once : Object → Request → Option (After ℕ)
 answer_at_once s request = answer_in s s.held request

@@ -19,7 +19,7 @@ gate_state (OfGate gate) = gate
 gate_state (OfSemaphore bound out) = Controlled
 gate_state (OfShutSemaphore bound out) = Controlled
 gate_state (OfLock lock) = Controlled
-gate_state (OfBarrier size) = Controlled
+gate_state (OfBarrier size arrived round) = Controlled
 
 -- what every registration at a gate asks
 abbrev pub enter_request : Unit {0} → Request

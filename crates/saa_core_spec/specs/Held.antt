@@ -11,13 +11,14 @@ pub data LockState : Type 0 where
   Shared : ℕ → LockState
 
 -- what each of the four primitives holds: a semaphore its bound and the permits that are out, and whether it is shut,
--- a lock and a gate their state, a barrier its size
+-- a lock and a gate their state, a barrier its size, the arrivals of its round that don't wait, and how many of its rounds are
+-- complete
 pub data Held : Type 0 where
   OfSemaphore : (bound out : ℕ) → Held
   OfShutSemaphore : (bound out : ℕ) → Held
   OfLock : LockState → Held
   OfGate : State → Held
-  OfBarrier : (size : ℕ) → Held
+  OfBarrier : (size arrived round : ℕ) → Held
 
 -- the most permits of a semaphore, where nothing else is said
 abbrev pub max_permits : ℕ
@@ -30,6 +31,10 @@ max_shared_owners = 62
 -- the greatest size of a barrier
 abbrev pub max_tasks : ℕ
 max_tasks = 63
+
+-- the most complete rounds that a barrier counts: the number of rounds stays there
+abbrev pub max_rounds : ℕ
+max_rounds = 18446744073709551615
 
 -- the states that a lock can be in: if it is shared, then by 1 to 62 owners
 abbrev pub IsLockState : LockState → Type 0

@@ -63,7 +63,7 @@ left_of s (OfSemaphore bound out) = settled s
 left_of s (OfShutSemaphore bound out) = settled s
 left_of s (OfLock lock) = settled s
 left_of s (OfGate gate) = all_answered spurious_value s
-left_of s (OfBarrier size) = s
+left_of s (OfBarrier size arrived round) = s
 
 -- a semaphore and a lock get back what was granted; a gate and a barrier have nothing to get back
 abbrev pub undone_of : Object → Held → Request → Object
@@ -71,7 +71,7 @@ undone_of s (OfSemaphore bound out) request = (given_back s request).state
 undone_of s (OfShutSemaphore bound out) request = (given_back s request).state
 undone_of s (OfLock lock) request = (given_back s request).state
 undone_of s (OfGate gate) request = s
-undone_of s (OfBarrier size) request = s
+undone_of s (OfBarrier size arrived round) request = s
 
 -- Dropping what a name is registered for; it is idle afterwards in every case.
 -- An answer that granted something acts as the release of what was granted; any other answer is only consumed
@@ -93,7 +93,7 @@ quietly_left_of s (OfSemaphore bound out) = left_of s (OfSemaphore bound out)
 quietly_left_of s (OfShutSemaphore bound out) = left_of s (OfShutSemaphore bound out)
 quietly_left_of s (OfLock lock) = left_of s (OfLock lock)
 quietly_left_of s (OfGate gate) = s
-quietly_left_of s (OfBarrier size) = left_of s (OfBarrier size)
+quietly_left_of s (OfBarrier size arrived round) = left_of s (OfBarrier size arrived round)
 
 -- Withdrawing what a name is registered for: dropping it, but for the others at a gate, which aren't told that a waiter
 -- left. It is idle afterwards in every case

@@ -18,7 +18,7 @@ bound_of (OfSemaphore bound out) = bound
 bound_of (OfShutSemaphore bound out) = bound
 bound_of (OfLock lock) = 0
 bound_of (OfGate gate) = 0
-bound_of (OfBarrier size) = 0
+bound_of (OfBarrier size arrived round) = 0
 
 -- the permits that are out; only a semaphore has any
 abbrev pub out_of : Held → ℕ
@@ -26,7 +26,7 @@ out_of (OfSemaphore bound out) = out
 out_of (OfShutSemaphore bound out) = out
 out_of (OfLock lock) = 0
 out_of (OfGate gate) = 0
-out_of (OfBarrier size) = 0
+out_of (OfBarrier size arrived round) = 0
 
 -- how many permits are available
 abbrev pub available : Held → ℕ

@@ -1,6 +1,6 @@
 -- Answering: the fitting front of a line, settling, and answering all waiters.
-use Rattle.std.specs.Prelude.{◌≡◌, ℕ, suc, true, List, [], ◌∷◌, take, drop, if◌then◌else◌}
-use Rattle.saa_core_spec.specs.Held.{Held, fits, plus}
+use Rattle.std.specs.Prelude.{◌≡◌, ℕ, suc, ◌+◌, true, min, List, [], ◌∷◌, take, drop, if◌then◌else◌}
+use Rattle.saa_core_spec.specs.Held.{Held, OfBarrier, fits, plus, max_rounds}
 use Rattle.saa_core_spec.specs.Object.{Object, Entry, Idle, Waiting, Answered, Waiter, entry_at}
 use Rattle.std.specs.Prelude.{slice_set}
 
@@ -47,3 +47,8 @@ IsSettled s = fitting_front s.held s.line ≡ 0
 -- all waiters are answered with a value, and the line is empty
 abbrev pub all_answered : ℕ → Object → Object
 all_answered value s = record s { line = []; book = answered_in value s.line s.book }
+
+-- A barrier of this size completes a round: all waiters are answered with a value, which says that they pass, and the next round
+-- begins, with no arrival
+abbrev pub round_complete : ℕ → Object → (size round : ℕ) → Object
+round_complete value s size round = all_answered value (record s { held = OfBarrier size 0 (min (round + 1) max_rounds) })

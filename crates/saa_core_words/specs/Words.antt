@@ -38,7 +38,7 @@ held_count (OfSemaphore bound out) = out
 held_count (OfShutSemaphore bound out) = out
 held_count (OfLock lock) = lock_count lock
 held_count (OfGate gate) = 0
-held_count (OfBarrier size) = 0
+held_count (OfBarrier size arrived round) = 0
 
 -- the number of a line word: what is asked, the older neighbour, the newer one
 abbrev pub line_number : LineWord → ℕ

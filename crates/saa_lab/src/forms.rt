@@ -54,6 +54,10 @@ pub enum Asks {
     Open,
     Seal,
     Arrivals,
+    Arrive,
+    Join,
+    LeaveBarrier,
+    Round,
     Register,
     TryPoll,
     PollSync,
@@ -161,8 +165,12 @@ pub static OF_A_GATE: [Form; 14] = [
 ];
 
 /// The lines of a script about a barrier.
-pub static OF_A_BARRIER: [Form; 8] = [
+pub static OF_A_BARRIER: [Form; 12] = [
     ("count", Asks::Arrivals, Shape::Alone),
+    ("arrive", Asks::Arrive, Shape::Alone),
+    ("join", Asks::Join, Shape::Alone),
+    ("leave_barrier", Asks::LeaveBarrier, Shape::Alone),
+    ("round", Asks::Round, Shape::Alone),
     ("reg", Asks::Register, Shape::PagerAlone),
     ("try_poll", Asks::TryPoll, Shape::OfPager),
     ("poll_sync", Asks::PollSync, Shape::OfPager),

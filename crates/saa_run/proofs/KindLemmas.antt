@@ -11,7 +11,7 @@ use Rattle.saa_core_spec.specs.declared.lock.LockCall.TheVariants.{TryLock, TryS
 use Rattle.saa_core_spec.specs.declared.gate.GateCall.{GateCall}
 use Rattle.saa_core_spec.specs.declared.gate.GateCall.TheVariants.{State, Reset, Permit, PermitMany, Reject, Open, Seal}
 use Rattle.saa_core_spec.specs.declared.barrier.BarrierCall.{BarrierCall}
-use Rattle.saa_core_spec.specs.declared.barrier.BarrierCall.TheVariants.{Count}
+use Rattle.saa_core_spec.specs.declared.barrier.BarrierCall.TheVariants.{Count, Arrive, Join, Leave as LeaveOne, Round}
 use Rattle.saa_run.specs.declared.script.command.ScriptLine.TheVariants.{Do}
 use Rattle.saa_run.specs.Language.{lone_call_in, counted_call_in, lone_line, counted_line, pager_line, line_in}
 use Rattle.saa_run.specs.Spelling.{AreNumbers}
@@ -165,13 +165,21 @@ gate_fits = record {
 barrier_call_said : (call : BarrierCall) → line_in barrier_readings (barrier_call_word call ∷ []) ≡ Some (Do (Call call))
 unfolding lone_line lone_call_in
 barrier_call_said Count = refl
+barrier_call_said Arrive = refl
+barrier_call_said Join = refl
+barrier_call_said LeaveOne = refl
+barrier_call_said Round = refl
 
 barrier_call_is_word : (call : BarrierCall) → IsWord (barrier_call_word call)
 barrier_call_is_word Count = IsWord-literal (codes "count") refl refl
+barrier_call_is_word Arrive = IsWord-literal (codes "arrive") refl refl
+barrier_call_is_word Join = IsWord-literal (codes "join") refl refl
+barrier_call_is_word LeaveOne = IsWord-literal (codes "leave_barrier") refl refl
+barrier_call_is_word Round = IsWord-literal (codes "round") refl refl
 
 pub barrier_fits : Fits barrier_readings barrier_spellings
 barrier_fits = record {
-  lone_found = ((refl, tt), tt);
+  lone_found = ((refl, tt), ((refl, tt), ((refl, tt), ((refl, tt), ((refl, tt), tt)))));
   counted_found = tt;
   ask_found = no_ask_found;
   call_said = λ call small. barrier_call_said call;

@@ -4,7 +4,7 @@
 use crate::tests::Row;
 
 /// Each story, what is written of it, and the status.
-pub(crate) static KIND_ROWS: [Row; 37] = [
+pub(crate) static KIND_ROWS: [Row; 40] = [
     // A reader, one who only waits and a writer pass in the order of asking, and poison ends a wait:
     // examples/readers_and_a_writer.script.
     Row {
@@ -206,8 +206,27 @@ pub(crate) static KIND_ROWS: [Row; 37] = [
     },
     // A barrier is for at most 63 tasks.
     Row {
-        input: "barrier 64 4\ncount\n",
-        output: "63\n",
+        input: "barrier 64 4\ncount\njoin\ncount\n",
+        output: "63\nfalse\n63\n",
+        status: 0,
+    },
+    // An arrival that doesn't wait counts; the one that is the last of its round lets the waiters pass, and has no leader.
+    Row {
+        input: "barrier 3 4\narrive\ncount\nreg 1 sync\nround\narrive\nround\npoll_sync 1\ncount\nreg 1 sync\narrive\nreg 2 sync\npoll_sync 2\nround\n",
+        output: "false\n2\ntrue\n0\ntrue\n1\nfalse\n3\ntrue\nfalse\ntrue\ntrue\n2\n",
+        status: 0,
+    },
+    // A task joins before a round, and one leaves during it, which completes it.
+    Row {
+        input: "barrier 2 4\nreg 1 sync\njoin\ncount\nreg 2 sync\ntry_poll 1\nleave_barrier\npoll_sync 1\npoll_sync 2\nround\ncount\n",
+        output: "true\ntrue\n2\ntrue\nnot_ready\ntrue\nfalse\nfalse\n1\n2\n",
+        status: 0,
+    },
+    // A barrier that all tasks leave is of size 0: no more leave it, and an arrival that doesn't wait isn't counted. A waiter passes
+    // once a task joins.
+    Row {
+        input: "barrier 1 4\nleave_barrier\nleave_barrier\ncount\narrive\nreg 1 sync\nreg 2 sync\nround\njoin\nround\npoll_sync 1\npoll_sync 2\ncount\nreg 1 sync\npoll_sync 1\nround\n",
+        output: "false\nfalse\n0\nfalse\ntrue\ntrue\n0\ntrue\n1\nfalse\nfalse\n1\ntrue\ntrue\n2\n",
         status: 0,
     },
     // A first line with a field too many.

@@ -19,7 +19,7 @@ static SCRIPTS: [&str; 5] = [
     "bounded 1000 20 65535\ntry 999999\nreg 10 12 sync\nregistered 10\ndrop 10\nrelease 100\navailable\n",
     "lock 4\ntry_lock\ntry_share\nreg 1 shared sync\nreg 2 wait_exclusive async\nreg 3 exclusive sync\ndowngrade\nrelease_share\nrelease_lock\npoison_lock\nclear_poison\nis_free\nis_locked\nis_shared\nis_poisoned\nreg 4 wait_shared sync\npoll_sync 1\n",
     "gate 8\nstate\nreg 1 sync\nreg 2 async\nreg 3 sync\nleave 3\npermit_many 1\npermit\nreject\nseal\nopen\nreset\npoll_sync 1\npoll_async 2\nregistered 2\ndrop 1\n",
-    "barrier 2 4\ncount\nreg 1 sync\nreg 2 async\npoll_sync 1\ntry_poll 2\ndrop 3\ncount\n",
+    "barrier 2 4\ncount\narrive\njoin\nleave_barrier\nround\nreg 1 sync\nreg 2 async\npoll_sync 1\ntry_poll 2\ndrop 3\ncount\n",
 ];
 
 static SCHEDULES: [&str; 3] = [

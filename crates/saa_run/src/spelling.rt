@@ -63,7 +63,7 @@ const OF_A_GATE: [&str; 4] = [
 
 const OF_A_BARRIER: [&str; 3] = [
     "try_poll|poll_sync|poll_async|registered|drop|leave P",
-    "count",
+    "count|arrive|join|leave_barrier|round",
     "reg P sync|async",
 ];
 

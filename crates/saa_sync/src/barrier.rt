@@ -28,8 +28,9 @@ const LEADER: u8 = 1;
 
 /// A barrier that threads share, at which at most 63 tasks wait for one another and pass together, round after round.
 ///
-/// The last arrival of a round is its leader, never waits, and wakes all others of the round. At a barrier of size 0 every
-/// arrival waits, and none is ever answered. `R` is the permission to block, as a reference to the runtime. Every call may wait
+/// A call that waits and is the last arrival of its round is the leader: it never waits, and wakes all others of the round. Tasks
+/// may also arrive without waiting, join, and leave; a round that one of these completes has no leader. At a barrier of size 0 every
+/// arrival waits, and none is answered before a task joins. `R` is the permission to block, as a reference to the runtime. Every call may wait
 /// for the mutex around the core, which is held for one short step at a time. No call but making takes memory.
 ///
 /// Each ticket and pager is used with the barrier that it was registered in.
@@ -67,7 +68,7 @@ impl<R: Wait + Drop> Form<R, BarrierCore> {
         Self::of_core(rt, alloc, core, room, NONE, WAITER)
     }
 
-    /// How many arrivals the round still waits for: the size less the waiters, and 0 at a barrier of size 0. Every
+    /// How many arrivals the round still waits for: the size less the arrivals, and 0 at a barrier of size 0. Every
     /// ordering acts as the sequentially consistent one; none panics.
     pub fn count(&self, _mo: Ordering) -> usize
         ensures { result ≤ max_tasks }
@@ -75,12 +76,44 @@ impl<R: Wait + Drop> Form<R, BarrierCore> {
         self.lock().core.count()
     }
 
+    /// How many rounds are complete, up to `u64::MAX`, where the number stays: the number of the round that is under way, the first
+    /// being 0. Every ordering acts as the sequentially consistent one; none panics.
+    pub fn round(&self, _mo: Ordering) -> u64 {
+        self.lock().core.round()
+    }
+
+    /// Arrives without waiting, as at a latch; says whether this completes the round.
+    ///
+    /// `true`: all waiters are answered `Ok(false)`, and woken, and the next round begins. `false`: the round waits for one arrival
+    /// less; at a barrier of size 0 nothing changes. Each waiter that is woken costs an unpark, and each second one of them a short
+    /// lock more.
+    pub fn arrive(&self) -> bool {
+        self.step(BarrierCore::count_arrival)
+    }
+
+    /// Makes the barrier one task larger, from this round on; says whether it did.
+    ///
+    /// `false` exactly at the greatest size, [`Self::MAX_TASKS`]: nothing changes. Waiters of a barrier of size 0 are answered
+    /// `Ok(false)`, and woken, as its round is complete at size 1. The room stays: it should have a slot for each task that may wait.
+    pub fn join(&self) -> bool {
+        self.step(BarrierCore::join)
+    }
+
+    /// Makes the barrier one task smaller, from this round on; says whether this completes the round.
+    ///
+    /// `true`: all other tasks have arrived, and there are some. All waiters are answered `Ok(false)`, and woken, and the next round
+    /// begins. `false`: the round waits for one arrival less; at a barrier of size 0 nothing changes. A task calls this in place of
+    /// arriving, once it takes part no more. Costs what [`Self::arrive`] does.
+    pub fn leave(&self) -> bool {
+        self.step(BarrierCore::leave)
+    }
+
     /// Arrives, and waits in the line until the round is complete.
     ///
     /// `Ok(true)`: this was the last arrival of the round, which never waits; all others of the round are answered
-    /// `Ok(false)` by it, and woken, and nobody else is. `Full`: it would have to wait, and as many slots are held as
-    /// there is room; nothing is changed. Nothing stays registered in any case. At a barrier of size 0 this waits for
-    /// ever, and at one of size 1 never.
+    /// `Ok(false)` by it, and woken, and nobody else is. `Ok(false)`: another call completed the round. `Full`: it would have to
+    /// wait, and as many slots are held as there is room; nothing is changed. Nothing stays registered in any case. At a barrier of
+    /// size 0 this waits until a task joins, and at one of size 1 never.
     pub fn wait_sync(&self) -> Result<bool, Full> {
         let value = self.acquire(())?;
         Ok(is_leader(value))

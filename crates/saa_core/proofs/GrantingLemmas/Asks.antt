@@ -82,7 +82,7 @@ grants (OfSemaphore bound out) is = record { answers = λ s r. refl; left = λ s
 grants (OfShutSemaphore bound out) is = record { answers = λ s r. refl; left = λ s. refl; undone = λ s r. refl }
 grants (OfLock lock) is = record { answers = lock_answered lock; left = λ s. refl; undone = λ s r. refl }
 grants (OfGate gate) is = absurd is
-grants (OfBarrier size) is = absurd is
+grants (OfBarrier size arrived round) is = absurd is
 
 -- a registration that is answered as everybody is
 pub register_answered : (h : Held) (slots : Slots) (v : ℕ) (r : Request) (m : Bool) → Grants h → asks_too_much h r ≡ false → answer_to_all h ≡ Some v

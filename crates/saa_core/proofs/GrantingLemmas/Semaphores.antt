@@ -111,7 +111,7 @@ shut_of-again s (OfShutSemaphore bound out) shut = refl
 shut_of-again s (OfSemaphore bound out) shut = cc
 shut_of-again s (OfLock lock) shut = cc
 shut_of-again s (OfGate gate) shut = cc
-shut_of-again s (OfBarrier size) shut = cc
+shut_of-again s (OfBarrier size arrived round) shut = cc
 
 pub shut_again : (core : Core) → is_shut core.held ≡ true → Calls core core (λ s. shut_of s s.held) false
 shut_again core shut = record { calls = λ ts b. (shut_of-again (object_of core ts) core.held shut, b) }

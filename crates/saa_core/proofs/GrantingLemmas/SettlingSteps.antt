@@ -125,4 +125,4 @@ refuses-unanswered (OfLock (Shared n)) none = refl
 refuses-unanswered (OfShutSemaphore bound out) none = cc
 refuses-unanswered (OfSemaphore bound out) none = refl
 refuses-unanswered (OfGate gate) none = refl
-refuses-unanswered (OfBarrier size) none = refl
+refuses-unanswered (OfBarrier size arrived round) none = refl

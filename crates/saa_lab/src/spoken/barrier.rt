@@ -21,6 +21,10 @@ impl Spoken for BarrierCore {
     fn call_of(asks: Asks, _count: usize) -> Option<BarrierCall> {
         match asks {
             Asks::Arrivals => Some(BarrierCall::Count),
+            Asks::Arrive => Some(BarrierCall::Arrive),
+            Asks::Join => Some(BarrierCall::Join),
+            Asks::LeaveBarrier => Some(BarrierCall::Leave),
+            Asks::Round => Some(BarrierCall::Round),
             _ => None,
         }
     }
@@ -32,8 +36,11 @@ impl Spoken for BarrierCore {
     }
 
     fn answer_text(alloc: Global, answer: BarrierAnswer) -> Result<String, AllocError> {
-        let BarrierAnswer::Count(count) = answer;
-        format!(in alloc; "{count}")
+        match answer {
+            BarrierAnswer::Count(count) => format!(in alloc; "{count}"),
+            BarrierAnswer::Bool(truth) => format!(in alloc; "{truth}"),
+            BarrierAnswer::Round(number) => format!(in alloc; "{number}"),
+        }
     }
 
     fn poll_text(alloc: Global, value: Result<bool, Error>) -> Result<String, AllocError> {

@@ -10,6 +10,7 @@ ghost use Rattle.saa_run.specs.ScriptSaid.{said_words};
 
 use crate::script::said::Said;
 use crate::script::spoken::{Spoken, nothing_asked, said_truth};
+use crate::words::meaning;
 use saa::barrier::{BarrierAnswer, BarrierCall, BarrierCore};
 use saa::ticket::Error;
 
@@ -43,22 +44,30 @@ impl Spoken for BarrierCore {
     }
 }
 
-/// The call.
+/// The words of the calls.
+static CALLS: [(&str, BarrierCall); 5] = [
+    ("count", BarrierCall::Count),
+    ("arrive", BarrierCall::Arrive),
+    ("join", BarrierCall::Join),
+    ("leave_barrier", BarrierCall::Leave),
+    ("round", BarrierCall::Round),
+];
+
+/// A call.
 #[tactic(auto, unfolding(crate::specs::Language::lone_call_in))]
 fn lone_call(word: &[u8]) -> Option<BarrierCall>
     ensures { result ≡ lone_call_in barrier_readings word.now }
 {
-    if word == b"count".as_slice() {
-        return Some(BarrierCall::Count);
-    }
-    None
+    meaning(&CALLS, word)
 }
 
-/// What the call's answer says.
+/// What a call's answer says.
 fn said_answer(answer: BarrierAnswer) -> Said
     ensures { said_words result ≡ barrier_answer answer }
 {
     match answer {
         BarrierAnswer::Count(number) => Said::Number(number),
+        BarrierAnswer::Bool(truth) => Said::Truth(truth),
+        BarrierAnswer::Round(number) => Said::Number(number as usize),
     }
 }

@@ -58,13 +58,13 @@ impl<R: Wait + Drop, P: Primitive> Form<R, P> {
     {
         let mut locked = self.lock();
         let answer = step(&mut locked.core);
-        self.leave(locked);
+        self.unlock(locked);
         answer
     }
 
     /// Unlocks the mutex, and makes the core's pending wakes, with the mutex free.
     #[inline(always)]
-    pub(crate) fn leave<'s>(&'s self, mut locked: MutexGuard<'s, Locked<P>>) {
+    pub(crate) fn unlock<'s>(&'s self, mut locked: MutexGuard<'s, Locked<P>>) {
         if self.hint.is_watched() {
             self.hint.show(&locked.core);
         }

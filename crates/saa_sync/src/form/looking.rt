@@ -20,7 +20,7 @@ impl<R: Wait + Drop, P: Primitive> Form<R, P> {
         }
         let mut locked = self.lock();
         let answer = locked.core.try_now(ask);
-        self.leave(locked);
+        self.unlock(locked);
         if answer.is_some() {
             return answer;
         }
@@ -48,7 +48,7 @@ impl<R: Wait + Drop, P: Primitive> Form<R, P> {
                     is_due = false;
                     locked.count();
                     let answer = locked.core.try_now(ask);
-                    self.leave(locked);
+                    self.unlock(locked);
                     if answer.is_some() {
                         return answer;
                     }

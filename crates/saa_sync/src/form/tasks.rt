@@ -61,7 +61,7 @@ impl<R: Wait + Drop, P: Primitive> Pends for Form<R, P> {
         if has_joined {
             self.reset_parker(now);
         }
-        self.leave(locked);
+        self.unlock(locked);
         (polled, has_joined)
     }
 
@@ -90,7 +90,7 @@ impl<R: Wait + Drop, P: Primitive> Pends for Form<R, P> {
         let mut locked = self.lock();
         pending.leave_on(&mut locked.core);
         let _unused = locked.wakers.take_of(slot);
-        self.leave(locked);
+        self.unlock(locked);
     }
 }
 

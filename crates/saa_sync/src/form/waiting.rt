@@ -43,7 +43,7 @@ impl<R: Wait + Drop, P: Primitive> Waitable for Form<R, P> {
         let mut locked = self.lock();
         let answer = locked.register(ticket, ask, is_sync);
         self.reset_parker(ticket.slot());
-        self.leave(locked);
+        self.unlock(locked);
         answer
     }
 
@@ -56,7 +56,7 @@ impl<R: Wait + Drop, P: Primitive> Waitable for Form<R, P> {
         let mut locked = self.lock();
         let start = locked.start(ticket, ask);
         self.reset_parker(ticket.slot());
-        self.leave(locked);
+        self.unlock(locked);
         start
     }
 
@@ -85,7 +85,7 @@ impl<R: Wait + Drop, P: Primitive> Waitable for Form<R, P> {
         let mut locked = self.lock();
         locked.core.cancel(ticket);
         let _unused = locked.wakers.take_of(slot);
-        self.leave(locked);
+        self.unlock(locked);
     }
 }
 
@@ -114,7 +114,7 @@ impl<R: Wait + Clock + Drop, P: Primitive> WaitableUntil for Form<R, P> {
             // The core doesn't know the ticket.
             locked.core.cancel(ticket);
         }
-        self.leave(locked);
+        self.unlock(locked);
         answer
     }
 }

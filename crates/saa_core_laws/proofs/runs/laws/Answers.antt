@@ -4,7 +4,7 @@ use Rattle.saa_core_laws.proofs.Waits.{semaphore-nobody_waits, shut_semaphore-no
 use Rattle.saa_core_laws.proofs.Conserved.{permits-conserved}
 use Rattle.saa_core_laws.proofs.InHand.{dropped-whole}
 use Rattle.saa_core_laws.proofs.Stories.{AnswersOnce-semaphore, AnswersOnce-lock, AnswersOnce-gate, AnswersOnce-barrier}
-use Rattle.saa_core_laws.proofs.Rounds.{leaders-counted, CompletesRound-next, leads-next}
+use Rattle.saa_core_laws.proofs.Rounds.{leaders-counted_fixed, CompletesRound-next_fixed, leads-next_fixed}
 use Rattle.saa_core_laws.proofs.runs.laws.Goals as goal
 
 pub returns-clause-order : goal.returns-clause-order
@@ -31,4 +31,4 @@ returns-clause-once c = record {
 }
 
 pub returns-clause-leaders : goal.returns-clause-leaders
-returns-clause-leaders c = record { counted = leaders-counted; round = CompletesRound-next; nothing_else = leads-next }
+returns-clause-leaders c = record { counted = leaders-counted_fixed; round = CompletesRound-next_fixed; nothing_else = leads-next_fixed }
